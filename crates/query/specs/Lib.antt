@@ -1,0 +1,15 @@
+pub mod Place
+pub mod Deck
+pub mod Travel
+pub mod Cost
+pub mod Reach
+pub mod Lines
+pub mod Bound
+pub mod Problem
+pub mod Cut
+pub mod Order
+pub mod Search
+pub mod Figures
+pub mod Space
+pub mod Exhaustive
+pub mod Marked

@@ -1,0 +1,1 @@
+// The min-dist optimal-location query of document 01: definitions in specs/, theorems in proofs/. No code.
