@@ -12,4 +12,6 @@ pub mod Search
 pub mod Figures
 pub mod Space
 pub mod Exhaustive
+pub mod Partition
+pub mod Laws
 pub mod Marked

@@ -2,8 +2,8 @@
 -- Assumes nothing.
 use mathlib.Core.Bool.{Bool, _&&_, _||_}
 use lib.IntN.{ℤ}
-use lib.Signed.{ltZ}
-use Rattle.numbers.specs.Integer.{eqZ, between}
+use lib.Signed.{ltZ, _≤ℤ_}
+use Rattle.numbers.specs.Integer.{eqZ}
 
 -- 01 "place", 000 a location: coordinates in tenths of a millimetre from the deck's centre.
 -- Smaller x is further left, smaller y is nearer the front
@@ -22,9 +22,17 @@ pub record Rect : Type 0 where
   pub xhi : ℤ
   pub yhi : ℤ
 
-unfoldable pub contains : Rect → Place → Bool
-unfolding between
-contains r p = between (r .xlo) (r .xhi) (p .x) && between (r .ylo) (r .yhi) (p .y)
+-- p is a point of r, its edges included
+pub record In (r : Rect) (p : Place) : Type 0 where
+  pub left : r .xlo ≤ℤ p .x
+  pub right : p .x ≤ℤ r .xhi
+  pub front : r .ylo ≤ℤ p .y
+  pub back : p .y ≤ℤ r .yhi
+
+-- r has a point: 01 "xlo ≤ xhi, ylo ≤ yhi"
+pub record NonEmpty (r : Rect) : Type 0 where
+  pub across : r .xlo ≤ℤ r .xhi
+  pub deep : r .ylo ≤ℤ r .yhi
 
 -- the two axes: lines, gaps and cuts are told of each in the same words
 pub data Axis : Type 0 where

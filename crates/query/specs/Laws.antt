@@ -1,0 +1,80 @@
+-- What a reader may hold the definitions to, in plain terms. `proofs/Laws.antt` proves each of these for all of its parameters.
+-- Assumes nothing.
+use Prim.Native.Nat.{ℕ, _+_, _≤_}
+use mathlib.Core.Path.{_≡_}
+use mathlib.Core.Bool.{not}
+use mathlib.Core.Logic.{_⊎_, _↔_}
+use mathlib.Core.List.{List, _∷_, List·Memᴰ, Pairwise}
+use lib.Dec.{T}
+use lib.IntN.{ℤ}
+use lib.ListN.{length}
+use lib.Signed.{_≤ℤ_, _<ℤ_}
+use Rattle.numbers.specs.Lists.{nonEmpty}
+use Rattle.query.specs.Place.{Place, Rect, In, NonEmpty, Axis, x-axis, y-axis, coordinate, low-edge, high-edge}
+use Rattle.query.specs.Deck.{Stop, Deck}
+use Rattle.query.specs.Travel.{travel, near}
+use Rattle.query.specs.Reach.{travelTo, reach}
+use Rattle.query.specs.Lines.{lines, gaps}
+use Rattle.query.specs.Problem.{Problem, problem, linesAlong}
+use Rattle.query.specs.Cut.{inside, canCut, side, offMiddle, cutLine}
+use Rattle.query.specs.Order.{Cell, cellBefore}
+use Rattle.query.specs.Search.{isLive, run}
+use Rattle.query.specs.Partition.{dead, partition}
+
+-- near is the travel to some post, and at most the travel to every post
+pub record NearLaw (deck : Deck) (stop : Stop) : Type 0 where
+  pub some-post : T (nonEmpty (deck .posts)) → (post : Place) × List·Memᴰ post (deck .posts) × (near deck stop ≡ travel (deck .axis) (stop .at) post)
+  pub every-post : (post : Place) → List·Memᴰ post (deck .posts) → near deck stop ≤ travel (deck .axis) (stop .at) post
+
+-- the travel to a rectangle is the least travel to its points
+pub record TravelToLaw (deck : Deck) (r : Rect) (stop : Stop) : Type 0 where
+  pub some-point : NonEmpty r → (p : Place) × In r p × (travelTo deck r stop ≡ travel (deck .axis) (stop .at) p)
+  pub every-point : (p : Place) → In r p → travelTo deck r stop ≤ travel (deck .axis) (stop .at) p
+
+-- v is a coordinate that document 01 names for a line: an edge of the area, or a stop's within reach of it and in its range
+pub data Named (deck : Deck) (axis : Axis) (v : ℤ) : Type 0 where
+  edge-low : v ≡ low-edge axis (deck .area) → Named deck axis v
+  edge-high : v ≡ high-edge axis (deck .area) → Named deck axis v
+  of-stop : (stop : Stop) → List·Memᴰ stop (deck .stops) → T (reach deck (deck .area) stop) → v ≡ coordinate axis (stop .at) → low-edge axis (deck .area) ≤ℤ v → v ≤ℤ high-edge axis (deck .area) → Named deck axis v
+
+-- lines are strictly increasing, and stand at exactly the named coordinates
+pub record LinesLaw (deck : Deck) (axis : Axis) : Type 0 where
+  pub increasing : Pairwise _<ℤ_ (lines deck axis)
+  pub named : (v : ℤ) → List·Memᴰ v (lines deck axis) ↔ Named deck axis v
+
+-- gaps are the lines strictly inside the area and one more
+pub record GapsLaw (deck : Deck) (axis : Axis) : Type 0 where
+  pub at-least-one : 1 ≤ gaps deck axis
+  pub inside-and-one : NonEmpty (deck .area) → gaps deck axis ≡ length (inside (problem deck) axis (deck .area)) + 1
+
+-- line v lies strictly inside r along an axis
+pub record Inside (P : Problem) (axis : Axis) (r : Rect) (v : ℤ) : Type 0 where
+  pub line : List·Memᴰ v (linesAlong P axis)
+  pub above : low-edge axis r <ℤ v
+  pub below : v <ℤ high-edge axis r
+
+-- the line at which a cell is cut: inside, closest to the middle, and the smaller of two that are as close;
+-- where the other axis has lines inside too, its side is not longer, and on equal sides it is the y axis
+pub record CutLineLaw (P : Problem) (r : Rect) : Type 0 where
+  pub is-inside : Inside P (cutLine P r .axis) r (cutLine P r .at)
+  pub closest : (v : ℤ) → Inside P (cutLine P r .axis) r v → offMiddle (low-edge (cutLine P r .axis) r) (high-edge (cutLine P r .axis) r) (cutLine P r .at) ≤ offMiddle (low-edge (cutLine P r .axis) r) (high-edge (cutLine P r .axis) r) v
+  pub smaller : (v : ℤ) → Inside P (cutLine P r .axis) r v → offMiddle (low-edge (cutLine P r .axis) r) (high-edge (cutLine P r .axis) r) v ≡ offMiddle (low-edge (cutLine P r .axis) r) (high-edge (cutLine P r .axis) r) (cutLine P r .at) → cutLine P r .at ≤ℤ v
+  pub longer-side : (axis : Axis) (v : ℤ) → Inside P axis r v → side axis r ≤ side (cutLine P r .axis) r
+  pub x-on-equal-sides : (v : ℤ) → Inside P x-axis r v → side x-axis r ≡ side y-axis r → cutLine P r .axis ≡ x-axis
+
+-- a cell can be cut exactly if some line is strictly inside it on some axis, and is then cut as document 01 says
+pub record CutLaw (P : Problem) (r : Rect) : Type 0 where
+  pub can-be-cut : T (canCut P r) ↔ ((axis : Axis) × (v : ℤ) × Inside P axis r v)
+  pub cut-line : T (canCut P r) → CutLineLaw P r
+
+-- the cell that round n + 1 takes, c, is live, and no live cell comes before it by (bound, xlo, ylo)
+pub record TakenLaw (P : Problem) (n : ℕ) (c : Cell) (others : List Cell) : Type 0 where
+  pub is-live : T (isLive P (run P n .best) c)
+  pub is-first : (d : Cell) → List·Memᴰ d (run P n .live) → T (not (cellBefore d c))
+
+-- the live cells are those of the partition that document 01's rule names: a dead cell never becomes live again.
+-- The partition's cells cover the area
+pub record PartitionLaw (P : Problem) (n : ℕ) : Type 0 where
+  pub live-are-live : (c : Cell) → List·Memᴰ c (run P n .live) → T (isLive P (run P n .best) c)
+  pub dead-are-not : (c : Cell) → List·Memᴰ c (dead P n) → T (not (isLive P (run P n .best) c))
+  pub covers : NonEmpty (P .area) → (p : Place) → In (P .area) p → (c : Cell) × List·Memᴰ c (partition P n) × In (c .rect) p
