@@ -137,3 +137,13 @@ half-nat (negsuc n) = negative (suc n / 2) (omega arith) (omega arith)
     negative : (h : ℕ) → 2 * h ≤ suc n → suc n ≤ 2 * h + 1 → Half (negsuc n) (negℤ (pos h))
     negative zero p q = record { enough = omega arith; least = omega arith }
     negative (suc h) p q = record { enough = omega arith; least = omega arith }
+
+pub half-mono : (y z : ℤ) → y ≤ℤ z → halfUp y ≤ℤ halfUp z
+half-mono y z h = omega (arith, order, half-nat y, half-nat z)
+
+-- halves of differences m − s and m′ − s′ of natural numbers, and of one such difference that is at most 2 n
+pub half-sub-mono : (m s m′ s′ : ℕ) → m + s′ ≤ m′ + s → halfUp (pos m -ℤ pos s) ≤ℤ halfUp (pos m′ -ℤ pos s′)
+half-sub-mono m s m′ s′ h = half-mono _ _ (omega (arith, order, sub-nat (pos m) (pos s), sub-nat (pos m′) (pos s′)))
+
+pub half-sub-le : (m s n : ℕ) → m ≤ 2 * n + s → halfUp (pos m -ℤ pos s) ≤ℤ pos n
+half-sub-le m s n h = omega (arith, order, half-nat (pos m -ℤ pos s), sub-nat (pos m) (pos s))

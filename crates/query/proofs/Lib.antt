@@ -1,2 +1,9 @@
 pub mod Marked
 pub mod Travel
+pub mod Lipschitz
+pub mod BoundLaws
+pub mod KeyOrder
+pub mod Split
+pub mod Best
+pub mod Lawful
+pub mod Invariant

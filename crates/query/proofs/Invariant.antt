@@ -1,0 +1,292 @@
+-- The invariant of the run: every crossing of the area lies in a live cell, or is not better than the best place.
+-- Assumes nothing.
+use mathlib.Core.Path.{_≡_, refl, sym, ap, subst, _∙_}
+use mathlib.Core.Bool.{Bool, true, false, not, _&&_}
+use mathlib.Core.Logic.{_⊎_, inl, inr, ⊎-elim}
+use mathlib.Core.List.{List, [], _∷_, List·Memᴰ, List·Memᴰ·head, List·Memᴰ·tail, List·Memᴰ·cases-cons, List·Memᴰ·not-nil}
+use Prim.Native.Nat.{ℕ, zero, suc}
+use native.Mathlib.Omega.{arith}
+use lib.Dec.{T, T-not}
+use lib.IntN.{ℤ, pos}
+use lib.Signed.{ltZ, _≤ℤ_, _<ℤ_}
+use Rattle.numbers.specs.Integer.{eqZ}
+use Rattle.numbers.specs.Lists.{keep, insertBy}
+use Rattle.numbers.proofs.Truth.{test, and-left, nand-right}
+use Rattle.numbers.proofs.Integer.{order}
+use Rattle.numbers.proofs.Members.{keep-test, keep-from, keep-all, insertBy-cases, insertBy-new, insertBy-old}
+use Rattle.query.specs.Place.{Place, Rect, In, NonEmpty, Axis, x-axis, y-axis, coordinate, low-edge, high-edge, corner, earlier}
+use Rattle.query.specs.Problem.{Problem, linesAlong}
+use Rattle.query.specs.Cut.{canCut, cutLine, cutBefore, cutAfter, newCorners}
+use Rattle.query.specs.Order.{Priced, Cell, precedes, pricedKey, cellKey, better, cellBefore}
+use Rattle.query.specs.Search.{Search, isLive, pricedAt, cellOf, bestOf, otherCorners, startBest, start, cellsAfter, bestAfter, roundOn, round, run}
+use Rattle.query.specs.Laws.{Inside, CutLaw, CutLineLaw}
+use Rattle.query.proofs.KeyOrder.{nat-nltZ, not-lex, precedes-strict, better-strict}
+use Rattle.query.proofs.Split.{Along, along, along-in, edges-in, OnEdge, Corner, corner-in, place-eq, Parts, parts, PartOf, first-part, second-part, split-point, part-nonEmpty, part-low-in, part-high-in, part-point, part-edges, OnCut, new-corner-on, part-corner, cut-or-other, for-both, other}
+use Rattle.query.proofs.Best.{bestOf-from, bestOf-old, bestOf-new}
+use Rattle.query.proofs.Lawful.{Lawful, OnLines}
+
+-- p is not better than q
+abbrev pub NotBetter : Priced → Priced → Type 0
+NotBetter p q = T (not (better p q))
+
+-- what is known of a cell: its bound, its place in the area, that its edges are lines, and that its corners are priced
+pub record CellOk (P : Problem) (best : Priced) (c : Cell) : Type 0 where
+  pub bound-is : c .bound ≡ P .bound (c .rect)
+  pub full : NonEmpty (c .rect)
+  pub within : (p : Place) → In (c .rect) p → In (P .area) p
+  pub low-line : (axis : Axis) → List·Memᴰ (low-edge axis (c .rect)) (linesAlong P axis)
+  pub high-line : (axis : Axis) → List·Memᴰ (high-edge axis (c .rect)) (linesAlong P axis)
+  pub priced : (p : Place) → Corner (c .rect) p → NotBetter (pricedAt P p) best
+
+-- what is known of the best place
+pub record BestOk (P : Problem) (best : Priced) : Type 0 where
+  pub is : best ≡ pricedAt P (best .at)
+  pub inside : In (P .area) (best .at)
+  pub on-lines : OnLines P (best .at)
+
+-- what is known of a search
+pub record Ok (P : Problem) (best : Priced) (live : List Cell) : Type 0 where
+  pub best-ok : BestOk P best
+  pub cells : (c : Cell) → List·Memᴰ c live → CellOk P best c
+  pub live-ones : (c : Cell) → List·Memᴰ c live → T (isLive P best c)
+  pub cover : (q : Place) → In (P .area) q → OnLines P q → NotBetter (pricedAt P q) best ⊎ ((c : Cell) × List·Memᴰ c live × In (c .rect) q)
+
+-- a place that was not better than the best is not better than a later best
+not-better-trans : (p best best′ : Priced) → NotBetter best best′ → NotBetter p best → NotBetter p best′
+not-better-trans p best best′ h k = better-strict .chain best′ best p h k
+
+-- no point of a cell comes before the cell
+point-after-cell : (c : Cell) (p : Place) (cost : ℕ) → In (c .rect) p → c .bound ≤ℤ pos cost → T (not (precedes (pricedKey (record { at = p; cost = cost })) (cellKey c)))
+unfolding precedes earlier
+point-after-cell c p cost h k =
+    not-lex (λ key. key .figure) (λ key key′. earlier (key .place) (key′ .place)) (cellKey c) (pricedKey (record { at = p; cost = cost })) .1 (
+      nat-nltZ (pos cost) (c .bound) (omega (arith, order)),
+      λ e. not-lex (λ (q : Place). q .x) (λ q q′. ltZ (q .y) (q′ .y)) (corner (c .rect)) p .1
+          (nat-nltZ (p .x) (c .rect .xlo) (omega (arith, order, h .left)), λ f. nat-nltZ (p .y) (c .rect .ylo) (omega (arith, order, h .front))),
+    )
+
+module _ (P : Problem) (lawful : Lawful P) (cut-law : (r : Rect) → CutLaw P r) where
+  -- a crossing in a cell that cannot be cut is one of its corners
+  uncut-corner : (r : Rect) (q : Place) → T (not (canCut P r)) → In r q → OnLines P q → Corner r q
+  uncut-corner r q t h on axis = ⊎-elim (λ e. inl e) (λ above. ⊎-elim (λ e. inr e) (λ under. absurd (T-not (canCut P r) t (cut-law r .can-be-cut .1 (axis, coordinate axis q, record { line = on axis; above = above; below = under })))) (at-or-under (along h axis .1))) (at-or-above (along h axis .0))
+    where
+      at-or-above : low-edge axis r ≤ℤ coordinate axis q → (coordinate axis q ≡ low-edge axis r) ⊎ (low-edge axis r <ℤ coordinate axis q)
+      at-or-above k = ⊎-elim (λ s. inr (omega (arith, order))) (λ s. inl (omega (arith, order))) (test (ltZ (low-edge axis r) (coordinate axis q)))
+
+      at-or-under : coordinate axis q ≤ℤ high-edge axis r → (coordinate axis q ≡ high-edge axis r) ⊎ (coordinate axis q <ℤ high-edge axis r)
+      at-or-under k = ⊎-elim (λ s. inr (omega (arith, order))) (λ s. inl (omega (arith, order))) (test (ltZ (coordinate axis q) (high-edge axis r)))
+
+  -- a crossing in a cell that is not live is not better than the best
+  settled : (best : Priced) (c : Cell) → CellOk P best c → T (not (isLive P best c)) → (q : Place) → In (c .rect) q → OnLines P q → NotBetter (pricedAt P q) best
+  unfolding isLive better
+  settled best c ok t q h on = ⊎-elim pruned uncut (test (canCut P (c .rect)))
+    where
+      pruned : T (canCut P (c .rect)) → NotBetter (pricedAt P q) best
+      pruned can = precedes-strict .chain (pricedKey best) (cellKey c) (pricedKey (pricedAt P q)) (nand-right (canCut P (c .rect)) (precedes (cellKey c) (pricedKey best)) t can) (point-after-cell c q (P .price q) h (rw (ok .bound-is) (lawful .below (c .rect) q h)))
+
+      uncut : T (not (canCut P (c .rect))) → NotBetter (pricedAt P q) best
+      uncut cannot = ok .priced q (uncut-corner (c .rect) q cannot h on)
+
+  -- where some cells and the best cover the crossings, so do those of the cells that are live
+  refresh : (best : Priced) (cells : List Cell) → BestOk P best → ((c : Cell) → List·Memᴰ c cells → CellOk P best c)
+      → ((q : Place) → In (P .area) q → OnLines P q → NotBetter (pricedAt P q) best ⊎ ((c : Cell) × List·Memᴰ c cells × In (c .rect) q))
+      → Ok P best (keep (isLive P best) cells)
+  refresh best cells best-ok ok cover = record {
+    best-ok = best-ok;
+    cells = λ c m. ok c (keep-from (isLive P best) cells m);
+    live-ones = λ c m. keep-test (isLive P best) cells m;
+    cover = λ q h on. ⊎-elim inl (λ w. ⊎-elim (λ t. inr (w .0, keep-all (isLive P best) cells (w .1) t, w .2)) (λ t. inl (settled best (w .0) (ok (w .0) (w .1)) t q (w .2) on)) (test (isLive P best (w .0)))) (cover q h on);
+  }
+
+  -- a later best keeps what was known of a cell
+  later-cell : (best best′ : Priced) → NotBetter best best′ → (c : Cell) → CellOk P best c → CellOk P best′ c
+  later-cell best best′ h c ok = record {
+    bound-is = ok .bound-is;
+    full = ok .full;
+    within = ok .within;
+    low-line = ok .low-line;
+    high-line = ok .high-line;
+    priced = λ p k. not-better-trans (pricedAt P p) best best′ h (ok .priced p k);
+  }
+
+  -- a priced place of the area on its lines can be the best
+  place-ok : (p : Place) → In (P .area) p → OnLines P p → BestOk P (pricedAt P p)
+  place-ok p h on = record { is = refl; inside = h; on-lines = on }
+
+  best-of-ok : (best : Priced) (places : List Place) → BestOk P best → ((p : Place) → List·Memᴰ p places → In (P .area) p × OnLines P p) → BestOk P (bestOf P best places)
+  best-of-ok best places ok all =
+      ⊎-elim (λ e. subst (BestOk P) (sym e) ok) (λ w. subst (BestOk P) (w .2) (place-ok (w .0) (all (w .0) (w .1) .0) (all (w .0) (w .1) .1))) (bestOf-from P best places)
+
+  corner-on-lines : (r : Rect) → ((axis : Axis) → List·Memᴰ (low-edge axis r) (linesAlong P axis)) → ((axis : Axis) → List·Memᴰ (high-edge axis r) (linesAlong P axis)) → (p : Place) → Corner r p → OnLines P p
+  corner-on-lines r low high p c axis = ⊎-elim (λ e. subst (λ (z : ℤ). List·Memᴰ z (linesAlong P axis)) (sym e) (low axis)) (λ e. subst (λ (z : ℤ). List·Memᴰ z (linesAlong P axis)) (sym e) (high axis)) (c axis)
+
+  -- ---- the start
+  -- the corners of the area are the places that the start prices
+  corner-first : Corner (P .area) (corner (P .area))
+  corner-first = for-both (OnEdge (P .area) (corner (P .area))) (inl refl) (inl refl)
+
+  other-corner : (p : Place) → List·Memᴰ p (otherCorners (P .area)) → Corner (P .area) p
+  unfolding otherCorners
+  other-corner p (List·Memᴰ·head e) = subst (Corner (P .area)) (sym e) (for-both (OnEdge (P .area) (record { x = P .area .xlo; y = P .area .yhi })) (inl refl) (inr refl))
+  other-corner p (List·Memᴰ·tail (List·Memᴰ·head e)) = subst (Corner (P .area)) (sym e) (for-both (OnEdge (P .area) (record { x = P .area .xhi; y = P .area .ylo })) (inr refl) (inl refl))
+  other-corner p (List·Memᴰ·tail (List·Memᴰ·tail (List·Memᴰ·head e))) = subst (Corner (P .area)) (sym e) (for-both (OnEdge (P .area) (record { x = P .area .xhi; y = P .area .yhi })) (inr refl) (inr refl))
+
+  every-corner : (p : Place) → Corner (P .area) p → (p ≡ corner (P .area)) ⊎ List·Memᴰ p (otherCorners (P .area))
+  unfolding otherCorners
+  every-corner p c = go (c x-axis) (c y-axis)
+    where
+      at : (u v : ℤ) → p .x ≡ u → p .y ≡ v → p ≡ record { x = u; y = v }
+      at u v e f = place-eq p (record { x = u; y = v }) (for-both (λ axis. coordinate axis p ≡ coordinate axis (record { x = u; y = v })) e f)
+
+      go : OnEdge (P .area) p x-axis → OnEdge (P .area) p y-axis → (p ≡ corner (P .area)) ⊎ List·Memᴰ p (otherCorners (P .area))
+      go (inl e) (inl f) = inl (at (P .area .xlo) (P .area .ylo) e f)
+      go (inl e) (inr f) = inr (List·Memᴰ·head (at (P .area .xlo) (P .area .yhi) e f))
+      go (inr e) (inl f) = inr (List·Memᴰ·tail (List·Memᴰ·head (at (P .area .xhi) (P .area .ylo) e f)))
+      go (inr e) (inr f) = inr (List·Memᴰ·tail (List·Memᴰ·tail (List·Memᴰ·head (at (P .area .xhi) (P .area .yhi) e f))))
+
+  corner-ok : (p : Place) → Corner (P .area) p → In (P .area) p × OnLines P p
+  corner-ok p c = (corner-in (P .area) p (lawful .nonEmpty) c, corner-on-lines (P .area) (lawful .low-line) (lawful .high-line) p c)
+
+  start-best-ok : BestOk P (startBest P)
+  unfolding startBest
+  start-best-ok = best-of-ok (pricedAt P (corner (P .area))) (otherCorners (P .area)) (place-ok (corner (P .area)) (corner-ok (corner (P .area)) corner-first .0) (corner-ok (corner (P .area)) corner-first .1)) (λ p m. corner-ok p (other-corner p m))
+
+  start-priced : (p : Place) → Corner (P .area) p → NotBetter (pricedAt P p) (startBest P)
+  unfolding startBest
+  start-priced p c = ⊎-elim (λ e. subst (λ (q : Place). NotBetter (pricedAt P q) (startBest P)) (sym e) (bestOf-old P (pricedAt P (corner (P .area))) (otherCorners (P .area)))) (bestOf-new P (pricedAt P (corner (P .area))) (otherCorners (P .area)) p) (every-corner p c)
+
+  area-cell-ok : CellOk P (startBest P) (cellOf P (P .area))
+  area-cell-ok = record { bound-is = refl; full = lawful .nonEmpty; within = λ p h. h; low-line = lawful .low-line; high-line = lawful .high-line; priced = start-priced }
+
+  pub start-ok : Ok P (start P .best) (start P .live)
+  unfolding start
+  start-ok = refresh (startBest P) (cellOf P (P .area) ∷ []) start-best-ok only (λ q h on. inr (cellOf P (P .area), List·Memᴰ·head refl, h))
+    where
+      only : (c : Cell) → List·Memᴰ c (cellOf P (P .area) ∷ []) → CellOk P (startBest P) c
+      only c (List·Memᴰ·head e) = subst (CellOk P (startBest P)) (sym e) area-cell-ok
+
+  -- ---- a round
+  module _ (best : Priced) (c : Cell) (others : List Cell) (ok : Ok P best (c ∷ others)) where
+    taken : CellOk P best c
+    taken = ok .cells c (List·Memᴰ·head refl)
+
+    pub taken-cut : CutLineLaw P (c .rect)
+    unfolding isLive
+    taken-cut = cut-law (c .rect) .cut-line (and-left (canCut P (c .rect)) (precedes (cellKey c) (pricedKey best)) (ok .live-ones c (List·Memᴰ·head refl)))
+
+    -- the cut axis, the line and the two parts, under short names
+    abbrev pub axis : Axis
+    axis = cutLine P (c .rect) .axis
+
+    abbrev pub line : ℤ
+    line = cutLine P (c .rect) .at
+
+    abbrev pub first : Rect
+    first = cutBefore axis line (c .rect)
+
+    abbrev pub second : Rect
+    second = cutAfter axis line (c .rect)
+
+    cut : Inside P axis (c .rect) line
+    cut = taken-cut .is-inside
+
+    pub is-first-part : PartOf axis line (c .rect) first
+    is-first-part = first-part axis line (c .rect) (cut .above) (cut .below) first second (parts axis line (c .rect))
+
+    pub is-second-part : PartOf axis line (c .rect) second
+    is-second-part = second-part axis line (c .rect) (cut .above) (cut .below) first second (parts axis line (c .rect))
+
+    -- a new corner is a point of the cell, on lines
+    new-corner-in : (p : Place) → List·Memᴰ p (newCorners axis line (c .rect)) → In (c .rect) p × OnLines P p
+    new-corner-in p m = go (new-corner-on axis line (c .rect) p m)
+      where
+        on-lines : OnCut axis line (c .rect) p → OnLines P p
+        on-lines on = cut-or-other (λ a. List·Memᴰ (coordinate a p) (linesAlong P a)) axis (subst (λ (z : ℤ). List·Memᴰ z (linesAlong P axis)) (sym (on .on-line)) (cut .line))
+            (⊎-elim (λ e. subst (λ (z : ℤ). List·Memᴰ z (linesAlong P (other axis))) (sym e) (taken .low-line (other axis))) (λ e. subst (λ (z : ℤ). List·Memᴰ z (linesAlong P (other axis))) (sym e) (taken .high-line (other axis))) (on .on-edge))
+
+        at-cut : coordinate axis p ≡ line → low-edge axis (c .rect) <ℤ line → line <ℤ high-edge axis (c .rect) → Along (c .rect) p axis
+        at-cut e h k = (omega (arith, order), omega (arith, order))
+
+        at-edge : OnEdge (c .rect) p (other axis) → low-edge (other axis) (c .rect) ≤ℤ high-edge (other axis) (c .rect) → Along (c .rect) p (other axis)
+        at-edge (inl e) h = (omega (arith, order), omega (arith, order))
+        at-edge (inr e) h = (omega (arith, order), omega (arith, order))
+
+        go : OnCut axis line (c .rect) p → In (c .rect) p × OnLines P p
+        go on = (along-in (c .rect) p (cut-or-other (Along (c .rect) p) axis (at-cut (on .on-line) (cut .above) (cut .below)) (at-edge (on .on-edge) (edges-in (taken .full) (other axis)))), on-lines on)
+
+    abbrev pub best′ : Priced
+    best′ = bestAfter P best c
+
+    pub best-kept : NotBetter best best′
+    unfolding bestAfter
+    best-kept = bestOf-old P best (newCorners axis line (c .rect))
+
+    best-new : (p : Place) → List·Memᴰ p (newCorners axis line (c .rect)) → NotBetter (pricedAt P p) best′
+    unfolding bestAfter
+    best-new = bestOf-new P best (newCorners axis line (c .rect))
+
+    -- the best is the old one, or a new corner, which is a point of the taken cell
+    pub best-from : (best′ ≡ best) ⊎ ((p : Place) × In (c .rect) p × (pricedAt P p ≡ best′))
+    unfolding bestAfter
+    best-from = ⊎-elim inl (λ w. inr (w .0, new-corner-in (w .0) (w .1) .0, w .2)) (bestOf-from P best (newCorners axis line (c .rect)))
+
+    best-ok′ : BestOk P best′
+    unfolding bestAfter
+    best-ok′ = best-of-ok best (newCorners axis line (c .rect)) (ok .best-ok) (λ p m. (taken .within p (new-corner-in p m .0), new-corner-in p m .1))
+
+    part-ok : (q : Rect) → PartOf axis line (c .rect) q → CellOk P best′ (cellOf P q)
+    part-ok q part = record {
+      bound-is = refl;
+      full = part-nonEmpty axis line (c .rect) (cut .above) (cut .below) q part (taken .full);
+      within = λ p h. taken .within p (part-point axis line (c .rect) (cut .above) (cut .below) q part (taken .full) p h);
+      low-line = λ a. on-lines a .0;
+      high-line = λ a. on-lines a .1;
+      priced = λ p k. ⊎-elim (λ old. not-better-trans (pricedAt P p) best best′ best-kept (taken .priced p old)) (best-new p) (part-corner axis line (c .rect) q part p k);
+    }
+      where
+        on-lines : (a : Axis) → List·Memᴰ (low-edge a q) (linesAlong P a) × List·Memᴰ (high-edge a q) (linesAlong P a)
+        on-lines = part-edges axis line (c .rect) (cut .above) (cut .below) q part (taken .full) (λ a z. List·Memᴰ z (linesAlong P a)) (taken .low-line) (taken .high-line) (cut .line)
+
+    -- the cells after the cut are the two parts and the others
+    pub after-cases : (d : Cell) → List·Memᴰ d (cellsAfter P c others) → (d ≡ cellOf P first) ⊎ ((d ≡ cellOf P second) ⊎ List·Memᴰ d others)
+    unfolding cellsAfter
+    after-cases d m = ⊎-elim inl (λ n. inr (insertBy-cases cellBefore (cellOf P second) others n)) (insertBy-cases cellBefore (cellOf P first) (insertBy cellBefore (cellOf P second) others) m)
+
+    after-first : List·Memᴰ (cellOf P first) (cellsAfter P c others)
+    unfolding cellsAfter
+    after-first = insertBy-new cellBefore (cellOf P first) (insertBy cellBefore (cellOf P second) others)
+
+    after-second : List·Memᴰ (cellOf P second) (cellsAfter P c others)
+    unfolding cellsAfter
+    after-second = insertBy-old cellBefore (cellOf P first) (insertBy cellBefore (cellOf P second) others) (insertBy-new cellBefore (cellOf P second) others)
+
+    after-others : (d : Cell) → List·Memᴰ d others → List·Memᴰ d (cellsAfter P c others)
+    unfolding cellsAfter
+    after-others d m = insertBy-old cellBefore (cellOf P first) (insertBy cellBefore (cellOf P second) others) (insertBy-old cellBefore (cellOf P second) others m)
+
+    after-ok : (d : Cell) → List·Memᴰ d (cellsAfter P c others) → CellOk P best′ d
+    after-ok d m = ⊎-elim (λ e. subst (CellOk P best′) (sym e) (part-ok first is-first-part)) (⊎-elim (λ e. subst (CellOk P best′) (sym e) (part-ok second is-second-part)) (λ n. later-cell best best′ best-kept d (ok .cells d (List·Memᴰ·tail n)))) (after-cases d m)
+
+    after-cover : (q : Place) → In (P .area) q → OnLines P q → NotBetter (pricedAt P q) best′ ⊎ ((d : Cell) × List·Memᴰ d (cellsAfter P c others) × In (d .rect) q)
+    after-cover q h on = ⊎-elim (λ k. inl (not-better-trans (pricedAt P q) best best′ best-kept k)) (λ w. inr (from (w .0) (w .1) (w .2))) (ok .cover q h on)
+      where
+        in-part : In first q ⊎ In second q → (d : Cell) × List·Memᴰ d (cellsAfter P c others) × In (d .rect) q
+        in-part (inl k) = (cellOf P first, after-first, k)
+        in-part (inr k) = (cellOf P second, after-second, k)
+
+        from : (d : Cell) → List·Memᴰ d (c ∷ others) → In (d .rect) q → (d : Cell) × List·Memᴰ d (cellsAfter P c others) × In (d .rect) q
+        from d (List·Memᴰ·head e) k = in-part (split-point axis line (c .rect) first second (parts axis line (c .rect)) q (subst (λ (d : Cell). In (d .rect) q) e k))
+        from d (List·Memᴰ·tail m) k = (d, after-others d m, k)
+
+    pub after-round : Ok P best′ (keep (isLive P best′) (cellsAfter P c others))
+    after-round = refresh best′ (cellsAfter P c others) best-ok′ after-ok after-cover
+
+  pub round-ok : (s : Search) (live : List Cell) → s .live ≡ live → Ok P (s .best) live → Ok P (roundOn P s live .best) (roundOn P s live .live)
+  unfolding roundOn
+  round-ok s [] e ok = subst (Ok P (s .best)) (sym e) ok
+  round-ok s (c ∷ others) e ok = after-round (s .best) c others ok
+
+  pub run-ok : (n : ℕ) → Ok P (run P n .best) (run P n .live)
+  unfolding run round
+  run-ok zero = start-ok
+  run-ok (suc n) = round-ok (run P n) (run P n .live) refl (run-ok n)
