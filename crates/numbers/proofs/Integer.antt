@@ -6,7 +6,7 @@ use mathlib.Core.Path.{_≡_, refl, ap, subst}
 use mathlib.Core.Bool.{not}
 use Prim.Native.Nat.{ℕ, zero, suc, _+_, _-_, _*_, _/_, _≤_, _<_}
 use native.Mathlib.Omega.{arith}
-use lib.Dec.{T, T-prop, ltb, leb→le, le→leb, ltb→lt, lt→ltb, nleb→lt, nltb→le, eqb→eq, eqb-refl}
+use lib.Dec.{T, T-prop, ltb, leb→le, le→leb, ltb→lt, lt→ltb, nleb→lt, nltb→le, eqb→eq, eqb-refl, not-T}
 use lib.IntN.{ℤ, pos, negsuc, negℤ, natAbs, subℕ, _+ℤ_, _-ℤ_}
 use lib.Signed.{leZ, ltZ, _≤ℤ_, _<ℤ_}
 use Rattle.numbers.specs.Integer.{eqZ, dist, halfUp}
@@ -92,7 +92,13 @@ nltZ-nat (pos a) (negsuc b) t = omega arith
 nltZ-nat (negsuc a) (pos b) t = absurd t
 nltZ-nat (negsuc a) (negsuc b) t = omega (arith, nltb→le)
 
-pub ruleset order = (leZ-nat, nat-leZ, ltZ-nat, nat-ltZ, eqZ-nat, nat-eqZ, nat-eq, eq-nat, le-nat, nat-le, lt-nat, nat-lt, nleZ-nat, nltZ-nat)
+pub nat-nleZ : (a b : ℤ) → pp b + nn a < pp a + nn b → T (not (leZ a b))
+nat-nleZ a b h = not-T (leZ a b) (λ t. omega (arith, leZ-nat))
+
+pub nat-nltZ : (a b : ℤ) → pp b + nn a ≤ pp a + nn b → T (not (ltZ a b))
+nat-nltZ a b h = not-T (ltZ a b) (λ t. omega (arith, ltZ-nat))
+
+pub ruleset order = (leZ-nat, nat-leZ, ltZ-nat, nat-ltZ, eqZ-nat, nat-eqZ, nat-eq, eq-nat, le-nat, nat-le, lt-nat, nat-lt, nleZ-nat, nat-nleZ, nltZ-nat, nat-nltZ)
 
 pub <ℤ-prop : (a b : ℤ) → IsProp (a <ℤ b)
 <ℤ-prop a b h k = λ i. record { lt = T-prop (ltZ a b) (h .lt) (k .lt) i }

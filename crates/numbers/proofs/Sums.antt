@@ -5,7 +5,8 @@ use mathlib.Core.Bool.{Bool, true, false, cond}
 use mathlib.Core.List.{List, [], _∷_, List·Memᴰ, List·Memᴰ·head, List·Memᴰ·tail}
 use Prim.Native.Nat.{ℕ, _+_, _*_, _≤_}
 use native.Mathlib.Omega.{arith}
-use Rattle.numbers.specs.Lists.{sumOf, keep}
+use Rattle.numbers.specs.Lists.{sumOf, keep, insertBy}
+use Rattle.numbers.proofs.Truth.{cond-ind}
 
 module _ {A : Type 0} where
   pub sumOf-cons : (f : A → ℕ) (x : A) (xs : List A) → sumOf f (x ∷ xs) ≡ f x + sumOf f xs
@@ -33,3 +34,13 @@ module _ {A : Type 0} where
       go : (b : Bool) → sumOf f (keep p xs) ≡ sumOf (λ x. cond (p x) (f x) 0) xs → sumOf f (cond b (x ∷ keep p xs) (keep p xs)) ≡ cond b (f x) 0 + sumOf (λ x. cond (p x) (f x) 0) xs
       go true e = omega arith
       go false e = omega arith
+
+  pub sumOf-keep-le : (f : A → ℕ) (p : A → Bool) (xs : List A) → sumOf f (keep p xs) ≤ sumOf f xs
+  unfolding keep sumOf
+  sumOf-keep-le f p [] = omega arith
+  sumOf-keep-le f p (x ∷ xs) = cond-ind (λ (l : List A). sumOf f l ≤ sumOf f (x ∷ xs)) (p x) (λ t. omega (arith, sumOf-keep-le f p xs)) (λ t. omega (arith, sumOf-keep-le f p xs))
+
+  pub sumOf-insertBy : (f : A → ℕ) (before : A → A → Bool) (x : A) (ys : List A) → sumOf f (insertBy before x ys) ≡ f x + sumOf f ys
+  unfolding insertBy sumOf
+  sumOf-insertBy f before x [] = refl
+  sumOf-insertBy f before x (y ∷ ys) = cond-ind (λ (l : List A). sumOf f l ≡ f x + sumOf f (y ∷ ys)) (before x y) (λ t. refl) (λ t. omega (arith, sumOf-insertBy f before x ys))

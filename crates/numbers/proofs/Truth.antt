@@ -2,7 +2,7 @@
 -- Assumes nothing.
 use mathlib.Core.Path.{_≡_, refl}
 use mathlib.Core.Bool.{Bool, true, false, not, cond, _&&_, _||_}
-use mathlib.Core.Logic.{_⊎_, inl, inr}
+use mathlib.Core.Logic.{_⊎_, inl, inr, _↔_}
 use lib.Dec.{T}
 
 pub and-left : (a b : Bool) → T (a && b) → T a
@@ -67,3 +67,17 @@ cond-true false x y t = absurd t
 pub cond-false {ℓ} : {A : Type ℓ} (b : Bool) (x y : A) → T (not b) → cond b x y ≡ y
 cond-false true x y t = absurd t
 cond-false false x y t = refl
+
+pub and-fails-left : (a b : Bool) → T (not a) → T (not (a && b))
+and-fails-left true b t = absurd t
+and-fails-left false b t = tt
+
+pub and-fails-right : (a b : Bool) → T (not b) → T (not (a && b))
+and-fails-right true b t = t
+and-fails-right false b t = tt
+
+-- what it says that a first test fails and a second, where it holds, leaves a third to fail
+pub not-either : (a b c : Bool) → T (not (a || (b && c))) ↔ (T (not a) × (T b → T (not c)))
+not-either true b c = (λ t. absurd t, λ r. r .0)
+not-either false true c = (λ t. (tt, λ u. t), λ r. r .1 tt)
+not-either false false c = (λ t. (tt, λ u. absurd u), λ r. tt)

@@ -20,8 +20,10 @@ use Rattle.query.specs.Cut.{canCut, cutLine, cutBefore, cutAfter, newCor
 use Rattle.query.specs.Order.{Priced, Cell, precedes, pricedKey, cellKey, better, cellBefore}
 use Rattle.query.specs.Search.{Search, isLive, pricedAt, cellOf, bestOf, otherCorners, startBest, start, cellsAfter, bestAfter, roundOn, round, run}
 use Rattle.query.specs.Laws.{Inside, CutLaw, CutLineLaw}
-use Rattle.query.proofs.KeyOrder.{nat-nltZ, not-lex, precedes-strict, better-strict}
-use Rattle.query.proofs.Split.{Along, along, along-in, edges-in, OnEdge, Corner, corner-in, place-eq, Parts, parts, PartOf, first-part, second-part, split-point, part-nonEmpty, part-low-in, part-high-in, part-point, part-edges, OnCut, new-corner-on, part-corner, cut-or-other, for-both, other}
+use Rattle.query.proofs.KeyOrder.{precedes-strict, better-strict, point-after-cell}
+use Rattle.query.proofs.Axes.{for-both, Along, along, along-in, edges-in, place-eq, other, cut-or-other}
+use Rattle.query.proofs.Split.{OnEdge, Corner, corner-in, parts, PartOf, first-part, second-part, split-point, part-nonEmpty, part-point, part-edges, OnCut, new-corner-on, part-corner}
+use Rattle.query.proofs.CellsAfter.{axisOf, lineOf, firstOf, secondOf, Within, after-cases, after-within}
 use Rattle.query.proofs.Best.{bestOf-from, bestOf-old, bestOf-new}
 use Rattle.query.proofs.Lawful.{Lawful, OnLines}
 
@@ -49,21 +51,11 @@ pub record Ok (P : Problem) (best : Priced) (live : List Cell) : Type 0 where
   pub best-ok : BestOk P best
   pub cells : (c : Cell) → List·Memᴰ c live → CellOk P best c
   pub live-ones : (c : Cell) → List·Memᴰ c live → T (isLive P best c)
-  pub cover : (q : Place) → In (P .area) q → OnLines P q → NotBetter (pricedAt P q) best ⊎ ((c : Cell) × List·Memᴰ c live × In (c .rect) q)
+  pub cover : (q : Place) → In (P .area) q → OnLines P q → NotBetter (pricedAt P q) best ⊎ Within q live
 
 -- a place that was not better than the best is not better than a later best
 not-better-trans : (p best best′ : Priced) → NotBetter best best′ → NotBetter p best → NotBetter p best′
 not-better-trans p best best′ h k = better-strict .chain best′ best p h k
-
--- no point of a cell comes before the cell
-point-after-cell : (c : Cell) (p : Place) (cost : ℕ) → In (c .rect) p → c .bound ≤ℤ pos cost → T (not (precedes (pricedKey (record { at = p; cost = cost })) (cellKey c)))
-unfolding precedes earlier
-point-after-cell c p cost h k =
-    not-lex (λ key. key .figure) (λ key key′. earlier (key .place) (key′ .place)) (cellKey c) (pricedKey (record { at = p; cost = cost })) .1 (
-      nat-nltZ (pos cost) (c .bound) (omega (arith, order)),
-      λ e. not-lex (λ (q : Place). q .x) (λ q q′. ltZ (q .y) (q′ .y)) (corner (c .rect)) p .1
-          (nat-nltZ (p .x) (c .rect .xlo) (omega (arith, order, h .left)), λ f. nat-nltZ (p .y) (c .rect .ylo) (omega (arith, order, h .front))),
-    )
 
 module _ (P : Problem) (lawful : Lawful P) (cut-law : (r : Rect) → CutLaw P r) where
   -- a crossing in a cell that cannot be cut is one of its corners
@@ -82,14 +74,14 @@ module _ (P : Problem) (lawful : Lawful P) (cut-law : (r : Rect) → CutLaw P r)
   settled best c ok t q h on = ⊎-elim pruned uncut (test (canCut P (c .rect)))
     where
       pruned : T (canCut P (c .rect)) → NotBetter (pricedAt P q) best
-      pruned can = precedes-strict .chain (pricedKey best) (cellKey c) (pricedKey (pricedAt P q)) (nand-right (canCut P (c .rect)) (precedes (cellKey c) (pricedKey best)) t can) (point-after-cell c q (P .price q) h (rw (ok .bound-is) (lawful .below (c .rect) q h)))
+      pruned can = precedes-strict .chain (pricedKey best) (cellKey c) (pricedKey (pricedAt P q)) (nand-right (canCut P (c .rect)) (precedes (cellKey c) (pricedKey best)) t can) (point-after-cell c (pricedAt P q) h (rw (ok .bound-is) (lawful .below (c .rect) q h)))
 
       uncut : T (not (canCut P (c .rect))) → NotBetter (pricedAt P q) best
       uncut cannot = ok .priced q (uncut-corner (c .rect) q cannot h on)
 
   -- where some cells and the best cover the crossings, so do those of the cells that are live
   refresh : (best : Priced) (cells : List Cell) → BestOk P best → ((c : Cell) → List·Memᴰ c cells → CellOk P best c)
-      → ((q : Place) → In (P .area) q → OnLines P q → NotBetter (pricedAt P q) best ⊎ ((c : Cell) × List·Memᴰ c cells × In (c .rect) q))
+      → ((q : Place) → In (P .area) q → OnLines P q → NotBetter (pricedAt P q) best ⊎ Within q cells)
       → Ok P best (keep (isLive P best) cells)
   refresh best cells best-ok ok cover = record {
     best-ok = best-ok;
@@ -174,109 +166,71 @@ module _ (P : Problem) (lawful : Lawful P) (cut-law : (r : Rect) → CutLaw P r)
     unfolding isLive
     taken-cut = cut-law (c .rect) .cut-line (and-left (canCut P (c .rect)) (precedes (cellKey c) (pricedKey best)) (ok .live-ones c (List·Memᴰ·head refl)))
 
-    -- the cut axis, the line and the two parts, under short names
-    abbrev pub axis : Axis
-    axis = cutLine P (c .rect) .axis
-
-    abbrev pub line : ℤ
-    line = cutLine P (c .rect) .at
-
-    abbrev pub first : Rect
-    first = cutBefore axis line (c .rect)
-
-    abbrev pub second : Rect
-    second = cutAfter axis line (c .rect)
-
-    cut : Inside P axis (c .rect) line
+    cut : Inside P (axisOf P c) (c .rect) (lineOf P c)
     cut = taken-cut .is-inside
 
-    pub is-first-part : PartOf axis line (c .rect) first
-    is-first-part = first-part axis line (c .rect) (cut .above) (cut .below) first second (parts axis line (c .rect))
+    pub is-first-part : PartOf (axisOf P c) (lineOf P c) (c .rect) (firstOf P c)
+    is-first-part = first-part (axisOf P c) (lineOf P c) (c .rect) (cut .above) (cut .below) (firstOf P c) (secondOf P c) (parts (axisOf P c) (lineOf P c) (c .rect))
 
-    pub is-second-part : PartOf axis line (c .rect) second
-    is-second-part = second-part axis line (c .rect) (cut .above) (cut .below) first second (parts axis line (c .rect))
+    pub is-second-part : PartOf (axisOf P c) (lineOf P c) (c .rect) (secondOf P c)
+    is-second-part = second-part (axisOf P c) (lineOf P c) (c .rect) (cut .above) (cut .below) (firstOf P c) (secondOf P c) (parts (axisOf P c) (lineOf P c) (c .rect))
 
     -- a new corner is a point of the cell, on lines
-    new-corner-in : (p : Place) → List·Memᴰ p (newCorners axis line (c .rect)) → In (c .rect) p × OnLines P p
-    new-corner-in p m = go (new-corner-on axis line (c .rect) p m)
+    new-corner-in : (p : Place) → List·Memᴰ p (newCorners (axisOf P c) (lineOf P c) (c .rect)) → In (c .rect) p × OnLines P p
+    new-corner-in p m = go (new-corner-on (axisOf P c) (lineOf P c) (c .rect) p m)
       where
-        on-lines : OnCut axis line (c .rect) p → OnLines P p
-        on-lines on = cut-or-other (λ a. List·Memᴰ (coordinate a p) (linesAlong P a)) axis (subst (λ (z : ℤ). List·Memᴰ z (linesAlong P axis)) (sym (on .on-line)) (cut .line))
-            (⊎-elim (λ e. subst (λ (z : ℤ). List·Memᴰ z (linesAlong P (other axis))) (sym e) (taken .low-line (other axis))) (λ e. subst (λ (z : ℤ). List·Memᴰ z (linesAlong P (other axis))) (sym e) (taken .high-line (other axis))) (on .on-edge))
+        on-lines : OnCut (axisOf P c) (lineOf P c) (c .rect) p → OnLines P p
+        on-lines on = cut-or-other (λ a. List·Memᴰ (coordinate a p) (linesAlong P a)) (axisOf P c) (subst (λ (z : ℤ). List·Memᴰ z (linesAlong P (axisOf P c))) (sym (on .on-line)) (cut .line))
+            (⊎-elim (λ e. subst (λ (z : ℤ). List·Memᴰ z (linesAlong P (other (axisOf P c)))) (sym e) (taken .low-line (other (axisOf P c)))) (λ e. subst (λ (z : ℤ). List·Memᴰ z (linesAlong P (other (axisOf P c)))) (sym e) (taken .high-line (other (axisOf P c)))) (on .on-edge))
 
-        at-cut : coordinate axis p ≡ line → low-edge axis (c .rect) <ℤ line → line <ℤ high-edge axis (c .rect) → Along (c .rect) p axis
+        at-cut : coordinate (axisOf P c) p ≡ lineOf P c → low-edge (axisOf P c) (c .rect) <ℤ lineOf P c → lineOf P c <ℤ high-edge (axisOf P c) (c .rect) → Along (c .rect) p (axisOf P c)
         at-cut e h k = (omega (arith, order), omega (arith, order))
 
-        at-edge : OnEdge (c .rect) p (other axis) → low-edge (other axis) (c .rect) ≤ℤ high-edge (other axis) (c .rect) → Along (c .rect) p (other axis)
+        at-edge : OnEdge (c .rect) p (other (axisOf P c)) → low-edge (other (axisOf P c)) (c .rect) ≤ℤ high-edge (other (axisOf P c)) (c .rect) → Along (c .rect) p (other (axisOf P c))
         at-edge (inl e) h = (omega (arith, order), omega (arith, order))
         at-edge (inr e) h = (omega (arith, order), omega (arith, order))
 
-        go : OnCut axis line (c .rect) p → In (c .rect) p × OnLines P p
-        go on = (along-in (c .rect) p (cut-or-other (Along (c .rect) p) axis (at-cut (on .on-line) (cut .above) (cut .below)) (at-edge (on .on-edge) (edges-in (taken .full) (other axis)))), on-lines on)
+        go : OnCut (axisOf P c) (lineOf P c) (c .rect) p → In (c .rect) p × OnLines P p
+        go on = (along-in (c .rect) p (cut-or-other (Along (c .rect) p) (axisOf P c) (at-cut (on .on-line) (cut .above) (cut .below)) (at-edge (on .on-edge) (edges-in (taken .full) (other (axisOf P c))))), on-lines on)
 
     abbrev pub best′ : Priced
     best′ = bestAfter P best c
 
     pub best-kept : NotBetter best best′
     unfolding bestAfter
-    best-kept = bestOf-old P best (newCorners axis line (c .rect))
+    best-kept = bestOf-old P best (newCorners (axisOf P c) (lineOf P c) (c .rect))
 
-    best-new : (p : Place) → List·Memᴰ p (newCorners axis line (c .rect)) → NotBetter (pricedAt P p) best′
+    best-new : (p : Place) → List·Memᴰ p (newCorners (axisOf P c) (lineOf P c) (c .rect)) → NotBetter (pricedAt P p) best′
     unfolding bestAfter
-    best-new = bestOf-new P best (newCorners axis line (c .rect))
+    best-new = bestOf-new P best (newCorners (axisOf P c) (lineOf P c) (c .rect))
 
     -- the best is the old one, or a new corner, which is a point of the taken cell
     pub best-from : (best′ ≡ best) ⊎ ((p : Place) × In (c .rect) p × (pricedAt P p ≡ best′))
     unfolding bestAfter
-    best-from = ⊎-elim inl (λ w. inr (w .0, new-corner-in (w .0) (w .1) .0, w .2)) (bestOf-from P best (newCorners axis line (c .rect)))
+    best-from = ⊎-elim inl (λ w. inr (w .0, new-corner-in (w .0) (w .1) .0, w .2)) (bestOf-from P best (newCorners (axisOf P c) (lineOf P c) (c .rect)))
 
     best-ok′ : BestOk P best′
     unfolding bestAfter
-    best-ok′ = best-of-ok best (newCorners axis line (c .rect)) (ok .best-ok) (λ p m. (taken .within p (new-corner-in p m .0), new-corner-in p m .1))
+    best-ok′ = best-of-ok best (newCorners (axisOf P c) (lineOf P c) (c .rect)) (ok .best-ok) (λ p m. (taken .within p (new-corner-in p m .0), new-corner-in p m .1))
 
-    part-ok : (q : Rect) → PartOf axis line (c .rect) q → CellOk P best′ (cellOf P q)
+    part-ok : (q : Rect) → PartOf (axisOf P c) (lineOf P c) (c .rect) q → CellOk P best′ (cellOf P q)
     part-ok q part = record {
       bound-is = refl;
-      full = part-nonEmpty axis line (c .rect) (cut .above) (cut .below) q part (taken .full);
-      within = λ p h. taken .within p (part-point axis line (c .rect) (cut .above) (cut .below) q part (taken .full) p h);
+      full = part-nonEmpty (axisOf P c) (lineOf P c) (c .rect) (cut .above) (cut .below) q part (taken .full);
+      within = λ p h. taken .within p (part-point (axisOf P c) (lineOf P c) (c .rect) (cut .above) (cut .below) q part (taken .full) p h);
       low-line = λ a. on-lines a .0;
       high-line = λ a. on-lines a .1;
-      priced = λ p k. ⊎-elim (λ old. not-better-trans (pricedAt P p) best best′ best-kept (taken .priced p old)) (best-new p) (part-corner axis line (c .rect) q part p k);
+      priced = λ p k. ⊎-elim (λ old. not-better-trans (pricedAt P p) best best′ best-kept (taken .priced p old)) (best-new p) (part-corner (axisOf P c) (lineOf P c) (c .rect) q part p k);
     }
       where
         on-lines : (a : Axis) → List·Memᴰ (low-edge a q) (linesAlong P a) × List·Memᴰ (high-edge a q) (linesAlong P a)
-        on-lines = part-edges axis line (c .rect) (cut .above) (cut .below) q part (taken .full) (λ a z. List·Memᴰ z (linesAlong P a)) (taken .low-line) (taken .high-line) (cut .line)
-
-    -- the cells after the cut are the two parts and the others
-    pub after-cases : (d : Cell) → List·Memᴰ d (cellsAfter P c others) → (d ≡ cellOf P first) ⊎ ((d ≡ cellOf P second) ⊎ List·Memᴰ d others)
-    unfolding cellsAfter
-    after-cases d m = ⊎-elim inl (λ n. inr (insertBy-cases cellBefore (cellOf P second) others n)) (insertBy-cases cellBefore (cellOf P first) (insertBy cellBefore (cellOf P second) others) m)
-
-    after-first : List·Memᴰ (cellOf P first) (cellsAfter P c others)
-    unfolding cellsAfter
-    after-first = insertBy-new cellBefore (cellOf P first) (insertBy cellBefore (cellOf P second) others)
-
-    after-second : List·Memᴰ (cellOf P second) (cellsAfter P c others)
-    unfolding cellsAfter
-    after-second = insertBy-old cellBefore (cellOf P first) (insertBy cellBefore (cellOf P second) others) (insertBy-new cellBefore (cellOf P second) others)
-
-    after-others : (d : Cell) → List·Memᴰ d others → List·Memᴰ d (cellsAfter P c others)
-    unfolding cellsAfter
-    after-others d m = insertBy-old cellBefore (cellOf P first) (insertBy cellBefore (cellOf P second) others) (insertBy-old cellBefore (cellOf P second) others m)
+        on-lines = part-edges (axisOf P c) (lineOf P c) (c .rect) (cut .above) (cut .below) q part (taken .full) (λ a z. List·Memᴰ z (linesAlong P a)) (taken .low-line) (taken .high-line) (cut .line)
 
     after-ok : (d : Cell) → List·Memᴰ d (cellsAfter P c others) → CellOk P best′ d
-    after-ok d m = ⊎-elim (λ e. subst (CellOk P best′) (sym e) (part-ok first is-first-part)) (⊎-elim (λ e. subst (CellOk P best′) (sym e) (part-ok second is-second-part)) (λ n. later-cell best best′ best-kept d (ok .cells d (List·Memᴰ·tail n)))) (after-cases d m)
+    after-ok d m = ⊎-elim (λ e. subst (CellOk P best′) (sym e) (part-ok (firstOf P c) is-first-part)) (⊎-elim (λ e. subst (CellOk P best′) (sym e) (part-ok (secondOf P c) is-second-part)) (λ n. later-cell best best′ best-kept d (ok .cells d (List·Memᴰ·tail n)))) (after-cases P c others d m)
 
-    after-cover : (q : Place) → In (P .area) q → OnLines P q → NotBetter (pricedAt P q) best′ ⊎ ((d : Cell) × List·Memᴰ d (cellsAfter P c others) × In (d .rect) q)
-    after-cover q h on = ⊎-elim (λ k. inl (not-better-trans (pricedAt P q) best best′ best-kept k)) (λ w. inr (from (w .0) (w .1) (w .2))) (ok .cover q h on)
-      where
-        in-part : In first q ⊎ In second q → (d : Cell) × List·Memᴰ d (cellsAfter P c others) × In (d .rect) q
-        in-part (inl k) = (cellOf P first, after-first, k)
-        in-part (inr k) = (cellOf P second, after-second, k)
-
-        from : (d : Cell) → List·Memᴰ d (c ∷ others) → In (d .rect) q → (d : Cell) × List·Memᴰ d (cellsAfter P c others) × In (d .rect) q
-        from d (List·Memᴰ·head e) k = in-part (split-point axis line (c .rect) first second (parts axis line (c .rect)) q (subst (λ (d : Cell). In (d .rect) q) e k))
-        from d (List·Memᴰ·tail m) k = (d, after-others d m, k)
+    after-cover : (q : Place) → In (P .area) q → OnLines P q → NotBetter (pricedAt P q) best′ ⊎ Within q (cellsAfter P c others)
+    after-cover q h on = ⊎-elim (λ k. inl (not-better-trans (pricedAt P q) best best′ best-kept k)) (λ w. inr (after-within P c others q w)) (ok .cover q h on)
 
     pub after-round : Ok P best′ (keep (isLive P best′) (cellsAfter P c others))
     after-round = refresh best′ (cellsAfter P c others) best-ok′ after-ok after-cover

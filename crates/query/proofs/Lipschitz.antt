@@ -1,47 +1,18 @@
 -- A place costs at most what another costs and, beside that, the travel between them times the load of a rectangle that holds the other.
 -- Assumes nothing.
-use mathlib.Core.Path.{_≡_, refl}
 use mathlib.Core.Bool.{Bool, true, false, not, cond}
-use Prim.Native.Nat.{ℕ, _+_, _*_, _≤_, _<_, min}
+use Prim.Native.Nat.{ℕ, _+_, _*_, _≤_, min}
 use native.Mathlib.Nat.{mul-le-mul-left}
 use native.Mathlib.Omega.{arith}
-use lib.Dec.{T, ltb→lt, lt→ltb, nltb→le}
-use Rattle.numbers.specs.Lists.{sumOf}
-use Rattle.numbers.proofs.Sums.{sumOf-linear, sumOf-le, sumOf-keep}
+use lib.Dec.{T}
+use Rattle.numbers.proofs.Sums.{sumOf-linear, sumOf-le}
 use Rattle.query.specs.Place.{Place, Rect, In, NonEmpty}
 use Rattle.query.specs.Deck.{Stop, Deck}
 use Rattle.query.specs.Travel.{travel, near}
 use Rattle.query.specs.Cost.{cost}
 use Rattle.query.specs.Reach.{closestPoint, travelTo, reach, load}
+use Rattle.query.proofs.CostLaws.{reach-nat, nat-reach, nreach-nat, paid, borne, cost-sum, load-sum}
 use Rattle.query.proofs.Travel.{travel-triangle, closestPoint-in, travelTo-least}
-
--- ---- the test of reach in numbers
-pub reach-nat : (deck : Deck) (r : Rect) (stop : Stop) → T (reach deck r stop) → travelTo deck r stop < near deck stop
-unfolding reach
-reach-nat deck r stop t = ltb→lt _ _ t
-
-pub nat-reach : (deck : Deck) (r : Rect) (stop : Stop) → travelTo deck r stop < near deck stop → T (reach deck r stop)
-unfolding reach
-nat-reach deck r stop h = lt→ltb _ _ h
-
-pub nreach-nat : (deck : Deck) (r : Rect) (stop : Stop) → T (not (reach deck r stop)) → near deck stop ≤ travelTo deck r stop
-unfolding reach
-nreach-nat deck r stop t = nltb→le _ _ t
-
--- a stop's part of the cost of a place, and of the load of a rectangle
-abbrev paid : Deck → Place → Stop → ℕ
-paid deck p stop = stop .visits * min (near deck stop) (travel (deck .axis) (stop .at) p)
-
-abbrev borne : Deck → Rect → Stop → ℕ
-borne deck r stop = cond (reach deck r stop) (stop .visits) 0
-
-cost-sum : (deck : Deck) (p : Place) → cost deck p ≡ sumOf (paid deck p) (deck .stops)
-unfolding cost
-cost-sum deck p = refl
-
-load-sum : (deck : Deck) (r : Rect) → load deck r ≡ sumOf (borne deck r) (deck .stops)
-unfolding load
-load-sum deck r = sumOf-keep (λ (stop : Stop). stop .visits) (reach deck r) (deck .stops)
 
 -- ---- a rectangle within another: what reaches it reaches the other, so its load is not larger
 pub reach-mono : (deck : Deck) (r r′ : Rect) (stop : Stop) → ((p : Place) → In r′ p → In r p) → NonEmpty r′ → T (reach deck r′ stop) → T (reach deck r stop)

@@ -1,40 +1,18 @@
 -- A cell and its two parts, told once for both axes: points, edges, corners and lines of the parts are those of the cell and of the cut.
 -- Assumes nothing.
 use mathlib.Core.Path.{_≡_, refl, sym, ap, subst, _∙_}
-use mathlib.Core.Bool.{Bool, true, false, not, cond}
+use mathlib.Core.Bool.{not}
 use mathlib.Core.Logic.{_⊎_, inl, inr, ⊎-elim}
 use mathlib.Core.List.{List, [], _∷_, List·Memᴰ, List·Memᴰ·head, List·Memᴰ·tail, List·Memᴰ·not-nil}
 use native.Mathlib.Omega.{arith}
 use lib.Dec.{T}
 use lib.IntN.{ℤ}
 use lib.Signed.{leZ, _≤ℤ_, _<ℤ_}
-use Rattle.numbers.proofs.Truth.{test, cond-ind}
+use Rattle.numbers.proofs.Truth.{test}
 use Rattle.numbers.proofs.Integer.{order}
 use Rattle.query.specs.Place.{Place, Rect, In, NonEmpty, Axis, x-axis, y-axis, coordinate, low-edge, high-edge}
 use Rattle.query.specs.Cut.{cutBefore, cutAfter, newCorners}
-
--- ---- what is said of both axes
-pub for-both : (Q : Axis → Type 0) → Q x-axis → Q y-axis → (axis : Axis) → Q axis
-for-both Q h k x-axis = h
-for-both Q h k y-axis = k
-
--- between the edges of r along an axis
-abbrev pub Along : Rect → Place → Axis → Type 0
-Along r p axis = (low-edge axis r ≤ℤ coordinate axis p) × (coordinate axis p ≤ℤ high-edge axis r)
-
-pub along : {r : Rect} {p : Place} → In r p → (axis : Axis) → Along r p axis
-along h x-axis = (h .left, h .right)
-along h y-axis = (h .front, h .back)
-
-pub along-in : (r : Rect) (p : Place) → ((axis : Axis) → Along r p axis) → In r p
-along-in r p h = record { left = h x-axis .0; right = h x-axis .1; front = h y-axis .0; back = h y-axis .1 }
-
-pub edges-in : {r : Rect} → NonEmpty r → (axis : Axis) → low-edge axis r ≤ℤ high-edge axis r
-edges-in h x-axis = h .across
-edges-in h y-axis = h .deep
-
-pub edges-nonEmpty : (r : Rect) → ((axis : Axis) → low-edge axis r ≤ℤ high-edge axis r) → NonEmpty r
-edges-nonEmpty r h = record { across = h x-axis; deep = h y-axis }
+use Rattle.query.proofs.Axes.{for-both, Along, along, along-in, edges-in, edges-nonEmpty, place-eq, other, cut-or-other}
 
 -- p is on an edge of r along an axis; a corner is on an edge along both
 abbrev pub OnEdge : Rect → Place → Axis → Type 0
@@ -53,17 +31,7 @@ corner-in r p h c = along-in r p (λ axis. ⊎-elim (λ e. at-low axis e) (λ e.
     at-high axis e = let k : low-edge axis r ≤ℤ high-edge axis r = edges-in h axis in (omega (arith, order), omega (arith, order))
 
 -- ---- the edges of the parts
-pub other : Axis → Axis
-other x-axis = y-axis
-other y-axis = x-axis
-
--- what holds of the cut axis and of the other one holds of both
-pub cut-or-other : (Q : Axis → Type 0) (cut : Axis) → Q cut → Q (other cut) → (axis : Axis) → Q axis
-unfolding other
-cut-or-other Q x-axis h k = for-both Q h k
-cut-or-other Q y-axis h k = for-both Q k h
-
--- r with one edge moved to v: q is r but for the high edge (cutBefore), or but for the low edge (cutAfter)
+-- the first part is r but for its high edge, the second but for its low edge, which are the cut
 pub record Parts (cut : Axis) (v : ℤ) (r first second : Rect) : Type 0 where
   pub first-low : low-edge cut first ≡ low-edge cut r
   pub first-high : high-edge cut first ≡ v
@@ -160,9 +128,6 @@ module _ (cut : Axis) (v : ℤ) (r : Rect) (above : low-edge cut r <ℤ v) (unde
         (rw (part .low-other) (low (other cut)), rw (part .high-other) (high (other cut)))
 
 -- ---- the new corners
-pub place-eq : (p q : Place) → ((axis : Axis) → coordinate axis p ≡ coordinate axis q) → p ≡ q
-place-eq p q h = λ i. record { x = h x-axis i; y = h y-axis i }
-
 -- the two places where the cut meets the edges of the cell along the other axis
 pub record NewCorners (cut : Axis) (v : ℤ) (r : Rect) : Type 0 where
   pub low : Place

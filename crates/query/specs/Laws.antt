@@ -1,6 +1,8 @@
--- What a reader may hold the definitions to, in plain terms. `proofs/Laws.antt` proves each of these for all of its parameters.
+-- What a reader may hold the definitions to, in plain terms. Each is proved for all of its parameters: `near-law` and `travelTo-law` in
+-- proofs/NearLaws, `lines-law` and `gaps-law` in LineLaws, `cut-law` in CutLaws, `taken-law` and `partition-law` in SearchLaws,
+-- `space-law` in SpaceLaws.
 -- Assumes nothing.
-use Prim.Native.Nat.{ℕ, _+_, _≤_}
+use Prim.Native.Nat.{ℕ, _+_, _*_, _≤_}
 use mathlib.Core.Path.{_≡_}
 use mathlib.Core.Bool.{not}
 use mathlib.Core.Logic.{_⊎_, _↔_}
@@ -19,6 +21,7 @@ use Rattle.query.specs.Problem.{Problem, problem, linesAlong}
 use Rattle.query.specs.Cut.{inside, canCut, side, offMiddle, cutLine}
 use Rattle.query.specs.Order.{Cell, cellBefore}
 use Rattle.query.specs.Search.{isLive, run}
+use Rattle.query.specs.Space.{allNumbers, space}
 use Rattle.query.specs.Partition.{dead, partition}
 
 -- near is the travel to some post, and at most the travel to every post
@@ -77,4 +80,10 @@ pub record TakenLaw (P : Problem) (n : ℕ) (c : Cell) (others : List Cell) : Ty
 pub record PartitionLaw (P : Problem) (n : ℕ) : Type 0 where
   pub live-are-live : (c : Cell) → List·Memᴰ c (run P n .live) → T (isLive P (run P n .best) c)
   pub dead-are-not : (c : Cell) → List·Memᴰ c (dead P n) → T (not (isLive P (run P n .best) c))
-  pub covers : NonEmpty (P .area) → (p : Place) → In (P .area) p → (c : Cell) × List·Memᴰ c (partition P n) × In (c .rect) p
+  pub covers : (p : Place) → In (P .area) p → (c : Cell) × List·Memᴰ c (partition P n) × In (c .rect) p
+
+-- after n rounds at most n + 1 cells are live, so that 5 × (n + 1) numbers of cell space always suffice, and are all written
+pub record SpaceLaw (deck : Deck) (n : ℕ) : Type 0 where
+  pub live-cells : length (run (problem deck) n .live) ≤ n + 1
+  pub numbers : length (allNumbers (run (problem deck) n .live)) ≤ 5 * (n + 1)
+  pub whole : (lent : ℕ) → 5 * (n + 1) ≤ lent → length (space deck n lent) ≡ lent

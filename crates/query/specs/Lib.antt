@@ -14,4 +14,8 @@ pub mod Space
 pub mod Exhaustive
 pub mod Partition
 pub mod Laws
+pub mod History
+pub mod Demand3
+pub mod ExhaustiveLaw
+pub mod Range
 pub mod Marked

@@ -1,0 +1,58 @@
+-- What is counted: a run of n rounds makes n cuts unless it is done, keeps at most n + 1 live cells, and its count is that of its cuts.
+-- Assumes nothing.
+use mathlib.Core.Path.{_≡_, refl, sym, ap, subst, _∙_}
+use mathlib.Core.Bool.{Bool, true, false}
+use mathlib.Core.List.{List, [], _∷_, _++_}
+use Prim.Native.Nat.{ℕ, zero, suc, _+_, _≤_}
+use native.Mathlib.Omega.{arith}
+use lib.Dec.{T}
+use lib.ListN.{length, length-append}
+use Rattle.numbers.specs.Lists.{nonEmpty}
+use Rattle.numbers.proofs.Members.{insertBy-length, keep-length}
+use Rattle.query.specs.Problem.{Problem}
+use Rattle.query.specs.Order.{Cell}
+use Rattle.query.specs.Search.{Search, isLive, cellOf, startBest, start, cellsAfter, bestAfter, roundOn, round, run}
+use Rattle.query.specs.History.{cutOf, cutsMade}
+use Rattle.query.proofs.CellsAfter.{after-is}
+
+module _ (P : Problem) where
+  -- a run that still has a live cell has made a cut in each of its rounds
+  round-live : (s : Search) (live : List Cell) → s .live ≡ live → T (nonEmpty (roundOn P s live .live)) → T (nonEmpty live)
+  unfolding roundOn
+  round-live s [] e t = subst (λ (l : List Cell). T (nonEmpty l)) e t
+  round-live s (c ∷ others) e t = tt
+
+  round-cuts : (s : Search) (live : List Cell) → T (nonEmpty live) → roundOn P s live .cuts ≡ suc (s .cuts)
+  unfolding roundOn
+  round-cuts s [] t = absurd t
+  round-cuts s (c ∷ others) t = refl
+
+  pub live-cuts : (n : ℕ) → T (nonEmpty (run P n .live)) → run P n .cuts ≡ n
+  unfolding run round start
+  live-cuts zero t = refl
+  live-cuts (suc n) t = let u = round-live (run P n) (run P n .live) refl t in round-cuts (run P n) (run P n .live) u ∙ ap suc (live-cuts n u)
+
+  -- at most one live cell more than there were cuts, so at most n + 1 after n rounds
+  after-length : (c : Cell) (others : List Cell) → length (cellsAfter P c others) ≡ suc (suc (length others))
+  after-length c others = rw (after-is P c others, insertBy-length, insertBy-length)
+
+  round-length : (s : Search) (live : List Cell) → s .live ≡ live → length (roundOn P s live .live) ≤ suc (length live)
+  unfolding roundOn
+  round-length s [] e = rw e (omega arith)
+  round-length s (c ∷ others) e = omega (arith, after-length c others, keep-length (isLive P (bestAfter P (s .best) c)) (cellsAfter P c others))
+
+  pub live-count : (n : ℕ) → length (run P n .live) ≤ n + 1
+  unfolding run round start
+  live-count zero = keep-length (isLive P (startBest P)) (cellOf P (P .area) ∷ [])
+  live-count (suc n) = omega (arith, live-count n, round-length (run P n) (run P n .live) refl)
+
+  -- the count is that of the cuts
+  round-made : (s : Search) (live : List Cell) → roundOn P s live .cuts ≡ s .cuts + length (cutOf P live)
+  unfolding roundOn cutOf
+  round-made s [] = omega arith
+  round-made s (c ∷ others) = omega arith
+
+  pub cuts-made : (n : ℕ) → run P n .cuts ≡ length (cutsMade P n)
+  unfolding run round start cutsMade
+  cuts-made zero = refl
+  cuts-made (suc n) = omega (arith, cuts-made n, round-made (run P n) (run P n .live), length-append (cutsMade P n) (cutOf P (run P n .live)))

@@ -1,0 +1,25 @@
+-- The cuts that the rounds of a search make, one after another: which cell, on which axis, at which line.
+-- Assumes nothing.
+use Prim.Native.Nat.{ℕ, zero, suc}
+use mathlib.Core.List.{List, [], _∷_, _++_}
+use Rattle.query.specs.Place.{Rect}
+use Rattle.query.specs.Problem.{Problem}
+use Rattle.query.specs.Cut.{Line, cutLine}
+use Rattle.query.specs.Order.{Cell}
+use Rattle.query.specs.Search.{run}
+
+pub record Cut : Type 0 where
+  pub cell : Rect
+  pub line : Line
+
+-- the cut of a round that finds these live cells: of the first, and none where no cell is live
+unfoldable pub cutOf : Problem → List Cell → List Cut
+unfolding cutLine
+cutOf P [] = []
+cutOf P (c ∷ others) = record { cell = c .rect; line = cutLine P (c .rect) } ∷ []
+
+-- the cuts of the first n rounds
+unfoldable pub cutsMade : Problem → ℕ → List Cut
+unfolding cutOf run
+cutsMade P zero = []
+cutsMade P (suc n) = cutsMade P n ++ cutOf P (run P n .live)
