@@ -1,13 +1,13 @@
 -- Distance on a line, and the closest number of a range.
 -- Assumes nothing.
 use mathlib.Core.Path.{_≡_}
-use Prim.Native.Nat.{ℕ, _+_, _≤_}
+use Prim.Native.Nat.{ℕ, _+_, _*_, _≤_}
 use native.Mathlib.Omega.{arith}
-use lib.IntN.{ℤ}
+use lib.IntN.{ℤ, natAbs}
 use lib.Signed.{ltZ, _≤ℤ_}
 use Rattle.numbers.specs.Integer.{dist, clamp}
 use Rattle.numbers.proofs.Truth.{cond-ind}
-use Rattle.numbers.proofs.Integer.{order, dist-nat}
+use Rattle.numbers.proofs.Integer.{order, abs-range, dist-nat}
 
 pub dist-sym : (u v : ℤ) → dist u v ≡ dist v u
 dist-sym u v = omega (arith, dist-nat u v, dist-nat v u)
@@ -18,6 +18,10 @@ dist-triangle u v w = omega (arith, dist-nat u v, dist-nat v w, dist-nat u w)
 -- v between u and w
 pub dist-split : (u v w : ℤ) → u ≤ℤ v → v ≤ℤ w → dist u v + dist v w ≡ dist u w
 dist-split u v w h k = omega (arith, order, dist-nat u v, dist-nat v w, dist-nat u w)
+
+-- u and v between −k and k
+pub dist-most : (k : ℕ) (u v : ℤ) → natAbs u ≤ k → natAbs v ≤ k → dist u v ≤ 2 * k
+dist-most k u v g h = omega (arith, abs-range u k .0 g, abs-range v k .0 h, dist-nat u v)
 
 pub clamp-low : (lo hi v : ℤ) → lo ≤ℤ hi → lo ≤ℤ clamp lo hi v
 unfolding clamp

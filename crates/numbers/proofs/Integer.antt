@@ -4,6 +4,7 @@
 -- Assumes nothing.
 use mathlib.Core.Path.{_≡_, refl, ap, subst}
 use mathlib.Core.Bool.{not}
+use mathlib.Core.Logic.{_↔_}
 use Prim.Native.Nat.{ℕ, zero, suc, _+_, _-_, _*_, _/_, _≤_, _<_}
 use native.Mathlib.Omega.{arith}
 use lib.Dec.{T, T-prop, ltb, leb→le, le→leb, ltb→lt, lt→ltb, nleb→lt, nltb→le, eqb→eq, eqb-refl, not-T}
@@ -126,6 +127,10 @@ abs-nat : (z : ℤ) (m n : ℕ) → pp z + n ≡ nn z + m → natAbs z ≡ (m - 
 abs-nat (pos z) m n h = omega arith
 abs-nat (negsuc z) m n h = omega arith
 
+-- z between −k and k
+pub abs-range : (z : ℤ) (k : ℕ) → (natAbs z ≤ k) ↔ ((pp z ≤ nn z + k) × (nn z ≤ pp z + k))
+abs-range z k = omega (arith, abs-nat z (pp z) (nn z) (omega arith))
+
 pub dist-nat : (u v : ℤ) → dist u v ≡ (pp u + nn v - (pp v + nn u)) + (pp v + nn u - (pp u + nn v))
 unfolding dist
 dist-nat u v = abs-nat (u -ℤ v) (pp u + nn v) (pp v + nn u) (omega (arith, sub-nat u v))
@@ -153,3 +158,7 @@ half-sub-mono m s m′ s′ h = half-mono _ _ (omega (arith, order, sub-nat (pos
 
 pub half-sub-le : (m s n : ℕ) → m ≤ 2 * n + s → halfUp (pos m -ℤ pos s) ≤ℤ pos n
 half-sub-le m s n h = omega (arith, order, half-nat (pos m -ℤ pos s), sub-nat (pos m) (pos s))
+
+-- m − s between −2 k and 2 k
+pub half-sub-abs : (m s k : ℕ) → m ≤ 2 * k → s ≤ 2 * k → natAbs (halfUp (pos m -ℤ pos s)) ≤ k
+half-sub-abs m s k g h = abs-range (halfUp (pos m -ℤ pos s)) k .1 (omega (arith, half-nat (pos m -ℤ pos s), sub-nat (pos m) (pos s)))

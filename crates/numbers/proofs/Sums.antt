@@ -5,6 +5,7 @@ use mathlib.Core.Bool.{Bool, true, false, cond}
 use mathlib.Core.List.{List, [], _∷_, List·Memᴰ, List·Memᴰ·head, List·Memᴰ·tail}
 use Prim.Native.Nat.{ℕ, _+_, _*_, _≤_}
 use native.Mathlib.Omega.{arith}
+use lib.ListN.{length}
 use Rattle.numbers.specs.Lists.{sumOf, keep, insertBy}
 use Rattle.numbers.proofs.Truth.{cond-ind}
 
@@ -25,6 +26,12 @@ module _ {A : Type 0} where
 
   pub sumOf-le : (f g : A → ℕ) (xs : List A) → ((x : A) → List·Memᴰ x xs → f x ≤ g x) → sumOf f xs ≤ sumOf g xs
   sumOf-le f g xs each = omega (arith, sumOf-linear 1 0 1 0 f f g g xs (λ x m. omega (arith, each x m)))
+
+  -- a sum of terms that are each at most k
+  pub sumOf-most : (f : A → ℕ) (k : ℕ) (xs : List A) → ((x : A) → List·Memᴰ x xs → f x ≤ k) → sumOf f xs ≤ length xs * k
+  unfolding sumOf
+  sumOf-most f k [] each = omega arith
+  sumOf-most f k (x ∷ xs) each = omega (arith, each x (List·Memᴰ·head refl), sumOf-most f k xs (λ y m. each y (List·Memᴰ·tail m)))
 
   pub sumOf-keep : (f : A → ℕ) (p : A → Bool) (xs : List A) → sumOf f (keep p xs) ≡ sumOf (λ x. cond (p x) (f x) 0) xs
   unfolding keep sumOf

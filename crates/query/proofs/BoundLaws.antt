@@ -35,11 +35,11 @@ abbrev slack : Deck → Rect → ℕ
 slack deck r = span (deck .axis) r * load deck r
 
 -- the definitions one step at a time
-bound-is : (deck : Deck) (r : Rect) → bound deck r ≡ halfUp (pos (cornerSum deck r) -ℤ pos (slack deck r))
+pub bound-is : (deck : Deck) (r : Rect) → bound deck r ≡ halfUp (pos (cornerSum deck r) -ℤ pos (slack deck r))
 unfolding bound
 bound-is deck r = refl
 
-cornerSum-is : (deck : Deck) (r : Rect) → cornerSum deck r ≡ max (cost deck (lf r) + cost deck (rb r)) (cost deck (lb r) + cost deck (rf r))
+pub cornerSum-is : (deck : Deck) (r : Rect) → cornerSum deck r ≡ max (cost deck (lf r) + cost deck (rb r)) (cost deck (lb r) + cost deck (rf r))
 unfolding cornerSum
 cornerSum-is deck r = refl
 

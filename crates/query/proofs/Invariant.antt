@@ -105,7 +105,7 @@ module _ (P : Problem) (lawful : Lawful P) (cut-law : (r : Rect) → CutLaw P r)
   place-ok : (p : Place) → In (P .area) p → OnLines P p → BestOk P (pricedAt P p)
   place-ok p h on = record { is = refl; inside = h; on-lines = on }
 
-  best-of-ok : (best : Priced) (places : List Place) → BestOk P best → ((p : Place) → List·Memᴰ p places → In (P .area) p × OnLines P p) → BestOk P (bestOf P best places)
+  pub best-of-ok : (best : Priced) (places : List Place) → BestOk P best → ((p : Place) → List·Memᴰ p places → In (P .area) p × OnLines P p) → BestOk P (bestOf P best places)
   best-of-ok best places ok all =
       ⊎-elim (λ e. subst (BestOk P) (sym e) ok) (λ w. subst (BestOk P) (w .2) (place-ok (w .0) (all (w .0) (w .1) .0) (all (w .0) (w .1) .1))) (bestOf-from P best places)
 
@@ -139,9 +139,13 @@ module _ (P : Problem) (lawful : Lawful P) (cut-law : (r : Rect) → CutLaw P r)
   corner-ok : (p : Place) → Corner (P .area) p → In (P .area) p × OnLines P p
   corner-ok p c = (corner-in (P .area) p (lawful .nonEmpty) c, corner-on-lines (P .area) (lawful .low-line) (lawful .high-line) p c)
 
+  -- the corner with which the searches start can be the best
+  pub first-ok : BestOk P (pricedAt P (corner (P .area)))
+  first-ok = place-ok (corner (P .area)) (corner-ok (corner (P .area)) corner-first .0) (corner-ok (corner (P .area)) corner-first .1)
+
   start-best-ok : BestOk P (startBest P)
   unfolding startBest
-  start-best-ok = best-of-ok (pricedAt P (corner (P .area))) (otherCorners (P .area)) (place-ok (corner (P .area)) (corner-ok (corner (P .area)) corner-first .0) (corner-ok (corner (P .area)) corner-first .1)) (λ p m. corner-ok p (other-corner p m))
+  start-best-ok = best-of-ok (pricedAt P (corner (P .area))) (otherCorners (P .area)) first-ok (λ p m. corner-ok p (other-corner p m))
 
   start-priced : (p : Place) → Corner (P .area) p → NotBetter (pricedAt P p) (startBest P)
   unfolding startBest

@@ -1,7 +1,7 @@
 -- Places, priced places and cells are each in a strict order: `earlier`, `precedes`, `better`, `cellBefore`; and how to show that one does
 -- not come before another.
 -- Assumes nothing.
-use mathlib.Core.Path.{_≡_}
+use mathlib.Core.Path.{_≡_, sym}
 use mathlib.Core.Bool.{not}
 use Prim.Native.Nat.{_≤_}
 use native.Mathlib.Omega.{arith}
@@ -58,6 +58,16 @@ not-better-cost p q t = omega (arith, order, not-either (ltZ (pos (p .cost)) (po
 pub not-better-earlier : (p q : Priced) → T (not (better p q)) → p .cost ≡ q .cost → T (not (earlier (p .at) (q .at)))
 unfolding better precedes
 not-better-earlier p q t e = not-either (ltZ (pos (p .cost)) (pos (q .cost))) (eqZ (pos (p .cost)) (pos (q .cost))) (earlier (p .at) (q .at)) .0 t .1 (omega (arith, order))
+
+-- two places of which neither is better are one
+pub not-better-antisym : (p q : Priced) → T (not (better p q)) → T (not (better q p)) → p ≡ q
+not-better-antisym p q t u =
+    let same : p .cost ≡ q .cost = omega (arith, not-better-cost p q t, not-better-cost q p u) in
+    let a = not-better-earlier p q t same in
+    let b = not-better-earlier q p u (sym same) in
+    let level : p .at .x ≡ q .at .x = omega (arith, order, not-earlier-x (p .at) (q .at) a, not-earlier-x (q .at) (p .at) b) in
+    let beside : p .at .y ≡ q .at .y = omega (arith, order, not-earlier-y (p .at) (q .at) a level, not-earlier-y (q .at) (p .at) b (sym level)) in
+    λ i. record { at = record { x = level i; y = beside i }; cost = same i }
 
 -- no point of a cell comes before the cell
 pub point-after-cell : (c : Cell) (p : Priced) → In (c .rect) (p .at) → c .bound ≤ℤ pos (p .cost) → T (not (precedes (pricedKey p) (cellKey c)))

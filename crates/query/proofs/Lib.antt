@@ -19,4 +19,8 @@ pub mod FigureLaws
 pub mod CutLimit
 pub mod Counts
 pub mod SearchLaws
+pub mod Beaten
 pub mod Demand3
+pub mod SpaceLaws
+pub mod ExhaustiveLaws
+pub mod Ranges

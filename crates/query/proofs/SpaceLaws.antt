@@ -1,0 +1,34 @@
+-- After n rounds at most n + 1 cells are live, so that 5 × (n + 1) numbers of cell space suffice, and all that is lent is written.
+-- Assumes nothing.
+use mathlib.Core.Path.{_≡_, refl}
+use mathlib.Core.List.{List, [], _∷_}
+use Prim.Native.Nat.{ℕ, _+_, _-_, _*_, _≤_}
+use native.Mathlib.Omega.{arith}
+use lib.IntN.{ℤ, pos}
+use lib.ListN.{length, length-append, replicate, length-replicate}
+use Rattle.query.specs.Deck.{Deck}
+use Rattle.query.specs.Problem.{problem}
+use Rattle.query.specs.Order.{Cell}
+use Rattle.query.specs.Search.{run}
+use Rattle.query.specs.Space.{cellNumbers, allNumbers, filled, space}
+use Rattle.query.specs.Laws.{SpaceLaw}
+use Rattle.query.proofs.Counts.{live-count}
+
+pub allNumbers-length : (cells : List Cell) → length (allNumbers cells) ≡ 5 * length cells
+unfolding allNumbers
+allNumbers-length [] = refl
+allNumbers-length (c ∷ cells) = omega (arith, length-append (cellNumbers c) (allNumbers cells), allNumbers-length cells)
+
+pub filled-length : (lent : ℕ) (numbers : List ℤ) → length numbers ≤ lent → length (filled lent numbers) ≡ lent
+unfolding filled
+filled-length lent numbers h = omega (arith, length-append numbers (replicate (lent - length numbers) (pos 0)), length-replicate (lent - length numbers) (pos 0))
+
+pub space-law : (deck : Deck) (n : ℕ) → SpaceLaw deck n
+unfolding space
+space-law deck n = record { live-cells = count; numbers = room; whole = λ lent h. filled-length lent (allNumbers (run (problem deck) n .live)) (omega (arith, room)) }
+  where
+    count : length (run (problem deck) n .live) ≤ n + 1
+    count = live-count (problem deck) n
+
+    room : length (allNumbers (run (problem deck) n .live)) ≤ 5 * (n + 1)
+    room = omega (arith, count, allNumbers-length (run (problem deck) n .live))
