@@ -6,3 +6,4 @@ pub mod Members
 pub mod Orders
 pub mod Increasing
 pub mod Sums
+pub mod Rows

@@ -1,2 +1,3 @@
 pub mod Integer
 pub mod Lists
+pub mod Rows

@@ -1,4 +1,5 @@
 pub mod Marked
+pub mod Rows
 pub mod Axes
 pub mod Travel
 pub mod CostLaws

@@ -19,3 +19,4 @@ pub mod Demand3
 pub mod ExhaustiveLaw
 pub mod Range
 pub mod Marked
+pub mod Rows

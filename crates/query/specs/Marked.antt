@@ -4,22 +4,20 @@ use Prim.Native.Nat.{ℕ}
 use mathlib.Core.Path.{_≡_}
 use mathlib.Core.List.{List, [], _∷_}
 use lib.IntN.{ℤ, pos, negsuc}
-use Rattle.numbers.specs.Integer.{halfUp}
 use Rattle.query.specs.Place.{Place, Rect}
 use Rattle.query.specs.Deck.{Stop, Deck, plain}
 use Rattle.query.specs.Figures.{Figures, figures, State, done, stopped}
-use Rattle.query.specs.Space.{space}
 
-abbrev at : ℕ → ℕ → Place
+abbrev pub at : ℕ → ℕ → Place
 at x y = record { x = pos x; y = pos y }
 
-abbrev rect : ℕ → ℕ → ℕ → ℕ → Rect
+abbrev pub rect : ℕ → ℕ → ℕ → ℕ → Rect
 rect xlo ylo xhi yhi = record { xlo = pos xlo; ylo = pos ylo; xhi = pos xhi; yhi = pos yhi }
 
-abbrev stop : ℕ → ℕ → ℕ → Stop
+abbrev pub stop : ℕ → ℕ → ℕ → Stop
 stop x y visits = record { at = at x y; visits = visits }
 
-abbrev report : State → Place → ℕ → ℤ → ℕ → ℕ → Figures
+abbrev pub report : State → Place → ℕ → ℤ → ℕ → ℕ → Figures
 report state at high low before rounds = record { state = state; at = at; high = high; low = low; before = before; rounds = rounds }
 
 abbrev pub deckA : Deck

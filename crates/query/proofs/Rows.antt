@@ -1,0 +1,49 @@
+-- The rows beside the marked decks, by computation.
+use mathlib.Core.Path.{refl}
+use Rattle.numbers.specs.Integer.{halfUp}
+use Rattle.query.specs.Lines.{gaps}
+use Rattle.query.specs.Figures.{figures}
+use Rattle.query.specs.Space.{space}
+use Rattle.query.specs.Exhaustive.{exhaustive}
+use Rattle.query.specs.Rows.{Rows}
+
+pub rows : Rows
+unfolding halfUp gaps figures space exhaustive
+rows = record {
+  half-3 = refl;
+  half-minus-3 = refl;
+  half-minus-4 = refl;
+  gaps-A-across = refl;
+  gaps-A-deep = refl;
+  gaps-B-across = refl;
+  gaps-C-across = refl;
+  equal = refl;
+  level = refl;
+  reach = refl;
+  far = refl;
+  load-1 = refl;
+  tie-1 = refl;
+  square-1 = refl;
+  long-1 = refl;
+  first = refl;
+  order-1 = refl;
+  order-2 = refl;
+  order = refl;
+  half-0 = refl;
+  axis-0 = refl;
+  axis-1 = refl;
+  axis-2 = refl;
+  axis = refl;
+  space-A-0 = refl;
+  space-A-1 = refl;
+  space-A-2 = refl;
+  space-A-3 = refl;
+  space-D-0 = refl;
+  space-order-2 = refl;
+  walk-A = refl;
+  walk-B = refl;
+  walk-C = refl;
+  walk-D = refl;
+  walk-equal = refl;
+  walk-axis = refl;
+}

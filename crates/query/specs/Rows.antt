@@ -1,0 +1,110 @@
+-- Rows beside the eight marked decks: figures of small decks, each chosen so that a rule told wrongly gives another figure.
+-- The figures are those of a program written from document 01 alone; `proofs/Rows.antt` proves that the definitions give them.
+-- Assumes nothing.
+use mathlib.Core.Path.{_≡_}
+use mathlib.Core.List.{[], _∷_, _++_, map}
+use lib.IntN.{pos, negsuc}
+use lib.ListN.{replicate}
+use Rattle.numbers.specs.Integer.{halfUp}
+use Rattle.query.specs.Place.{x-axis, y-axis}
+use Rattle.query.specs.Deck.{Deck, plain}
+use Rattle.query.specs.Lines.{gaps}
+use Rattle.query.specs.Figures.{figures, done, stopped}
+use Rattle.query.specs.Space.{space}
+use Rattle.query.specs.Exhaustive.{exhaustive}
+use Rattle.query.specs.Marked.{at, rect, stop, report, deckA, deckB, deckC, deckD}
+
+-- a cell whose bound equals the best cost holds an earlier place of that cost: 1,0 is priced first and costs 5, as 0,3 does
+abbrev pub deckEqual : Deck
+deckEqual = record { axis = plain; area = rect 0 0 2 4; posts = at 2 1 ∷ []; stops = stop 1 0 2 ∷ stop 0 3 1 ∷ stop 2 2 1 ∷ [] }
+
+-- after one cut a cell's bound equals the best cost, and its corner 1,2 is later than the best place 1,1: it is not live
+abbrev pub deckLevel : Deck
+deckLevel = record { axis = plain; area = rect 1 1 1 4; posts = at 5 2 ∷ []; stops = stop 0 3 1 ∷ stop 0 2 1 ∷ stop 0 0 3 ∷ [] }
+
+-- the stop's travel to the area equals its near: no line, no load
+abbrev pub deckReach : Deck
+deckReach = record { axis = plain; area = rect 0 0 1 2; posts = at 2 2 ∷ []; stops = stop 5 1 2 ∷ [] }
+
+-- a stop that stands in the area's range and out of reach: no line
+abbrev pub deckFar : Deck
+deckFar = record { axis = plain; area = rect 0 0 2 5; posts = at 1 0 ∷ []; stops = stop 4 4 2 ∷ stop 1 0 2 ∷ [] }
+
+-- a stop within reach of the area and of one part only
+abbrev pub deckLoad : Deck
+deckLoad = record { axis = plain; area = rect 0 0 3 3; posts = at 2 3 ∷ []; stops = stop 3 4 1 ∷ stop 2 1 1 ∷ [] }
+
+-- two lines as close to the middle
+abbrev pub deckTie : Deck
+deckTie = record { axis = plain; area = rect 0 0 3 0; posts = at 0 1 ∷ []; stops = stop 1 0 2 ∷ stop 2 0 2 ∷ [] }
+
+-- equal sides with a line inside each
+abbrev pub deckSquare : Deck
+deckSquare = record { axis = plain; area = rect 0 2 2 4; posts = at 5 2 ∷ []; stops = stop 1 3 1 ∷ [] }
+
+-- the y side is the longer one
+abbrev pub deckLong : Deck
+deckLong = record { axis = plain; area = rect 0 0 2 5; posts = at 0 4 ∷ []; stops = stop 1 1 1 ∷ [] }
+
+-- 0,3 is priced first and costs 6, as the earlier 0,1 does
+abbrev pub deckFirst : Deck
+deckFirst = record { axis = plain; area = rect 0 0 0 3; posts = at 4 1 ∷ []; stops = stop 0 4 2 ∷ stop 0 1 2 ∷ [] }
+
+-- the first cut leaves two cells of bound 0
+abbrev pub deckOrder : Deck
+deckOrder = record { axis = plain; area = rect 0 0 5 2; posts = at 4 1 ∷ []; stops = stop 2 0 1 ∷ stop 1 1 2 ∷ [] }
+
+-- the bound of the area is half of 3
+abbrev pub deckHalf : Deck
+deckHalf = record { axis = plain; area = rect 0 3 3 3; posts = at 0 0 ∷ []; stops = stop 2 1 1 ∷ [] }
+
+-- a tenth along x costs 2: travel and bounds follow it, sides and middles do not; each post is the closer one for some stop
+abbrev pub deckAxis : Deck
+deckAxis = record { axis = record { a = 2; b = 1 }; area = rect 0 3 4 6; posts = at 0 4 ∷ at 0 0 ∷ []; stops = stop 3 0 2 ∷ stop 2 4 1 ∷ [] }
+
+pub record Rows : Type 0 where
+  -- 01 "Half of 3 is 2, half of −3 is −1, half of −4 is −2"
+  pub half-3 : halfUp (pos 3) ≡ pos 2
+  pub half-minus-3 : halfUp (negsuc 2) ≡ negsuc 0
+  pub half-minus-4 : halfUp (negsuc 3) ≡ negsuc 1
+  -- the lines less one, but at least 1
+  pub gaps-A-across : gaps deckA x-axis ≡ 2
+  pub gaps-A-deep : gaps deckA y-axis ≡ 2
+  pub gaps-B-across : gaps deckB x-axis ≡ 1
+  pub gaps-C-across : gaps deckC x-axis ≡ 1
+  -- when a cell is live
+  pub equal : figures deckEqual 10 ≡ report done (at 0 3) 5 (pos 5) 9 4
+  pub level : figures deckLevel 10 ≡ report done (at 1 1) 11 (pos 11) 32 1
+  -- what is within reach
+  pub reach : figures deckReach 10 ≡ report done (at 0 0) 8 (pos 8) 8 0
+  pub far : figures deckFar 10 ≡ report done (at 2 4) 4 (pos 4) 14 1
+  pub load-1 : figures deckLoad 1 ≡ report stopped (at 2 0) 3 (pos 0) 4 1
+  -- where a cell is cut
+  pub tie-1 : figures deckTie 1 ≡ report stopped (at 1 0) 2 (pos 0) 10 1
+  pub square-1 : figures deckSquare 1 ≡ report stopped (at 1 2) 1 (pos 0) 5 1
+  pub long-1 : figures deckLong 1 ≡ report stopped (at 0 1) 1 (pos 0) 4 1
+  -- which place is the best, and which cell is next
+  pub first : figures deckFirst 10 ≡ report done (at 0 1) 6 (pos 6) 22 1
+  pub order-1 : figures deckOrder 1 ≡ report stopped (at 2 0) 4 (pos 0) 9 1
+  pub order-2 : figures deckOrder 2 ≡ report stopped (at 1 0) 3 (pos 0) 9 2
+  pub order : figures deckOrder 10 ≡ report done (at 1 1) 2 (pos 2) 9 5
+  -- bounds
+  pub half-0 : figures deckHalf 0 ≡ report stopped (at 0 3) 3 (pos 2) 3 0
+  pub axis-0 : figures deckAxis 0 ≡ report stopped (at 4 3) 14 (pos 0) 16 0
+  pub axis-1 : figures deckAxis 1 ≡ report stopped (at 2 3) 11 (pos 4) 16 1
+  pub axis-2 : figures deckAxis 2 ≡ report stopped (at 2 3) 11 (pos 5) 16 2
+  pub axis : figures deckAxis 10 ≡ report done (at 3 3) 9 (pos 9) 16 5
+  -- the cell space, with two numbers more than suffice
+  pub space-A-0 : space deckA 0 7 ≡ map pos (2 ∷ 2 ∷ 8 ∷ 8 ∷ 4 ∷ 0 ∷ 0 ∷ [])
+  pub space-A-1 : space deckA 1 12 ≡ map pos (4 ∷ 2 ∷ 8 ∷ 8 ∷ 4 ∷ 2 ∷ 2 ∷ 4 ∷ 8 ∷ 8 ∷ 0 ∷ 0 ∷ [])
+  pub space-A-2 : space deckA 2 17 ≡ map pos (2 ∷ 2 ∷ 4 ∷ 8 ∷ 8 ∷ []) ++ replicate 12 (pos 0)
+  pub space-A-3 : space deckA 3 22 ≡ replicate 22 (pos 0)
+  pub space-D-0 : space deckD 0 7 ≡ pos 0 ∷ pos 0 ∷ pos 9 ∷ pos 0 ∷ negsuc 2 ∷ pos 0 ∷ pos 0 ∷ []
+  pub space-order-2 : space deckOrder 2 17 ≡ map pos (1 ∷ 0 ∷ 2 ∷ 2 ∷ 0 ∷ 2 ∷ 0 ∷ 5 ∷ 2 ∷ 0 ∷ 0 ∷ 0 ∷ 1 ∷ 2 ∷ 1 ∷ 0 ∷ 0 ∷ [])
+  -- the full walk
+  pub walk-A : exhaustive deckA ≡ record { at = at 4 3; cost = 13 }
+  pub walk-B : exhaustive deckB ≡ record { at = at 0 0; cost = 10 }
+  pub walk-C : exhaustive deckC ≡ record { at = at 5 5; cost = 16 }
+  pub walk-D : exhaustive deckD ≡ record { at = at 5 0; cost = 0 }
+  pub walk-equal : exhaustive deckEqual ≡ record { at = at 0 3; cost = 5 }
+  pub walk-axis : exhaustive deckAxis ≡ record { at = at 3 3; cost = 9 }
