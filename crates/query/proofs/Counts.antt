@@ -56,3 +56,14 @@ module _ (P : Problem) where
   unfolding run round start cutsMade
   cuts-made zero = refl
   cuts-made (suc n) = omega (arith, cuts-made n, round-made (run P n) (run P n .live), length-append (cutsMade P n) (cutOf P (run P n .live)))
+
+  -- at most a cut a round
+  round-most : (s : Search) (live : List Cell) → roundOn P s live .cuts ≤ suc (s .cuts)
+  unfolding roundOn
+  round-most s [] = omega arith
+  round-most s (c ∷ others) = omega arith
+
+  pub cuts-most : (n : ℕ) → run P n .cuts ≤ n
+  unfolding run round start
+  cuts-most zero = omega arith
+  cuts-most (suc n) = omega (arith, cuts-most n, round-most (run P n) (run P n .live))

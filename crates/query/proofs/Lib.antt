@@ -25,3 +25,4 @@ pub mod Demand3
 pub mod SpaceLaws
 pub mod ExhaustiveLaws
 pub mod Ranges
+pub mod FigureRanges

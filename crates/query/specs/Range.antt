@@ -10,6 +10,10 @@ use Rattle.query.specs.Travel.{travel, near}
 use Rattle.query.specs.Cost.{cost, before}
 use Rattle.query.specs.Reach.{load}
 use Rattle.query.specs.Bound.{span, bound}
+use Rattle.query.specs.Problem.{problem}
+use Rattle.query.specs.Order.{Cell}
+use Rattle.query.specs.Search.{run}
+use Rattle.query.specs.Figures.{figures}
 
 -- 01 "Coordinates are .. −20,000 to 20,000"
 pub record PlaceInRange (p : Place) : Type 0 where
@@ -57,3 +61,13 @@ pub record FigureLimits (deck : Deck) : Type 0 where
   pub load-limit : (r : Rect) → load deck r ≤ loadLimit
   pub span-limit : (r : Rect) → RectInRange r → span (deck .axis) r ≤ travelLimit
   pub bound-limit : (r : Rect) → RectInRange r → natAbs (bound deck r) ≤ costLimit
+
+-- the same of a report's figures, and of the cells that a search keeps
+pub record FiguresInRange (deck : Deck) (n : ℕ) : Type 0 where
+  pub at-range : PlaceInRange (figures deck n .at)
+  pub high-limit : figures deck n .high ≤ costLimit
+  pub low-limit : natAbs (figures deck n .low) ≤ costLimit
+  pub before-limit : figures deck n .before ≤ costLimit
+  pub rounds-limit : figures deck n .rounds ≤ n
+  pub cells-range : (c : Cell) → List·Memᴰ c (run (problem deck) n .live) → RectInRange (c .rect)
+  pub bounds-limit : (c : Cell) → List·Memᴰ c (run (problem deck) n .live) → natAbs (c .bound) ≤ costLimit
