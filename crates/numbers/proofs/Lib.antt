@@ -6,4 +6,6 @@ pub mod Members
 pub mod Orders
 pub mod Increasing
 pub mod Sums
+pub mod Joined
 pub mod Rows
+pub mod Words

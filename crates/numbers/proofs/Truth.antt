@@ -17,6 +17,10 @@ pub and-intro : (a b : Bool) → T a → T b → T (a && b)
 and-intro true b p q = q
 and-intro false b p q = p
 
+-- a conjunction by what its parts say
+pub and-iff : (a b : Bool) {P Q : Type 0} → T a ↔ P → T b ↔ Q → T (a && b) ↔ (P × Q)
+and-iff a b p q = (λ t. (p .0 (and-left a b t), q .0 (and-right a b t)), λ r. and-intro a b (p .1 (r .0)) (q .1 (r .1)))
+
 pub or-cases : (a b : Bool) → T (a || b) → T a ⊎ T b
 or-cases true b t = inl tt
 or-cases false b t = inr t
@@ -37,6 +41,10 @@ nor-left false b t = tt
 pub nor-right : (a b : Bool) → T (not (a || b)) → T (not b)
 nor-right true b t = absurd t
 nor-right false b t = t
+
+pub nor-intro : (a b : Bool) → T (not a) → T (not b) → T (not (a || b))
+nor-intro true b t u = t
+nor-intro false b t u = u
 
 -- a conjunction that fails: its second part fails where its first holds
 pub nand-right : (a b : Bool) → T (not (a && b)) → T a → T (not b)

@@ -1,0 +1,11 @@
+pub mod Vectors
+pub mod FormLaws
+pub mod RangeLaws
+pub mod ReaderLaws
+pub mod JobLaws
+pub mod Faults
+pub mod Meaning
+pub mod RangeTests
+pub mod LineLaws
+pub mod PartLaws
+pub mod ReadLaws

@@ -1,0 +1,105 @@
+-- What reading a job's bytes gives, exactly: the statements of specs/Meaning.antt.
+-- Assumes nothing.
+use mathlib.Core.Path.{_≡_, refl, ap, subst, _∙_}
+use mathlib.Core.Bool.{not}
+use mathlib.Core.Logic.{_↔_}
+use mathlib.Core.List.{List, flatten}
+use Prim.Native.Nat.{ℕ, _≤_}
+use native.Mathlib.Omega.{arith}
+use lib.Dec.{T, ltb, ltb→lt, lt→ltb, nltb→le}
+use lib.Arith.{le→nltb}
+use lib.ListN.{length}
+use lib.Signed.{ltZ}
+use Rattle.numbers.specs.Lists.{nonEmpty}
+use Rattle.numbers.proofs.Truth.{holds, fails, cond-ind, cond-true, cond-false, nor-left, nor-right, nor-intro}
+use Rattle.numbers.proofs.Members.{length-nonEmpty, nonEmpty-length, nonEmpty-iff, empty-iff}
+use Rattle.numbers.proofs.Integer.{order}
+use Rattle.query.specs.Place.{Rect, NonEmpty}
+use Rattle.query.specs.Deck.{AxisCosts}
+use Rattle.query.specs.Range.{InRange}
+use Rattle.job.specs.Reader.{Reading, fault, got}
+use Rattle.job.specs.Format.{Job, jobLines, Result, refused, accepted, emptyArea, checked, resultOf, readJob}
+use Rattle.job.specs.Spelling.{spell, Writable, Allowed}
+use Rattle.job.specs.Meaning.{AcceptedLaw, SpellingLaw, top, Spelled, Condition, RefusedLaw}
+use Rattle.job.specs.declared.Refusal.{Refusal}
+use Rattle.job.specs.declared.Refusal.the-variants.{TooLong, Malformed, OutOfRange, EmptyArea, NoPosts, NoStops, SmallSpace, ShortOutput}
+use Rattle.job.proofs.JobLaws.{job-got, job-gets, spell-length}
+use Rattle.job.proofs.Faults.{Faults, allDue, job-faults, first-fault, malformed-faults, range-faults}
+
+-- what each result says of the bytes
+abbrev Says : Result → List ℕ → Type 0
+Says (refused why) bytes = Condition why bytes
+Says (accepted job) bytes = (length bytes ≤ 16384) × (bytes ≡ spell job) × Allowed job
+
+-- ---- the result is so
+full-area : (r : Rect) → T (not (emptyArea r)) ↔ NonEmpty r
+unfolding emptyArea
+full-area r = (
+  λ t. let across = nor-left (ltZ (r .xhi) (r .xlo)) (ltZ (r .yhi) (r .ylo)) t in let deep = nor-right (ltZ (r .xhi) (r .xlo)) (ltZ (r .yhi) (r .ylo)) t in omega (arith, order),
+  λ h. nor-intro (ltZ (r .xhi) (r .xlo)) (ltZ (r .yhi) (r .ylo)) (omega (arith, order)) (omega (arith, order)),
+)
+
+checked-says : (bytes : List ℕ) (job : Job) → length bytes ≤ 16384 → bytes ≡ spell job → Writable job → Says (checked job) bytes
+unfolding checked
+checked-says bytes job short e w =
+    cond-ind (λ (r : Result). Says r bytes) (emptyArea (job .deck .area)) (λ t. (short, spelled, t))
+    (λ t. cond-ind (λ (r : Result). Says r bytes) (nonEmpty (job .deck .posts)) (λ p. cond-ind (λ (r : Result). Says r bytes) (nonEmpty (job .deck .stops)) (λ s. (short, e, record { writable = w; area-full = full-area (job .deck .area) .0 t; some-posts = nonEmpty-length (job .deck .posts) p; some-stops = nonEmpty-length (job .deck .stops) s }))
+    (λ s. (short, spelled, t, nonEmpty-iff (job .deck .posts) .0 p, empty-iff (job .deck .stops) .0 s))) (λ p. (short, spelled, t, empty-iff (job .deck .posts) .0 p)))
+  where
+    spelled : Spelled bytes
+    spelled = record { job = job; writable = w; spelled = e }
+
+read-says : (bytes : List ℕ) → Says (readJob bytes) bytes
+unfolding readJob flatten
+read-says bytes = cond-ind (λ (r : Result). Says r bytes) (ltb 16384 (length bytes)) (λ t. ltb→lt 16384 (length bytes) t) (λ t. go (nltb→le 16384 (length bytes) t) (jobLines 1 bytes) refl)
+  where
+    go : length bytes ≤ 16384 → (r : Reading Job) → jobLines 1 bytes ≡ r → Says (resultOf r) bytes
+    go short (fault why) e = first-fault bytes short top refl refl (job-faults 1 bytes why .0 e)
+    go short (got job n rest) e = let (spelled, w) = job-got 1 bytes job n rest e in checked-says bytes job short spelled w
+
+-- ---- no other result is so
+read-short : (bytes : List ℕ) → length bytes ≤ 16384 → readJob bytes ≡ resultOf (jobLines 1 bytes)
+unfolding readJob
+read-short bytes short = cond-false (ltb 16384 (length bytes)) _ _ (le→nltb 16384 (length bytes) short)
+
+read-fault : (bytes : List ℕ) (why : Refusal) → length bytes ≤ 16384 → Faults allDue 1 bytes why → readJob bytes ≡ refused why
+read-fault bytes why short f = read-short bytes short ∙ ap resultOf (job-faults 1 bytes why .1 f)
+
+read-checked : (bytes : List ℕ) (job : Job) → length bytes ≤ 16384 → bytes ≡ spell job → Writable job → readJob bytes ≡ checked job
+read-checked bytes job short e w = read-short bytes short ∙ ap (λ (bs : List ℕ). resultOf (jobLines 1 bs)) e ∙ ap resultOf (job-gets 1 job w .1)
+
+condition-read : (bytes : List ℕ) (why : Refusal) → Condition why bytes → readJob bytes ≡ refused why
+unfolding readJob checked
+condition-read bytes TooLong c = cond-true (ltb 16384 (length bytes)) _ _ (lt→ltb 16384 (length bytes) c)
+condition-read bytes (Malformed n) c = read-fault bytes (Malformed n) (c .0) (malformed-faults bytes n (c .1))
+condition-read bytes (OutOfRange n) c = read-fault bytes (OutOfRange n) (c .0) (range-faults bytes n (c .1))
+condition-read bytes EmptyArea c = let s = c .1 in read-checked bytes (s .job) (c .0) (s .spelled) (s .writable) ∙ rw (holds (emptyArea (s .job .deck .area)) (c .2))
+condition-read bytes NoPosts c = let s = c .1 in read-checked bytes (s .job) (c .0) (s .spelled) (s .writable) ∙ rw (fails (emptyArea (s .job .deck .area)) (c .2), fails (nonEmpty (s .job .deck .posts)) (empty-iff (s .job .deck .posts) .1 (c .3)))
+condition-read bytes NoStops c = let s = c .1 in read-checked bytes (s .job) (c .0) (s .spelled) (s .writable) ∙ rw (fails (emptyArea (s .job .deck .area)) (c .2), holds (nonEmpty (s .job .deck .posts)) (nonEmpty-iff (s .job .deck .posts) .1 (c .3)), fails (nonEmpty (s .job .deck .stops)) (empty-iff (s .job .deck .stops) .1 (c .4)))
+condition-read bytes SmallSpace c = absurd c
+condition-read bytes ShortOutput c = absurd c
+
+allowed-read : (bytes : List ℕ) (job : Job) → length bytes ≤ 16384 → bytes ≡ spell job → Allowed job → readJob bytes ≡ accepted job
+unfolding checked
+allowed-read bytes job short e a = read-checked bytes job short e (a .writable) ∙ rw (fails (emptyArea (job .deck .area)) (full-area (job .deck .area) .1 (a .area-full)), holds (nonEmpty (job .deck .posts)) (length-nonEmpty (job .deck .posts) (a .some-posts)), holds (nonEmpty (job .deck .stops)) (length-nonEmpty (job .deck .stops) (a .some-stops)))
+
+-- ---- the laws
+pub accepted-law : (bytes : List ℕ) (job : Job) → AcceptedLaw bytes job
+accepted-law bytes job = record { exactly = (λ e. subst (λ (r : Result). Says r bytes) e (read-says bytes), λ c. allowed-read bytes job (c .0) (c .1) (c .2)) }
+
+pub refused-law : (bytes : List ℕ) (why : Refusal) → RefusedLaw bytes why
+refused-law bytes why = record { exactly = (λ e. subst (λ (r : Result). Says r bytes) e (read-says bytes), condition-read bytes why) }
+
+pub spelling-law : (job : Job) → SpellingLaw job
+spelling-law job = record {
+  fits = λ a. spell-length job (a .writable);
+  one-job = λ other a b e. cc (e, allowed-read (spell job) job (spell-length job (a .writable)) refl a, allowed-read (spell other) other (spell-length other (b .writable)) refl b);
+}
+
+-- an accepted job's deck is one of those that the searches are proved for
+pub allowed-in-range : (job : Job) → Allowed job → InRange (job .deck)
+allowed-in-range job a =
+    let w = a .writable in
+    let p = ap (λ (c : AxisCosts). c .a) (w .plain-axis) in
+    let q = ap (λ (c : AxisCosts). c .b) (w .plain-axis) in
+    record { axis-some = omega arith; axis-most = omega arith; area = w .area; posts = w .posts; some-posts = a .some-posts; most-posts = w .most-posts; stops = w .stops; some-stops = a .some-stops; most-stops = w .most-stops }

@@ -1,0 +1,81 @@
+-- `job::post_lines` meets its contract. The invariant: the lines read stand in the arrays, and the others are left to read.
+-- Assumes nothing.
+use Prim.Native.Nat.{_-_, _≤_}
+use native.Mathlib.Omega.{arith}
+use borrow.Author.Needs.{needs}
+use Rattle.job.proofs.PartLaws.{PostsFilled, posts-none, posts-all, posts-refused, posts-more}
+use Rattle.job.proofs.post_lines.Statement.{statement}
+use Rattle.job.proofs.post_lines.Tie as tie
+
+abbrev Inv-loop : tie.InvT-loop
+Inv-loop s start count first x₀ y₀ at₀ i₀ x y at i = (i ≤ count) × PostsFilled s start count first x y at i
+
+abbrev μ-loop : tie.MeasureT-loop
+μ-loop s start count first x₀ y₀ at₀ i₀ x y at i = count - i
+
+loop-holds : tie.Need-loop-holds Inv-loop μ-loop
+loop-holds c = (omega arith, posts-none)
+
+add-post-line : tie.Need-add-post-line Inv-loop μ-loop
+add-post-line c = omega arith
+
+post-line-requires : tie.Need-post-line-requires Inv-loop μ-loop
+post-line-requires c κs = search needs
+
+enum-known-place : tie.Need-enum-known-place Inv-loop μ-loop
+enum-known-place c = search needs
+
+mul-x : tie.Need-mul-x Inv-loop μ-loop
+mul-x c = omega arith
+
+array-set-from-x : tie.Need-array-set-from-x Inv-loop μ-loop
+array-set-from-x c = omega arith
+
+mul-y : tie.Need-mul-y Inv-loop μ-loop
+mul-y c = omega arith
+
+array-set-from-y : tie.Need-array-set-from-y Inv-loop μ-loop
+array-set-from-y c = omega arith
+
+add-i : tie.Need-add-i Inv-loop μ-loop
+add-i c = omega arith
+
+loop-less : tie.Need-loop-less Inv-loop μ-loop
+loop-less c = omega arith
+
+loop-again : tie.Need-loop-again Inv-loop μ-loop
+loop-again c =
+    let t = c .before .before .before .before .before in
+    (omega arith, posts-more (t .before .before .loop .inv .1) (t .post-line .ensures) (t .before .loop-test .taken) (c .before .before .before .before .before .before .before .before .before .pre .0) (c .before .before .before .place .given .1) (search needs) (search needs))
+
+enum-known-why : tie.Need-enum-known-why Inv-loop μ-loop
+enum-known-why c = search needs
+
+returns : tie.Need-returns Inv-loop μ-loop
+returns c =
+    let t = c .before .before .before in
+    posts-refused (t .before .before .loop .inv .1) (t .post-line .ensures) (t .before .loop-test .taken) (c .before .before .before .before .before .before .before .pre .0) (c .before .why .given .1)
+
+returns-2 : tie.Need-returns-2 Inv-loop μ-loop
+returns-2 c = posts-all (c .before .loop .inv .1) (c .before .loop .inv .0) (c .loop-test .left) (c .before .before .before .pre .0)
+
+pub post-lines-spec : {M : Type 1} → statement M
+post-lines-spec =
+    tie.close
+    (tie.spec
+    Inv-loop
+    μ-loop
+    loop-holds
+    add-post-line
+    post-line-requires
+    enum-known-place
+    mul-x
+    array-set-from-x
+    mul-y
+    array-set-from-y
+    add-i
+    loop-less
+    loop-again
+    enum-known-why
+    returns
+    returns-2)

@@ -1,0 +1,28 @@
+-- Lists joined end to end: what `flatten` and `flatMap` make, and how long it is.
+-- Assumes nothing.
+use mathlib.Core.Path.{_≡_, refl, sym, ap, ap₂, _∙_}
+use mathlib.Core.List.{List, [], _∷_, _++_, foldr, foldr-append, append-assoc, map, flatten, flatMap, List·Memᴰ, List·Memᴰ·head, List·Memᴰ·tail}
+use Prim.Native.Nat.{ℕ, _*_, _≤_}
+use native.Mathlib.Omega.{arith}
+use lib.ListN.{length, length-append}
+
+module _ {A : Type 0} where
+  -- joined, with one more list behind
+  pub flatten-onto : (ls : List (List A)) (rest : List A) → flatten ls ++ rest ≡ foldr _++_ rest ls
+  unfolding flatten
+  flatten-onto [] rest = refl
+  flatten-onto (l ∷ ls) rest = append-assoc l (flatten ls) rest ∙ ap (λ (m : List A). l ++ m) (flatten-onto ls rest)
+
+  pub flatten-snoc : (ls : List (List A)) (l rest : List A) → flatten (ls ++ (l ∷ [])) ++ rest ≡ flatten ls ++ (l ++ rest)
+  flatten-snoc ls l rest = flatten-onto (ls ++ (l ∷ [])) rest ∙ foldr-append _++_ rest ls (l ∷ []) ∙ sym (flatten-onto ls (l ++ rest))
+
+-- the same lists, made of other elements
+pub flatMap-map : {A B C : Type 0} (f : A → List C) (g : B → List C) (h : A → B) (xs : List A) → ((x : A) → List·Memᴰ x xs → f x ≡ g (h x)) → flatMap f xs ≡ flatMap g (map h xs)
+unfolding flatMap
+flatMap-map f g h [] each = refl
+flatMap-map f g h (x ∷ xs) each = ap₂ _++_ (each x (List·Memᴰ·head refl)) (flatMap-map f g h xs (λ y m. each y (List·Memᴰ·tail m)))
+
+pub flatMap-length : {A B : Type 0} (f : A → List B) (k : ℕ) (xs : List A) → ((x : A) → List·Memᴰ x xs → length (f x) ≤ k) → length (flatMap f xs) ≤ length xs * k
+unfolding flatMap
+flatMap-length f k [] each = omega arith
+flatMap-length f k (x ∷ xs) each = simp length-append (omega (arith, each x (List·Memᴰ·head refl), flatMap-length f k xs (λ y m. each y (List·Memᴰ·tail m))))

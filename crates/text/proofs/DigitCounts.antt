@@ -1,0 +1,80 @@
+-- Decimal digits: how many there are, and the last one apart.
+-- Assumes nothing.
+use mathlib.Core.Path.{_≡_, refl, sym, ap, _∙_}
+use mathlib.Core.Bool.{true, false, true≢false, cond}
+use mathlib.Core.Logic.{⊎-elim}
+use Prim.Native.Nat.{ℕ, zero, suc, _+_, _/_, _%_, _^_, _≤_, _<_}
+use native.Mathlib.Omega.{arith}
+use native.Mathlib.Nat.{le-of-lt, lt-of-lt-of-le, pow-suc, pow-le-pow-right}
+use mathlib.Core.List.{List, [], _∷_, _++_}
+use lib.Dec.{lit<, leb, leb→le, nleb→lt, ltb, lt→ltb}
+use lib.Arith.{le→nltb}
+use lib.ListN.{length, length-append}
+use borrow.Author.Tests.{ltb-true}
+use lib.Signed.{ltZ}
+use lib.IntN.{ℤ, pos, negsuc, natAbs}
+use Rattle.numbers.proofs.Truth.{test, cond-ind, cond-true, cond-false}
+use Rattle.text.specs.Ascii.{minus}
+use Rattle.text.specs.Decimal.{decimal, spellNat, spellInt}
+
+pub length-decimal : (most n : ℕ) → length (decimal most n) ≤ most
+unfolding decimal
+length-decimal zero n = omega arith
+length-decimal (suc most) n =
+    cond-ind (λ (l : List ℕ). length l ≤ suc most) (ltb n 10) (λ t. omega arith)
+    (λ t. omega (arith, length-append (decimal most (n / 10)) ((48 + n % 10) ∷ []), length-decimal most (n / 10)))
+
+-- digits for more digits than needed are the digits
+pub decimal-enough : (f g n : ℕ) → n < 10 ^ suc f → n < 10 ^ suc g → decimal (suc f) n ≡ decimal (suc g) n
+unfolding decimal
+decimal-enough zero g n h k = cond-true (ltb n 10) _ _ (lt→ltb n 10 (omega arith)) ∙ sym (cond-true (ltb n 10) _ _ (lt→ltb n 10 (omega arith)))
+decimal-enough (suc f) zero n h k = cond-true (ltb n 10) _ _ (lt→ltb n 10 (omega arith)) ∙ sym (cond-true (ltb n 10) _ _ (lt→ltb n 10 (omega arith)))
+decimal-enough (suc f) (suc g) n h k =
+    ap (λ (l : List ℕ). cond (ltb n 10) ((48 + n) ∷ []) (l ++ ((48 + n % 10) ∷ [])))
+    (decimal-enough f g (n / 10) (omega (arith, pow-suc 10 (suc f))) (omega (arith, pow-suc 10 (suc g))))
+
+-- ---- numbers of at most 20 digits
+pub spellNat-one : (n : ℕ) → n < 10 → spellNat n ≡ (48 + n) ∷ []
+unfolding spellNat
+spellNat-one n h = cond-true (ltb n 10) _ _ (lt→ltb n 10 h)
+
+pub spellNat-more : (n : ℕ) → 10 ≤ n → n < 10 ^ 20 → spellNat n ≡ spellNat (n / 10) ++ ((48 + n % 10) ∷ [])
+unfolding spellNat
+spellNat-more n h k =
+    cond-false (ltb n 10) _ _ (le→nltb n 10 h)
+    ∙ ap (λ (l : List ℕ). l ++ ((48 + n % 10) ∷ [])) (decimal-enough 18 19 (n / 10) (omega arith) (omega arith))
+
+pub length-spellNat : (n : ℕ) → length (spellNat n) ≤ 20
+unfolding spellNat
+length-spellNat n = length-decimal 20 n
+
+-- a number below 10 ^ k has at most k digits
+pub length-spellNat-below : (k n : ℕ) → n < 10 ^ suc k → length (spellNat n) ≤ suc k
+unfolding spellNat
+length-spellNat-below k n h = ⊎-elim (λ t. omega (arith, length-spellNat n, leb→le 20 (suc k) t)) (λ t. few (nleb→lt 20 (suc k) t)) (test (leb 20 (suc k)))
+  where
+    few : suc k < 20 → length (spellNat n) ≤ suc k
+    few m =
+        let p : 10 ^ suc k ≤ 10 ^ 20 = pow-le-pow-right (lit< tt) (le-of-lt m) in
+        rw (decimal-enough 19 k n (lt-of-lt-of-le h p) h) (length-decimal (suc k) n)
+
+-- ---- numbers with a sign
+pub spellInt-nonNeg : (z : ℤ) → ltZ z (pos 0) ≡ false → spellInt z ≡ spellNat (natAbs z)
+unfolding spellInt
+spellInt-nonNeg (pos n) t = refl
+spellInt-nonNeg (negsuc n) t = absurd (true≢false t)
+
+pub spellInt-negative : (z : ℤ) → ltZ z (pos 0) ≡ true → spellInt z ≡ minus ∷ spellNat (natAbs z)
+unfolding spellInt
+spellInt-negative (pos n) t = absurd (omega (arith, ltb-true n 0 t))
+spellInt-negative (negsuc n) t = refl
+
+pub length-spellInt : (z : ℤ) → length (spellInt z) ≤ 21
+unfolding spellInt
+length-spellInt (pos n) = omega (arith, length-spellNat n)
+length-spellInt (negsuc n) = omega (arith, length-spellNat (suc n))
+
+pub length-spellInt-below : (k : ℕ) (z : ℤ) → natAbs z < 10 ^ suc k → length (spellInt z) ≤ k + 2
+unfolding spellInt
+length-spellInt-below k (pos n) h = omega (arith, length-spellNat-below k n h)
+length-spellInt-below k (negsuc n) h = omega (arith, length-spellNat-below k (suc n) h)

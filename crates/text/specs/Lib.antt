@@ -1,0 +1,5 @@
+pub mod Ascii
+pub mod Numeral
+pub mod Decimal
+pub mod Reading
+pub mod Written

@@ -1,0 +1,15 @@
+-- Bytes put over a part of a buffer.
+-- Assumes nothing.
+use mathlib.Core.Path.{_≡_}
+use Prim.Native.Nat.{ℕ, _+_}
+use mathlib.Core.List.{List, _++_}
+use lib.ListN.{length, take, drop}
+
+-- a buffer with other bytes from a place on; those before and after them are kept
+unfoldable pub written : List ℕ → ℕ → List ℕ → List ℕ
+written out at bs = take at out ++ bs ++ drop (at + length bs) out
+
+-- what a call that writes bytes from a place on leaves of the buffer, and the place that it returns: the one after them
+pub record Wrote (out : List ℕ) (at : ℕ) (bs after : List ℕ) (end : ℕ) : Type 0 where
+  pub next : end ≡ at + length bs
+  pub text : after ≡ written out at bs

@@ -1,0 +1,53 @@
+// Text and decimal numbers written into a byte slice from a place on. Each returns the place after what it wrote.
+ghost use Prim.Native.Nat.{_+_, _≤_};
+ghost use mathlib.Core.Path.{_≡_};
+ghost use lib.ListN.{length};
+ghost use lib.IntN.{natAbs};
+ghost use Rattle.text.specs.Decimal.{spellNat, spellInt};
+ghost use Rattle.text.specs.Written.{Wrote};
+
+pub fn put(out: &mut [u8], at: usize, s: &[u8]) -> usize
+    requires { ⌜ at + length (now s) ≤ length (now out) ⌝ }
+    ensures { λ r. ⌜ Wrote (now (out .entry)) at (now (s .entry)) (now (out .exit)) r ⌝ }
+{
+    let mut i = 0;
+    while i < s.len() {
+        out[at + i] = s[i];
+        i += 1;
+    }
+    at + i
+}
+
+// The decimal digits of `n`, the first ones by a call of itself.
+pub fn put_nat(out: &mut [u8], at: usize, n: u64) -> usize
+    requires { ⌜ at + 20 ≤ length (now out) ⌝ }
+    ensures { λ r. ⌜ Wrote (now (out .entry)) at (spellNat n) (now (out .exit)) r ⌝ }
+{
+    if n < 10 {
+        out[at] = b'0' + n as u8;
+        at + 1
+    } else {
+        let last = put_nat(out, at, n / 10);
+        out[last] = b'0' + (n % 10) as u8;
+        last + 1
+    }
+}
+
+// The absolute value, that of i64::MIN too.
+fn magnitude(z: i64) -> u64
+    ensures { λ r. ⌜ r ≡ natAbs z ⌝ }
+{
+    if z < 0 { (-1 - z) as u64 + 1 } else { z as u64 }
+}
+
+pub fn put_int(out: &mut [u8], at: usize, z: i64) -> usize
+    requires { ⌜ at + 21 ≤ length (now out) ⌝ }
+    ensures { λ r. ⌜ Wrote (now (out .entry)) at (spellInt z) (now (out .exit)) r ⌝ }
+{
+    if z < 0 {
+        out[at] = b'-';
+        put_nat(out, at + 1, magnitude(z))
+    } else {
+        put_nat(out, at, magnitude(z))
+    }
+}
