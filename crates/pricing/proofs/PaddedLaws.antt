@@ -1,0 +1,63 @@
+-- A list at the front of an array: one element more, and an element of it.
+-- Assumes nothing.
+use mathlib.Core.Path.{_≡_, refl, sym, ap, _∙_}
+use mathlib.Core.List.{List, [], _∷_, _++_, List·Memᴰ, List·Memᴰ·head, List·Memᴰ·tail}
+use Prim.Native.Nat.{ℕ, zero, suc, _+_, _-_, _≤_, _<_}
+use native.Mathlib.Numerals.{add-one}
+use native.Mathlib.Omega.{arith}
+use lib.ListN.{length, getD, take, set, replicate, length-append, length-replicate}
+use lib.Seq.{set-at, append-snoc, length-take-le, take-suc}
+use Rattle.job.specs.Record.{padded}
+
+module _ {A : Type 0} (size : ℕ) (z : A) where
+  pub padded-none : padded size z [] ≡ replicate size z
+  unfolding padded
+  padded-none = rw sub-zero
+    where
+      sub-zero : size - 0 ≡ size
+      sub-zero = omega arith
+
+  pub padded-length : (xs : List A) → length xs ≤ size → length (padded size z xs) ≡ size
+  unfolding padded
+  padded-length xs h = omega (arith, length-append xs (replicate (size - length xs) z), length-replicate (size - length xs) z)
+
+  pub padded-more : (xs : List A) (i : ℕ) (a : A) → length xs ≡ i → i < size → set (padded size z xs) i a ≡ padded size z (xs ++ a ∷ [])
+  unfolding padded
+  padded-more xs i a e h = rw (split, set-at xs z (replicate (size - suc (length xs)) z) a i e, joined) (sym (append-snoc xs a (replicate (size - suc (length xs)) z)))
+    where
+      split : replicate (size - length xs) z ≡ z ∷ replicate (size - suc (length xs)) z
+      split = let k : size - length xs ≡ suc (size - suc (length xs)) = omega arith in rw k
+
+      joined : length (xs ++ a ∷ []) ≡ suc (length xs)
+      joined = rw (length-append xs (a ∷ [])) (omega arith)
+
+-- an array that is filled from a list, i of whose first n elements it holds
+module _ {A : Type 0} (size : ℕ) (z : A) (source : List A) (n : ℕ) where
+  pub record Filled (to : List A) (i : ℕ) : Type 0 where
+    pub count : i ≤ n
+    pub filled : to ≡ padded size z (take i source)
+
+  pub fill-none : Filled (replicate size z) 0
+  fill-none = record { count = omega arith; filled = sym (padded-none size z) }
+
+  pub fill-more : {to : List A} {i : ℕ} (v d : A) → n ≤ size → n ≤ length source → Filled to i → i < n → v ≡ getD source i d → Filled (set to i v) (i + 1)
+  fill-more {to} {i} v d g h f l e = record { count = omega arith; filled = rw (f .filled, padded-more size z (take i source) i v (length-take-le i source (omega arith)) (omega arith), add-one i, take-suc source i d (omega arith), e) }
+
+  pub fill-all : {to : List A} {i : ℕ} → Filled to i → n ≤ i → to ≡ padded size z (take n source)
+  fill-all {to} {i} f h = let k : i ≡ n = omega arith in f .filled ∙ rw k
+
+-- what holds of z and of each element holds of each element of the array, and past its end
+module _ {A : Type 0} (P : A → Type 0) (z : A) (h : P z) where
+  each-replicate : (m i : ℕ) → P (getD (replicate m z) i z)
+  each-replicate zero i = h
+  each-replicate (suc m) zero = h
+  each-replicate (suc m) (suc i) = each-replicate m i
+
+  each-append : (m : ℕ) (xs : List A) → ((a : A) → List·Memᴰ a xs → P a) → (i : ℕ) → P (getD (xs ++ replicate m z) i z)
+  each-append m [] each i = each-replicate m i
+  each-append m (x ∷ xs) each zero = each x (List·Memᴰ·head refl)
+  each-append m (x ∷ xs) each (suc i) = each-append m xs (λ a n. each a (List·Memᴰ·tail n)) i
+
+  pub padded-each : (size : ℕ) (xs : List A) → ((a : A) → List·Memᴰ a xs → P a) → (i : ℕ) → P (getD (padded size z xs) i z)
+  unfolding padded
+  padded-each size xs each i = each-append (size - length xs) xs each i

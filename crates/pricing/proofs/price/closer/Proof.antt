@@ -1,0 +1,32 @@
+-- `pricing::price::closer` meets its contract.
+-- Assumes nothing.
+use mathlib.Core.Path.{_≡_, ap, _∙_}
+use borrow.Author.Needs.{needs}
+use lib.IntN.{pos, natAbs}
+use mir.Syntax.{w32}
+use mir.Val.{toZ, ofZ}
+use Rattle.numbers.proofs.Words.{natural-is, natural-cast}
+use Rattle.pricing.proofs.TravelLaws.{far, far-small, far-word, picks-first, picks-second}
+use Rattle.pricing.proofs.price.closer.Statement.{statement}
+use Rattle.pricing.proofs.price.closer.Tie as tie
+
+travelled-requires : tie.Need-travelled-requires
+travelled-requires c κs = search needs
+
+total : (c : tie.After-travelled) → c .travelled .result ≡ pos (far (c .before .args .x) (c .before .args .y) (c .before .args .px) (c .before .args .py))
+total c = c .travelled .ensures ∙ ap pos (far-word _ _ _ _ (c .before .pre .0) (c .before .pre .1))
+
+total-is : (c : tie.After-travelled) → natAbs (toZ w32 (ofZ w32 (c .travelled .result))) ≡ far (c .before .args .x) (c .before .args .y) (c .before .args .px) (c .before .args .py)
+total-is c = natural-is w32 _ _ (total c) (far-small _ _ _ _ (c .before .pre .0) (c .before .pre .1))
+
+cast-t : tie.Need-cast-t
+cast-t c = natural-cast w32 _ _ (total c) (far-small _ _ _ _ (c .before .pre .0) (c .before .pre .1))
+
+returns : tie.Need-returns
+returns c = picks-first _ _ _ (total-is (c .before)) (c .if1 .taken)
+
+returns-2 : tie.Need-returns-2
+returns-2 c = picks-second _ _ _ (total-is (c .before)) (c .if1 .left)
+
+pub closer-spec : {M : Type 1} → statement M
+closer-spec = tie.close (tie.spec travelled-requires cast-t returns returns-2)

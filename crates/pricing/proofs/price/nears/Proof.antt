@@ -1,0 +1,93 @@
+-- `pricing::price::nears` meets its contract: after i turns the near of the first i stops is found.
+-- Assumes nothing.
+use mathlib.Core.List.{List, map}
+use Prim.Native.Nat.{ℕ, _-_}
+use native.Mathlib.Omega.{arith}
+use lib.IntN.{ℤ, pos}
+use lib.ListN.{getD, take}
+use Rattle.query.specs.Place.{Place}
+use Rattle.query.specs.Deck.{plain}
+use Rattle.query.specs.Travel.{closest}
+use Rattle.pricing.specs.DeckOf.{places}
+use Rattle.pricing.proofs.WordLaws.{narrow-fits}
+use Rattle.pricing.proofs.PaddedLaws.{Filled, fill-none, fill-all}
+use Rattle.pricing.proofs.ClosestLaws.{narrow-row, figures-more}
+use Rattle.pricing.proofs.price.nears.Statement.{statement}
+use Rattle.pricing.proofs.price.nears.Tie as tie
+
+-- the near of a place
+abbrev nearBy : List ℤ → List ℤ → ℕ → Place → ℕ
+nearBy px py k p = closest plain p (take k (places px py))
+
+abbrev Inv-loop : tie.InvT-loop
+Inv-loop xs ys n px py k to₀ i₀ to i = Filled 512 0 (map (nearBy px py k) (places xs ys)) n to i
+
+abbrev μ-loop : tie.MeasureT-loop
+μ-loop xs ys n px py k to₀ i₀ to i = n - i
+
+loop-holds : tie.Need-loop-holds Inv-loop μ-loop
+loop-holds c = fill-none _ _ _ _
+
+mul-near-of : tie.Need-mul-near-of Inv-loop μ-loop
+mul-near-of c = omega arith
+
+element-copy-out-near-of : tie.Need-element-copy-out-near-of Inv-loop μ-loop
+element-copy-out-near-of c = omega arith
+
+cast-near-of : tie.Need-cast-near-of Inv-loop μ-loop
+cast-near-of c = narrow-fits (getD (c .before .before .before .args .xs .now) (c .before .before .loop .i) (pos 0)) (c .before .before .before .pre .3 .range _ (c .before .loop-test .taken))
+
+mul-near-of-2 : tie.Need-mul-near-of-2 Inv-loop μ-loop
+mul-near-of-2 c = omega arith
+
+element-copy-out-near-of-2 : tie.Need-element-copy-out-near-of-2 Inv-loop μ-loop
+element-copy-out-near-of-2 c = omega arith
+
+cast-near-of-2 : tie.Need-cast-near-of-2 Inv-loop μ-loop
+cast-near-of-2 c = narrow-fits (getD (c .before .before .before .before .args .ys .now) (c .before .before .before .loop .i) (pos 0)) (c .before .before .before .before .pre .4 .range _ (c .before .before .loop-test .taken))
+
+near-of-requires : tie.Need-near-of-requires Inv-loop μ-loop
+near-of-requires c κs =
+    let s = c .before .before .before .before in
+    (s .pre .0, s .pre .1, s .pre .2, narrow-row (s .pre .3) (s .pre .4) _ (c .before .before .loop-test .taken))
+
+mul-to : tie.Need-mul-to Inv-loop μ-loop
+mul-to c = omega arith
+
+array-write-to : tie.Need-array-write-to Inv-loop μ-loop
+array-write-to c = omega arith
+
+add-i : tie.Need-add-i Inv-loop μ-loop
+add-i c = omega arith
+
+loop-less : tie.Need-loop-less Inv-loop μ-loop
+loop-less c = omega arith
+
+loop-again : tie.Need-loop-again Inv-loop μ-loop
+loop-again c =
+    let s = c .before .before .before .before .before in
+    figures-more _ _ _ _ (s .pre .3) (s .pre .4) _ (c .before .before .before .before .loop .inv) (c .before .before .before .loop-test .taken) (c .near-of .ensures)
+
+returns : tie.Need-returns Inv-loop μ-loop
+returns c = fill-all _ _ _ _ (c .before .loop .inv) (c .loop-test .left)
+
+pub nears-spec : {M : Type 1} → statement M
+nears-spec =
+    tie.close
+    (tie.spec
+    Inv-loop
+    μ-loop
+    loop-holds
+    mul-near-of
+    element-copy-out-near-of
+    cast-near-of
+    mul-near-of-2
+    element-copy-out-near-of-2
+    cast-near-of-2
+    near-of-requires
+    mul-to
+    array-write-to
+    add-i
+    loop-less
+    loop-again
+    returns)

@@ -1,0 +1,5 @@
+pub mod DeckOf
+pub mod Sites
+pub mod Columns
+pub mod Record
+pub mod LineRecord
