@@ -171,7 +171,7 @@ module _ {s : List ℕ} {at : ℕ} (n : ℕ) {t : Bool} (is-key : Starts s at (b
           pub post-out : t′ ≡ false → PostAt s at n (P.Refused (OutOfRange n))
           post-out off = record { is = line-out postLine placeInRange n post-form (post-range ∙ off) }
 
-          pub post-in : t′ ≡ true → PostAt s at n (P.Read (record { x = held x; y = held y }) next)
+          pub post-in : t′ ≡ true → PostAt s at n (P.Read (held x) (held y) next)
           post-in on = rw (held-is (field-fits field-x x-is), held-is (field-fits field-y y-is)) (record { is = line-in postLine placeInRange n post-form (post-range ∙ on) })
 
 -- ---- `stop=x,y,visits`
@@ -221,7 +221,7 @@ module _ {s : List ℕ} {at : ℕ} (n : ℕ) {t : Bool} (is-key : Starts s at (b
             pub stop-cast : t′ ≡ true → T (nonNeg (held v)) × Fits w64 (natAbs (held v))
             stop-cast on = rw (held-is (field-fits field-v v-is)) (visits-nonNeg _ v (stop-range ∙ on), record { fits = omega (arith, field-small field-v v-is) })
 
-            pub stop-in : t′ ≡ true → StopAt s at n (S.Read (record { x = held x; y = held y; visits = natAbs (held v) }) next)
+            pub stop-in : t′ ≡ true → StopAt s at n (S.Read (held x) (held y) (natAbs (held v)) next)
             stop-in on = rw (held-is (field-fits field-x x-is), held-is (field-fits field-y y-is), held-is (field-fits field-v v-is)) (record { is = rw (pos-natAbs v (visits-nonNeg _ v (stop-range ∙ on))) (line-in stopLine stopInRange n stop-form (stop-range ∙ on)) })
 
 -- ---- `area=xlo,ylo,xhi,yhi`

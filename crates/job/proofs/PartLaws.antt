@@ -18,10 +18,8 @@ use Rattle.text.proofs.KeyLaws.{drop-next}
 use Rattle.job.specs.Lines.{StopLine, countLine, postLine, stopLine, placeInRange, stopInRange, upTo}
 use Rattle.job.specs.Reader.{Reading, fault, got, Reader, andThen, lineResult, line, repeated, end}
 use Rattle.job.specs.Record.{padded}
-use Rattle.job.specs.Reading.{placeOf, countForm, countIn, CountAt, PostAt, StopAt}
+use Rattle.job.specs.Reading.{countForm, countIn, CountAt, PostAt, StopAt}
 use Rattle.job.specs.Parts.{postLines, stopLines, allPosts, allStops, lastLine, PostsAt, StopsAt, LastAt}
-use Rattle.job.specs.declared.Place as Held
-use Rattle.job.specs.declared.Stop.{Stop}
 use Rattle.job.specs.declared.Refusal.{Refusal}
 use Rattle.job.specs.declared.Refusal.the-variants.{Malformed}
 use Rattle.job.specs.declared.CountLine.{CountLine}
@@ -108,15 +106,18 @@ module _ {s : List ℕ} {start count first : ℕ} where
       pub posts-refused : {why : Refusal} → r ≡ P.Refused why → PostsAt s first (postLines count first (drop start s)) (record { next = Refused why; count = i; x = x; y = y })
       posts-refused e = record { places = f .places; hold = record { count-is = f .filling .long; x-is = f .x-is; y-is = f .y-is }; few = omega arith; is = filling-fault (f .filling) h (subst (PostAt s at (first + i)) e post .is) }
 
-      pub posts-more : {p : Held.Place} {next : ℕ} → r ≡ P.Read p next → SFits w64 (p .x) → SFits w64 (p .y) → PostsFilled s start count first (set x i (held (p .x))) (set y i (held (p .y))) next (i + 1)
-      posts-more {p} e fx fy =
+      pub posts-more : {px py : ℤ} {next : ℕ} → r ≡ P.Read px py next → SFits w64 px → SFits w64 py → PostsFilled s start count first (set x i (held px)) (set y i (held py)) next (i + 1)
+      posts-more {px} {py} e fx fy =
           rw (held-is fx, held-is fy)
           (record {
-            places = f .places ++ (placeOf p ∷ []);
+            places = f .places ++ (here ∷ []);
             filling = filling-more (f .filling) h (subst (PostAt s at (first + i)) e post .is);
-            x-is = padded-map 64 (pos 0) (λ p. p .x) (f .places) (placeOf p) (f .filling .long) (omega arith) (f .x-is);
-            y-is = padded-map 64 (pos 0) (λ p. p .y) (f .places) (placeOf p) (f .filling .long) (omega arith) (f .y-is);
+            x-is = padded-map 64 (pos 0) (λ p. p .x) (f .places) here (f .filling .long) (omega arith) (f .x-is);
+            y-is = padded-map 64 (pos 0) (λ p. p .y) (f .places) here (f .filling .long) (omega arith) (f .y-is);
           })
+        where
+          here : Place
+          here = record { x = px; y = py }
 
 -- ---- stops
 pub record StopsFilled (s : List ℕ) (start count first : ℕ) (x y : List ℤ) (visits : List ℕ) (at i : ℕ) : Type 0 where
@@ -139,8 +140,8 @@ module _ {s : List ℕ} {start count first : ℕ} where
       pub stops-refused : {why : Refusal} → r ≡ S.Refused why → StopsAt s first (stopLines count first (drop start s)) (record { next = Refused why; count = i; x = x; y = y; visits = visits })
       stops-refused e = record { lines = f .lines; hold = record { count-is = f .filling .long; x-is = f .x-is; y-is = f .y-is; visits-is = f .visits-is }; few = omega arith; is = filling-fault (f .filling) h (subst (StopAt s at (first + i)) e stop .is) }
 
-      pub stops-more : {p : Stop} {next : ℕ} → r ≡ S.Read p next → SFits w64 (p .x) → SFits w64 (p .y) → StopsFilled s start count first (set x i (held (p .x))) (set y i (held (p .y))) (set visits i (p .visits)) next (i + 1)
-      stops-more {p} e fx fy =
+      pub stops-more : {sx sy : ℤ} {v next : ℕ} → r ≡ S.Read sx sy v next → SFits w64 sx → SFits w64 sy → StopsFilled s start count first (set x i (held sx)) (set y i (held sy)) (set visits i v) next (i + 1)
+      stops-more {sx} {sy} {v} e fx fy =
           rw (held-is fx, held-is fy)
           (record {
             lines = f .lines ++ (here ∷ []);
@@ -151,7 +152,7 @@ module _ {s : List ℕ} {start count first : ℕ} where
           })
         where
           here : StopLine
-          here = record { at = record { x = p .x; y = p .y }; visits = pos (p .visits) }
+          here = record { at = record { x = sx; y = sy }; visits = pos v }
 
 -- ---- a line of a count, and what follows it
 countLine-is : (name : String) (bs : List ℕ) → countForm (bytes name) bs ≡ countLine name bs

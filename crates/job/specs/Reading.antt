@@ -15,7 +15,6 @@ use Rattle.job.specs.Lines.{areaLine, postLine, stopLine, placeInRange, 
 use Rattle.job.specs.Reader.{Reading, fault, got, line}
 use Rattle.job.specs.declared.Area.{Area}
 use Rattle.job.specs.declared.Place.{Place}
-use Rattle.job.specs.declared.Stop.{Stop}
 use Rattle.job.specs.declared.AreaLine.{AreaLine}
 use Rattle.job.specs.declared.AreaLine.the-variants as A
 use Rattle.job.specs.declared.CountLine.{CountLine}
@@ -67,14 +66,14 @@ pub record CountAt (s : List ℕ) (at : ℕ) (name : List ℕ) (most n : ℕ) (r
   pub within : CountWithin most r
 
 abbrev pub postIn : List ℕ → ℕ → PostLine → Reading Query.Place
-postIn s n (P.Read p next) = got (placeOf p) (n + 1) (drop next s)
+postIn s n (P.Read x y next) = got (record { x = x; y = y }) (n + 1) (drop next s)
 postIn s n (P.Refused why) = fault why
 
 pub record PostAt (s : List ℕ) (at n : ℕ) (r : PostLine) : Type 0 where
   pub is : postIn s n r ≡ line postLine placeInRange n (drop at s)
 
 abbrev pub stopIn : List ℕ → ℕ → StopLine → Reading Lines.StopLine
-stopIn s n (S.Read p next) = got (record { at = record { x = p .x; y = p .y }; visits = pos (p .visits) }) (n + 1) (drop next s)
+stopIn s n (S.Read x y visits next) = got (record { at = record { x = x; y = y }; visits = pos visits }) (n + 1) (drop next s)
 stopIn s n (S.Refused why) = fault why
 
 pub record StopAt (s : List ℕ) (at n : ℕ) (r : StopLine) : Type 0 where

@@ -3,10 +3,9 @@
 use text::ParsedNumber;
 ghost use mathlib.Core.Path.{_≡_};
 ghost use Prim.Native.Nat.{_+_, _≤_};
-ghost use lib.IntN.{pos};
 ghost use lib.ListN.{drop};
 ghost use Rattle.numbers.specs.Integer.{between};
-ghost use Rattle.job.specs.Lines.{coordinateInRange, placeInRange, areaInRange, stopInRange, upTo};
+ghost use Rattle.job.specs.Lines.{coordinateInRange, placeInRange, areaInRange, stopInRange};
 ghost use Rattle.job.specs.Format.{emptyArea, readJob, refused};
 ghost use Rattle.job.specs.Record.{jobRecord};
 ghost use Rattle.job.specs.Reading.{areaOf, placeOf, stopLineOf, FieldAt, AreaAt, CountAt, PostAt, StopAt};
@@ -50,7 +49,7 @@ pub struct Job {
     pub deck: Deck,
 }
 
-// What the lines hold.
+// An area and a place as a line has them.
 struct Area {
     xlo: i64,
     ylo: i64,
@@ -61,12 +60,6 @@ struct Area {
 struct Place {
     x: i64,
     y: i64,
-}
-
-struct Stop {
-    x: i64,
-    y: i64,
-    visits: u64,
 }
 
 // What one line is read as: what it holds and the place after it, or the refusal.
@@ -81,12 +74,12 @@ enum CountLine {
 }
 
 enum PostLine {
-    Read(Place, usize),
+    Read(i64, i64, usize),
     Refused(Refusal),
 }
 
 enum StopLine {
-    Read(Stop, usize),
+    Read(i64, i64, u64, usize),
     Refused(Refusal),
 }
 
@@ -238,11 +231,10 @@ fn post_line(s: &[u8], at: usize, line: u64) -> PostLine
     let ParsedNumber::Read(y, next) = field(s, after_x, b'\n') else {
         return PostLine::Refused(Refusal::Malformed(line));
     };
-    let place = Place { x, y };
-    if !place_in_range(place) {
+    if !place_in_range(Place { x, y }) {
         return PostLine::Refused(Refusal::OutOfRange(line));
     }
-    PostLine::Read(place, next)
+    PostLine::Read(x, y, next)
 }
 
 // `stop=x,y,visits`
@@ -264,14 +256,7 @@ fn stop_line(s: &[u8], at: usize, line: u64) -> StopLine
     if !stop_in_range(Place { x, y }, visits) {
         return StopLine::Refused(Refusal::OutOfRange(line));
     }
-    StopLine::Read(
-        Stop {
-            x,
-            y,
-            visits: visits as u64,
-        },
-        next,
-    )
+    StopLine::Read(x, y, visits as u64, next)
 }
 
 // ---- parts
@@ -287,11 +272,9 @@ fn post_lines(s: &[u8], start: usize, count: usize, first: u64) -> Posts
     let mut i: usize = 0;
     while i < count {
         match post_line(s, at, first + i as u64) {
-            PostLine::Read(place, next) => {
-                let px = place.x;
-                let py = place.y;
-                x[i] = px;
-                y[i] = py;
+            PostLine::Read(post_x, post_y, next) => {
+                x[i] = post_x;
+                y[i] = post_y;
                 at = next;
                 i += 1;
             }
@@ -325,12 +308,10 @@ fn stop_lines(s: &[u8], start: usize, count: usize, first: u64) -> Stops
     let mut i: usize = 0;
     while i < count {
         match stop_line(s, at, first + i as u64) {
-            StopLine::Read(stop, next) => {
-                let sx = stop.x;
-                let sy = stop.y;
-                x[i] = sx;
-                y[i] = sy;
-                visits[i] = stop.visits;
+            StopLine::Read(stop_x, stop_y, stop_visits, next) => {
+                x[i] = stop_x;
+                y[i] = stop_y;
+                visits[i] = stop_visits;
                 at = next;
                 i += 1;
             }
@@ -446,13 +427,16 @@ fn refuse(why: Refusal) -> Job
 fn check(area: Area, posts: Posts, stops: Stops, rounds: u64) -> Job
     ensures { λ r. ⌜ CheckedAt area posts stops rounds r ⌝ }
 {
-    if empty_area(area) {
+    let empty = empty_area(area);
+    let no_posts = posts.count == 0;
+    let no_stops = stops.count == 0;
+    if empty {
         return refuse(Refusal::EmptyArea);
     }
-    if posts.count == 0 {
+    if no_posts {
         return refuse(Refusal::NoPosts);
     }
-    if stops.count == 0 {
+    if no_stops {
         return refuse(Refusal::NoStops);
     }
     let post_x = posts.x;

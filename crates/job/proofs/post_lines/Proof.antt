@@ -22,8 +22,8 @@ add-post-line c = omega arith
 post-line-requires : tie.Need-post-line-requires Inv-loop μ-loop
 post-line-requires c κs = search needs
 
-enum-known-place : tie.Need-enum-known-place Inv-loop μ-loop
-enum-known-place c = search needs
+enum-known-post-x : tie.Need-enum-known-post-x Inv-loop μ-loop
+enum-known-post-x c = search needs
 
 mul-x : tie.Need-mul-x Inv-loop μ-loop
 mul-x c = omega arith
@@ -45,8 +45,10 @@ loop-less c = omega arith
 
 loop-again : tie.Need-loop-again Inv-loop μ-loop
 loop-again c =
-    let t = c .before .before .before .before .before in
-    (omega arith, posts-more (t .before .before .loop .inv .1) (t .post-line .ensures) (t .before .loop-test .taken) (c .before .before .before .before .before .before .before .before .before .pre .0) (c .before .before .before .place .given .1) (search needs) (search needs))
+    let t = c .before .before .before in (
+      omega arith,
+      posts-more (t .before .before .loop .inv .1) (t .post-line .ensures) (t .before .loop-test .taken) (t .before .before .before .before .pre .0) (c .before .post-x .given .1) (search needs) (search needs),
+    )
 
 enum-known-why : tie.Need-enum-known-why Inv-loop μ-loop
 enum-known-why c = search needs
@@ -54,7 +56,7 @@ enum-known-why c = search needs
 returns : tie.Need-returns Inv-loop μ-loop
 returns c =
     let t = c .before .before .before in
-    posts-refused (t .before .before .loop .inv .1) (t .post-line .ensures) (t .before .loop-test .taken) (c .before .before .before .before .before .before .before .pre .0) (c .before .why .given .1)
+    posts-refused (t .before .before .loop .inv .1) (t .post-line .ensures) (t .before .loop-test .taken) (t .before .before .before .before .pre .0) (c .before .why .given .1)
 
 returns-2 : tie.Need-returns-2 Inv-loop μ-loop
 returns-2 c = posts-all (c .before .loop .inv .1) (c .before .loop .inv .0) (c .loop-test .left) (c .before .before .before .pre .0)
@@ -68,7 +70,7 @@ post-lines-spec =
     loop-holds
     add-post-line
     post-line-requires
-    enum-known-place
+    enum-known-post-x
     mul-x
     array-set-from-x
     mul-y

@@ -22,8 +22,8 @@ add-stop-line c = omega arith
 stop-line-requires : tie.Need-stop-line-requires Inv-loop μ-loop
 stop-line-requires c κs = search needs
 
-enum-known-stop : tie.Need-enum-known-stop Inv-loop μ-loop
-enum-known-stop c = search needs
+enum-known-stop-x : tie.Need-enum-known-stop-x Inv-loop μ-loop
+enum-known-stop-x c = search needs
 
 mul-x : tie.Need-mul-x Inv-loop μ-loop
 mul-x c = omega arith
@@ -51,8 +51,10 @@ loop-less c = omega arith
 
 loop-again : tie.Need-loop-again Inv-loop μ-loop
 loop-again c =
-    let t = c .before .before .before .before .before in
-    (omega arith, stops-more (t .before .before .loop .inv .1) (t .stop-line .ensures) (t .before .loop-test .taken) (c .before .before .before .before .before .before .before .before .before .pre .0) (c .before .before .before .stop .given .1) (search needs) (search needs))
+    let t = c .before .before .before in (
+      omega arith,
+      stops-more (t .before .before .loop .inv .1) (t .stop-line .ensures) (t .before .loop-test .taken) (t .before .before .before .before .pre .0) (c .before .stop-x .given .1) (search needs) (search needs),
+    )
 
 enum-known-why : tie.Need-enum-known-why Inv-loop μ-loop
 enum-known-why c = search needs
@@ -60,7 +62,7 @@ enum-known-why c = search needs
 returns : tie.Need-returns Inv-loop μ-loop
 returns c =
     let t = c .before .before .before in
-    stops-refused (t .before .before .loop .inv .1) (t .stop-line .ensures) (t .before .loop-test .taken) (c .before .before .before .before .before .before .before .pre .0) (c .before .why .given .1)
+    stops-refused (t .before .before .loop .inv .1) (t .stop-line .ensures) (t .before .loop-test .taken) (t .before .before .before .before .pre .0) (c .before .why .given .1)
 
 returns-2 : tie.Need-returns-2 Inv-loop μ-loop
 returns-2 c = stops-all (c .before .loop .inv .1) (c .before .loop .inv .0) (c .loop-test .left) (c .before .before .before .pre .0)
@@ -74,7 +76,7 @@ stop-lines-spec =
     loop-holds
     add-stop-line
     stop-line-requires
-    enum-known-stop
+    enum-known-stop-x
     mul-x
     array-set-from-x
     mul-y

@@ -76,5 +76,3 @@ digits-spec =
     loop-less
     loop-again
     returns-2)
-
--- x

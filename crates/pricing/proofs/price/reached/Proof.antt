@@ -30,5 +30,3 @@ returns c =
 
 pub reached-spec : {M : Type 1} → statement M
 reached-spec = tie.close (tie.spec cast-n outside-requires outside-requires-2 add-result returns)
-
--- x
