@@ -1,10 +1,10 @@
 -- The forms of a line at a place of a slice, and a line by its form and its ranges.
 -- Assumes nothing.
-use mathlib.Core.Path.{_≡_, refl, sym, ap, subst, _∙_}
+use mathlib.Core.Path.{_≡_, refl, sym, subst, _∙_}
 use mathlib.Core.Bool.{Bool, true, false, cond, _&&_}
 use mathlib.Core.List.{List, [], _∷_}
 use mathlib.Core.Option.{Option, none, some, bind}
-use Prim.Native.Nat.{ℕ, zero, suc, _+_, _-_, _≤_, _<_, _^_, max}
+use Prim.Native.Nat.{ℕ, _+_, _-_, _≤_, _<_, _^_, max}
 use native.Mathlib.Omega.{arith}
 use borrow.Author.Tests.{ltb-true, le-leb, lt-leb}
 use lib.Dec.{T, eqb}
@@ -17,13 +17,13 @@ use mir.Val.{Fits, SFits}
 use Rattle.query.specs.Place.{Place}
 use Rattle.text.specs.Ascii.{bytes, comma, newline}
 use Rattle.text.specs.Numeral.{number}
-use Rattle.text.specs.Reading.{startsWith, ByteIs, Starts, NumberAt, NumberWithin}
+use Rattle.text.specs.Reading.{startsWith, ByteIs, Starts, NumberAt}
 use Rattle.text.specs.declared.ParsedNumber.{ParsedNumber}
 use Rattle.text.specs.declared.ParsedNumber.the-variants.{Read, Fault}
 use Rattle.text.proofs.KeyLaws.{byte-there}
-use Rattle.job.specs.Form.{Form, _>>=_, _>>_, return, byte, key, field}
+use Rattle.job.specs.Form.{Form, byte, key, field}
 use Rattle.job.specs.Lines.{areaLine, postLine, stopLine, placeInRange, areaInRange, stopInRange, upTo}
-use Rattle.job.specs.Reader.{Reading, fault, got, line}
+use Rattle.job.specs.Reader.{fault, got, line}
 use Rattle.job.specs.Reading.{countForm, FieldAt, AreaAt, CountAt, PostAt, StopAt}
 use Rattle.job.specs.declared.Refusal.the-variants.{Malformed, OutOfRange}
 use Rattle.job.specs.declared.AreaLine.the-variants as A

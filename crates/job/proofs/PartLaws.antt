@@ -4,7 +4,7 @@ use mathlib.Core.Path.{_≡_, refl, sym, ap, subst, _∙_}
 use mathlib.Core.List.{List, [], _∷_, _++_, map, map-append}
 use mathlib.Core.Bool.{Bool}
 use Prim.Native.String.{String}
-use Prim.Native.Nat.{ℕ, zero, suc, _+_, _-_, _≤_, _<_}
+use Prim.Native.Nat.{ℕ, suc, _+_, _-_, _≤_, _<_}
 use native.Mathlib.Nat.{add-zero, sub-zero}
 use native.Mathlib.Omega.{arith}
 use lib.ListN.{length, drop, set, replicate, length-append, length-map, drop-of-length-le}
@@ -16,7 +16,7 @@ use Rattle.query.specs.Place.{Place}
 use Rattle.text.specs.Ascii.{bytes}
 use Rattle.text.proofs.KeyLaws.{drop-next}
 use Rattle.job.specs.Lines.{StopLine, countLine, postLine, stopLine, placeInRange, stopInRange, upTo}
-use Rattle.job.specs.Reader.{Reading, fault, got, Reader, andThen, lineResult, line, repeated, end}
+use Rattle.job.specs.Reader.{fault, got, Reader, andThen, lineResult, line, repeated, end}
 use Rattle.job.specs.Record.{padded}
 use Rattle.job.specs.Reading.{countForm, countIn, CountAt, PostAt, StopAt}
 use Rattle.job.specs.Parts.{postLines, stopLines, allPosts, allStops, lastLine, PostsAt, StopsAt, LastAt}

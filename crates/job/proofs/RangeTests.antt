@@ -11,7 +11,7 @@ use mir.Val.{SFits, ofZ, toZ}
 use mir.ValLaws.{toZ-ofZ}
 use Rattle.numbers.specs.Integer.{between}
 use Rattle.query.specs.Place.{Place, Rect}
-use Rattle.job.specs.Lines.{StopLine, coordinateInRange, placeInRange, areaInRange, stopInRange}
+use Rattle.job.specs.Lines.{coordinateInRange, placeInRange, areaInRange, stopInRange}
 
 -- a number as 64 bits hold it
 abbrev pub held : ℤ → ℤ

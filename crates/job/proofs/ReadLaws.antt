@@ -1,9 +1,9 @@
 -- From the parts to the job: refusals 4, 5 and 6, and the whole reading.
 -- Assumes nothing.
 use mathlib.Core.Path.{_≡_, refl, sym, ap, subst, _∙_}
-use mathlib.Core.Bool.{Bool, true, false, cond, _||_}
+use mathlib.Core.Bool.{Bool, true, false}
 use mathlib.Core.List.{List, [], _∷_, map, map-map}
-use Prim.Native.Nat.{ℕ, zero, suc, _+_, _≤_, _<_}
+use Prim.Native.Nat.{ℕ, _+_, _≤_, _<_}
 use native.Mathlib.Omega.{arith}
 use borrow.Author.Tests.{lt-ltb, le-ltb}
 use lib.IntN.{ℤ, pos, natAbs}
@@ -16,8 +16,8 @@ use Rattle.query.specs.Place.{Place, Rect}
 use Rattle.job.specs.Lines.{StopLine, areaLine, countLine, areaInRange, upTo}
 use Rattle.job.specs.Reader.{Reading, fault, got, Reader, andThen, line, end}
 use Rattle.job.specs.Format as Format
-use Rattle.job.specs.Format.{Result, refused, accepted, jobOf, stopOf, emptyArea, checked, jobLines, resultOf, readJob}
-use Rattle.job.specs.Record.{padded, deckRecord, jobRecord}
+use Rattle.job.specs.Format.{refused, accepted, jobOf, stopOf, emptyArea, checked, jobLines, resultOf, readJob}
+use Rattle.job.specs.Record.{padded, jobRecord}
 use Rattle.job.specs.Reading.{areaOf, countIn, AreaAt}
 use Rattle.job.specs.Parts.{postLines, stopLines, allPosts, allStops, lastLine, nextIn, PostsHold, StopsHold, PostsAt, StopsAt, LastAt, CheckedAt}
 use Rattle.job.specs.declared.Area.{Area}

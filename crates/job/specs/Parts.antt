@@ -1,4 +1,4 @@
--- What the functions that read several lines answer, as the definitions of `Reader` and `Format` have it.
+-- What the functions that read several lines answer, as the definitions of `Reader` and `Format` have it. No public contract cites these.
 -- Assumes nothing.
 use Prim.Native.Nat.{ℕ, _+_, _≤_}
 use mathlib.Core.Path.{_≡_}

@@ -1,4 +1,4 @@
--- What the functions that read one line answer, as the definitions of `Form`, `Lines` and `Reader` have it.
+-- What the functions that read one line answer, as the definitions of `Form`, `Lines` and `Reader` have it. No public contract cites these.
 -- Assumes nothing.
 use Prim.Native.Nat.{ℕ, _+_, _≤_}
 use mathlib.Core.Path.{_≡_}

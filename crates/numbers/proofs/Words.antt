@@ -2,13 +2,13 @@
 -- Assumes nothing.
 use mathlib.Core.Path.{_≡_, refl}
 use mathlib.Core.Bool.{Bool, true, false, not}
-use Prim.Native.Nat.{ℕ, zero, suc, _+_, _-_, _*_, _/_, _^_, _≤_, _<_}
+use Prim.Native.Nat.{ℕ, zero, suc, _/_, _^_, _≤_, _<_}
 use native.Mathlib.Omega.{arith}
 use lib.Dec.{T}
 use lib.IntN.{ℤ, pos, negsuc, negℤ, natAbs, _-ℤ_}
 use lib.Signed.{mag, ltZ, nonNeg, quotZ}
 use mir.Syntax.{Width}
-use mir.Val.{bits, hbits, SFits, Fits, toZ, ofZ}
+use mir.Val.{hbits, SFits, Fits, toZ, ofZ}
 use mir.ValLaws.{toZ-ofZ, toZ-pos, half-full}
 use Rattle.numbers.specs.Integer.{dist, halfUp}
 use Rattle.numbers.proofs.Integer.{order, sub-nat, dist-nat, half-nat}

@@ -1,10 +1,10 @@
 -- The deck that a record holds, column by column: its stops and posts in range, and the columns of its sites.
 -- Assumes nothing.
-use mathlib.Core.Path.{_≡_, refl, sym, ap, _∙_}
+use mathlib.Core.Path.{_≡_, refl, ap, _∙_}
 use mathlib.Core.List.{List, [], _∷_, _++_, map, zipWith, map-map, map-id, List·Memᴰ, List·Memᴰ·head, List·Memᴰ·tail}
 use Prim.Native.Nat.{ℕ, zero, suc, _≤_, _<_}
 use native.Mathlib.Omega.{arith}
-use lib.IntN.{ℤ, pos, natAbs}
+use lib.IntN.{ℤ, pos}
 use lib.ListN.{length, getD, take, length-take, length-map}
 use Rattle.query.specs.Place.{Place, Rect}
 use Rattle.query.specs.Deck as Query
@@ -165,3 +165,7 @@ front-stops (s ∷ ss) xs ys vs = ap (λ (l : List Stop). s ∷ l) (front-stops 
 pub deck-record : (area : Rect) (posts : List Place) (stops : List Stop) → deckOf (deckRecord area posts stops) ≡ record { axis = plain; area = area; posts = posts; stops = stops }
 unfolding deckOf deckRecord padded
 deck-record area posts stops = rw (front-places, front-stops)
+
+pub deckOf-plain : (deck : Deck) → deckOf deck .axis ≡ plain
+unfolding deckOf
+deckOf-plain deck = refl

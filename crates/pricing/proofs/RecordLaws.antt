@@ -1,22 +1,25 @@
 -- The record of a deck's sites: its rows are the sites, and its columns are in range where the deck is.
 -- Assumes nothing.
 use mathlib.Core.Path.{_≡_, refl, sym, ap, subst, _∙_}
+use mathlib.Core.Bool.{cond}
 use mathlib.Core.List.{List, [], _∷_, _++_, map, List·Memᴰ, Memᴰ·of-map}
 use Prim.Native.Nat.{ℕ, _≤_}
 use native.Mathlib.Omega.{arith}
 use lib.IntN.{ℤ, pos, natAbs}
 use lib.ListN.{length, getD, take, length-map}
-use Rattle.query.specs.Place.{Place}
-use Rattle.query.specs.Deck.{Stop, Deck}
+use Rattle.query.specs.Place.{Place, Rect}
+use Rattle.query.specs.Deck.{Stop, Deck, plain}
+use Rattle.query.specs.Cost.{cost, before}
+use Rattle.query.specs.Reach.{reach, load}
 use Rattle.query.specs.Range.{InRange}
 use Rattle.query.proofs.Ranges.{figure-limits}
 use Rattle.job.specs.Record.{padded}
-use Rattle.pricing.specs.Sites.{Site, sitesOf}
+use Rattle.pricing.specs.Sites.{Site, sitesOf, costOf, beforeOf, loadOf, flagsOf}
 use Rattle.pricing.specs.Columns.{rows, siteRows, SiteInRange, ColumnsInRange, PaidInRange, ReachInRange}
 use Rattle.pricing.specs.Record.{sitesRecord}
 use Rattle.pricing.specs.declared.Sites.{Sites}
 use Rattle.pricing.proofs.PaddedLaws.{padded-length, padded-each}
-use Rattle.pricing.proofs.SiteLaws.{siteOf, sitesOf-map}
+use Rattle.pricing.proofs.SiteLaws.{siteOf, sitesOf-map, cost-law, before-law, load-law, flags-law}
 
 -- ---- rows
 rows-front : (sites : List Site) (xs ys : List ℤ) (vs ns : List ℕ) → take (length sites) (rows (map (λ s. s .at .x) sites ++ xs) (map (λ s. s .at .y) sites ++ ys) (map (λ s. s .visits) sites ++ vs) (map (λ s. s .near) sites ++ ns)) ≡ sites
@@ -67,6 +70,34 @@ module _ (deck : Deck) (range : InRange deck) where
 
   pub sites-range : InColumns (sitesRecord (sitesOf deck))
   sites-range = record-range (sitesOf deck) (rw sitesOf-map (omega (arith, length-map (deck .stops) (siteOf deck), range .most-stops))) site-range
+
+-- ---- a record r that is that of a deck's sites, as `sites` makes it: its rows, its range, and the figures of its rows
+module _ (deck : Deck) (range : InRange deck) (r : Sites) (e : r ≡ sitesRecord (sitesOf deck)) where
+  pub made-rows : rowsOf r ≡ sitesOf deck
+  made-rows = ap rowsOf e ∙ record-rows (sitesOf deck)
+
+  pub made-range : InColumns r
+  made-range = subst InColumns (sym e) (sites-range deck range)
+
+  pub made-count : r .count ≡ length (deck .stops)
+  unfolding sitesRecord
+  made-count = ap (λ (s : Sites). s .count) e ∙ rw sitesOf-map (length-map (deck .stops) (siteOf deck))
+
+  pub made-most : r .count ≤ 512
+  made-most = omega (arith, made-count, range .most-stops)
+
+  pub made-before : beforeOf (rowsOf r) ≡ before deck
+  made-before = ap beforeOf made-rows ∙ before-law deck
+
+  module _ (plainly : deck .axis ≡ plain) where
+    pub made-cost : (p : Place) → costOf (rowsOf r) p ≡ cost deck p
+    made-cost p = ap (λ (sites : List Site). costOf sites p) made-rows ∙ cost-law deck plainly p
+
+    pub made-load : (rect : Rect) → loadOf (rowsOf r) rect ≡ load deck rect
+    made-load rect = ap (λ (sites : List Site). loadOf sites rect) made-rows ∙ load-law deck plainly rect
+
+    pub made-flags : (rect : Rect) → flagsOf (rowsOf r) rect ≡ padded 512 0 (map (λ stop. cond (reach deck rect stop) 1 0) (deck .stops))
+    made-flags rect = ap (λ (sites : List Site). flagsOf sites rect) made-rows ∙ flags-law deck plainly rect
 
 -- ---- what `before` and the test of reach ask of columns in range
 module _ {xs ys : List ℤ} {vs ns : List ℕ} (range : ColumnsInRange xs ys vs ns) where

@@ -1,6 +1,6 @@
 -- Natural numbers in signed 32-bit words, as the passes of `price` compute with them.
 -- Assumes nothing.
-use mathlib.Core.Path.{_≡_, refl}
+use mathlib.Core.Path.{_≡_}
 use mathlib.Core.Bool.{true, false}
 use Prim.Native.Nat.{ℕ, _+_, _^_, _≤_, _<_, min}
 use native.Mathlib.Omega.{arith}
@@ -15,11 +15,7 @@ use Rattle.numbers.specs.Integer.{dist}
 use Rattle.numbers.proofs.Integer.{dist-nat}
 use Rattle.numbers.proofs.Words.{word-fits}
 
--- a natural number as a word
-pub natural : (n : ℕ) → n < 2 ^ 31 → natAbs (toZ w32 n) ≡ n
-natural n h = rw (toZ-pos w32 n h)
-
--- the sum of two
+-- the sum of two natural numbers
 pub sum-is : (a b : ℤ) (u v : ℕ) → a ≡ pos u → b ≡ pos v → u < 2 ^ 31 → v < 2 ^ 31 → toZ w32 (ofZ w32 a) +ℤ toZ w32 (ofZ w32 b) ≡ pos (u + v)
 sum-is a b u v e f g h = rw (e, f, toZ-pos w32 u g, toZ-pos w32 v h)
 

@@ -4,17 +4,17 @@ use mathlib.Core.Path.{_≡_, refl, sym, ap, subst, _∙_}
 use mathlib.Core.Bool.{Bool, true, false, not, cond, _&&_, _||_}
 use mathlib.Core.Logic.{_⊎_, inl, inr}
 use mathlib.Core.List.{List, [], _∷_, _++_, foldl-append}
-use mathlib.Core.Option.{Option, none, some}
-use Prim.Native.Nat.{ℕ, zero, suc, _+_, _-_, _*_, _^_, _≤_, _<_, min}
+use mathlib.Core.Option.{none, some}
+use Prim.Native.Nat.{ℕ, zero, suc, _+_, _-_, _*_, _^_, _≤_, _<_}
 use native.Mathlib.Nat.{add-zero, pow-suc, pow-le-pow-right}
 use native.Mathlib.Numerals.{add-one}
 use native.Mathlib.Omega.{arith}
 use borrow.Author.Tests.{lt-leb, le-leb, eq-eqb, ne-eqb}
 use lib.Dec.{T, eqb, leb, leb→le, ltb, ltb→lt, nltb→le, lit<}
-use lib.IntN.{ℤ, pos}
-use lib.ListN.{length, getD, drop, take, length-drop, drop-of-length-le, List·getD-eq-default}
-use lib.Seq.{drop-cons, drop-drop, take-suc, getD-drop, take-all}
-use Rattle.numbers.proofs.Truth.{test, holds, fails, cond-ind, cond-true, cond-false, and-left, and-right}
+use lib.IntN.{pos}
+use lib.ListN.{length, getD, drop, take, length-drop, List·getD-eq-default}
+use lib.Seq.{drop-drop, take-suc, getD-drop, take-all}
+use Rattle.numbers.proofs.Truth.{test, cond-ind, cond-true, cond-false, and-right}
 use Rattle.text.specs.Ascii.{isDigit, zeroDigit}
 use Rattle.text.specs.Numeral.{digits, valueOf, natural}
 use Rattle.text.specs.Reading.{startsWith, ByteIs, DigitAt, DigitsAt, NaturalAt}

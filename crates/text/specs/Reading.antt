@@ -1,6 +1,6 @@
--- What the functions of this crate answer, as the definitions of `Numeral` have it.
+-- What the functions of this crate answer, as the definitions of `Numeral` have it: of the public ones `ByteIs`, `Starts` and `NumberAt`.
 -- Assumes nothing.
-use Prim.Native.Nat.{ℕ, _+_, _-_, _≤_, _<_, _^_, min}
+use Prim.Native.Nat.{ℕ, _-_, _≤_, _<_, _^_, min}
 use mathlib.Core.Path.{_≡_}
 use mathlib.Core.Bool.{Bool, true, false, cond, _&&_}
 use mathlib.Core.List.{List, [], _∷_}
@@ -21,6 +21,7 @@ startsWith [] bs = true
 startsWith (k ∷ ks) [] = false
 startsWith (k ∷ ks) (b ∷ bs) = eqb b k && startsWith ks bs
 
+-- whether a byte, or a key, stands at a place
 pub record ByteIs (s : List ℕ) (at b : ℕ) (r : Bool) : Type 0 where
   pub is : r ≡ startsWith (b ∷ []) (drop at s)
 
@@ -55,6 +56,7 @@ abbrev pub NumberWithin : List ℕ → ParsedNumber → Type 0
 NumberWithin s (Read z next) = (natAbs z < 10 ^ 9) × (next ≤ length s)
 NumberWithin s Fault = Unit {0}
 
+-- what is read at a place. Where something is, the text after it and the bound on its place say which place that is
 pub record NaturalAt (s : List ℕ) (at : ℕ) (r : ParsedNatural) : Type 0 where
   pub is : naturalIn s r ≡ natural (drop at s)
   pub within : NaturalWithin s r

@@ -1,9 +1,6 @@
 // Numbers and fixed keys in byte slices.
 pub mod write;
 
-ghost use mathlib.Core.Path.{_≡_};
-ghost use Prim.Native.Nat.{_≤_};
-ghost use lib.ListN.{length, getD, drop};
 ghost use Rattle.text.specs.Reading.{ByteIs, Starts, DigitAt, DigitsAt, NaturalAt, NegativeAt, NumberAt};
 
 // A number that is not negative and the place after it, or nothing that has a number's form.

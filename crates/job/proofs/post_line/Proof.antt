@@ -7,11 +7,6 @@ use Rattle.text.specs.Ascii.{bytes}
 use Rattle.job.proofs.LineLaws.{after-key, post-key, post-x, post-y, post-out, post-in}
 use Rattle.job.proofs.post_line.Statement.{statement}
 use Rattle.job.proofs.post_line.Tie as tie
-use Rattle.job.proofs.post_line.Reads as reads
-use Rattle.job.proofs.post_line.Lts as lts
-use Rattle.job.proofs.field.Reads as field-reads
-use Rattle.job.proofs.place_in_range.Reads as place-in-range-reads
-use Rattle.text.proofs.starts.Reads as starts-reads
 
 slice-aggregate-starts : tie.Need-slice-aggregate-starts
 slice-aggregate-starts c = search needs

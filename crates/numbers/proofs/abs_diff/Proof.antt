@@ -1,6 +1,5 @@
 -- `numbers::abs_diff` meets its contract: the larger less the smaller is the distance, which fits since both are at most 2 ^ 61.
 -- Assumes nothing.
-use mathlib.Core.Path.{_≡_}
 use Prim.Native.Nat.{_^_, _<_}
 use native.Mathlib.Omega.{arith}
 use mir.Syntax.{w64}

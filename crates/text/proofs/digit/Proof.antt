@@ -1,6 +1,5 @@
 -- `text::digit` meets its contract.
 -- Assumes nothing.
-use mathlib.Core.Path.{refl, sym}
 use borrow.Author.Needs.{needs}
 use borrow.Author.Tests.{le-leb, lt-leb}
 use lib.ListN.{List·getD-eq-default}

@@ -6,9 +6,6 @@ use Rattle.text.proofs.DigitLaws.{Scanned, scanned-none, scanned-stop, 
 use native.Mathlib.Omega.{arith}
 use Rattle.text.proofs.digits.Statement.{statement}
 use Rattle.text.proofs.digits.Tie as tie
-use Rattle.text.proofs.digits.Reads as reads
-use Rattle.text.proofs.digits.Lts as lts
-use Rattle.text.proofs.digit.Reads as digit-reads
 
 abbrev Inv-loop : tie.InvT-loop
 Inv-loop s at count₀ value₀ count value = (count ≤ 10) × (at + count < 2 ^ 64) × Scanned s at count value
@@ -16,39 +13,30 @@ Inv-loop s at count₀ value₀ count value = (count ≤ 10) × (at + count < 2 
 abbrev μ-loop : tie.MeasureT-loop
 μ-loop s at count₀ value₀ count value = 10 - count
 
--- src/lib.rt:73:5
 loop-holds : tie.Need-loop-holds Inv-loop μ-loop
 loop-holds c = (omega arith, omega arith, scanned-none)
 
--- src/lib.rt:74:26
 add-digit : tie.Need-add-digit Inv-loop μ-loop
 add-digit c = omega arith
 
--- src/lib.rt:74:13
 digit-requires : tie.Need-digit-requires Inv-loop μ-loop
 digit-requires c κs = search needs
 
--- src/lib.rt:76:13
 returns : tie.Need-returns Inv-loop μ-loop
 returns c = scanned-stop (c .before .before .before .loop .inv .2) (c .before .digit .ensures) (c .if1 .taken) (omega arith)
 
--- src/lib.rt:78:17
 mul-value : tie.Need-mul-value Inv-loop μ-loop
 mul-value c = omega (arith, scanned-small (c .before .before .before .loop .inv .2) (c .before .before .before .loop .inv .0))
 
--- src/lib.rt:78:17
 add-value : tie.Need-add-value Inv-loop μ-loop
 add-value c = omega (arith, scanned-small (c .before .before .before .loop .inv .2) (c .before .before .before .loop .inv .0))
 
--- src/lib.rt:79:9
 add-count : tie.Need-add-count Inv-loop μ-loop
 add-count c = omega arith
 
--- src/lib.rt:73:5
 loop-less : tie.Need-loop-less Inv-loop μ-loop
 loop-less c = omega arith
 
--- src/lib.rt:73:5
 loop-again : tie.Need-loop-again Inv-loop μ-loop
 loop-again c = (
   omega arith,
@@ -56,7 +44,6 @@ loop-again c = (
   scanned-more (c .before .before .before .loop .inv .2) (c .before .digit .ensures) (c .if1 .left),
 )
 
--- src/lib.rt:68:1
 returns-2 : tie.Need-returns-2 Inv-loop μ-loop
 returns-2 c = scanned-ten (c .before .loop .inv .2) (c .loop-test .left) (omega arith)
 

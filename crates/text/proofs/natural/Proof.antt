@@ -6,10 +6,6 @@ use borrow.Author.Needs.{needs}
 use Rattle.text.proofs.DigitLaws.{natural-none, natural-long, natural-zero, natural-one, natural-more, after-digits}
 use Rattle.text.proofs.natural.Statement.{statement}
 use Rattle.text.proofs.natural.Tie as tie
-use Rattle.text.proofs.natural.Reads as reads
-use Rattle.text.proofs.natural.Lts as lts
-use Rattle.text.proofs.byte_is.Reads as byte-is-reads
-use Rattle.text.proofs.digits.Reads as digits-reads
 
 digits-requires : tie.Need-digits-requires
 digits-requires c κs = search needs

@@ -4,9 +4,6 @@ use borrow.Author.Needs.{needs}
 use Rattle.text.proofs.SignLaws.{pos-fits, neg-fits, read-small, negative-fault, negative-zero, negative-read}
 use Rattle.text.proofs.negative.Statement.{statement}
 use Rattle.text.proofs.negative.Tie as tie
-use Rattle.text.proofs.negative.Reads as reads
-use Rattle.text.proofs.negative.Lts as lts
-use Rattle.text.proofs.natural.Reads as natural-reads
 
 natural-requires : tie.Need-natural-requires
 natural-requires c κs = search needs

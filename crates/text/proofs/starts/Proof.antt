@@ -1,7 +1,7 @@
 -- `text::starts` meets its contract. The invariant: the key is there exactly if what is left of it stands behind what was compared.
 -- Assumes nothing.
 use Prim.Native.Nat.{_+_, _-_, _≤_, _<_, _^_}
-use mathlib.Core.Path.{_≡_, sym, _∙_}
+use mathlib.Core.Path.{sym}
 use native.Mathlib.Omega.{arith}
 use borrow.Author.Needs.{needs}
 use borrow.Author.Tests.{not-true, not-false}
@@ -9,9 +9,6 @@ use lib.ListN.{length}
 use Rattle.text.proofs.KeyLaws.{Matched, matched-none, matched-not, matched-more, matched-all, byte-there}
 use Rattle.text.proofs.starts.Statement.{statement}
 use Rattle.text.proofs.starts.Tie as tie
-use Rattle.text.proofs.starts.Reads as reads
-use Rattle.text.proofs.starts.Lts as lts
-use Rattle.text.proofs.byte_is.Reads as byte-is-reads
 
 abbrev Inv-loop : tie.InvT-loop
 Inv-loop s at key i₀ i = (i ≤ length key) × (at + i < 2 ^ 64) × Matched s at key i

@@ -3,8 +3,6 @@
 use mathlib.Core.Path.{_∙_}
 use Prim.Native.Nat.{_-_}
 use native.Mathlib.Omega.{arith}
-use mir.Syntax.{w32}
-use mir.Val.{toZ}
 use Rattle.pricing.proofs.SiteLaws.{borneBy, loadOf-sum}
 use Rattle.pricing.proofs.ColumnLaws.{Passed, passed-none, passed-all, row-range}
 use Rattle.pricing.proofs.TurnLaws.{x-word, y-word, edges-word, rectWords, rect-words, load-more}

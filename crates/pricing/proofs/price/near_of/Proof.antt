@@ -3,8 +3,7 @@
 use mathlib.Core.Path.{_≡_, ap, _∙_}
 use Prim.Native.Nat.{_-_}
 use native.Mathlib.Omega.{arith}
-use borrow.Author.Needs.{needs}
-use lib.IntN.{pos, natAbs}
+use lib.IntN.{pos}
 use lib.ListN.{getD}
 use mir.Syntax.{w32}
 use mir.Val.{toZ, ofZ}

@@ -1,0 +1,5 @@
+pub mod OpenLaws
+pub mod RectLaws
+pub mod FigureLaws
+pub mod CutLaws
+pub mod ManyLaws

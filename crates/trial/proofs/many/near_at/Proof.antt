@@ -1,0 +1,34 @@
+-- `trial::many::near_at` meets its contract.
+-- Assumes nothing.
+use mathlib.Core.Path.{_≡_, ap, subst, sym}
+use Prim.Native.Nat.{ℕ, _%_, _≤_}
+use lib.ListN.{getD}
+use Rattle.pricing.specs.declared.Sites.{Sites}
+use Rattle.pricing.proofs.RecordLaws.{sites-range, InColumns}
+use borrow.Author.Needs.{needs}
+use Rattle.trial.proofs.many.near_at.Statement.{statement}
+use Rattle.trial.proofs.many.near_at.Tie as tie
+
+sites-requires : tie.Need-sites-requires
+sites-requires c κs = search needs
+
+mul-result : tie.Need-mul-result
+mul-result c = search needs
+
+array-read-result : tie.Need-array-read-result
+array-read-result c = search needs
+
+cast-result : tie.Need-cast-result
+cast-result c = search needs
+
+returns : tie.Need-returns
+returns c =
+    let s = c .before .before in
+    let at = s .args .t % 512 in
+    record {
+      is = ap (λ (k : Sites). getD (k .near) at 0) (c .before .sites .ensures);
+      within = subst InColumns (sym (c .before .sites .ensures)) (sites-range _ (s .pre .0)) .near-range at;
+    }
+
+pub near-at-spec : {M : Type 1} → statement M
+near-at-spec = tie.close (tie.spec sites-requires mul-result array-read-result cast-result returns)

@@ -1,0 +1,50 @@
+-- `trial::many::trial_cut_many` meets its contract.
+-- Assumes nothing.
+use mathlib.Core.Path.{_≡_}
+use borrow.Author.Tests.{not-true, not-false}
+use denote.Ref.{now}
+use Rattle.trial.specs.Opened.{Open}
+use Rattle.trial.proofs.OpenLaws.{Spelt, open-accepted, open-is, open-refused}
+use Rattle.trial.specs.Many.{cutTurn, rectAt, positive}
+use Rattle.trial.proofs.ManyLaws.{many-none, many-answer}
+use mathlib.Core.Path.{ap}
+use Rattle.query.specs.Place.{x-axis, y-axis}
+use Rattle.trial.proofs.CutLaws.{found-in-order, found-at}
+use borrow.Author.Needs.{needs}
+use native.Mathlib.Omega.{arith}
+use Rattle.trial.proofs.many.trial_cut_many.Statement.{statement}
+use Rattle.trial.proofs.many.trial_cut_many.Tie as tie
+
+-- the job is accepted
+spelt : (c : tie.Else1) → Spelt (now (c .before .before .before .before .args .job))
+spelt c = open-accepted _ _ (c .before .before .open-job .ensures) (not-false _ (c .if1 .left))
+
+abbrev opens : (c : tie.Else1) → Open (c .before .before .open-job .result)
+opens c = open-is _ _ (c .before .before .open-job .ensures) (spelt c)
+
+open-job-requires : tie.Need-open-job-requires
+open-job-requires c κs = search needs
+
+returns : tie.Need-returns
+returns c = open-refused _ _ (c .before .before .open-job .ensures) _ _ (not-true _ (c .if1 .taken))
+
+returns-2 : tie.Need-returns-2
+returns-2 c = let d = c .before in many-none (spelt d) cutTurn _ (c .if2 .taken)
+
+lines-of-requires : tie.Need-lines-of-requires
+lines-of-requires c κs = opens (c .before)
+
+lines-of-requires-2 : tie.Need-lines-of-requires-2
+lines-of-requires-2 c κs = opens (c .before .before)
+
+cuts-requires : tie.Need-cuts-requires
+cuts-requires c κs = let d = c .before .before .before .before .before .before .before in (found-in-order _ (opens d) x-axis _ (c .before .before .before .before .before .lines-of .ensures), found-in-order _ (opens d) y-axis _ (c .before .before .before .before .lines-of2 .ensures), c .before .before .before .before .before .before .if2 .left)
+
+cast-result : tie.Need-cast-result
+cast-result c = omega (arith, c .cuts .ensures .within)
+
+returns-3 : tie.Need-returns-3
+returns-3 c = let d = c .before .before .before .before .before .before .before .before in many-answer (spelt d) cutTurn _ (c .before .before .before .before .before .before .before .if2 .left) (λ t. ap positive (found-at _ (opens d) _ _ (rectAt t) (c .before .before .before .before .before .before .lines-of .ensures) (c .before .before .before .before .before .lines-of2 .ensures))) (c .cuts .ensures)
+
+pub trial-cut-many-spec : {M : Type 1} → statement M
+trial-cut-many-spec = tie.close (tie.spec open-job-requires returns returns-2 lines-of-requires lines-of-requires-2 cuts-requires cast-result returns-3)

@@ -1,0 +1,42 @@
+-- `trial::many::trial_load_many` meets its contract.
+-- Assumes nothing.
+use mathlib.Core.Path.{_≡_}
+use borrow.Author.Tests.{not-true, not-false}
+use denote.Ref.{now}
+use Rattle.trial.specs.Opened.{Open}
+use Rattle.trial.proofs.OpenLaws.{Spelt, open-accepted, open-is, open-refused}
+use Rattle.trial.specs.Many.{loadTurn, rectAt}
+use Rattle.trial.proofs.ManyLaws.{many-none, many-answer}
+use Rattle.trial.proofs.FigureLaws.{columns, count-few, load-same}
+use borrow.Author.Needs.{needs}
+use native.Mathlib.Omega.{arith}
+use Rattle.trial.proofs.many.trial_load_many.Statement.{statement}
+use Rattle.trial.proofs.many.trial_load_many.Tie as tie
+
+-- the job is accepted
+spelt : (c : tie.Else1) → Spelt (now (c .before .before .before .before .args .job))
+spelt c = open-accepted _ _ (c .before .before .open-job .ensures) (not-false _ (c .if1 .left))
+
+abbrev opens : (c : tie.Else1) → Open (c .before .before .open-job .result)
+opens c = open-is _ _ (c .before .before .open-job .ensures) (spelt c)
+
+open-job-requires : tie.Need-open-job-requires
+open-job-requires c κs = search needs
+
+returns : tie.Need-returns
+returns c = open-refused _ _ (c .before .before .open-job .ensures) _ _ (not-true _ (c .if1 .taken))
+
+returns-2 : tie.Need-returns-2
+returns-2 c = let d = c .before in many-none (spelt d) loadTurn _ (c .if2 .taken)
+
+loads-requires : tie.Need-loads-requires
+loads-requires c κs = let d = c .before .before .before .before .before .before .before in (count-few _ (opens d), columns _ (opens d), c .before .before .before .before .before .before .if2 .left)
+
+cast-result : tie.Need-cast-result
+cast-result c = omega (arith, c .loads .ensures .within)
+
+returns-3 : tie.Need-returns-3
+returns-3 c = let d = c .before .before .before .before .before .before .before .before in many-answer (spelt d) loadTurn _ (c .before .before .before .before .before .before .before .if2 .left) (λ t. load-same _ (opens d) (rectAt t)) (c .loads .ensures)
+
+pub trial-load-many-spec : {M : Type 1} → statement M
+trial-load-many-spec = tie.close (tie.spec open-job-requires returns returns-2 loads-requires cast-result returns-3)

@@ -1,0 +1,30 @@
+-- `trial::open_job` meets its contract: the deck that was read is in range, so that its sites can be found.
+-- Assumes nothing.
+use borrow.Author.Needs.{needs}
+use Rattle.trial.proofs.OpenLaws.{read-accepted, read-refused, sites-ask, opened-accepted, opened-refused}
+use Rattle.pricing.specs.Record.{sitesRecord}
+use Rattle.trial.proofs.open_job.Statement.{statement}
+use Rattle.trial.proofs.open_job.Tie as tie
+
+read-requires : tie.Need-read-requires
+read-requires c κs = search needs
+
+enum-told : tie.Need-enum-told
+enum-told c = search needs
+
+sites-requires : tie.Need-sites-requires
+sites-requires c κs = sites-ask (read-accepted _ _ (c .before .before .before .read .ensures) _ (c .enum-told .given .1)) _ (c .before .before .before .read .ensures)
+
+enum-told-2 : tie.Need-enum-told-2
+enum-told-2 c = search needs
+
+returns : tie.Need-returns
+returns c = opened-accepted (read-accepted _ _ (c .before .before .before .before .read .ensures) _ (c .before .enum-told .given .1)) _ (c .before .before .before .before .read .ensures) _ (c .sites .ensures)
+
+returns-2 : tie.Need-returns-2
+unfolding sitesRecord
+returns-2 c = opened-refused _ _ _ (c .before .before .before .read .ensures) (read-refused _ _ (c .before .before .before .read .ensures) _ (c .enum-told2 .given .1))
+
+pub open-job-spec : {M : Type 1} → statement M
+open-job-spec =
+    tie.close (tie.spec read-requires enum-told sites-requires enum-told-2 returns returns-2)

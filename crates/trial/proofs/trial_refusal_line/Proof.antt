@@ -1,0 +1,29 @@
+-- `trial::trial_refusal_line` meets its contract.
+-- Assumes nothing.
+use mathlib.Core.Path.{sym, ap, _∙_}
+use Rattle.trial.specs.Trial.{refusalLine}
+use Rattle.trial.proofs.OpenLaws.{read-accepted, read-refused}
+use borrow.Author.Needs.{needs}
+use Rattle.trial.proofs.trial_refusal_line.Statement.{statement}
+use Rattle.trial.proofs.trial_refusal_line.Tie as tie
+
+read-requires : tie.Need-read-requires
+read-requires c κs = search needs
+
+enum-told : tie.Need-enum-told
+enum-told c = search needs
+
+enum-known-outcome : tie.Need-enum-known-outcome
+enum-known-outcome c = search needs
+
+line-of-requires : tie.Need-line-of-requires
+line-of-requires c κs = search needs
+
+returns : tie.Need-returns
+returns c = sym (ap refusalLine (read-accepted _ _ (c .before .before .read .ensures) _ (c .enum-told .given .1) .read))
+
+returns-2 : tie.Need-returns-2
+returns-2 c = c .line-of .ensures ∙ sym (ap refusalLine (read-refused _ _ (c .before .before .before .before .read .ensures) _ (c .before .before .outcome .given .1)))
+
+pub trial-refusal-line-spec : {M : Type 1} → statement M
+trial-refusal-line-spec = tie.close (tie.spec read-requires enum-told enum-known-outcome line-of-requires returns returns-2)

@@ -1,0 +1,3 @@
+pub mod Opened
+pub mod Trial
+pub mod Many

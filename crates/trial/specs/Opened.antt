@@ -1,0 +1,38 @@
+-- A job that was read, with the sites of its deck, as the code holds it; and what is asked of a place or rectangle that is priced.
+-- Assumes nothing.
+use mathlib.Core.Path.{_≡_}
+use mathlib.Core.Bool.{Bool, true, false, _&&_}
+use mathlib.Core.List.{[]}
+use lib.Signed.{leZ}
+use Rattle.query.specs.Place.{Place, Rect, NonEmpty, corner}
+use Rattle.query.specs.Deck as Query
+use Rattle.query.specs.Deck.{plain}
+use Rattle.query.specs.Range.{InRange}
+use Rattle.job.specs.Lines.{placeInRange}
+use Rattle.job.specs.Format.{Result, refused, accepted}
+use Rattle.job.specs.Record.{deckRecord, emptyRect}
+use Rattle.pricing.specs.Sites.{sitesOf}
+use Rattle.pricing.specs.Record.{sitesRecord}
+use Rattle.trial.specs.declared.Opened.{Opened}
+
+unfoldable pub openedDeck : Query.Deck → Opened
+unfolding sitesRecord deckRecord sitesOf
+openedDeck deck = record { accepted = true; deck = deckRecord (deck .area) (deck .posts) (deck .stops); sites = sitesRecord (sitesOf deck) }
+
+unfoldable pub openedRecord : Result → Opened
+unfolding openedDeck
+openedRecord (refused why) = record { accepted = false; deck = deckRecord emptyRect [] []; sites = sitesRecord [] }
+openedRecord (accepted job) = openedDeck (job .deck)
+
+-- a rectangle whose coordinates are in range and whose edges are in order
+unfoldable pub rectAllowed : Rect → Bool
+unfolding placeInRange
+rectAllowed r = placeInRange (corner r) && (placeInRange (record { x = r .xhi; y = r .yhi }) && (leZ (r .xlo) (r .xhi) && leZ (r .ylo) (r .yhi)))
+
+-- what the functions over an accepted job ask: it is the record of some deck in range with a point in its area
+pub record Open (o : Opened) : Type 0 where
+  pub deck : Query.Deck
+  pub range : InRange deck
+  pub full : NonEmpty (deck .area)
+  pub plain-axis : deck .axis ≡ plain
+  pub is : o ≡ openedDeck deck

@@ -1,0 +1,92 @@
+-- What each function for tests answers, of a job's bytes: a figure of the deck that they spell.
+-- Assumes nothing.
+use Prim.Native.Nat.{ℕ, _+_, _*_, max}
+use mathlib.Core.Bool.{Bool, cond, _&&_}
+use mathlib.Core.List.{List, map, _++_}
+use lib.Dec.{ltb}
+use lib.IntN.{ℤ, pos, negsuc, _-ℤ_}
+use lib.ListN.{length, getD, drop}
+use Rattle.numbers.specs.Integer.{dist, halfUp}
+use Rattle.query.specs.Place.{Place, Rect, Axis, x-axis, y-axis}
+use Rattle.query.specs.Deck.{Stop, Deck}
+use Rattle.query.specs.Travel.{near}
+use Rattle.query.specs.Cost.{cost, before}
+use Rattle.query.specs.Reach.{load}
+use Rattle.query.specs.Bound.{bound}
+use Rattle.query.specs.Lines.{lines}
+use Rattle.query.specs.Problem.{problem}
+use Rattle.query.specs.Cut.{canCut, cutLine}
+use Rattle.job.specs.Refusal.{numberOf, lineOf}
+use Rattle.job.specs.Lines.{placeInRange}
+use Rattle.job.specs.Format.{Job, Result, refused, accepted, readJob}
+use Rattle.pricing.specs.Sites.{Site, costOf, loadOf}
+use Rattle.trial.specs.Opened.{rectAllowed}
+
+-- a figure of an accepted job, and none where the job is refused
+abbrev pub onJob : {A : Type 0} → A → (Job → A) → Result → A
+onJob none f (refused why) = none
+onJob none f (accepted job) = f job
+
+abbrev pub minusOne : ℤ
+minusOne = negsuc 0
+
+-- the least number of 64 bits: no figure
+abbrev pub least : ℤ
+least = negsuc 9223372036854775807
+
+-- the number and the line of the refusal, and 0 for an accepted job
+abbrev pub refusalNumber : Result → ℕ
+refusalNumber (refused why) = numberOf why
+refusalNumber (accepted job) = 0
+
+abbrev pub refusalLine : Result → ℕ
+refusalLine (refused why) = lineOf why
+refusalLine (accepted job) = 0
+
+abbrev pub roundsOf : Result → ℤ
+roundsOf r = onJob minusOne (λ job. pos (job .rounds)) r
+
+abbrev pub beforeFigure : Result → ℤ
+beforeFigure r = onJob minusOne (λ job. pos (before (job .deck))) r
+
+-- the near of stop i, counted from 0
+abbrev pub nearFigure : ℕ → Result → ℤ
+nearFigure i r = onJob minusOne (λ job. cond (ltb i (length (job .deck .stops))) (pos (getD (map (near (job .deck)) (job .deck .stops)) i 0)) minusOne) r
+
+abbrev pub costFigure : Place → Result → ℤ
+costFigure p r = onJob minusOne (λ job. cond (placeInRange p) (pos (cost (job .deck) p)) minusOne) r
+
+abbrev pub loadFigure : Rect → Result → ℤ
+loadFigure rect r = onJob minusOne (λ job. cond (rectAllowed rect) (pos (load (job .deck) rect)) minusOne) r
+
+abbrev pub boundFigure : Rect → Result → ℤ
+boundFigure rect r = onJob least (λ job. cond (rectAllowed rect) (bound (job .deck) rect) least) r
+
+-- 1 for a cut at an x, 2 for one at a y, 0 for none
+abbrev pub axisNumber : Axis → ℤ
+axisNumber x-axis = pos 1
+axisNumber y-axis = pos 2
+
+abbrev pub cutAxisFigure : Rect → Result → ℤ
+cutAxisFigure rect r = onJob minusOne (λ job. cond (rectAllowed rect) (cond (canCut (problem (job .deck)) rect) (axisNumber (cutLine (problem (job .deck)) rect .axis)) (pos 0)) minusOne) r
+
+-- the line of the cut
+abbrev pub cutLineFigure : Rect → Result → ℤ
+cutLineFigure rect r = onJob least (λ job. cond (rectAllowed rect && canCut (problem (job .deck)) rect) (cutLine (problem (job .deck)) rect .at) least) r
+
+abbrev pub axisOf : Bool → Axis
+axisOf across = cond across x-axis y-axis
+
+-- a result, and what an output holds then
+pub record Written : Type 0 where
+  pub result : ℤ
+  pub out : List ℤ
+
+-- the lines along an axis are put in front of the output, and their number is the result.
+-- Where the job is refused or the output too short the result is -1, and the output is as it was
+abbrev pub linesWritten : Bool → List ℤ → Result → Written
+linesWritten across out r = onJob (record { result = minusOne; out = out }) (λ job. let ls = lines (job .deck) (axisOf across) in cond (ltb (length out) (length ls)) (record { result = minusOne; out = out }) (record { result = pos (length ls); out = ls ++ drop (length ls) out })) r
+
+-- ---- the bound over sites
+abbrev pub boundOf : List Site → Rect → ℤ
+boundOf sites r = halfUp (pos (max (costOf sites (record { x = r .xlo; y = r .ylo }) + costOf sites (record { x = r .xhi; y = r .yhi })) (costOf sites (record { x = r .xlo; y = r .yhi }) + costOf sites (record { x = r .xhi; y = r .ylo }))) -ℤ pos ((dist (r .xlo) (r .xhi) + dist (r .ylo) (r .yhi)) * loadOf sites r))

@@ -1,0 +1,230 @@
+// The kernels of pricing over many places and rectangles, for the benchmarks: the job is read once and the loop runs here.
+use crate::Opened;
+use job::Deck;
+use pricing::lines;
+use pricing::lines::Cut;
+use pricing::price;
+ghost use mathlib.Core.Path.{_≡_};
+ghost use Prim.Native.Nat.{ℕ, _*_, _%_, _≤_};
+ghost use lib.ListN.{getD, take};
+ghost use Rattle.query.specs.Range.{InRange, costLimit, loadLimit};
+ghost use Rattle.job.specs.Format.{readJob};
+ghost use Rattle.pricing.specs.Columns.{siteRows, ColumnsInRange, Figure};
+ghost use Rattle.pricing.specs.DeckOf.{deckOf};
+ghost use Rattle.pricing.specs.Record.{sitesRecord};
+ghost use Rattle.pricing.specs.Sites.{sitesOf, costOf, loadOf};
+ghost use Rattle.pricing.specs.LineRecord.{InOrder, onLines, cutRecord};
+ghost use Rattle.trial.specs.Trial.{boundOf};
+ghost use Rattle.trial.specs.Many.{sumTo, Spread, placeAt, rectAt, positive, manyFigure, costTurn, loadTurn, boundTurn, cutTurn, nearTurn};
+
+// A number of -20,000 to 20,000 for each turn.
+fn spread(t: u64, factor: u64, less: u64) -> i64
+    requires { ⌜ (factor ≤ 65536) × (less ≤ 20000) ⌝ }
+    ensures { λ r. ⌜ Spread t factor less r ⌝ }
+{
+    ((t % 65536) * factor % 20001) as i64 - less as i64
+}
+
+fn positive(z: i64) -> u64
+    ensures { λ r. ⌜ Figure (positive z) 1 r ⌝ }
+{
+    if 0 < z { 1 } else { 0 }
+}
+
+fn costs<'a>(
+    xs: &'a [i32; 512],
+    ys: &'a [i32; 512],
+    visits: &'a [u32; 512],
+    near: &'a [u32; 512],
+    n: usize,
+    k: u64,
+) -> u64
+    requires { ⌜ (n ≤ 512) × ColumnsInRange (now xs) (now ys) (now visits) (now near) × (k ≤ 100000) ⌝ }
+    ensures { λ r. ⌜ Figure (sumTo (λ t. costOf (siteRows (now (xs .entry)) (now (ys .entry)) (now (visits .entry)) (now (near .entry)) n) (placeAt t)) k) (100000 * costLimit) r ⌝ }
+{
+    let mut sum: u64 = 0;
+    let mut t: u64 = 0;
+    while t < k {
+        let x = spread(t, 7919, 10000);
+        let y = spread(t, 6007, 10000);
+        sum = sum + crate::cost_in(xs, ys, visits, near, n, x, y);
+        t = t + 1;
+    }
+    sum
+}
+
+fn loads<'a>(
+    xs: &'a [i32; 512],
+    ys: &'a [i32; 512],
+    visits: &'a [u32; 512],
+    near: &'a [u32; 512],
+    n: usize,
+    k: u64,
+) -> u64
+    requires { ⌜ (n ≤ 512) × ColumnsInRange (now xs) (now ys) (now visits) (now near) × (k ≤ 100000) ⌝ }
+    ensures { λ r. ⌜ Figure (sumTo (λ t. loadOf (siteRows (now (xs .entry)) (now (ys .entry)) (now (visits .entry)) (now (near .entry)) n) (rectAt t)) k) (100000 * costLimit) r ⌝ }
+{
+    let mut sum: u64 = 0;
+    let mut t: u64 = 0;
+    while t < k {
+        let xlo = spread(t, 7919, 20000);
+        let ylo = spread(t, 6007, 20000);
+        let xhi = spread(t, 4409, 0);
+        let yhi = spread(t, 3001, 0);
+        sum = sum + crate::load_in(xs, ys, visits, near, n, xlo, ylo, xhi, yhi);
+        t = t + 1;
+    }
+    sum
+}
+
+fn bounds<'a>(
+    xs: &'a [i32; 512],
+    ys: &'a [i32; 512],
+    visits: &'a [u32; 512],
+    near: &'a [u32; 512],
+    n: usize,
+    k: u64,
+) -> u64
+    requires { ⌜ (n ≤ 512) × ColumnsInRange (now xs) (now ys) (now visits) (now near) × (k ≤ 100000) ⌝ }
+    ensures { λ r. ⌜ Figure (sumTo (λ t. positive (boundOf (siteRows (now (xs .entry)) (now (ys .entry)) (now (visits .entry)) (now (near .entry)) n) (rectAt t))) k) (100000 * costLimit) r ⌝ }
+{
+    let mut sum: u64 = 0;
+    let mut t: u64 = 0;
+    while t < k {
+        let xlo = spread(t, 7919, 20000);
+        let ylo = spread(t, 6007, 20000);
+        let xhi = spread(t, 4409, 0);
+        let yhi = spread(t, 3001, 0);
+        let b = crate::bound_in(xs, ys, visits, near, n, xlo, ylo, xhi, yhi);
+        sum = sum + positive(b);
+        t = t + 1;
+    }
+    sum
+}
+
+fn cuts(xs: &[i64; 514], nx: usize, ys: &[i64; 514], ny: usize, k: u64) -> u64
+    requires { ⌜ InOrder (now xs) nx × InOrder (now ys) ny × (k ≤ 100000) ⌝ }
+    ensures { λ r. ⌜ Figure (sumTo (λ t. positive (cutRecord (onLines (take nx (now (xs .entry))) (take ny (now (ys .entry)))) (rectAt t) .at)) k) (100000 * costLimit) r ⌝ }
+{
+    let mut sum: u64 = 0;
+    let mut t: u64 = 0;
+    while t < k {
+        let xlo = spread(t, 7919, 20000);
+        let ylo = spread(t, 6007, 20000);
+        let xhi = spread(t, 4409, 0);
+        let yhi = spread(t, 3001, 0);
+        let c = lines::find_cut(xs, nx, ys, ny, xlo, ylo, xhi, yhi);
+        sum = sum + positive(c.at);
+        t = t + 1;
+    }
+    sum
+}
+
+// The near of stop t of the deck's sites.
+fn near_at(deck: Deck, t: u64) -> u64
+    requires { ⌜ InRange (deckOf deck) × (deck .posts ≤ 64) × (deck .stops ≤ 512) ⌝ }
+    ensures { λ r. ⌜ Figure (getD (sitesRecord (sitesOf (deckOf deck)) .near) (t % 512) 0) 720000 r ⌝ }
+{
+    let s = price::sites(deck);
+    let near = s.near;
+    let i = (t % 512) as usize;
+    near[i] as u64
+}
+
+fn nears(deck: Deck, k: u64) -> u64
+    requires { ⌜ (InRange (deckOf deck) × (deck .posts ≤ 64) × (deck .stops ≤ 512)) × (k ≤ 100000) ⌝ }
+    ensures { λ r. ⌜ Figure (sumTo (λ t. getD (sitesRecord (sitesOf (deckOf deck)) .near) (t % 512) 0) k) (100000 * costLimit) r ⌝ }
+{
+    let mut sum: u64 = 0;
+    let mut t: u64 = 0;
+    while t < k {
+        sum = sum + near_at(deck, t);
+        t = t + 1;
+    }
+    sum
+}
+
+// The sum of the costs at k places; -1 where the job is refused or k is above 100,000. So the others.
+#[no_mangle]
+pub extern "C" fn trial_cost_many(job: &[u8], k: u64) -> i64
+    ensures { λ r. ⌜ r ≡ manyFigure costTurn k (readJob (now (job .entry))) ⌝ }
+{
+    let o = crate::open_job(job);
+    if !o.accepted {
+        return -1;
+    }
+    if 100000 < k {
+        return -1;
+    }
+    let s = o.sites;
+    let n = s.count;
+    costs(&s.x, &s.y, &s.visits, &s.near, n, k) as i64
+}
+
+#[no_mangle]
+pub extern "C" fn trial_load_many(job: &[u8], k: u64) -> i64
+    ensures { λ r. ⌜ r ≡ manyFigure loadTurn k (readJob (now (job .entry))) ⌝ }
+{
+    let o = crate::open_job(job);
+    if !o.accepted {
+        return -1;
+    }
+    if 100000 < k {
+        return -1;
+    }
+    let s = o.sites;
+    let n = s.count;
+    loads(&s.x, &s.y, &s.visits, &s.near, n, k) as i64
+}
+
+// How many of k rectangles have a bound above 0.
+#[no_mangle]
+pub extern "C" fn trial_bound_many(job: &[u8], k: u64) -> i64
+    ensures { λ r. ⌜ r ≡ manyFigure boundTurn k (readJob (now (job .entry))) ⌝ }
+{
+    let o = crate::open_job(job);
+    if !o.accepted {
+        return -1;
+    }
+    if 100000 < k {
+        return -1;
+    }
+    let s = o.sites;
+    let n = s.count;
+    bounds(&s.x, &s.y, &s.visits, &s.near, n, k) as i64
+}
+
+// How many of k rectangles are cut at a line above 0.
+#[no_mangle]
+pub extern "C" fn trial_cut_many(job: &[u8], k: u64) -> i64
+    ensures { λ r. ⌜ r ≡ manyFigure cutTurn k (readJob (now (job .entry))) ⌝ }
+{
+    let o = crate::open_job(job);
+    if !o.accepted {
+        return -1;
+    }
+    if 100000 < k {
+        return -1;
+    }
+    let v = crate::lines_of(o, true);
+    let h = crate::lines_of(o, false);
+    let nx = v.count;
+    let ny = h.count;
+    cuts(&v.at, nx, &h.at, ny, k) as i64
+}
+
+// The deck's sites found k times, and the near of one stop of each summed.
+#[no_mangle]
+pub extern "C" fn trial_near_many(job: &[u8], k: u64) -> i64
+    ensures { λ r. ⌜ r ≡ manyFigure nearTurn k (readJob (now (job .entry))) ⌝ }
+{
+    let o = crate::open_job(job);
+    if !o.accepted {
+        return -1;
+    }
+    if 100000 < k {
+        return -1;
+    }
+    let d = o.deck;
+    nears(d, k) as i64
+}

@@ -1,0 +1,6 @@
+//! The proved code: the static libraries that `rt staticlib` writes.
+fn main() {
+    let folder = std::path::Path::new(env!("CARGO_MANIFEST_DIR")).join("../target/staticlib");
+    println!("cargo:rustc-link-search=native={}", folder.display());
+    println!("cargo:rerun-if-changed={}", folder.join("libtrial.a").display());
+}

@@ -1,0 +1,361 @@
+//! Document 01 as a plain program: reading, pricing, the search by cells over the whole partition, the full walk, the report text.
+//! It is written to be read beside document 01 and is slow on purpose: cells are never dropped, and nothing is kept in order.
+
+use std::cmp::Ordering;
+
+pub type Place = (i64, i64);
+
+#[derive(Clone, Copy, Debug, PartialEq, Eq)]
+pub struct Rect {
+    pub xlo: i64,
+    pub ylo: i64,
+    pub xhi: i64,
+    pub yhi: i64,
+}
+
+#[derive(Clone, Copy, Debug, PartialEq, Eq)]
+pub struct Stop {
+    pub at: Place,
+    pub visits: i64,
+}
+
+#[derive(Clone, Debug, PartialEq, Eq)]
+pub struct Job {
+    pub area: Rect,
+    pub posts: Vec<Place>,
+    pub stops: Vec<Stop>,
+    pub rounds: i64,
+}
+
+#[derive(Clone, Copy, Debug, PartialEq, Eq)]
+pub struct Refusal {
+    pub number: i64,
+    pub line: i64,
+}
+
+fn refuse(number: i64, line: usize) -> Refusal {
+    Refusal {
+        number,
+        line: line as i64,
+    }
+}
+
+// ---- reading
+
+/// A number in its form: 1 to 9 digits, `-` if negative, no leading zero, no `-0`.
+fn number(text: &[u8]) -> Option<i64> {
+    let digits = text.strip_prefix(b"-").unwrap_or(text);
+    if digits.is_empty() || digits.len() > 9 || !digits.iter().all(u8::is_ascii_digit) {
+        return None;
+    }
+    if digits[0] == b'0' && (digits.len() > 1 || text.len() > digits.len()) {
+        return None;
+    }
+    std::str::from_utf8(text).ok()?.parse().ok()
+}
+
+/// The numbers of a line `key` n1,n2,.. of exactly `count` numbers.
+fn fields(line: &[u8], key: &str, count: usize) -> Option<Vec<i64>> {
+    let values: Option<Vec<i64>> = line
+        .strip_prefix(key.as_bytes())?
+        .split(|&b| b == b',')
+        .map(number)
+        .collect();
+    values.filter(|v| v.len() == count)
+}
+
+struct Lines<'a> {
+    rest: &'a [u8],
+    line: usize,
+}
+
+impl Lines<'_> {
+    /// The next line's numbers: refusal 2 for its form, then 3 for its ranges.
+    fn next(&mut self, key: &str, ranges: &[(i64, i64)]) -> Result<Vec<i64>, Refusal> {
+        self.line += 1;
+        let end = self.rest.iter().position(|&b| b == 10).ok_or(refuse(2, self.line))?;
+        let values = fields(&self.rest[..end], key, ranges.len()).ok_or(refuse(2, self.line))?;
+        self.rest = &self.rest[end + 1..];
+        let good = values.iter().zip(ranges).all(|(v, (lo, hi))| lo <= v && v <= hi);
+        if good { Ok(values) } else { Err(refuse(3, self.line)) }
+    }
+}
+
+const XY: (i64, i64) = (-20_000, 20_000);
+
+pub fn read(bytes: &[u8]) -> Result<Job, Refusal> {
+    if bytes.len() > 16_384 {
+        return Err(refuse(1, 0));
+    }
+    let mut lines = Lines { rest: bytes, line: 0 };
+    let a = lines.next("area=", &[XY; 4])?;
+    let area = Rect { xlo: a[0], ylo: a[1], xhi: a[2], yhi: a[3] };
+    let posts = lines.next("posts=", &[(0, 64)])?[0];
+    let posts = (0..posts)
+        .map(|_| lines.next("post=", &[XY; 2]).map(|v| (v[0], v[1])))
+        .collect::<Result<Vec<Place>, Refusal>>()?;
+    let stops = lines.next("stops=", &[(0, 512)])?[0];
+    let stops = (0..stops)
+        .map(|_| lines.next("stop=", &[XY, XY, (1, 65_535)]).map(|v| Stop { at: (v[0], v[1]), visits: v[2] }))
+        .collect::<Result<Vec<Stop>, Refusal>>()?;
+    let rounds = lines.next("rounds=", &[(0, 1_000)])?[0];
+    if !lines.rest.is_empty() {
+        return Err(refuse(2, lines.line + 1));
+    }
+    if area.xlo > area.xhi || area.ylo > area.yhi {
+        return Err(refuse(4, 0));
+    }
+    if posts.is_empty() {
+        return Err(refuse(5, 0));
+    }
+    if stops.is_empty() {
+        return Err(refuse(6, 0));
+    }
+    Ok(Job { area, posts, stops, rounds })
+}
+
+/// A job's bytes.
+pub fn spell(job: &Job) -> Vec<u8> {
+    let a = job.area;
+    let mut text = format!("area={},{},{},{}\nposts={}\n", a.xlo, a.ylo, a.xhi, a.yhi, job.posts.len());
+    for p in &job.posts {
+        text += &format!("post={},{}\n", p.0, p.1);
+    }
+    text += &format!("stops={}\n", job.stops.len());
+    for s in &job.stops {
+        text += &format!("stop={},{},{}\n", s.at.0, s.at.1, s.visits);
+    }
+    text += &format!("rounds={}\n", job.rounds);
+    text.into_bytes()
+}
+
+// ---- pricing
+
+pub fn travel(p: Place, q: Place) -> i64 {
+    (p.0 - q.0).abs() + (p.1 - q.1).abs()
+}
+
+/// A deck with each stop's near.
+pub struct Deck<'a> {
+    pub job: &'a Job,
+    pub near: Vec<i64>,
+}
+
+impl Deck<'_> {
+    pub fn new(job: &Job) -> Deck<'_> {
+        let near = job
+            .stops
+            .iter()
+            .map(|s| job.posts.iter().map(|&p| travel(s.at, p)).min().unwrap())
+            .collect();
+        Deck { job, near }
+    }
+
+    fn stops(&self) -> impl Iterator<Item = (&Stop, i64)> {
+        self.job.stops.iter().zip(self.near.iter().copied())
+    }
+
+    pub fn cost(&self, p: Place) -> i64 {
+        self.stops().map(|(s, near)| s.visits * near.min(travel(s.at, p))).sum()
+    }
+
+    pub fn before(&self) -> i64 {
+        self.stops().map(|(s, near)| s.visits * near).sum()
+    }
+
+    fn within_reach(&self, r: Rect) -> impl Iterator<Item = &Stop> {
+        self.stops()
+            .filter(move |(s, near)| {
+                let closest = (s.at.0.clamp(r.xlo, r.xhi), s.at.1.clamp(r.ylo, r.yhi));
+                travel(s.at, closest) < *near
+            })
+            .map(|(s, _)| s)
+    }
+
+    pub fn load(&self, r: Rect) -> i64 {
+        self.within_reach(r).map(|s| s.visits).sum()
+    }
+
+    pub fn vertical(&self) -> Vec<i64> {
+        let a = self.job.area;
+        let xs = self.within_reach(a).map(|s| s.at.0).filter(|x| a.xlo <= *x && *x <= a.xhi);
+        sorted(xs.chain([a.xlo, a.xhi]).collect())
+    }
+
+    pub fn horizontal(&self) -> Vec<i64> {
+        let a = self.job.area;
+        let ys = self.within_reach(a).map(|s| s.at.1).filter(|y| a.ylo <= *y && *y <= a.yhi);
+        sorted(ys.chain([a.ylo, a.yhi]).collect())
+    }
+
+    pub fn bound(&self, r: Rect) -> i64 {
+        let first = self.cost((r.xlo, r.ylo)) + self.cost((r.xhi, r.yhi));
+        let second = self.cost((r.xlo, r.yhi)) + self.cost((r.xhi, r.ylo));
+        let twice = first.max(second) - (r.xhi - r.xlo + r.yhi - r.ylo) * self.load(r);
+        // towards plus infinity
+        -((-twice).div_euclid(2))
+    }
+
+    fn priced(&self, p: Place) -> (i64, Place) {
+        (self.cost(p), p)
+    }
+}
+
+fn sorted(mut lines: Vec<i64>) -> Vec<i64> {
+    lines.sort();
+    lines.dedup();
+    lines
+}
+
+/// Whether a side is cut, and where: the line strictly inside lo .. hi closest to the middle, the smaller on a tie.
+pub fn middle(lines: &[i64], lo: i64, hi: i64) -> Option<i64> {
+    lines
+        .iter()
+        .copied()
+        .filter(|v| lo < *v && *v < hi)
+        .min_by_key(|v| ((2 * v - lo - hi).abs(), *v))
+}
+
+/// The axis (true: x) and the line at which a cell is cut.
+pub fn cut(vertical: &[i64], horizontal: &[i64], r: Rect) -> Option<(bool, i64)> {
+    let x = middle(vertical, r.xlo, r.xhi);
+    let y = middle(horizontal, r.ylo, r.yhi);
+    match (x, y) {
+        (Some(v), None) => Some((true, v)),
+        (None, Some(v)) => Some((false, v)),
+        (None, None) => None,
+        (Some(v), Some(w)) => Some(if r.xhi - r.xlo >= r.yhi - r.ylo { (true, v) } else { (false, w) }),
+    }
+}
+
+// ---- the search by cells
+
+#[derive(Clone, Debug, PartialEq, Eq)]
+pub struct Found {
+    pub done: bool,
+    pub at: Place,
+    pub high: i64,
+    pub low: i64,
+    pub before: i64,
+    pub rounds: i64,
+    /// The live cells, five numbers each, in the order of the cell space.
+    pub cells: Vec<i64>,
+}
+
+pub fn search(job: &Job) -> Found {
+    let deck = Deck::new(job);
+    let (vertical, horizontal) = (deck.vertical(), deck.horizontal());
+    let a = job.area;
+    let mut best = [(a.xlo, a.ylo), (a.xlo, a.yhi), (a.xhi, a.ylo), (a.xhi, a.yhi)]
+        .map(|p| deck.priced(p))
+        .into_iter()
+        .min()
+        .unwrap();
+    let mut partition = vec![(deck.bound(a), a)];
+    let mut rounds = 0;
+    let live = |best: (i64, Place), c: &(i64, Rect)| {
+        cut(&vertical, &horizontal, c.1).is_some()
+            && match c.0.cmp(&best.0) {
+                Ordering::Less => true,
+                Ordering::Equal => (c.1.xlo, c.1.ylo) < best.1,
+                Ordering::Greater => false,
+            }
+    };
+    let key = |c: &(i64, Rect)| (c.0, c.1.xlo, c.1.ylo);
+    while rounds < job.rounds {
+        let Some(i) = (0..partition.len())
+            .filter(|&i| live(best, &partition[i]))
+            .min_by_key(|&i| key(&partition[i]))
+        else {
+            break;
+        };
+        let r = partition.swap_remove(i).1;
+        let (across, v) = cut(&vertical, &horizontal, r).unwrap();
+        let (first, second, corners) = if across {
+            (Rect { xhi: v, ..r }, Rect { xlo: v, ..r }, [(v, r.ylo), (v, r.yhi)])
+        } else {
+            (Rect { yhi: v, ..r }, Rect { ylo: v, ..r }, [(r.xlo, v), (r.xhi, v)])
+        };
+        for p in corners {
+            best = best.min(deck.priced(p));
+        }
+        partition.push((deck.bound(first), first));
+        partition.push((deck.bound(second), second));
+        rounds += 1;
+    }
+    let mut cells: Vec<(i64, Rect)> = partition.into_iter().filter(|c| live(best, c)).collect();
+    cells.sort_by_key(key);
+    Found {
+        done: cells.is_empty(),
+        at: best.1,
+        high: best.0,
+        low: cells.iter().map(|c| c.0).fold(best.0, i64::min),
+        before: deck.before(),
+        rounds,
+        cells: cells.iter().flat_map(|c| [c.1.xlo, c.1.ylo, c.1.xhi, c.1.yhi, c.0]).collect(),
+    }
+}
+
+/// The full walk: the cheapest crossing, the earliest among equals, as cost and place.
+pub fn walk(job: &Job) -> (i64, Place) {
+    let deck = Deck::new(job);
+    let horizontal = deck.horizontal();
+    deck.vertical()
+        .into_iter()
+        .flat_map(|x| horizontal.iter().map(move |&y| (x, y)))
+        .map(|p| deck.priced(p))
+        .min()
+        .unwrap()
+}
+
+/// The cheapest whole-number point of the area, the earliest among equals: every point is priced.
+pub fn brute_force(job: &Job) -> (i64, Place) {
+    let deck = Deck::new(job);
+    let a = job.area;
+    (a.xlo..=a.xhi)
+        .flat_map(|x| (a.ylo..=a.yhi).map(move |y| (x, y)))
+        .map(|p| deck.priced(p))
+        .min()
+        .unwrap()
+}
+
+// ---- text
+
+pub fn report_text(f: &Found) -> String {
+    let state = if f.done { "done" } else { "stopped" };
+    format!(
+        "state={}\nat={},{}\nhigh={}\nlow={}\nbefore={}\nrounds={}\n",
+        state, f.at.0, f.at.1, f.high, f.low, f.before, f.rounds
+    )
+}
+
+pub fn refusal_text(r: Refusal) -> String {
+    format!("refused={}\nline={}\n", r.number, r.line)
+}
+
+#[cfg(test)]
+mod tests {
+    use super::*;
+
+    const A: &str = "area=2,2,8,8\nposts=1\npost=0,0\nstops=2\nstop=4,3,2\nstop=8,12,1\nrounds=10\n";
+
+    #[test]
+    fn case_a_is_that_of_document_01() {
+        let job = read(A.as_bytes()).unwrap();
+        assert_eq!(report_text(&search(&job)), "state=done\nat=4,3\nhigh=13\nlow=13\nbefore=34\nrounds=3\n");
+        for (rounds, at, high, low) in [(0, (8, 8), 18, 4), (1, (4, 2), 16, 4), (2, (4, 3), 13, 8)] {
+            let found = search(&Job { rounds, ..job.clone() });
+            assert_eq!((found.done, found.at, found.high, found.low), (false, at, high, low));
+        }
+        assert_eq!(walk(&job), (13, (4, 3)));
+        assert_eq!(brute_force(&job), (13, (4, 3)));
+        assert_eq!(spell(&job), A.as_bytes());
+    }
+
+    #[test]
+    fn halves_go_towards_plus_infinity() {
+        for (twice, half) in [(3, 2), (-3, -1), (-4, -2), (-7, -3)] {
+            assert_eq!(-((-twice as i64).div_euclid(2)), half);
+        }
+    }
+}

@@ -1,0 +1,242 @@
+//! The proved reader and the proved pricing against the reference, on random bytes and decks.
+
+use siting_tests::generate::{damaged, job, job_of, noise, seed, Random};
+use siting_tests::reference::{cut, read, spell, Deck, Job, Place, Rect, Refusal, Stop};
+use siting_tests::trial;
+
+const LEAST: i64 = i64::MIN;
+
+fn text(job: &[u8]) -> String {
+    String::from_utf8_lossy(job).into_owned()
+}
+
+// ---- reading
+
+fn check_read(bytes: &[u8]) {
+    let (number, line, rounds) = match read(bytes) {
+        Ok(job) => (0, 0, job.rounds),
+        Err(Refusal { number, line }) => (number, line, -1),
+    };
+    let got = (trial::refusal(bytes) as i64, trial::refusal_line(bytes) as i64, trial::rounds(bytes));
+    assert_eq!(got, (number, line, rounds), "{}", text(bytes));
+}
+
+#[test]
+fn jobs_are_read_as_the_reference_reads_them() {
+    let mut random = Random::new(seed());
+    for _ in 0..8_000 {
+        check_read(&spell(&job(&mut random)));
+    }
+    for _ in 0..16_000 {
+        check_read(&damaged(&mut random));
+    }
+    for _ in 0..6_000 {
+        check_read(&noise(&mut random));
+    }
+    // each start of a valid job
+    let bytes = spell(&job_of(&mut random, 30, 6));
+    for end in 0..=bytes.len() {
+        check_read(&bytes[..end]);
+    }
+    // the size limit
+    for len in [0, 1, 16_383, 16_384, 16_385, 20_000] {
+        check_read(&vec![b'a'; len]);
+        let mut long = bytes.clone();
+        long.resize(len.max(bytes.len()), b'\n');
+        check_read(&long);
+    }
+    for _ in 0..20 {
+        check_read(&spell(&largest(&mut random)));
+    }
+}
+
+// ---- decks
+
+/// The most stops and posts, at the ends of the range, with the most visits.
+fn largest(random: &mut Random) -> Job {
+    let far = random.range(1, 3);
+    let at = |random: &mut Random| match random.range(1, 3) {
+        1 => -20_000,
+        2 => 20_000,
+        _ if far == 1 => random.range(-20_000, 20_000),
+        _ => 0,
+    };
+    let ends = random.one_in(2);
+    let area = if ends {
+        Rect { xlo: -20_000, ylo: -20_000, xhi: 20_000, yhi: 20_000 }
+    } else {
+        rect(random, 20_000)
+    };
+    let posts = if random.one_in(3) { 1 } else { 64 };
+    let stops = 512;
+    Job {
+        area,
+        posts: (0..posts).map(|_| if random.one_in(2) { (20_000, 20_000) } else { (at(random), at(random)) }).collect(),
+        stops: (0..stops).map(|_| Stop { at: (at(random), at(random)), visits: if far == 2 { random.range(1, 65_535) } else { 65_535 } }).collect(),
+        rounds: 1_000,
+    }
+}
+
+fn rect(random: &mut Random, size: i64) -> Rect {
+    let (x, y, mut u, mut v) = (random.range(-size, size), random.range(-size, size), random.range(-size, size), random.range(-size, size));
+    // points and segments
+    if random.one_in(6) {
+        u = x;
+    }
+    if random.one_in(6) {
+        v = y;
+    }
+    Rect { xlo: x.min(u), ylo: y.min(v), xhi: x.max(u), yhi: y.max(v) }
+}
+
+/// A rectangle with edges at lines of the area, as the cells of a search have them.
+fn cell(random: &mut Random, vertical: &[i64], horizontal: &[i64]) -> Rect {
+    let mut pick = |lines: &[i64]| {
+        let (i, j) = (random.range(0, lines.len() as i64 - 1), random.range(0, lines.len() as i64 - 1));
+        (lines[i.min(j) as usize], lines[i.max(j) as usize])
+    };
+    let ((xlo, xhi), (ylo, yhi)) = (pick(vertical), pick(horizontal));
+    Rect { xlo, ylo, xhi, yhi }
+}
+
+fn outside(p: i64) -> bool {
+    !(-20_000..=20_000).contains(&p)
+}
+
+fn check_cost(bytes: &[u8], deck: &Deck, p: Place) {
+    let want = if outside(p.0) || outside(p.1) { -1 } else { deck.cost(p) };
+    assert_eq!(trial::cost(bytes, p), want, "{p:?} {}", text(bytes));
+}
+
+fn check_rect(bytes: &[u8], deck: &Deck, vertical: &[i64], horizontal: &[i64], r: Rect) {
+    let none = outside(r.xlo) || outside(r.ylo) || outside(r.xhi) || outside(r.yhi) || r.xhi < r.xlo || r.yhi < r.ylo;
+    let (load, bound, axis, line) = if none {
+        (-1, LEAST, -1, LEAST)
+    } else {
+        let (axis, line) = match cut(vertical, horizontal, r) {
+            None => (0, LEAST),
+            Some((true, x)) => (1, x),
+            Some((false, y)) => (2, y),
+        };
+        (deck.load(r), deck.bound(r), axis, line)
+    };
+    let got = (trial::load(bytes, r), trial::bound(bytes, r), trial::cut(bytes, r));
+    assert_eq!(got, (load, bound, (axis, line)), "{r:?} {}", text(bytes));
+}
+
+fn check_lines(bytes: &[u8], across: bool, lines: &[i64]) {
+    const FILL: i64 = 77_777;
+    let n = lines.len();
+    for len in [n - 1, n, n + 3] {
+        let mut out = vec![FILL; len];
+        let got = trial::lines(bytes, across, &mut out);
+        let (want, front) = if len < n { (-1, 0) } else { (n as i64, n) };
+        assert_eq!(got, want, "{}", text(bytes));
+        assert_eq!(out[..front], lines[..front], "{}", text(bytes));
+        assert!(out[front..].iter().all(|&v| v == FILL), "{}", text(bytes));
+    }
+}
+
+/// Every figure of a deck, at `many` places and rectangles.
+fn check_deck(random: &mut Random, job: &Job, many: usize) {
+    let bytes = spell(job);
+    let deck = Deck::new(job);
+    assert_eq!(trial::before(&bytes), deck.before(), "{}", text(&bytes));
+    let step = 1 + job.stops.len() / 40;
+    for (i, &near) in deck.near.iter().enumerate().step_by(step) {
+        assert_eq!(trial::near(&bytes, i), near, "{i} {}", text(&bytes));
+    }
+    for i in [job.stops.len(), 512, usize::MAX] {
+        assert_eq!(trial::near(&bytes, i), -1);
+    }
+    let (vertical, horizontal) = (deck.vertical(), deck.horizontal());
+    check_lines(&bytes, true, &vertical);
+    check_lines(&bytes, false, &horizontal);
+    let a = job.area;
+    check_rect(&bytes, &deck, &vertical, &horizontal, a);
+    check_rect(&bytes, &deck, &vertical, &horizontal, Rect { xlo: -20_000, ylo: -20_000, xhi: 20_000, yhi: 20_000 });
+    let size = [a.xlo, a.ylo, a.xhi, a.yhi].iter().map(|v| v.abs()).max().unwrap().max(3);
+    for _ in 0..many {
+        let s = job.stops[random.range(0, job.stops.len() as i64 - 1) as usize].at;
+        check_cost(&bytes, &deck, s);
+        check_cost(&bytes, &deck, (random.range(-size, size), random.range(-size, size)));
+        check_cost(&bytes, &deck, (random.range(-20_002, 20_002), random.range(-20_002, 20_002)));
+        let c = cell(random, &vertical, &horizontal);
+        let r = rect(random, size);
+        let wide = rect(random, 20_001);
+        // a point: a stop, or a corner of the area
+        let p = if random.one_in(2) { s } else { (a.xlo, a.yhi) };
+        let point = Rect { xlo: p.0, ylo: p.1, xhi: p.0, yhi: p.1 };
+        for r in [c, r, wide, point] {
+            check_rect(&bytes, &deck, &vertical, &horizontal, r);
+        }
+        // edges in the wrong order
+        check_rect(&bytes, &deck, &vertical, &horizontal, Rect { xlo: r.xhi, xhi: r.xlo, ..r });
+    }
+}
+
+#[test]
+fn figures_are_those_of_the_reference() {
+    let mut random = Random::new(seed());
+    for _ in 0..4_000 {
+        let j = job(&mut random);
+        check_deck(&mut random, &j, 6);
+    }
+}
+
+#[test]
+fn figures_of_the_largest_decks_are_those_of_the_reference() {
+    let mut random = Random::new(seed());
+    for _ in 0..300 {
+        let j = largest(&mut random);
+        check_deck(&mut random, &j, 4);
+    }
+    for _ in 0..200 {
+        let j = job_of(&mut random, 20_000, 512);
+        check_deck(&mut random, &j, 4);
+    }
+}
+
+#[test]
+fn extreme_numbers_are_answered_too() {
+    let mut random = Random::new(seed());
+    let j = job_of(&mut random, 30, 6);
+    let bytes = spell(&j);
+    let deck = Deck::new(&j);
+    let (vertical, horizontal) = (deck.vertical(), deck.horizontal());
+    let ends = [i64::MIN, i64::MIN + 1, -20_001, -20_000, -1, 0, 1, 20_000, 20_001, i64::MAX - 1, i64::MAX];
+    for x in ends {
+        for y in ends {
+            check_cost(&bytes, &deck, (x, y));
+            for u in ends {
+                for v in ends {
+                    check_rect(&bytes, &deck, &vertical, &horizontal, Rect { xlo: x, ylo: y, xhi: u, yhi: v });
+                }
+            }
+        }
+    }
+}
+
+#[test]
+fn a_refused_job_has_no_figures() {
+    let mut random = Random::new(seed());
+    let mut refused = 0;
+    while refused < 2_000 {
+        let bytes = damaged(&mut random);
+        if read(&bytes).is_ok() {
+            continue;
+        }
+        refused += 1;
+        let r = rect(&mut random, 30);
+        assert_eq!(trial::before(&bytes), -1);
+        assert_eq!(trial::near(&bytes, 0), -1);
+        assert_eq!(trial::cost(&bytes, (r.xlo, r.ylo)), -1);
+        assert_eq!(trial::load(&bytes, r), -1);
+        assert_eq!(trial::bound(&bytes, r), LEAST);
+        assert_eq!(trial::cut(&bytes, r), (-1, LEAST));
+        let mut out = [5; 600];
+        assert_eq!(trial::lines(&bytes, true, &mut out), -1);
+        assert_eq!(trial::lines(&bytes, false, &mut out), -1);
+        assert!(out.iter().all(|&v| v == 5));
+    }
+}
