@@ -1,6 +1,6 @@
-//! Where the proved libraries are: `rt staticlib` writes them below target/ of the repository.
-
+//! The proved code: the static libraries that `rt staticlib` writes.
 fn main() {
-    let here = std::env::var("CARGO_MANIFEST_DIR").unwrap();
-    println!("cargo:rustc-link-search=native={here}/../target/staticlib");
+    let folder = std::path::Path::new(env!("CARGO_MANIFEST_DIR")).join("../target/staticlib");
+    println!("cargo:rustc-link-search=native={}", folder.display());
+    println!("cargo:rerun-if-changed={}", folder.join("libtrial.a").display());
 }

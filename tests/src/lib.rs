@@ -1,6 +1,5 @@
 //! Tests of the proved library from Rust. `reference` is written from document 01 alone and shares nothing with the proved code.
 
 pub mod generate;
-pub mod proved;
 pub mod reference;
 pub mod trial;
