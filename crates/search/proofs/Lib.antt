@@ -1,0 +1,12 @@
+pub mod Keys
+pub mod Slots
+pub mod Listing
+pub mod Moves
+pub mod Trims
+pub mod Numbers
+pub mod SpaceLaws
+pub mod StepLaws
+pub mod CutParts
+pub mod RoundLaws
+pub mod RunLaws
+pub mod DeckRun

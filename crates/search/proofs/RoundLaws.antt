@@ -1,0 +1,401 @@
+-- A start and a round as the code makes them are those of document 01.
+-- Assumes nothing.
+use mathlib.Core.Path.{_≡_, refl, sym, ap, subst, _∙_}
+use mathlib.Core.Bool.{Bool, true, false, cond, not, _&&_}
+use mathlib.Core.Logic.{_⊎_, inr, ⊎-elim}
+use mathlib.Core.List.{List, [], _∷_, map, List·Memᴰ, List·Memᴰ·head, List·Memᴰ·tail, List·Memᴰ·not-nil, Pairwise, Pairwise·of-cons, Memᴰ·of-map}
+use Prim.Native.Nat.{ℕ, suc, _+_, _-_, _^_, _≤_, _<_}
+use native.Mathlib.Numerals.{add-one}
+use native.Mathlib.Omega.{arith}
+use lib.Dec.{T}
+use lib.Signed.{mag}
+use lib.IntN.{ℤ, pos}
+use Rattle.numbers.specs.Lists.{keep, leastBy, insertBy}
+use Rattle.numbers.proofs.Truth.{test, holds, fails}
+use Rattle.numbers.proofs.Members.{insertBy-sorted, insertBy-cases, keep-from}
+use Rattle.query.specs.Place.{Place, Rect, corner}
+use Rattle.query.specs.Problem.{Problem}
+use Rattle.query.specs.Cut.{Line, canCut, cutLine, cutBefore, cutAfter, newCorners}
+use Rattle.query.specs.Order as Query
+use Rattle.query.specs.Order.{Priced, precedes, pricedKey, cellKey, better, cellBefore}
+use Rattle.query.specs.Range.{RectInRange, costLimit}
+use Rattle.query.specs.Search.{Search, isLive, pricedAt, cellOf, bestOf, otherCorners, startBest, start, cellsAfter, bestAfter, roundOn, round}
+use Rattle.query.proofs.KeyOrder.{cellBefore-strict}
+use Rattle.query.proofs.CellsAfter.{after-is}
+use Rattle.job.specs.Record.{emptyRect}
+use Rattle.pricing.specs.Sites.{Site, costOf}
+use Rattle.pricing.specs.LineRecord.{onLines, isX, cutAt, cutRecord}
+use Rattle.pricing.specs.declared.lines.Cut.{Cut}
+use Rattle.pricing.proofs.CutRecordLaws.{canCut-lines, cutLine-lines}
+use Rattle.search.specs.declared.space.Cell.{Cell}
+use Rattle.search.specs.declared.space.Costs.{Costs}
+use Rattle.search.specs.declared.run.Spot.{Spot}
+use Rattle.search.specs.declared.run.Halves.{Halves}
+use Rattle.search.specs.declared.run.State.{State}
+use Rattle.search.specs.Space.{Entry, keyOf, queryCell, entryCell, cellAt, costsAt, entries, entryBefore}
+use Rattle.search.specs.Steps.{InOrder, Trimmed}
+use Rattle.search.specs.Run.{siteProblem, pricedOf, spotOf, rectIn, cornerCosts, cellFor, improved, bestCorner, lowCorner, highCorner, halvesOf, withLive, Ranged, Cutting, Takeable, Added, Costed, searchOf, Holds}
+use Rattle.search.proofs.Keys.{back, fitting}
+use Rattle.search.proofs.SpaceLaws.{keep-insert-in, keep-insert-out, keep-agree, cells-insert, cells-keep, cells-in-order, entries-first, entries-none}
+use Rattle.search.proofs.StepLaws.{improved-limit}
+use Rattle.search.proofs.CutParts.{first-is, second-is, corners-are, cut-is, first-range, second-range}
+
+-- ---- one more entry, if it is live
+module _ (P : Problem) (best : Priced) (e : Entry) (head tail : ℕ) (s : List ℤ) (t : List ℕ) where
+  pub added-none : (r : Bool) → r ≡ isLive P best (entryCell e) → r ≡ false → Added P best e head tail s t s t head
+  unfolding withLive
+  added-none r f g = let dead : isLive P best (entryCell e) ≡ false = sym f ∙ g in record { down = omega arith; by-one = omega arith; entries-are = rw dead }
+
+  pub added-one : (s′ : List ℤ) (t′ : List ℕ) (r : Bool) → r ≡ isLive P best (entryCell e) → r ≡ true → 1 ≤ head → head ≤ tail → entries s′ t′ (head - 1) (tail - head + 1) ≡ insertBy entryBefore e (entries s t head (tail - head)) → Added P best e head tail s t s′ t′ (head - 1)
+  unfolding withLive
+  added-one s′ t′ r f g h k q =
+      let live : isLive P best (entryCell e) ≡ true = sym f ∙ g in
+      let count : tail - (head - 1) ≡ tail - head + 1 = omega arith in
+      record { down = omega arith; by-one = omega arith; entries-are = rw (live, count) q }
+
+-- what a test of `is_live` says
+module _ (P : Problem) (best : Priced) (c : Query.Cell) where
+  pub live-not : canCut P (c .rect) ≡ false → false ≡ isLive P best c
+  unfolding isLive
+  live-not e = rw e
+
+  pub live-precedes : canCut P (c .rect) ≡ true → (r : Bool) → r ≡ precedes (cellKey c) (pricedKey best) → r ≡ isLive P best c
+  unfolding isLive
+  live-precedes e r f = rw e f
+
+-- ---- live cells among cells in order
+-- a cell more, if it is live
+withCell : Problem → Priced → Query.Cell → List Query.Cell → List Query.Cell
+withCell P best x ys = cond (isLive P best x) (insertBy cellBefore x ys) ys
+
+abbrev Ordered : List Query.Cell → Type 0
+Ordered cells = Pairwise (λ c d. T (not (cellBefore d c))) cells
+
+module _ (P : Problem) (best : Priced) where
+  keep-one : (x : Query.Cell) (cs : List Query.Cell) → Ordered cs → keep (isLive P best) (insertBy cellBefore x cs) ≡ withCell P best x (keep (isLive P best) cs)
+  unfolding withCell
+  keep-one x cs s =
+      ⊎-elim (λ (u : T (isLive P best x)). rw (holds (isLive P best x) u) (keep-insert-in cellBefore (isLive P best) x cellBefore-strict cs s u))
+      (λ (u : T (not (isLive P best x))). rw (fails (isLive P best x) u) (keep-insert-out cellBefore (isLive P best) x cs u))
+      (test (isLive P best x))
+
+  keep-two : (x y : Query.Cell) (cs : List Query.Cell) → Ordered cs → keep (isLive P best) (insertBy cellBefore x (insertBy cellBefore y cs)) ≡ withCell P best x (withCell P best y (keep (isLive P best) cs))
+  keep-two x y cs s = keep-one x (insertBy cellBefore y cs) (insertBy-sorted cellBefore cellBefore-strict y cs s) ∙ ap (withCell P best x) (keep-one y cs s)
+
+  map-with : (e : Entry) (es : List Entry) → map entryCell (withLive P best e es) ≡ withCell P best (entryCell e) (map entryCell es)
+  unfolding withLive withCell
+  map-with e es =
+      ⊎-elim (λ (u : T (isLive P best (entryCell e))). rw (holds (isLive P best (entryCell e)) u) (cells-insert e es))
+      (λ (u : T (not (isLive P best (entryCell e)))). rw (fails (isLive P best (entryCell e)) u)) (test (isLive P best (entryCell e)))
+
+  -- where all can be cut, those that come before the best are the live ones
+  keep-live : (cs : List Query.Cell) → ((c : Query.Cell) → List·Memᴰ c cs → T (canCut P (c .rect))) → keep (λ c. precedes (cellKey c) (pricedKey best)) cs ≡ keep (isLive P best) cs
+  keep-live cs h = keep-agree (λ c. precedes (cellKey c) (pricedKey best)) (isLive P best) cs (λ c m. live-precedes P best c (holds (canCut P (c .rect)) (h c m)) (precedes (cellKey c) (pricedKey best)) refl)
+
+  with-cases : (e : Entry) (es : List Entry) {f : Entry} → List·Memᴰ f (withLive P best e es) → (f ≡ e) ⊎ List·Memᴰ f es
+  unfolding withLive
+  with-cases e es {f} = go (isLive P best (entryCell e))
+    where
+      go : (b : Bool) → List·Memᴰ f (cond b (insertBy entryBefore e es) es) → (f ≡ e) ⊎ List·Memᴰ f es
+      go true m = insertBy-cases entryBefore e es m
+      go false m = inr m
+
+-- ---- the problem's lines
+module _ (sites : List Site) (vs hs : List ℤ) (area : Rect) where
+  pub can-lines : (r : Rect) → canCut (siteProblem sites vs hs area) r ≡ canCut (onLines vs hs) r
+  unfolding siteProblem
+  can-lines r = canCut-lines (siteProblem sites vs hs area) r
+
+  line-lines : (r : Rect) → cutLine (siteProblem sites vs hs area) r ≡ cutLine (onLines vs hs) r
+  unfolding siteProblem
+  line-lines r = cutLine-lines (siteProblem sites vs hs area) r
+
+  live-lines : (best : Priced) (c : Query.Cell) → isLive (siteProblem sites vs hs area) best c ≡ isLive (onLines vs hs) best c
+  unfolding isLive
+  live-lines best c = ap (λ (b : Bool). b && precedes (cellKey c) (pricedKey best)) (can-lines (c .rect))
+
+  with-lines : (best : Priced) (c : Query.Cell) (cs : List Query.Cell) → withCell (onLines vs hs) best c cs ≡ withCell (siteProblem sites vs hs area) best c cs
+  unfolding withCell
+  with-lines best c cs = rw (live-lines best c)
+
+  cell-is : (r : Rect) → queryCell (cellFor sites r) ≡ cellOf (siteProblem sites vs hs area) r
+  unfolding siteProblem
+  cell-is r = refl
+
+  -- ---- the best place
+  better-cost : (p : Place) → pricedOf (spotOf sites p) ≡ pricedAt (siteProblem sites vs hs area) p
+  unfolding siteProblem
+  better-cost p = refl
+
+improved-is : (best p : Spot) → pricedOf (improved best p) ≡ cond (better (pricedOf p) (pricedOf best)) (pricedOf p) (pricedOf best)
+unfolding improved
+improved-is best p = go (better (pricedOf p) (pricedOf best))
+  where
+    go : (b : Bool) → pricedOf (cond b p best) ≡ cond b (pricedOf p) (pricedOf best)
+    go true = refl
+    go false = refl
+
+bestOf-nil : (P : Problem) (best : Priced) → bestOf P best [] ≡ best
+unfolding bestOf
+bestOf-nil P best = refl
+
+bestOf-cons : (P : Problem) (best : Priced) (p : Place) (ps : List Place) → bestOf P best (p ∷ ps) ≡ bestOf P (cond (better (pricedAt P p) best) (pricedAt P p) best) ps
+unfolding bestOf leastBy
+bestOf-cons P best p ps = refl
+
+module _ (sites : List Site) (vs hs : List ℤ) (area : Rect) where
+  best-more : (best : Spot) (p : Place) (ps : List Place) → bestOf (siteProblem sites vs hs area) (pricedOf best) (p ∷ ps) ≡ bestOf (siteProblem sites vs hs area) (pricedOf (improved best (spotOf sites p))) ps
+  best-more best p ps = rw (bestOf-cons (siteProblem sites vs hs area) (pricedOf best) p ps, improved-is best (spotOf sites p), better-cost sites vs hs area p)
+
+  best-two : (best : Spot) (p q : Place) → bestOf (siteProblem sites vs hs area) (pricedOf best) (p ∷ q ∷ []) ≡ pricedOf (improved (improved best (spotOf sites p)) (spotOf sites q))
+  best-two best p q = best-more best p (q ∷ []) ∙ best-more (improved best (spotOf sites p)) q [] ∙ bestOf-nil (siteProblem sites vs hs area) (pricedOf (improved (improved best (spotOf sites p)) (spotOf sites q)))
+
+  pub start-best : pricedOf (bestCorner area (cornerCosts sites area)) ≡ startBest (siteProblem sites vs hs area)
+  unfolding startBest otherCorners bestCorner siteProblem
+  start-best =
+      let P = siteProblem sites vs hs area in
+      let c₁ = spotOf sites (corner area) in
+      let c₂ = improved c₁ (spotOf sites (record { x = area .xlo; y = area .yhi })) in
+      let c₃ = improved c₂ (spotOf sites (record { x = area .xhi; y = area .ylo })) in
+      let c₄ = improved c₃ (spotOf sites (record { x = area .xhi; y = area .yhi })) in
+      sym (best-more c₁ (record { x = area .xlo; y = area .yhi }) (record { x = area .xhi; y = area .ylo } ∷ record { x = area .xhi; y = area .yhi } ∷ [])
+      ∙ best-more c₂ (record { x = area .xhi; y = area .ylo }) (record { x = area .xhi; y = area .yhi } ∷ [])
+      ∙ best-more c₃ (record { x = area .xhi; y = area .yhi }) []
+      ∙ bestOf-nil P (pricedOf c₄))
+
+-- ---- a start
+single : (P : Problem) (best : Priced) (x : Query.Cell) → withCell P best x [] ≡ keep (isLive P best) (x ∷ [])
+unfolding withCell keep insertBy
+single P best x = refl
+
+pub search-is : (s : List ℤ) (t : List ℕ) (st : State) → searchOf s t st ≡ record { best = pricedOf (st .best); live = map entryCell (entries s t (st .head) (st .tail - st .head)); cuts = st .cuts }
+unfolding searchOf
+search-is s t st = refl
+
+start-is : (sites : List Site) (vs hs : List ℤ) (area : Rect) → start (siteProblem sites vs hs area) ≡ record { best = startBest (siteProblem sites vs hs area); live = keep (isLive (siteProblem sites vs hs area) (startBest (siteProblem sites vs hs area))) (cellOf (siteProblem sites vs hs area) area ∷ []); cuts = 0 }
+unfolding start siteProblem
+start-is sites vs hs area = refl
+
+pub started : (sites : List Site) (vs hs : List ℤ) (c area : Cell) (k : Costs) (best : Spot) (s s′ : List ℤ) (t t′ : List ℕ) (head : ℕ) → k ≡ cornerCosts sites (rectIn area) → best ≡ bestCorner (rectIn area) k → c ≡ cellFor sites (rectIn area) → Added (onLines vs hs) (pricedOf best) (record { cell = c; costs = k }) 1001 1001 s t s′ t′ head → Holds sites (start (siteProblem sites vs hs (rectIn area))) 1000 s′ t′ (record { head = head; tail = 1001; best = best; cuts = 0 })
+started sites vs hs c area k best s s′ t t′ head costs best-is cell added = record { is = is; costed = record { each = costed }; low-head = omega (arith, added .by-one); in-turn = added .down; ends = omega arith }
+  where
+    P : Problem
+    P = siteProblem sites vs hs (rectIn area)
+
+    e : Entry
+    e = record { cell = c; costs = k }
+
+    bests : pricedOf best ≡ startBest P
+    bests = ap pricedOf (best-is ∙ ap (bestCorner (rectIn area)) costs) ∙ start-best sites vs hs (rectIn area)
+
+    one : entries s′ t′ head (1001 - head) ≡ withLive (onLines vs hs) (pricedOf best) e []
+    one = added .entries-are ∙ ap (withLive (onLines vs hs) (pricedOf best) e) (entries-none s t 1001)
+
+    cells : map entryCell (entries s′ t′ head (1001 - head)) ≡ keep (isLive P (startBest P)) (cellOf P (rectIn area) ∷ [])
+    cells =
+        ap (map entryCell) one
+        ∙ map-with (onLines vs hs) (pricedOf best) e []
+        ∙ with-lines sites vs hs (rectIn area) (pricedOf best) (entryCell e) []
+        ∙ ap (λ (b : Priced). withCell P b (entryCell e) []) bests
+        ∙ ap (λ (x : Query.Cell). withCell P (startBest P) x []) (ap queryCell cell ∙ cell-is sites vs hs (rectIn area) (rectIn area))
+        ∙ single P (startBest P) (cellOf P (rectIn area))
+
+    is : searchOf s′ t′ (record { head = head; tail = 1001; best = best; cuts = 0 }) ≡ start P
+    is = search-is s′ t′ (record { head = head; tail = 1001; best = best; cuts = 0 }) ∙ (λ i. record { best = bests i; live = cells i; cuts = 0 }) ∙ sym (start-is sites vs hs (rectIn area))
+
+    costed : (f : Entry) → List·Memᴰ f (entries s′ t′ head (1001 - head)) → f .costs ≡ cornerCosts sites (entryCell f .rect)
+    costed f m = ⊎-elim (λ (q : f ≡ e). rw (q, cell) costs) (λ n. absurd (List·Memᴰ·not-nil n)) (with-cases (onLines vs hs) (pricedOf best) e [] (subst (List·Memᴰ f) one m))
+
+-- ---- a round
+round-on : (P : Problem) (s : Search) (c : Query.Cell) (cs : List Query.Cell) → s .live ≡ c ∷ cs → round P s ≡ record { best = bestAfter P (s .best) c; live = keep (isLive P (bestAfter P (s .best) c)) (cellsAfter P c cs); cuts = suc (s .cuts) }
+unfolding round roundOn
+round-on P s c cs e = ap (roundOn P s) e
+
+round-none : (P : Problem) (s : Search) → s .live ≡ [] → round P s ≡ s
+unfolding round roundOn
+round-none P s e = ap (roundOn P s) e
+
+after-best : (P : Problem) (best : Priced) (c : Query.Cell) → bestAfter P best c ≡ bestOf P best (newCorners (cutLine P (c .rect) .axis) (cutLine P (c .rect) .at) (c .rect))
+unfolding bestAfter
+after-best P best c = refl
+
+module _ (sites : List Site) (vs hs : List ℤ) (c : Cell) (can : T (canCut (onLines vs hs) (rectIn c))) where
+  abbrev P : Problem
+  P = siteProblem sites vs hs emptyRect
+
+  abbrev halves : Halves
+  halves = halvesOf sites (cutRecord (onLines vs hs) (rectIn c)) (rectIn c)
+
+  cut : cutRecord (onLines vs hs) (rectIn c) ≡ cutAt (isX (cutLine P (rectIn c) .axis)) (cutLine P (rectIn c) .at)
+  cut = rw (line-lines sites vs hs emptyRect (rectIn c)) (cut-is (onLines vs hs) (rectIn c) can (cutRecord (onLines vs hs) (rectIn c)) refl)
+
+  first-cell : queryCell (halves .first) ≡ cellOf P (cutBefore (cutLine P (rectIn c) .axis) (cutLine P (rectIn c) .at) (rectIn c))
+  unfolding halvesOf
+  first-cell = rw cut (ap (λ (r : Rect). queryCell (cellFor sites r)) (first-is (cutLine P (rectIn c) .axis) (cutLine P (rectIn c) .at) (rectIn c)) ∙ cell-is sites vs hs emptyRect (cutBefore (cutLine P (rectIn c) .axis) (cutLine P (rectIn c) .at) (rectIn c)))
+
+  second-cell : queryCell (halves .second) ≡ cellOf P (cutAfter (cutLine P (rectIn c) .axis) (cutLine P (rectIn c) .at) (rectIn c))
+  unfolding halvesOf
+  second-cell = rw cut (ap (λ (r : Rect). queryCell (cellFor sites r)) (second-is (cutLine P (rectIn c) .axis) (cutLine P (rectIn c) .at) (rectIn c)) ∙ cell-is sites vs hs emptyRect (cutAfter (cutLine P (rectIn c) .axis) (cutLine P (rectIn c) .at) (rectIn c)))
+
+  first-costed : halves .«first_costs» ≡ cornerCosts sites (rectIn (halves .first))
+  unfolding halvesOf
+  first-costed = refl
+
+  second-costed : halves .«second_costs» ≡ cornerCosts sites (rectIn (halves .second))
+  unfolding halvesOf
+  second-costed = refl
+
+  bestAfter-is : (best : Priced) → bestAfter P best (queryCell c) ≡ bestOf P best (newCorners (cutLine P (rectIn c) .axis) (cutLine P (rectIn c) .at) (rectIn c))
+  unfolding bestAfter
+  bestAfter-is best = refl
+
+  best-after : (best : Spot) → pricedOf (improved (improved best (halves .low)) (halves .high)) ≡ bestAfter P (pricedOf best) (queryCell c)
+  unfolding halvesOf
+  best-after best =
+      rw (bestAfter-is (pricedOf best), corners-are (cutLine P (rectIn c) .axis) (cutLine P (rectIn c) .at) (rectIn c), cut)
+      (sym (best-two sites vs hs emptyRect best (lowCorner (isX (cutLine P (rectIn c) .axis)) (cutLine P (rectIn c) .at) (rectIn c)) (highCorner (isX (cutLine P (rectIn c) .axis)) (cutLine P (rectIn c) .at) (rectIn c))))
+
+  module _ (k : Costs) (rest : List Entry) (best : Spot) (order : InOrder rest) (cuttable : (e : Entry) → List·Memᴰ e rest → T (canCut (onLines vs hs) (entryCell e .rect))) where
+    abbrev best′ : Spot
+    best′ = improved (improved best (halves .low)) (halves .high)
+
+    abbrev secondEntry : Entry
+    secondEntry = record { cell = halves .second; costs = halves .«second_costs» }
+
+    abbrev firstEntry : Entry
+    firstEntry = record { cell = halves .first; costs = halves .«first_costs» }
+
+    module _ (es₁ es₂ es₃ : List Entry) (trimmed : es₁ ≡ keep (λ e. precedes (cellKey (entryCell e)) (pricedKey (pricedOf best′))) rest) (behind : es₂ ≡ withLive (onLines vs hs) (pricedOf best′) secondEntry es₁) (front : es₃ ≡ withLive (onLines vs hs) (pricedOf best′) firstEntry es₂) where
+      kept : map entryCell es₁ ≡ keep (isLive P (pricedOf best′)) (map entryCell rest)
+      kept =
+          ap (map entryCell) trimmed
+          ∙ cells-keep (λ x. precedes (cellKey x) (pricedKey (pricedOf best′))) rest
+          ∙ keep-live P (pricedOf best′) (map entryCell rest) each
+        where
+          each : (x : Query.Cell) → List·Memᴰ x (map entryCell rest) → T (canCut P (x .rect))
+          each x m = let w = Memᴰ·of-map entryCell rest m in rw (can-lines sites vs hs emptyRect (x .rect)) (subst (λ (y : Query.Cell). T (canCut (onLines vs hs) (y .rect))) (w .2) (cuttable (w .0) (w .1)))
+
+      after : keep (isLive P (pricedOf best′)) (cellsAfter P (queryCell c) (map entryCell rest)) ≡ withCell P (pricedOf best′) (queryCell (halves .first)) (withCell P (pricedOf best′) (queryCell (halves .second)) (keep (isLive P (pricedOf best′)) (map entryCell rest)))
+      after = rw (after-is P (queryCell c) (map entryCell rest), first-cell, second-cell) (keep-two P (pricedOf best′) (cellOf P (cutBefore (cutLine P (rectIn c) .axis) (cutLine P (rectIn c) .at) (rectIn c))) (cellOf P (cutAfter (cutLine P (rectIn c) .axis) (cutLine P (rectIn c) .at) (rectIn c))) (map entryCell rest) (cells-in-order rest .1 order))
+
+      cells : map entryCell es₃ ≡ keep (isLive P (pricedOf best′)) (cellsAfter P (queryCell c) (map entryCell rest))
+      cells =
+          ap (map entryCell) front
+          ∙ map-with (onLines vs hs) (pricedOf best′) firstEntry es₂
+          ∙ with-lines sites vs hs emptyRect (pricedOf best′) (queryCell (halves .first)) (map entryCell es₂)
+          ∙ ap (withCell P (pricedOf best′) (queryCell (halves .first)))
+          (ap (map entryCell) behind
+          ∙ map-with (onLines vs hs) (pricedOf best′) secondEntry es₁
+          ∙ with-lines sites vs hs emptyRect (pricedOf best′) (queryCell (halves .second)) (map entryCell es₁)
+          ∙ ap (withCell P (pricedOf best′) (queryCell (halves .second))) kept)
+          ∙ sym after
+
+      pub round-search : (s : Search) → s .best ≡ pricedOf best → s .live ≡ map entryCell (record { cell = c; costs = k } ∷ rest) → (cuts : ℕ) → cuts ≡ suc (s .cuts) → record { best = pricedOf best′; live = map entryCell es₃; cuts = cuts } ≡ round P s
+      round-search s b l cuts n =
+          let q : pricedOf best′ ≡ bestAfter P (s .best) (queryCell c) = best-after best ∙ ap (λ (x : Priced). bestAfter P x (queryCell c)) (sym b) in
+          (λ i. record { best = q i; live = (cells ∙ ap (λ (x : Priced). keep (isLive P x) (cellsAfter P (queryCell c) (map entryCell rest))) q) i; cuts = n i })
+          ∙ sym (round-on P s (queryCell c) (map entryCell rest) l)
+
+      pub round-costed : Costed sites rest → Costed sites es₃
+      round-costed h = record { each = λ f m. ⊎-elim (λ (q : f ≡ firstEntry). rw q first-costed) (λ n. ⊎-elim (λ (q : f ≡ secondEntry). rw q second-costed) (λ o. h .each f (keep-from (λ e. precedes (cellKey (entryCell e)) (pricedKey (pricedOf best′))) rest (subst (List·Memᴰ f) trimmed o))) (with-cases (onLines vs hs) (pricedOf best′) secondEntry es₁ (subst (List·Memᴰ f) behind n))) (with-cases (onLines vs hs) (pricedOf best′) firstEntry es₂ (subst (List·Memᴰ f) front m)) }
+
+-- ---- what the steps of a round ask of its cut
+module _ (sites : List Site) (hv : Halves) where
+  pub halves-limit : (limit : (p : Place) → costOf sites p ≤ costLimit) (cut : Cut) (r : Rect) → hv ≡ halvesOf sites cut r → (hv .low .cost ≤ costLimit) × (hv .high .cost ≤ costLimit)
+  unfolding halvesOf
+  halves-limit limit cut r e = rw e (limit (lowCorner (cut .across) (cut .at) r), limit (highCorner (cut .across) (cut .at) r))
+
+  pub halves-ranged : (L : Problem) (r : Rect) → T (canCut L r) → Ranged r → hv ≡ halvesOf sites (cutRecord L r) r → RectInRange (rectIn (hv .first)) × RectInRange (rectIn (hv .second))
+  unfolding halvesOf
+  halves-ranged L r can h e = rw e (first-range L r can (cutRecord L r) refl h .range, second-range L r can (cutRecord L r) refl h .range)
+
+pub limit-of : (r best p : Spot) → r ≡ improved best p → best .cost ≤ costLimit → p .cost ≤ costLimit → r .cost ≤ costLimit
+limit-of r best p e h g = rw e (improved-limit best p costLimit h g)
+
+pub trim-key : (s : List ℤ) (head tail cost r : ℕ) (x y : ℤ) → mag x < 2 ^ 63 → mag y < 2 ^ 63 → Trimmed s head tail (keyOf (pos cost) (back x) (back y)) r → Trimmed s head tail (keyOf (pos cost) x y) r
+trim-key s head tail cost r x y f g h = rw (fitting x f, fitting y g) at h
+
+module _ (sites : List Site) (vs hs : List ℤ) (s : List ℤ) (t : List ℕ) (st : State) (h : Takeable sites vs hs s t st) (c : Cell) (k : Costs) (ce : c ≡ cellAt s (st .head)) (ke : k ≡ costsAt t (st .head)) where
+  abbrev others : List Entry
+  others = entries s t (st .head + 1) (st .tail - (st .head + 1))
+
+  split : entries s t (st .head) (st .tail - st .head) ≡ record { cell = c; costs = k } ∷ others
+  split = entries-first s t (st .head) (st .tail) (h .some) ∙ (λ i. record { cell = sym ce i; costs = sym ke i } ∷ others)
+
+  taken : List·Memᴰ (record { cell = c; costs = k }) (entries s t (st .head) (st .tail - st .head))
+  taken = rw split (List·Memᴰ·head refl)
+
+  other : (e : Entry) → List·Memᴰ e others → List·Memᴰ e (entries s t (st .head) (st .tail - st .head))
+  other e m = rw split (List·Memᴰ·tail m)
+
+  pub cutting : Cutting sites vs hs c k
+  cutting = record { ranged = rw ce (h .ranged); can-cut = h .can-cut (record { cell = c; costs = k }) taken; costs = h .costed .each (record { cell = c; costs = k }) taken }
+
+  pub rounded : (hv : Halves) → hv ≡ halvesOf sites (cutRecord (onLines vs hs) (rectIn c)) (rectIn c) → (b best : Spot) → b ≡ improved (st .best) (hv .low) → best ≡ improved b (hv .high) → (tail : ℕ) → Trimmed s (st .head + 1) (st .tail) (keyOf (pos (best .cost)) (best .x) (best .y)) tail → (s₁ : List ℤ) (t₁ : List ℕ) (behind : ℕ) → Added (onLines vs hs) (pricedOf best) (record { cell = hv .second; costs = hv .«second_costs» }) (st .head + 1) tail s t s₁ t₁ behind → (s₂ : List ℤ) (t₂ : List ℕ) (front : ℕ) → Added (onLines vs hs) (pricedOf best) (record { cell = hv .first; costs = hv .«first_costs» }) behind tail s₁ t₁ s₂ t₂ front → Holds sites (round (siteProblem sites vs hs emptyRect) (searchOf s t st)) (st .head - 1) s₂ t₂ (record { head = front; tail = tail; best = best; cuts = st .cuts + 1 })
+  rounded hv hve b best be bests tail trimmed s₁ t₁ behind one s₂ t₂ front two =
+      let all : best ≡ improved (improved (st .best) (halves .low)) (halves .high) = bests ∙ (λ i. improved ((be ∙ ap (λ (x : Halves). improved (st .best) (x .low)) hve) i) (hve i .high)) in
+      let es₁ : entries s t (st .head + 1) (tail - (st .head + 1)) ≡ keep (λ e. precedes (cellKey (entryCell e)) (pricedKey (pricedOf best))) others = trimmed .live t (Pairwise·of-cons (subst InOrder split (h .in-order))) in
+      go best all hv hve es₁ (one .entries-are) (two .entries-are)
+    where
+      halves : Halves
+      halves = halvesOf sites (cutRecord (onLines vs hs) (rectIn c)) (rectIn c)
+
+      can : T (canCut (onLines vs hs) (rectIn c))
+      can = cutting .can-cut
+
+      cuttable : (e : Entry) → List·Memᴰ e others → T (canCut (onLines vs hs) (entryCell e .rect))
+      cuttable e m = h .can-cut e (other e m)
+
+      turn : InOrder others
+      turn = Pairwise·of-cons (subst InOrder split (h .in-order))
+
+      go : (best : Spot) → best ≡ improved (improved (st .best) (halves .low)) (halves .high) → (hv : Halves) → hv ≡ halves → entries s t (st .head + 1) (tail - (st .head + 1)) ≡ keep (λ e. precedes (cellKey (entryCell e)) (pricedKey (pricedOf best))) others → entries s₁ t₁ behind (tail - behind) ≡ withLive (onLines vs hs) (pricedOf best) (record { cell = hv .second; costs = hv .«second_costs» }) (entries s t (st .head + 1) (tail - (st .head + 1))) → entries s₂ t₂ front (tail - front) ≡ withLive (onLines vs hs) (pricedOf best) (record { cell = hv .first; costs = hv .«first_costs» }) (entries s₁ t₁ behind (tail - behind)) → Holds sites (round (siteProblem sites vs hs emptyRect) (searchOf s t st)) (st .head - 1) s₂ t₂ (record { head = front; tail = tail; best = best; cuts = st .cuts + 1 })
+      go best be hv he es₁ es₂ es₃ =
+          let f₁ : entries s t (st .head + 1) (tail - (st .head + 1)) ≡ keep (λ e. precedes (cellKey (entryCell e)) (pricedKey (pricedOf (improved (improved (st .best) (halves .low)) (halves .high))))) others = rw be at es₁ in
+          let f₂ : entries s₁ t₁ behind (tail - behind) ≡ withLive (onLines vs hs) (pricedOf (improved (improved (st .best) (halves .low)) (halves .high))) (record { cell = halves .second; costs = halves .«second_costs» }) (entries s t (st .head + 1) (tail - (st .head + 1))) = rw (be, he) at es₂ in
+          let f₃ : entries s₂ t₂ front (tail - front) ≡ withLive (onLines vs hs) (pricedOf (improved (improved (st .best) (halves .low)) (halves .high))) (record { cell = halves .first; costs = halves .«first_costs» }) (entries s₁ t₁ behind (tail - behind)) = rw (be, he) at es₃ in
+          record {
+            is = search-is s₂ t₂ (record { head = front; tail = tail; best = best; cuts = st .cuts + 1 }) ∙ rw be (round-search sites vs hs c can k others (st .best) turn cuttable (entries s t (st .head + 1) (tail - (st .head + 1))) (entries s₁ t₁ behind (tail - behind)) (entries s₂ t₂ front (tail - front)) f₁ f₂ f₃ (searchOf s t st) (ap (λ (x : Search). x .best) (search-is s t st)) (ap (λ (x : Search). x .live) (search-is s t st) ∙ ap (map entryCell) split) (st .cuts + 1) (add-one (st .cuts) ∙ ap suc (sym (ap (λ (x : Search). x .cuts) (search-is s t st)))));
+            costed = round-costed sites vs hs c can k others (st .best) turn cuttable (entries s t (st .head + 1) (tail - (st .head + 1))) (entries s₁ t₁ behind (tail - behind)) (entries s₂ t₂ front (tail - front)) f₁ f₂ f₃ (record { each = λ e m. h .costed .each e (other e m) });
+            low-head = omega (arith, one .by-one, two .by-one);
+            in-turn = omega (arith, one .down, two .down, trimmed .from-head);
+            ends = omega (arith, trimmed .to-tail, h .ends);
+          }
+
+-- ---- a round does not look at the area
+module _ (sites : List Site) (vs hs : List ℤ) (area : Rect) where
+  line-area : (r : Rect) → cutLine (siteProblem sites vs hs emptyRect) r ≡ cutLine (siteProblem sites vs hs area) r
+  line-area r = line-lines sites vs hs emptyRect r ∙ sym (line-lines sites vs hs area r)
+
+  live-area : (best : Priced) (c : Query.Cell) → isLive (siteProblem sites vs hs emptyRect) best c ≡ isLive (siteProblem sites vs hs area) best c
+  live-area best c = live-lines sites vs hs emptyRect best c ∙ sym (live-lines sites vs hs area best c)
+
+  bestOf-area : (best : Priced) (ps : List Place) → bestOf (siteProblem sites vs hs emptyRect) best ps ≡ bestOf (siteProblem sites vs hs area) best ps
+  unfolding bestOf siteProblem
+  bestOf-area best ps = refl
+
+  cell-area : (r : Rect) → cellOf (siteProblem sites vs hs emptyRect) r ≡ cellOf (siteProblem sites vs hs area) r
+  unfolding siteProblem
+  cell-area r = refl
+
+  best-area : (best : Priced) (c : Query.Cell) → bestAfter (siteProblem sites vs hs emptyRect) best c ≡ bestAfter (siteProblem sites vs hs area) best c
+  best-area best c = rw (after-best (siteProblem sites vs hs emptyRect) best c, after-best (siteProblem sites vs hs area) best c, line-area (c .rect)) (bestOf-area best (newCorners (cutLine (siteProblem sites vs hs area) (c .rect) .axis) (cutLine (siteProblem sites vs hs area) (c .rect) .at) (c .rect)))
+
+  cells-area : (c : Query.Cell) (cs : List Query.Cell) → cellsAfter (siteProblem sites vs hs emptyRect) c cs ≡ cellsAfter (siteProblem sites vs hs area) c cs
+  cells-area c cs =
+      let P = siteProblem sites vs hs emptyRect in
+      let Q = siteProblem sites vs hs area in
+      after-is P c cs
+      ∙ ap (λ (line : Line). insertBy cellBefore (cellOf P (cutBefore (line .axis) (line .at) (c .rect))) (insertBy cellBefore (cellOf P (cutAfter (line .axis) (line .at) (c .rect))) cs)) (line-area (c .rect))
+      ∙ (λ i. insertBy cellBefore (cell-area (cutBefore (cutLine Q (c .rect) .axis) (cutLine Q (c .rect) .at) (c .rect)) i) (insertBy cellBefore (cell-area (cutAfter (cutLine Q (c .rect) .axis) (cutLine Q (c .rect) .at) (c .rect)) i) cs))
+      ∙ sym (after-is Q c cs)
+
+  pub round-area : (s : Search) → round (siteProblem sites vs hs emptyRect) s ≡ round (siteProblem sites vs hs area) s
+  round-area s = go (s .live) refl
+    where
+      go : (live : List Query.Cell) → s .live ≡ live → round (siteProblem sites vs hs emptyRect) s ≡ round (siteProblem sites vs hs area) s
+      go [] e = round-none (siteProblem sites vs hs emptyRect) s e ∙ sym (round-none (siteProblem sites vs hs area) s e)
+      go (c ∷ cs) e =
+          round-on (siteProblem sites vs hs emptyRect) s c cs e
+          ∙ (λ i. record { best = best-area (s .best) c i; live = (ap (λ (b : Priced). keep (isLive (siteProblem sites vs hs emptyRect) b) (cellsAfter (siteProblem sites vs hs emptyRect) c cs)) (best-area (s .best) c) ∙ keep-agree (isLive (siteProblem sites vs hs emptyRect) (bestAfter (siteProblem sites vs hs area) (s .best) c)) (isLive (siteProblem sites vs hs area) (bestAfter (siteProblem sites vs hs area) (s .best) c)) (cellsAfter (siteProblem sites vs hs emptyRect) c cs) (λ d m. live-area (bestAfter (siteProblem sites vs hs area) (s .best) c) d) ∙ ap (keep (isLive (siteProblem sites vs hs area) (bestAfter (siteProblem sites vs hs area) (s .best) c))) (cells-area c cs)) i; cuts = suc (s .cuts) })
+          ∙ sym (round-on (siteProblem sites vs hs area) s c cs e)

@@ -1,0 +1,236 @@
+-- A run as the code makes it: what a round may ask of the search so far, where the rounds end, and what the answer is.
+-- Assumes nothing.
+use mathlib.Core.Path.{_≡_, refl, sym, ap, subst, _∙_}
+use mathlib.Core.Bool.{Bool, true, false, cond, not}
+use mathlib.Core.Logic.{_⊎_, inl, inr, ⊎-elim}
+use mathlib.Core.List.{List, [], _∷_, map, List·Memᴰ, List·Memᴰ·head, List·Memᴰ·tail, Memᴰ·map, Memᴰ·of-map, Pairwise, rel-of-pairwise-cons}
+use Prim.Native.Nat.{ℕ, zero, suc, _+_, _-_, _^_, _≤_, _<_}
+use native.Mathlib.Nat.{eq-or-lt-of-le}
+use native.Mathlib.Numerals.{add-one}
+use native.Mathlib.Omega.{arith}
+use lib.Arith.{lt→nleb}
+use lib.Dec.{T, leb, leb→le, le→leb, nleb→lt}
+use lib.IntN.{ℤ, pos}
+use lib.ListN.{length, length-map}
+use lib.Signed.{mag, ltZ, _≤ℤ_}
+use Rattle.numbers.specs.Lists.{leastBy}
+use Rattle.numbers.proofs.Truth.{and-left, nor-left, fails, holds, test, cond-ind}
+use Rattle.numbers.proofs.Integer.{order}
+use Rattle.query.specs.Place.{Rect}
+use Rattle.query.specs.Problem.{Problem}
+use Rattle.query.specs.Cut.{canCut}
+use Rattle.query.specs.Order as Query
+use Rattle.query.specs.Order.{precedes, pricedKey, cellKey, cellBefore}
+use Rattle.query.specs.Search.{Search, isLive, start, roundOn, round, run}
+use Rattle.query.specs.Figures as Figures
+use Rattle.query.proofs.SearchLaws.{run-in-order, partition-law}
+use Rattle.query.proofs.Counts.{cuts-most, live-count}
+use Rattle.job.specs.Record.{emptyRect}
+use Rattle.pricing.specs.Sites.{Site}
+use Rattle.search.specs.declared.space.Cell.{Cell}
+use Rattle.search.specs.declared.run.State.{State}
+use Rattle.search.specs.declared.run.Found.{Found}
+use Rattle.search.specs.Space.{Entry, queryCell, entryCell, cellAt, entryAt, entries}
+use Rattle.search.specs.Steps.{InOrder}
+use Rattle.search.specs.Run.{siteProblem, pricedOf, searchOf, Takeable, Holds, Steady, Answerable, isDone, foundOf}
+use Rattle.search.proofs.Keys.{back, fitting}
+use Rattle.search.proofs.SpaceLaws.{cells-in-order, entries-first, entries-none, entries-length}
+use Rattle.search.proofs.RoundLaws.{can-lines, search-is, round-area}
+
+-- ---- rounds from a search on
+unfoldable pub roundsFrom : Problem → ℕ → Search → Search
+unfolding round
+roundsFrom P zero s = s
+roundsFrom P (suc n) s = round P (roundsFrom P n s)
+
+pub rounds-none : (P : Problem) (s : Search) → roundsFrom P 0 s ≡ s
+unfolding roundsFrom
+rounds-none P s = refl
+
+pub rounds-more : (P : Problem) (n : ℕ) (s : Search) → roundsFrom P (n + 1) s ≡ round P (roundsFrom P n s)
+unfolding roundsFrom
+rounds-more P n s = ap (λ (m : ℕ). roundsFrom P m s) (add-one n)
+
+module _ (sites : List Site) (vs hs : List ℤ) (area : Rect) where
+  pub rounds-run : (n : ℕ) → roundsFrom (siteProblem sites vs hs emptyRect) n (start (siteProblem sites vs hs area)) ≡ run (siteProblem sites vs hs area) n
+  unfolding roundsFrom run
+  rounds-run zero = refl
+  rounds-run (suc n) = round-area sites vs hs area (roundsFrom (siteProblem sites vs hs emptyRect) n (start (siteProblem sites vs hs area))) ∙ ap (round (siteProblem sites vs hs area)) (rounds-run n)
+
+-- ---- the loop
+module _ (sites : List Site) (vs hs : List ℤ) where
+  abbrev looped : ℕ → Search → Search
+  looped k start = roundsFrom (siteProblem sites vs hs emptyRect) k start
+
+  pub holds-first : (x : Search) (s : List ℤ) (t : List ℕ) (st : State) → Holds sites x 1000 s t st → Holds sites (roundsFrom (siteProblem sites vs hs emptyRect) 0 (searchOf s t st)) (1000 - 0) s t st
+  holds-first x s t st h = record { is = sym (rounds-none (siteProblem sites vs hs emptyRect) (searchOf s t st)); costed = h .costed; low-head = h .low-head; in-turn = h .in-turn; ends = h .ends }
+
+  pub holds-more : (k : ℕ) (x : Search) (s s′ : List ℤ) (t t′ : List ℕ) (st st′ : State) → Holds sites (roundsFrom (siteProblem sites vs hs emptyRect) k x) (1000 - k) s t st → Holds sites (round (siteProblem sites vs hs emptyRect) (searchOf s t st)) (st .head - 1) s′ t′ st′ → Holds sites (roundsFrom (siteProblem sites vs hs emptyRect) (k + 1) x) (1000 - (k + 1)) s′ t′ st′
+  holds-more k x s s′ t t′ st st′ h g = record { is = g .is ∙ ap (round (siteProblem sites vs hs emptyRect)) (h .is) ∙ sym (rounds-more (siteProblem sites vs hs emptyRect) k x); costed = g .costed; low-head = omega (arith, h .low-head, g .low-head); in-turn = g .in-turn; ends = g .ends }
+
+  pub holds-run : (area : Rect) (k lowest : ℕ) (x : Search) (s : List ℤ) (t : List ℕ) (st : State) → x ≡ start (siteProblem sites vs hs area) → Holds sites (roundsFrom (siteProblem sites vs hs emptyRect) k x) lowest s t st → Holds sites (run (siteProblem sites vs hs area) k) lowest s t st
+  holds-run area k lowest x s t st e h = record { is = h .is ∙ ap (roundsFrom (siteProblem sites vs hs emptyRect) k) e ∙ rounds-run sites vs hs area k; costed = h .costed; low-head = h .low-head; in-turn = h .in-turn; ends = h .ends }
+
+-- ---- once no cell is live, rounds change nothing
+pub stays : (P : Problem) (k m : ℕ) → k ≤ m → run P k .live ≡ [] → run P m ≡ run P k
+unfolding run round roundOn
+stays P k zero h e = ap (run P) (let z : zero ≡ k = omega arith in z)
+stays P k (suc m) h e = ⊎-elim (λ (q : k ≡ suc m). ap (run P) (sym q)) (λ (l : k < suc m). ap (round P) (stays P k m (omega arith) e) ∙ ap (roundOn P (run P k)) e) (eq-or-lt-of-le h)
+
+-- ---- what the slots hold does not depend on the costs
+pub cells-any : (s : List ℤ) (t u : List ℕ) (a n : ℕ) → map entryCell (entries s t a n) ≡ map entryCell (entries s u a n)
+unfolding entries
+cells-any s t u a zero = refl
+cells-any s t u a (suc n) = ap (λ (l : List Query.Cell). queryCell (cellAt s a) ∷ l) (cells-any s t u (a + 1) n)
+
+search-any : (s : List ℤ) (t u : List ℕ) (st : State) → searchOf s t st ≡ searchOf s u st
+search-any s t u st = search-is s t st ∙ (λ i. record { best = pricedOf (st .best); live = cells-any s t u (st .head) (st .tail - st .head) i; cuts = st .cuts }) ∙ sym (search-is s u st)
+
+pub no-entries : (s : List ℤ) (t : List ℕ) (head tail : ℕ) → tail ≤ head → entries s t head (tail - head) ≡ []
+no-entries s t head tail h = let z : tail - head ≡ 0 = omega arith in rw z (entries-none s t head)
+
+-- ---- a state that holds a run
+module _ (P : Problem) (sites : List Site) (n lowest : ℕ) (s : List ℤ) (t : List ℕ) (st : State) (h : Holds sites (run P n) lowest s t st) where
+  pub cells-are : map entryCell (entries s t (st .head) (st .tail - st .head)) ≡ run P n .live
+  cells-are = ap (λ (x : Search). x .live) (sym (search-is s t st) ∙ h .is)
+
+  cuts-are : st .cuts ≡ run P n .cuts
+  cuts-are = ap (λ (x : Search). x .cuts) (sym (search-is s t st) ∙ h .is)
+
+  best-cost : st .best .cost ≡ run P n .best .cost
+  best-cost = ap (λ (x : Search). x .best .cost) (sym (search-is s t st) ∙ h .is)
+
+  member : (e : Entry) → List·Memᴰ e (entries s t (st .head) (st .tail - st .head)) → List·Memᴰ (entryCell e) (run P n .live)
+  member e m = subst (List·Memᴰ (entryCell e)) cells-are (Memᴰ·map entryCell m)
+
+  pub no-cells : st .tail ≤ st .head → run P n .live ≡ []
+  no-cells g = sym cells-are ∙ ap (map entryCell) (no-entries s t (st .head) (st .tail) g)
+
+  pub ended : (m : ℕ) → n ≤ m → st .tail ≤ st .head → Holds sites (run P m) 0 s t st
+  ended m k g = record { is = h .is ∙ sym (stays P n m k (no-cells g)); costed = h .costed; low-head = omega arith; in-turn = h .in-turn; ends = h .ends }
+
+  pub finished : (m : ℕ) → n ≡ m → Holds sites (run P m) 0 s t st
+  finished m e = record { is = h .is ∙ ap (run P) e; costed = h .costed; low-head = omega arith; in-turn = h .in-turn; ends = h .ends }
+
+  pub cell-count : st .tail - st .head ≤ n + 1
+  cell-count = omega (arith, live-count P n, ap length (sym cells-are), length-map (entries s t (st .head) (st .tail - st .head)) entryCell, entries-length s t (st .head) (st .tail - st .head))
+
+  ordered : (u : List ℕ) → InOrder (entries s u (st .head) (st .tail - st .head))
+  ordered u = cells-in-order (entries s u (st .head) (st .tail - st .head)) .0 (subst (Pairwise (λ c d. T (not (cellBefore d c)))) (sym cells-are ∙ cells-any s t u (st .head) (st .tail - st .head)) (run-in-order P n))
+
+  pub answerable : Steady P → Answerable s st
+  answerable steady = record { in-turn = h .in-turn; ends = h .ends; cost-limit = omega (arith, best-cost, steady .cost-limit n); in-order = ordered [] }
+
+  pub holds-any : searchOf s [] st ≡ run P n
+  holds-any = search-any s [] t st ∙ h .is
+
+module _ (sites : List Site) (vs hs : List ℤ) (area : Rect) (n lowest : ℕ) (s : List ℤ) (t : List ℕ) (st : State) (h : Holds sites (run (siteProblem sites vs hs area) n) lowest s t st) where
+  abbrev P : Problem
+  P = siteProblem sites vs hs area
+
+  -- what a round asks
+  pub takeable : Steady (siteProblem sites vs hs area) → n < 1000 → 1 ≤ lowest → st .head < st .tail → Takeable sites vs hs s t st
+  unfolding isLive
+  takeable steady few low some = record {
+    some = some;
+    room = omega (arith, h .low-head);
+    ends = h .ends;
+    few = omega (arith, cuts-are P sites n lowest s t st h, cuts-most P n);
+    cost-limit = omega (arith, best-cost P sites n lowest s t st h, steady .cost-limit n);
+    ranged = steady .ranged n (queryCell (cellAt s (st .head))) (member P sites n lowest s t st h (entryAt s t (st .head)) (rw (entries-first s t (st .head) (st .tail) some) (List·Memᴰ·head refl)));
+    can-cut = λ e m. let c = entryCell e in rw (can-lines sites vs hs area (c .rect)) at (and-left (canCut P (c .rect)) (precedes (cellKey c) (pricedKey (run P n .best))) (partition-law P n .live-are-live c (member P sites n lowest s t st h e m)));
+    costed = h .costed;
+    in-order = ordered P sites n lowest s t st h t;
+  }
+
+-- ---- the low figure
+low-is : (s : Search) → Figures.low s ≡ leastBy ltZ (pos (s .best .cost)) (map (λ c. c .bound) (s .live))
+unfolding Figures.low
+low-is s = refl
+
+least-nil : (m : ℤ) → leastBy ltZ m [] ≡ m
+unfolding leastBy
+least-nil m = refl
+
+least-cons : (m b : ℤ) (bs : List ℤ) → leastBy ltZ m (b ∷ bs) ≡ leastBy ltZ (cond (ltZ b m) b m) bs
+unfolding leastBy
+least-cons m b bs = refl
+
+least-stays : (m : ℤ) (bs : List ℤ) → ((b : ℤ) → List·Memᴰ b bs → m ≤ℤ b) → leastBy ltZ m bs ≡ m
+least-stays m [] h = least-nil m
+least-stays m (b ∷ bs) h =
+    let k : m ≤ℤ b = h b (List·Memᴰ·head refl) in
+    let f : T (not (ltZ b m)) = omega (arith, order) in
+    rw (least-cons m b bs, fails (ltZ b m) f) (least-stays m bs (λ z m. h z (List·Memᴰ·tail m)))
+
+bounds-le : (c : Query.Cell) (cs : List Query.Cell) → Pairwise (λ c d. T (not (cellBefore d c))) (c ∷ cs) → (d : Query.Cell) → List·Memᴰ d cs → c .bound ≤ℤ d .bound
+unfolding cellBefore precedes
+bounds-le c cs p d m =
+    let q : T (not (cellBefore d c)) = rel-of-pairwise-cons p ∣ m ∣₁ in
+    let n : T (not (ltZ (d .bound) (c .bound))) = nor-left (ltZ (d .bound) (c .bound)) _ q in
+    omega (arith, order)
+
+module _ (c : Query.Cell) (cs : List Query.Cell) (p : Pairwise (λ c d. T (not (cellBefore d c))) (c ∷ cs)) (h : ℤ) where
+  smallest : ℤ
+  smallest = cond (ltZ (c .bound) h) (c .bound) h
+
+  smallest-le : smallest ≤ℤ c .bound
+  unfolding smallest
+  smallest-le = cond-ind (λ (z : ℤ). z ≤ℤ c .bound) (ltZ (c .bound) h) (λ t. omega (arith, order)) (λ t. omega (arith, order))
+
+  bound-of : (b : ℤ) → List·Memᴰ b (map (λ d. d .bound) cs) → c .bound ≤ℤ b
+  bound-of b m = let w = Memᴰ·of-map (λ (d : Query.Cell). d .bound) cs m in subst (λ (z : ℤ). c .bound ≤ℤ z) (w .2) (bounds-le c cs p (w .0) (w .1))
+
+  least-first : leastBy ltZ h (map (λ d. d .bound) (c ∷ cs)) ≡ cond (ltZ (c .bound) h) (c .bound) h
+  unfolding smallest
+  least-first = least-cons h (c .bound) (map (λ d. d .bound) cs) ∙ least-stays smallest (map (λ d. d .bound) cs) (λ b m. let k = bound-of b m in let l = smallest-le in omega (arith, order))
+
+module _ (s : List ℤ) (st : State) (h : Answerable s st) where
+  low-of-search : Figures.low (searchOf s [] st) ≡ leastBy ltZ (pos (st .best .cost)) (map (λ c. c .bound) (map entryCell (entries s [] (st .head) (st .tail - st .head))))
+  low-of-search = ap Figures.low (search-is s [] st) ∙ low-is (record { best = pricedOf (st .best); live = map entryCell (entries s [] (st .head) (st .tail - st .head)); cuts = st .cuts })
+
+  pub low-none : st .tail ≤ st .head → pos (st .best .cost) ≡ Figures.low (searchOf s [] st)
+  low-none g = sym (low-of-search ∙ ap (λ (es : List Entry). leastBy ltZ (pos (st .best .cost)) (map (λ c. c .bound) (map entryCell es))) (no-entries s [] (st .head) (st .tail) g) ∙ least-nil (pos (st .best .cost)))
+
+  pub low-some : st .head < st .tail → (b : Bool) → ltZ (cellAt s (st .head) .bound) (pos (st .best .cost)) ≡ b → cond b (cellAt s (st .head) .bound) (pos (st .best .cost)) ≡ Figures.low (searchOf s [] st)
+  low-some g b e =
+      let split = entries-first s [] (st .head) (st .tail) g in
+      let sorted = cells-in-order (entryAt s [] (st .head) ∷ entries s [] (st .head + 1) (st .tail - (st .head + 1))) .1 (subst InOrder split (h .in-order)) in
+      sym (low-of-search ∙ ap (λ (es : List Entry). leastBy ltZ (pos (st .best .cost)) (map (λ c. c .bound) (map entryCell es))) split ∙ least-first (queryCell (cellAt s (st .head))) (map entryCell (entries s [] (st .head + 1) (st .tail - (st .head + 1)))) sorted (pos (st .best .cost)) ∙ ap (λ (q : Bool). cond q (cellAt s (st .head) .bound) (pos (st .best .cost))) e)
+
+  done-of : (es : List Entry) (d : Bool) → d ≡ leb (length es) 0 → d ≡ isDone (map entryCell es)
+  done-of [] d f = f ∙ holds (leb 0 0) (le→leb 0 0 (omega arith))
+  done-of (x ∷ es) d f = f ∙ fails (leb (suc (length es)) 0) (lt→nleb (suc (length es)) 0 (omega arith))
+
+  pub found-is : (d : Bool) (low : ℤ) → d ≡ leb (st .tail) (st .head) → low ≡ Figures.low (searchOf s [] st) → _≡_ {A = Found} (record { done = d; x = st .best .x; y = st .best .y; high = st .best .cost; low = low; cuts = st .cuts }) (foundOf (searchOf s [] st))
+  unfolding foundOf searchOf
+  found-is d low e f = λ i. record { done = done-is i; x = st .best .x; y = st .best .y; high = st .best .cost; low = f i; cuts = st .cuts }
+    where
+      none : leb (st .tail) (st .head) ≡ leb (st .tail - st .head) 0
+      none = go (test (leb (st .tail) (st .head)))
+        where
+          go : T (leb (st .tail) (st .head)) ⊎ T (not (leb (st .tail) (st .head))) → leb (st .tail) (st .head) ≡ leb (st .tail - st .head) 0
+          go (inl u) = let z : st .tail - st .head ≡ 0 = omega (arith, leb→le) in rw (holds (leb (st .tail) (st .head)) u, z)
+          go (inr u) = fails (leb (st .tail) (st .head)) u ∙ sym (fails (leb (st .tail - st .head) 0) (lt→nleb (st .tail - st .head) 0 (omega (arith, nleb→lt))))
+
+      done-is : d ≡ isDone (map entryCell (entries s [] (st .head) (st .tail - st .head)))
+      done-is = done-of (entries s [] (st .head) (st .tail - st .head)) d (e ∙ none ∙ ap (λ (n : ℕ). leb n 0) (sym (entries-length s [] (st .head) (st .tail - st .head))))
+
+  -- as the code has it, in words
+  pub low-high : st .tail ≤ st .head → back (pos (st .best .cost)) ≡ Figures.low (searchOf s [] st)
+  low-high g = fitting (pos (st .best .cost)) (omega (arith, h .cost-limit)) ∙ low-none g
+
+  module _ (c : Cell) (e : c ≡ cellAt s (st .head)) (f : mag (c .bound) < 2 ^ 63) (g : st .head < st .tail) where
+    tested : (b : Bool) → ltZ (back (c .bound)) (back (pos (st .best .cost))) ≡ b → cond b (c .bound) (pos (st .best .cost)) ≡ Figures.low (searchOf s [] st)
+    tested b t =
+        let u : ltZ (c .bound) (pos (st .best .cost)) ≡ b = rw (fitting (c .bound) f, fitting (pos (st .best .cost)) (omega (arith, h .cost-limit))) at t in
+        rw e (low-some g b (rw e at u))
+
+    pub low-taken : ltZ (back (c .bound)) (back (pos (st .best .cost))) ≡ true → back (c .bound) ≡ Figures.low (searchOf s [] st)
+    low-taken t = fitting (c .bound) f ∙ tested true t
+
+    pub low-left : ltZ (back (c .bound)) (back (pos (st .best .cost))) ≡ false → back (pos (st .best .cost)) ≡ Figures.low (searchOf s [] st)
+    low-left t = fitting (pos (st .best .cost)) (omega (arith, h .cost-limit)) ∙ tested false t
+
+  pub answer-is : (low : ℤ) → mag (st .best .x) < 2 ^ 63 → mag (st .best .y) < 2 ^ 63 → mag low < 2 ^ 63 → low ≡ Figures.low (searchOf s [] st) → _≡_ {A = Found} (record { done = leb (st .tail) (st .head); x = back (st .best .x); y = back (st .best .y); high = st .best .cost; low = back low; cuts = st .cuts }) (foundOf (searchOf s [] st))
+  answer-is low fx fy fl e = rw (fitting (st .best .x) fx, fitting (st .best .y) fy, fitting low fl) (found-is (leb (st .tail) (st .head)) low refl e)

@@ -1,0 +1,181 @@
+-- Places, cells and their figures as the steps of the search compute them in signed 64-bit and 32-bit words.
+-- Assumes nothing.
+use mathlib.Core.Path.{_≡_, refl, sym, _∙_}
+use mathlib.Core.Bool.{Bool, true, false, cond}
+use mathlib.Core.List.{List}
+use Prim.Native.Nat.{ℕ, _+_, _*_, _^_, _≤_, _<_, max}
+use native.Mathlib.Omega.{arith}
+use lib.IntN.{ℤ, pos, natAbs, _-ℤ_}
+use lib.Signed.{mag, nonNeg, _≤ℤ_}
+use lib.Dec.{T}
+use mir.Syntax.{w32, w64}
+use mir.Val.{SFits, Fits}
+use mir.ValLaws.{toZ-ofZ}
+use Rattle.numbers.specs.Integer.{dist, halfUp}
+use Rattle.numbers.proofs.Integer.{order, sub-nat, dist-nat}
+use Rattle.numbers.proofs.Distance.{dist-most}
+use Rattle.numbers.proofs.Words.{word-fits, natural-fits, natural-is, natural-cast}
+use Rattle.query.specs.Place.{Place, Rect}
+use Rattle.query.specs.Deck.{plain}
+use Rattle.query.specs.Bound.{span}
+use Rattle.query.specs.Range.{RectInRange, costLimit, loadLimit}
+use Rattle.query.specs.Order.{precedes, better}
+use Rattle.pricing.specs.Sites.{Site, costOf, loadOf}
+use Rattle.pricing.specs.Columns.{Near180000, EdgesInRange, BoundInRange, Figure}
+use Rattle.pricing.specs.LineRecord.{Edges}
+use Rattle.pricing.specs.declared.lines.Cut.{Cut}
+use Rattle.pricing.proofs.WordLaws.{narrow-fits, narrowed}
+use Rattle.pricing.proofs.TravelLaws.{narrow, narrow-place}
+use Rattle.search.specs.declared.space.Cell.{Cell}
+use Rattle.search.specs.declared.space.Costs.{Costs}
+use Rattle.search.specs.declared.run.Spot.{Spot}
+use Rattle.search.specs.Space.{keyOf}
+use Rattle.search.specs.Run.{pricedOf, spotOf, rectIn, cornerCosts, cellFor, boundOf, Near20000, Ranged, spotAt, CostsInRange, improved, bestCorner, lowCorner, highCorner, CutInRange}
+use Rattle.search.proofs.Keys.{back, fitting, KeyFits, key-back}
+
+-- ---- coordinates as words
+pub near-back : (z : ℤ) → natAbs z ≤ 20000 → back z ≡ z
+near-back z h = toZ-ofZ w64 z (word-fits w64 z (omega arith))
+
+pub near-narrow : (z : ℤ) → natAbs z ≤ 20000 → SFits w32 (back z)
+near-narrow z h = narrow-fits z (omega arith)
+
+pub rect-back : (r : Rect) → RectInRange r → record { xlo = back (r .xlo); ylo = back (r .ylo); xhi = back (r .xhi); yhi = back (r .yhi) } ≡ r
+rect-back r h = λ i. record { xlo = near-back (r .xlo) (h .low-corner .x-range) i; ylo = near-back (r .ylo) (h .low-corner .y-range) i; xhi = near-back (r .xhi) (h .high-corner .x-range) i; yhi = near-back (r .yhi) (h .high-corner .y-range) i }
+
+pub rect-narrow : (r : Rect) → RectInRange r → record { xlo = narrow (r .xlo); ylo = narrow (r .ylo); xhi = narrow (r .xhi); yhi = narrow (r .yhi) } ≡ r
+rect-narrow r h = λ i. record { xlo = narrowed (r .xlo) (omega (arith, h .low-corner .x-range)) i; ylo = narrowed (r .ylo) (omega (arith, h .low-corner .y-range)) i; xhi = narrowed (r .xhi) (omega (arith, h .high-corner .x-range)) i; yhi = narrowed (r .yhi) (omega (arith, h .high-corner .y-range)) i }
+
+pub edges-x : (r : Rect) → RectInRange r → Edges (back (r .xlo)) (back (r .xhi))
+edges-x r h = rw (near-back (r .xlo) (h .low-corner .x-range), near-back (r .xhi) (h .high-corner .x-range)) (record { lo-range = h .low-corner .x-range; hi-range = h .high-corner .x-range })
+
+pub edges-y : (r : Rect) → RectInRange r → Edges (back (r .ylo)) (back (r .yhi))
+edges-y r h = rw (near-back (r .ylo) (h .low-corner .y-range), near-back (r .yhi) (h .high-corner .y-range)) (record { lo-range = h .low-corner .y-range; hi-range = h .high-corner .y-range })
+
+-- ---- a priced place
+pub place-narrow : (x y : ℤ) → Near20000 x y → Near180000 (narrow x) (narrow y)
+place-narrow x y h = narrow-place x y (omega arith) (omega arith)
+
+pub priced-is : (sites : List Site) (x y : ℤ) (r : ℕ) → Near20000 x y → r ≡ costOf sites (record { x = narrow x; y = narrow y }) → _≡_ {A = Spot} (record { x = back x; y = back y; cost = r }) (spotOf sites (record { x = x; y = y }))
+priced-is sites x y r h e = rw (e, narrowed x (omega arith), narrowed y (omega arith), near-back x (h .x-range), near-back y (h .y-range))
+
+pub spot-back : (sites : List Site) (x y : ℤ) (r : Spot) → natAbs x ≤ 20000 → natAbs y ≤ 20000 → r ≡ spotOf sites (record { x = back x; y = back y }) → r ≡ spotOf sites (record { x = x; y = y })
+spot-back sites x y r h k e = rw (near-back x h, near-back y k) at e
+
+pub near-places : (x y : ℤ) → natAbs x ≤ 20000 → natAbs y ≤ 20000 → Near20000 (back x) (back y)
+near-places x y h k = rw (near-back x h, near-back y k) (record { x-range = h; y-range = k })
+
+-- ---- the better of two
+better-is : (p best : Spot) → better (pricedOf p) (pricedOf best) ≡ precedes (keyOf (pos (p .cost)) (p .x) (p .y)) (keyOf (pos (best .cost)) (best .x) (best .y))
+unfolding better
+better-is p best = refl
+
+pub spot-better : (p best : Spot) (r : Bool) → KeyFits (pos (p .cost)) (p .x) (p .y) → KeyFits (pos (best .cost)) (best .x) (best .y) → r ≡ precedes (keyOf (back (pos (p .cost))) (back (p .x)) (back (p .y))) (keyOf (back (pos (best .cost))) (back (best .x)) (back (best .y))) → r ≡ better (pricedOf p) (pricedOf best)
+spot-better p best r g h e = rw (better-is p best) (rw (key-back (pos (p .cost)) (p .x) (p .y) g, key-back (pos (best .cost)) (best .x) (best .y) h) at e)
+
+pub improve-taken : (best p : Spot) (r : Bool) → r ≡ better (pricedOf p) (pricedOf best) → r ≡ true → p ≡ improved best p
+unfolding improved
+improve-taken best p r e t = let f : better (pricedOf p) (pricedOf best) ≡ true = sym e ∙ t in rw f
+
+pub improve-left : (best p : Spot) (r : Bool) → r ≡ better (pricedOf p) (pricedOf best) → r ≡ false → best ≡ improved best p
+unfolding improved
+improve-left best p r e t = let f : better (pricedOf p) (pricedOf best) ≡ false = sym e ∙ t in rw f
+
+pub improved-limit : (best p : Spot) (k : ℕ) → best .cost ≤ k → p .cost ≤ k → improved best p .cost ≤ k
+unfolding improved
+improved-limit best p k h g = go (better (pricedOf p) (pricedOf best))
+  where
+    go : (b : Bool) → cond b p best .cost ≤ k
+    go true = g
+    go false = h
+
+-- ---- a side, and both
+module _ (lo hi : ℤ) (h : Edges lo hi) (k : lo ≤ℤ hi) where
+  width-is : back hi -ℤ back lo ≡ pos (dist lo hi)
+  width-is = rw (near-back hi (h .hi-range), near-back lo (h .lo-range)) (omega (arith, order, sub-nat hi lo, dist-nat lo hi))
+
+  width-few : dist lo hi ≤ 40000
+  width-few = omega (arith, dist-most 20000 lo hi (h .lo-range) (h .hi-range))
+
+  pub width-fits : SFits w64 (back hi -ℤ back lo)
+  width-fits = natural-fits w64 (back hi -ℤ back lo) (dist lo hi) width-is (omega (arith, width-few))
+
+  pub width-cast : T (nonNeg (back (back hi -ℤ back lo))) × Fits w64 (natAbs (back (back hi -ℤ back lo)))
+  width-cast = natural-cast w64 (back hi -ℤ back lo) (dist lo hi) width-is (omega (arith, width-few))
+
+  pub width-figure : Figure (dist lo hi) 40000 (natAbs (back (back hi -ℤ back lo)))
+  width-figure = let e = natural-is w64 (back hi -ℤ back lo) (dist lo hi) width-is (omega (arith, width-few)) in record { is = e; within = omega (arith, e, width-few) }
+
+-- what `width` is asked of the sides of a rectangle
+pub side-x : (r : Rect) → Ranged r → Edges (back (r .xlo)) (back (r .xhi)) × (back (r .xlo) ≤ℤ back (r .xhi))
+side-x r h = rw (near-back (r .xlo) (h .range .low-corner .x-range), near-back (r .xhi) (h .range .high-corner .x-range)) (record { lo-range = h .range .low-corner .x-range; hi-range = h .range .high-corner .x-range }, h .full .across)
+
+pub side-y : (r : Rect) → Ranged r → Edges (back (r .ylo)) (back (r .yhi)) × (back (r .ylo) ≤ℤ back (r .yhi))
+side-y r h = rw (near-back (r .ylo) (h .range .low-corner .y-range), near-back (r .yhi) (h .range .high-corner .y-range)) (record { lo-range = h .range .low-corner .y-range; hi-range = h .range .high-corner .y-range }, h .full .deep)
+
+pub span-is : (r : Rect) (a b : ℕ) → Ranged r → Figure (dist (back (r .xlo)) (back (r .xhi))) 40000 a → Figure (dist (back (r .ylo)) (back (r .yhi))) 40000 b → Figure (span plain r) 80000 (a + b)
+unfolding span
+span-is r a b h f g =
+    let p : a ≡ dist (r .xlo) (r .xhi) = rw (near-back (r .xlo) (h .range .low-corner .x-range), near-back (r .xhi) (h .range .high-corner .x-range)) at (f .is) in
+    let q : b ≡ dist (r .ylo) (r .yhi) = rw (near-back (r .ylo) (h .range .low-corner .y-range), near-back (r .yhi) (h .range .high-corner .y-range)) at (g .is) in
+    record { is = omega arith; within = omega arith }
+
+-- ---- the load and the bound of a cell
+pub edges-narrow : (r : Rect) → Ranged r → EdgesInRange (narrow (r .xlo)) (narrow (r .ylo)) (narrow (r .xhi)) (narrow (r .yhi))
+edges-narrow r h =
+    rw (narrowed (r .xlo) (omega (arith, h .range .low-corner .x-range)), narrowed (r .ylo) (omega (arith, h .range .low-corner .y-range)), narrowed (r .xhi) (omega (arith, h .range .high-corner .x-range)), narrowed (r .yhi) (omega (arith, h .range .high-corner .y-range)))
+    (record { low = record { x-range = omega (arith, h .range .low-corner .x-range); y-range = omega (arith, h .range .low-corner .y-range) }; high = record { x-range = omega (arith, h .range .high-corner .x-range); y-range = omega (arith, h .range .high-corner .y-range) }; across = h .full .across; deep = h .full .deep })
+
+pub load-narrow : (sites : List Site) (r : Rect) (l : ℕ) → RectInRange r → Figure (loadOf sites (record { xlo = narrow (r .xlo); ylo = narrow (r .ylo); xhi = narrow (r .xhi); yhi = narrow (r .yhi) })) loadLimit l → Figure (loadOf sites r) loadLimit l
+load-narrow sites r l h f = rw (rect-narrow r h) at f
+
+module _ (sites : List Site) (limit : (p : Place) → costOf sites p ≤ costLimit) (r : Rect) (k : Costs) (costs : k ≡ cornerCosts sites r) where
+  pub bound-range : (s l : ℕ) → s ≤ 80000 → l ≤ loadLimit → BoundInRange (k .c00) (k .c01) (k .c10) (k .c11) s l
+  bound-range s l h g = rw costs (record { corner-00 = limit (record { x = r .xlo; y = r .ylo }); corner-01 = limit (record { x = r .xlo; y = r .yhi }); corner-10 = limit (record { x = r .xhi; y = r .ylo }); corner-11 = limit (record { x = r .xhi; y = r .yhi }); span-limit = omega arith; load-limit = g })
+
+  pub bound-is : (s l : ℕ) (b : ℤ) → s ≡ span plain r → l ≡ loadOf sites r → b ≡ halfUp (pos (max (k .c00 + k .c11) (k .c01 + k .c10)) -ℤ pos (s * l)) → b ≡ boundOf sites r
+  unfolding boundOf
+  bound-is s l b e f g = rw (costs, e, f) at g
+
+pub cell-back : (sites : List Site) (c : Cell) (b : ℤ) → RectInRange (rectIn c) → mag b < 2 ^ 63 → b ≡ boundOf sites (rectIn c) → _≡_ {A = Cell} (record { xlo = back (c .xlo); ylo = back (c .ylo); xhi = back (c .xhi); yhi = back (c .yhi); bound = back b }) (cellFor sites (rectIn c))
+cell-back sites c b h f e = λ i. record { xlo = near-back (c .xlo) (h .low-corner .x-range) i; ylo = near-back (c .ylo) (h .low-corner .y-range) i; xhi = near-back (c .xhi) (h .high-corner .x-range) i; yhi = near-back (c .yhi) (h .high-corner .y-range) i; bound = (fitting b f ∙ e) i }
+
+-- ---- the new corners
+module _ (sites : List Site) (c : Cell) (cut : Cut) (r : Spot) (h : CutInRange c cut) where
+  pub low-across : cut .across ≡ true → r ≡ spotOf sites (record { x = back (cut .at); y = back (c .ylo) }) → r ≡ spotOf sites (lowCorner (cut .across) (cut .at) (rectIn c))
+  low-across t e = rw t (spot-back sites (cut .at) (c .ylo) r (h .at-range) (h .ranged .low-corner .y-range) e)
+
+  pub low-deep : cut .across ≡ false → r ≡ spotOf sites (record { x = back (c .xlo); y = back (cut .at) }) → r ≡ spotOf sites (lowCorner (cut .across) (cut .at) (rectIn c))
+  low-deep t e = rw t (spot-back sites (c .xlo) (cut .at) r (h .ranged .low-corner .x-range) (h .at-range) e)
+
+  pub high-across : cut .across ≡ true → r ≡ spotOf sites (record { x = back (cut .at); y = back (c .yhi) }) → r ≡ spotOf sites (highCorner (cut .across) (cut .at) (rectIn c))
+  high-across t e = rw t (spot-back sites (cut .at) (c .yhi) r (h .at-range) (h .ranged .high-corner .y-range) e)
+
+  pub high-deep : cut .across ≡ false → r ≡ spotOf sites (record { x = back (c .xhi); y = back (cut .at) }) → r ≡ spotOf sites (highCorner (cut .across) (cut .at) (rectIn c))
+  high-deep t e = rw t (spot-back sites (c .xhi) (cut .at) r (h .ranged .high-corner .x-range) (h .at-range) e)
+
+-- ---- the corners of a cell
+pub cost-of : (r : Spot) (x y : ℤ) {cost k : ℕ} → r ≡ spotAt x y cost → cost ≤ k → r .cost ≤ k
+cost-of r x y e h = rw e h
+
+pub corner-costs : (sites : List Site) (r : Rect) → RectInRange r → (a b c d : Spot) → a ≡ spotOf sites (record { x = back (r .xlo); y = back (r .ylo) }) → b ≡ spotOf sites (record { x = back (r .xlo); y = back (r .yhi) }) → c ≡ spotOf sites (record { x = back (r .xhi); y = back (r .ylo) }) → d ≡ spotOf sites (record { x = back (r .xhi); y = back (r .yhi) }) → _≡_ {A = Costs} (record { c00 = a .cost; c01 = b .cost; c10 = c .cost; c11 = d .cost }) (cornerCosts sites r)
+corner-costs sites r h a b c d ea eb ec ed = rw (ea, eb, ec, ed, near-back (r .xlo) (h .low-corner .x-range), near-back (r .ylo) (h .low-corner .y-range), near-back (r .xhi) (h .high-corner .x-range), near-back (r .yhi) (h .high-corner .y-range))
+
+pub best-corner-is : (c : Cell) (k : Costs) → mag (c .xlo) < 2 ^ 63 → mag (c .ylo) < 2 ^ 63 → mag (c .xhi) < 2 ^ 63 → mag (c .yhi) < 2 ^ 63 → (p₀₀ p₀₁ p₁₀ p₁₁ one two three : Spot) → p₀₀ ≡ spotAt (back (c .xlo)) (back (c .ylo)) (k .c00) → p₀₁ ≡ spotAt (back (c .xlo)) (back (c .yhi)) (k .c01) → p₁₀ ≡ spotAt (back (c .xhi)) (back (c .ylo)) (k .c10) → p₁₁ ≡ spotAt (back (c .xhi)) (back (c .yhi)) (k .c11) → one ≡ improved p₀₀ p₀₁ → two ≡ improved one p₁₀ → three ≡ improved two p₁₁ → three ≡ bestCorner (rectIn c) k
+unfolding bestCorner
+best-corner-is c k f₀ f₁ f₂ f₃ p₀₀ p₀₁ p₁₀ p₁₁ one two three e₀₀ e₀₁ e₁₀ e₁₁ a b d = rw (d, b, a, e₀₀, e₀₁, e₁₀, e₁₁, fitting (c .xlo) f₀, fitting (c .ylo) f₁, fitting (c .xhi) f₂, fitting (c .yhi) f₃)
+
+-- ---- what a start asks of the area's cell
+pub costs-limit : (sites : List Site) → ((p : Place) → costOf sites p ≤ costLimit) → (r : Rect) (k : Costs) → k ≡ cornerCosts sites r → CostsInRange k
+costs-limit sites limit r k e = rw e (record { corner-00 = limit (record { x = r .xlo; y = r .ylo }); corner-01 = limit (record { x = r .xlo; y = r .yhi }); corner-10 = limit (record { x = r .xhi; y = r .ylo }); corner-11 = limit (record { x = r .xhi; y = r .yhi }) })
+
+pub best-limit : (r : Rect) (k : Costs) (best : Spot) → CostsInRange k → best ≡ bestCorner r k → best .cost ≤ costLimit
+unfolding bestCorner
+best-limit r k best h e =
+    let p₀₀ = spotAt (r .xlo) (r .ylo) (k .c00) in
+    let one = improved p₀₀ (spotAt (r .xlo) (r .yhi) (k .c01)) in
+    let two = improved one (spotAt (r .xhi) (r .ylo) (k .c10)) in
+    rw e (improved-limit two (spotAt (r .xhi) (r .yhi) (k .c11)) costLimit (improved-limit one (spotAt (r .xhi) (r .ylo) (k .c10)) costLimit (improved-limit p₀₀ (spotAt (r .xlo) (r .yhi) (k .c01)) costLimit (h .corner-00) (h .corner-01)) (h .corner-10)) (h .corner-11))
+
+pub cell-range : (sites : List Site) (r : Rect) (c : Cell) → c ≡ cellFor sites r → RectInRange r → RectInRange (rectIn c)
+cell-range sites r c e h = rw e h

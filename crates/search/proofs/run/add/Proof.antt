@@ -1,0 +1,24 @@
+-- `search::run::add` meets its contract: an entry that is live is inserted at its place, and one that is not changes nothing.
+-- Assumes nothing.
+use native.Mathlib.Omega.{arith}
+use Rattle.search.proofs.RoundLaws.{added-none, added-one}
+use Rattle.search.proofs.run.add.Statement.{statement}
+use Rattle.search.proofs.run.add.Tie as tie
+
+is-live-requires : tie.Need-is-live-requires
+is-live-requires c κs = (c .pre .0, c .pre .1 .ranged, c .pre .1 .cost-limit)
+
+insert-requires : tie.Need-insert-requires
+insert-requires c κs = omega arith
+
+sub-result : tie.Need-sub-result
+sub-result c = omega arith
+
+returns : tie.Need-returns
+returns c = let s = c .before .before .before .before .before in added-one _ _ _ (s .args .head) (s .args .tail) _ _ _ _ _ (c .before .before .before .before .is-live .ensures) (c .before .before .before .if1 .taken) (s .pre .1 .room) (s .pre .1 .in-turn) (c .insert .ensures)
+
+returns-2 : tie.Need-returns-2
+returns-2 c = let s = c .before .before in added-none _ _ _ (s .args .head) (s .args .tail) _ _ _ (c .before .is-live .ensures) (c .if1 .left)
+
+pub add-spec : {M : Type 1} → statement M
+add-spec = tie.close (tie.spec is-live-requires insert-requires sub-result returns returns-2)

@@ -1,0 +1,26 @@
+-- `search::run::corners` meets its contract: each corner is in range, and is priced.
+-- Assumes nothing.
+use Rattle.search.specs.Run.{rectIn}
+use Rattle.search.proofs.StepLaws.{near-places, corner-costs}
+use Rattle.search.proofs.run.corners.Statement.{statement}
+use Rattle.search.proofs.run.corners.Tie as tie
+
+priced-requires : tie.Need-priced-requires
+priced-requires c κs = let s = c .before .before in (s .pre .0, near-places (s .args .c .xlo) (s .args .c .ylo) (s .pre .1 .low-corner .x-range) (s .pre .1 .low-corner .y-range))
+
+priced-requires-2 : tie.Need-priced-requires-2
+priced-requires-2 c κs = let s = c .before .before .before .before .before in (s .pre .0, near-places (s .args .c .xlo) (s .args .c .yhi) (s .pre .1 .low-corner .x-range) (s .pre .1 .high-corner .y-range))
+
+priced-requires-3 : tie.Need-priced-requires-3
+priced-requires-3 c κs = let s = c .before .before .before .before .before .before .before .before in (s .pre .0, near-places (s .args .c .xhi) (s .args .c .ylo) (s .pre .1 .high-corner .x-range) (s .pre .1 .low-corner .y-range))
+
+priced-requires-4 : tie.Need-priced-requires-4
+priced-requires-4 c κs = let s = c .before .before .before .before .before .before .before .before .before .before .before in (s .pre .0, near-places (s .args .c .xhi) (s .args .c .yhi) (s .pre .1 .high-corner .x-range) (s .pre .1 .high-corner .y-range))
+
+returns : tie.Need-returns
+returns c = let s = c .before .before .before .before .before .before .before .before .before .before .before .before in corner-costs _ (rectIn (s .args .c)) (s .pre .1) _ _ _ _ (c .before .before .before .before .before .before .before .before .before .priced .ensures) (c .before .before .before .before .before .before .priced2 .ensures) (c .before .before .before .priced3 .ensures) (c .priced4 .ensures)
+
+pub corners-spec : {M : Type 1} → statement M
+corners-spec =
+    tie.close
+    (tie.spec priced-requires priced-requires-2 priced-requires-3 priced-requires-4 returns)

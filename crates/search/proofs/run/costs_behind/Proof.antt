@@ -1,0 +1,13 @@
+-- `search::run::costs_behind` meets its contract: by the axis of the cut.
+-- Assumes nothing.
+use Rattle.search.proofs.run.costs_behind.Statement.{statement}
+use Rattle.search.proofs.run.costs_behind.Tie as tie
+
+returns : tie.Need-returns
+returns c = rw (c .if1 .taken)
+
+returns-2 : tie.Need-returns-2
+returns-2 c = rw (c .if1 .left)
+
+pub costs-behind-spec : {M : Type 1} → statement M
+costs-behind-spec = tie.close (tie.spec returns returns-2)

@@ -1,0 +1,20 @@
+-- `search::run::priced` meets its contract: the coordinates are in range, so that `cost` sees them as they are.
+-- Assumes nothing.
+use Rattle.search.proofs.StepLaws.{near-narrow, place-narrow, priced-is}
+use Rattle.search.proofs.run.priced.Statement.{statement}
+use Rattle.search.proofs.run.priced.Tie as tie
+
+cast-cost : tie.Need-cast-cost
+cast-cost c = near-narrow (c .args .x) (c .pre .1 .x-range)
+
+cast-cost-2 : tie.Need-cast-cost-2
+cast-cost-2 c = near-narrow (c .args .y) (c .pre .1 .y-range)
+
+cost-requires : tie.Need-cost-requires
+cost-requires c κs = (c .pre .0 .count, c .pre .0 .range, place-narrow _ _ (c .pre .1))
+
+returns : tie.Need-returns
+returns c = priced-is _ (c .before .args .x) (c .before .args .y) _ (c .before .pre .1) (c .cost .ensures .is)
+
+pub priced-spec : {M : Type 1} → statement M
+priced-spec = tie.close (tie.spec cast-cost cast-cost-2 cost-requires returns)

@@ -1,0 +1,57 @@
+-- `search::run::search` meets its contract: the code's problem is the deck's, whose runs stay in range, so that the answer and the cell space are those of document 01.
+-- Assumes nothing.
+use native.Mathlib.Omega.{arith}
+use borrow.Author.Needs.{needs}
+use Rattle.search.proofs.DeckRun.{columns-range, sites-count, deck-sited, area-ranged, reaching, deck-lined, coded-steady, searched}
+use Rattle.search.proofs.RunLaws.{cell-count, answerable}
+use Rattle.search.proofs.run.search.Statement.{statement}
+use Rattle.search.proofs.run.search.Tie as tie
+
+area-of-requires : tie.Need-area-of-requires
+area-of-requires c κs = search needs
+
+flags-of-requires : tie.Need-flags-of-requires
+flags-of-requires c κs = let s = c .before in (columns-range _ _ _ _ (s .pre), sites-count _ _ _ _ (s .pre), area-ranged _ _ _ _ (s .pre) (c .area-of .result) (c .area-of .ensures))
+
+vertical-requires : tie.Need-vertical-requires
+vertical-requires c κs = reaching _ _ _ _ (c .before .before .pre) (c .before .area-of .result) (c .before .area-of .ensures) _ (c .flags-of .ensures)
+
+horizontal-requires : tie.Need-horizontal-requires
+horizontal-requires c κs = reaching _ _ _ _ (c .before .before .before .pre) (c .before .before .area-of .result) (c .before .before .area-of .ensures) _ (c .before .flags-of .ensures)
+
+run-of-requires : tie.Need-run-of-requires
+run-of-requires c κs =
+    let s = c .before .before .before .before .before .before .before .before .before .before .before .before .before .before .before in
+    (deck-sited _ _ _ _ (s .pre), deck-lined _ _ _ _ (s .pre) (c .before .before .before .before .before .before .before .before .before .before .before .before .before .before .area-of .result) (c .before .before .before .before .before .before .before .before .before .before .before .before .before .before .area-of .ensures) _ _ (c .before .before .before .before .before .before .before .before .before .before .before .before .vertical .ensures) (c .before .before .before .before .before .before .before .before .before .before .before .horizontal .ensures), area-ranged _ _ _ _ (s .pre) (c .before .before .before .before .before .before .before .before .before .before .before .before .before .before .area-of .result) (c .before .before .before .before .before .before .before .before .before .before .before .before .before .before .area-of .ensures), s .pre .rounds-limit, coded-steady _ _ _ _ (s .pre) (c .before .before .before .before .before .before .before .before .before .before .before .before .before .before .area-of .result) (c .before .before .before .before .before .before .before .before .before .before .before .before .before .before .area-of .ensures) _ _ (c .before .before .before .before .before .before .before .before .before .before .before .before .vertical .ensures) (c .before .before .before .before .before .before .before .before .before .before .before .horizontal .ensures))
+
+write-out-requires : tie.Need-write-out-requires
+write-out-requires c κs =
+    let g = c .before .before .run-of .ensures in
+    (g .in-turn, (g .ends, omega (arith, c .before .before .before .before .before .before .before .before .before .before .before .before .before .before .before .before .before .before .pre .room, cell-count _ _ _ _ _ _ _ g)))
+
+answer-requires : tie.Need-answer-requires
+answer-requires c κs =
+    let s = c .before .before .before .before .before .before .before .before .before .before .before .before .before .before .before .before .before .before .before .before .before in
+    answerable _ _ _ _ _ _ _ (c .before .before .before .before .before .run-of .ensures) (coded-steady _ _ _ _ (s .pre) (c .before .before .before .before .before .before .before .before .before .before .before .before .before .before .before .before .before .before .before .before .area-of .result) (c .before .before .before .before .before .before .before .before .before .before .before .before .before .before .before .before .before .before .before .before .area-of .ensures) _ _ (c .before .before .before .before .before .before .before .before .before .before .before .before .before .before .before .before .before .before .vertical .ensures) (c .before .before .before .before .before .before .before .before .before .before .before .before .before .before .before .before .before .horizontal .ensures))
+
+same-length : tie.Need-same-length
+same-length c = search needs
+
+returns : tie.Need-returns
+returns c =
+    let s = c .before .before .before .before .before .before .before .before .before .before .before .before .before .before .before .before .before .before .before .before .before .before in
+    searched _ _ _ _ (s .pre) (c .before .before .before .before .before .before .before .before .before .before .before .before .before .before .before .before .before .before .before .before .before .area-of .result) (c .before .before .before .before .before .before .before .before .before .before .before .before .before .before .before .before .before .before .before .before .before .area-of .ensures) _ _ (c .before .before .before .before .before .before .before .before .before .before .before .before .before .before .before .before .before .before .before .vertical .ensures) (c .before .before .before .before .before .before .before .before .before .before .before .before .before .before .before .before .before .before .horizontal .ensures) _ _ _ (c .before .before .before .before .before .before .run-of .ensures) _ _ _ (c .answer .ensures) (c .before .before .before .write-out .ensures)
+
+pub search-spec : {M : Type 1} → statement M
+search-spec =
+    tie.close
+    (tie.spec
+    area-of-requires
+    flags-of-requires
+    vertical-requires
+    horizontal-requires
+    run-of-requires
+    write-out-requires
+    answer-requires
+    same-length
+    returns)

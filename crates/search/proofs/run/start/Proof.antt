@@ -1,0 +1,29 @@
+-- `search::run::start` meets its contract: the area's entry goes into the last slot if it is live.
+-- Assumes nothing.
+use native.Mathlib.Omega.{arith}
+use Rattle.search.proofs.RoundLaws.{started}
+use Rattle.search.proofs.StepLaws.{costs-limit, cell-range, best-limit}
+use Rattle.search.proofs.run.start.Statement.{statement}
+use Rattle.search.proofs.run.start.Tie as tie
+
+corners-requires : tie.Need-corners-requires
+corners-requires c κs = (c .pre .0, c .pre .2 .range)
+
+best-corner-requires : tie.Need-best-corner-requires
+best-corner-requires c κs = costs-limit _ (c .before .pre .0 .cost-limit) _ _ (c .corners .ensures)
+
+bounded-requires : tie.Need-bounded-requires
+bounded-requires c κs = let s = c .before .before in (s .pre .0, s .pre .2, c .before .corners .ensures)
+
+add-requires : tie.Need-add-requires
+add-requires c κs =
+    let s = c .before .before .before .before .before in
+    (s .pre .1, record { room = omega arith; in-turn = omega arith; ends = omega arith; ranged = cell-range _ _ _ (c .before .before .bounded .ensures) (s .pre .2 .range); cost-limit = best-limit _ _ _ (costs-limit _ (s .pre .0 .cost-limit) _ _ (c .before .before .before .before .corners .ensures)) (c .before .before .before .best-corner .ensures) })
+
+returns : tie.Need-returns
+returns c = started _ _ _ _ (c .before .before .before .before .before .before .args .area) _ _ _ _ _ _ _ (c .before .before .before .before .before .corners .ensures) (c .before .before .before .before .best-corner .ensures) (c .before .before .before .bounded .ensures) (c .add .ensures)
+
+pub start-spec : {M : Type 1} → statement M
+start-spec =
+    tie.close
+    (tie.spec corners-requires best-corner-requires bounded-requires add-requires returns)

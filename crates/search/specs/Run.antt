@@ -1,0 +1,252 @@
+-- A search as the code runs it: its state, the search of document 01 that it holds, and what its steps do.
+-- Assumes nothing.
+use Prim.Native.Nat.{ℕ, _+_, _*_, _-_, _≤_, _<_, max}
+use mathlib.Core.Path.{_≡_}
+use mathlib.Core.Bool.{Bool, true, false, cond}
+use mathlib.Core.List.{List, [], _∷_, map, List·Memᴰ}
+use lib.Dec.{T}
+use lib.IntN.{ℤ, pos, natAbs, _-ℤ_}
+use lib.ListN.{length}
+use Rattle.numbers.specs.Integer.{halfUp}
+use Rattle.numbers.specs.Lists.{insertBy}
+use Rattle.query.specs.Place.{Place, Rect, NonEmpty}
+use Rattle.query.specs.Deck.{plain}
+use Rattle.query.specs.Bound.{span}
+use Rattle.query.specs.Problem.{Problem, problem}
+use Rattle.query.specs.Cut.{canCut}
+use Rattle.query.specs.Order as Query
+use Rattle.query.specs.Order.{Priced, better}
+use Rattle.query.specs.Search.{Search, isLive, round, run}
+use Rattle.query.specs.Figures as Figures
+use Rattle.query.specs.Space.{space}
+use Rattle.query.specs.Range.{RectInRange, InRange, costLimit}
+use Rattle.job.specs.declared.Deck.{Deck}
+use Rattle.pricing.specs.DeckOf.{deckOf}
+use Rattle.pricing.specs.Sites.{Site, sitesOf, costOf, loadOf, flagsOf}
+use Rattle.pricing.specs.Record.{sitesRecord}
+use Rattle.pricing.specs.Columns.{siteRows, ColumnsInRange}
+use Rattle.pricing.specs.LineRecord as Lines
+use Rattle.pricing.specs.LineRecord.{onLines}
+use Rattle.pricing.specs.declared.Sites.{Sites}
+use Rattle.pricing.specs.declared.lines.Cut.{Cut}
+use Rattle.search.specs.declared.space.Cell.{Cell}
+use Rattle.search.specs.declared.space.Costs.{Costs}
+use Rattle.search.specs.declared.run.Spot.{Spot}
+use Rattle.search.specs.declared.run.Halves.{Halves}
+use Rattle.search.specs.declared.run.State.{State}
+use Rattle.search.specs.declared.run.Found.{Found}
+use Rattle.search.specs.Space.{Entry, queryCell, entryCell, cellAt, entries, entryBefore}
+use Rattle.search.specs.Steps.{InOrder}
+
+-- ---- the problem of document 01 from sites and lines
+-- the bound of a cell
+unfoldable pub boundOf : List Site → Rect → ℤ
+unfolding costOf loadOf span halfUp
+boundOf sites r = halfUp (pos (max (costOf sites (record { x = r .xlo; y = r .ylo }) + costOf sites (record { x = r .xhi; y = r .yhi })) (costOf sites (record { x = r .xlo; y = r .yhi }) + costOf sites (record { x = r .xhi; y = r .ylo }))) -ℤ pos (span plain r * loadOf sites r))
+
+-- the problem of some sites, lines and an area
+unfoldable pub siteProblem : List Site → List ℤ → List ℤ → Rect → Problem
+unfolding costOf boundOf
+siteProblem sites vertical horizontal area = record { area = area; vertical = vertical; horizontal = horizontal; price = costOf sites; bound = boundOf sites }
+
+-- columns of sites in range
+pub record Sited (xs ys : List ℤ) (vs ns : List ℕ) (n : ℕ) : Type 0 where
+  pub count : n ≤ 512
+  pub range : ColumnsInRange xs ys vs ns
+  pub cost-limit : (p : Place) → costOf (siteRows xs ys vs ns n) p ≤ costLimit
+
+-- arrays of lines in order
+pub record Lined (vertical : List ℤ) (nv : ℕ) (horizontal : List ℤ) (nh : ℕ) : Type 0 where
+  pub across : Lines.InOrder vertical nv
+  pub deep : Lines.InOrder horizontal nh
+
+-- ---- places and cells as the code holds them
+abbrev pub pricedOf : Spot → Priced
+pricedOf p = record { at = record { x = p .x; y = p .y }; cost = p .cost }
+
+abbrev pub spotOf : List Site → Place → Spot
+spotOf sites p = record { x = p .x; y = p .y; cost = costOf sites p }
+
+abbrev pub rectIn : Cell → Rect
+rectIn c = queryCell c .rect
+
+-- the costs of the corners of a rectangle, and its cell
+abbrev pub cornerCosts : List Site → Rect → Costs
+cornerCosts sites r = record { c00 = costOf sites (record { x = r .xlo; y = r .ylo }); c01 = costOf sites (record { x = r .xlo; y = r .yhi }); c10 = costOf sites (record { x = r .xhi; y = r .ylo }); c11 = costOf sites (record { x = r .xhi; y = r .yhi }) }
+
+abbrev pub cellFor : List Site → Rect → Cell
+cellFor sites r = record { xlo = r .xlo; ylo = r .ylo; xhi = r .xhi; yhi = r .yhi; bound = boundOf sites r }
+
+-- numbers and rectangles in range
+pub record Near20000 (x y : ℤ) : Type 0 where
+  pub x-range : natAbs x ≤ 20000
+  pub y-range : natAbs y ≤ 20000
+
+pub record Ranged (r : Rect) : Type 0 where
+  pub range : RectInRange r
+  pub full : NonEmpty r
+
+-- the better of two
+unfoldable pub improved : Spot → Spot → Spot
+unfolding better
+improved best p = cond (better (pricedOf p) (pricedOf best)) p best
+
+-- a place with a cost
+abbrev pub spotAt : ℤ → ℤ → ℕ → Spot
+spotAt x y cost = record { x = x; y = y; cost = cost }
+
+pub record CostsInRange (k : Costs) : Type 0 where
+  pub corner-00 : k .c00 ≤ costLimit
+  pub corner-01 : k .c01 ≤ costLimit
+  pub corner-10 : k .c10 ≤ costLimit
+  pub corner-11 : k .c11 ≤ costLimit
+
+-- the best of a rectangle's corners, of which the costs are k
+unfoldable pub bestCorner : Rect → Costs → Spot
+unfolding improved
+bestCorner r k = improved (improved (improved (spotAt (r .xlo) (r .ylo) (k .c00)) (spotAt (r .xlo) (r .yhi) (k .c01))) (spotAt (r .xhi) (r .ylo) (k .c10))) (spotAt (r .xhi) (r .yhi) (k .c11))
+
+-- ---- a cut cell
+-- the new corners: the low corner of the part behind the cut, and the high corner of the part before it
+abbrev pub lowCorner : Bool → ℤ → Rect → Place
+lowCorner true v r = record { x = v; y = r .ylo }
+lowCorner false v r = record { x = r .xlo; y = v }
+
+abbrev pub highCorner : Bool → ℤ → Rect → Place
+highCorner true v r = record { x = v; y = r .yhi }
+highCorner false v r = record { x = r .xhi; y = v }
+
+abbrev pub firstRect : Rect → Place → Rect
+firstRect r p = record { xlo = r .xlo; ylo = r .ylo; xhi = p .x; yhi = p .y }
+
+abbrev pub secondRect : Rect → Place → Rect
+secondRect r p = record { xlo = p .x; ylo = p .y; xhi = r .xhi; yhi = r .yhi }
+
+-- the costs of their corners, from those of the cell and of the new corners
+abbrev pub firstCosts : Bool → Costs → ℕ → ℕ → Costs
+firstCosts true k low high = record { c00 = k .c00; c01 = k .c01; c10 = low; c11 = high }
+firstCosts false k low high = record { c00 = k .c00; c01 = low; c10 = k .c10; c11 = high }
+
+abbrev pub secondCosts : Bool → Costs → ℕ → ℕ → Costs
+secondCosts true k low high = record { c00 = low; c01 = high; c10 = k .c10; c11 = k .c11 }
+secondCosts false k low high = record { c00 = low; c01 = k .c01; c10 = high; c11 = k .c11 }
+
+-- what a cut makes of a cell
+unfoldable pub halvesOf : List Site → Cut → Rect → Halves
+unfolding costOf boundOf
+halvesOf sites cut r =
+    let low = lowCorner (cut .across) (cut .at) r in
+    let high = highCorner (cut .across) (cut .at) r in
+    record { low = spotOf sites low; high = spotOf sites high; first = cellFor sites (firstRect r high); «first_costs» = cornerCosts sites (firstRect r high); second = cellFor sites (secondRect r low); «second_costs» = cornerCosts sites (secondRect r low) }
+
+-- a cell that is cut, and its corners' costs
+pub record Cutting (sites : List Site) (vertical horizontal : List ℤ) (c : Cell) (k : Costs) : Type 0 where
+  pub ranged : Ranged (rectIn c)
+  pub can-cut : T (canCut (onLines vertical horizontal) (rectIn c))
+  pub costs : k ≡ cornerCosts sites (rectIn c)
+
+-- a cell whose edges and cut line are in range
+pub record CutInRange (c : Cell) (cut : Cut) : Type 0 where
+  pub ranged : RectInRange (rectIn c)
+  pub at-range : natAbs (cut .at) ≤ 20000
+
+-- ---- the entries
+-- an entry more, if it is live
+unfoldable pub withLive : Problem → Priced → Entry → List Entry → List Entry
+unfolding isLive insertBy entryBefore
+withLive P best e es = cond (isLive P best (entryCell e)) (insertBy entryBefore e es) es
+
+-- where an entry more may go
+pub record Addable (head tail : ℕ) (c : Cell) (best : Spot) : Type 0 where
+  pub room : 1 ≤ head
+  pub in-turn : head ≤ tail
+  pub ends : tail ≤ 1001
+  pub ranged : RectInRange (rectIn c)
+  pub cost-limit : best .cost ≤ costLimit
+
+-- the entries from r on are those from head on and e, if it is live
+pub record Added (P : Problem) (best : Priced) (e : Entry) (head tail : ℕ) (s : List ℤ) (t : List ℕ) (s′ : List ℤ) (t′ : List ℕ) (r : ℕ) : Type 0 where
+  pub down : r ≤ head
+  pub by-one : head ≤ r + 1
+  pub entries-are : entries s′ t′ r (tail - r) ≡ withLive P best e (entries s t head (tail - head))
+
+-- each has the costs of its corners
+pub record Costed (sites : List Site) (es : List Entry) : Type 0 where
+  pub each : (e : Entry) → List·Memᴰ e es → e .costs ≡ cornerCosts sites (entryCell e .rect)
+
+-- ---- the search
+-- the search that a state and the work space hold
+unfoldable pub searchOf : List ℤ → List ℕ → State → Search
+unfolding entries
+searchOf s t st = record { best = pricedOf (st .best); live = map entryCell (entries s t (st .head) (st .tail - st .head)); cuts = st .cuts }
+
+-- what a round asks
+pub record Takeable (sites : List Site) (vertical horizontal : List ℤ) (s : List ℤ) (t : List ℕ) (st : State) : Type 0 where
+  pub some : st .head < st .tail
+  pub room : 1 ≤ st .head
+  pub ends : st .tail ≤ 1001
+  pub few : st .cuts < 1000
+  pub cost-limit : st .best .cost ≤ costLimit
+  pub ranged : Ranged (rectIn (cellAt s (st .head)))
+  pub can-cut : (e : Entry) → List·Memᴰ e (entries s t (st .head) (st .tail - st .head)) → T (canCut (onLines vertical horizontal) (entryCell e .rect))
+  pub costed : Costed sites (entries s t (st .head) (st .tail - st .head))
+  pub in-order : InOrder (entries s t (st .head) (st .tail - st .head))
+
+-- a state and a work space that hold a search, with the lowest head
+pub record Holds (sites : List Site) (search : Search) (lowest : ℕ) (s : List ℤ) (t : List ℕ) (st : State) : Type 0 where
+  pub is : searchOf s t st ≡ search
+  pub costed : Costed sites (entries s t (st .head) (st .tail - st .head))
+  pub low-head : lowest ≤ st .head
+  pub in-turn : st .head ≤ st .tail
+  pub ends : st .tail ≤ 1001
+
+-- what is known of the cells and the best place of every run
+pub record Steady (P : Problem) : Type 0 where
+  pub ranged : (n : ℕ) (c : Query.Cell) → List·Memᴰ c (run P n .live) → Ranged (c .rect)
+  pub cost-limit : (n : ℕ) → run P n .best .cost ≤ costLimit
+
+-- ---- the answer
+-- a state whose cells are in order
+pub record Answerable (s : List ℤ) (st : State) : Type 0 where
+  pub in-turn : st .head ≤ st .tail
+  pub ends : st .tail ≤ 1001
+  pub cost-limit : st .best .cost ≤ costLimit
+  pub in-order : InOrder (entries s [] (st .head) (st .tail - st .head))
+
+abbrev pub isDone : List Query.Cell → Bool
+isDone [] = true
+isDone (c ∷ cs) = false
+
+unfoldable pub foundOf : Search → Found
+unfolding Figures.low
+foundOf s = record { done = isDone (s .live); x = s .best .at .x; y = s .best .at .y; high = Figures.high s; low = Figures.low s; cuts = s .cuts }
+
+-- the rows that a record of sites counts, and its columns in range
+abbrev pub rowsOf : Sites → List Site
+rowsOf r = siteRows (r .x) (r .y) (r .visits) (r .near) (r .count)
+
+abbrev pub InColumns : Sites → Type 0
+InColumns r = ColumnsInRange (r .x) (r .y) (r .visits) (r .near)
+
+-- what the lines of a deck ask: its area, and which of its stops reach it
+pub record Reaching (deck : Deck) (area : Cell) (flags : List ℕ) : Type 0 where
+  pub posts : deck .posts ≤ 64
+  pub stops : deck .stops ≤ 512
+  pub area-is : rectIn area ≡ deckOf deck .area
+  pub ranged : RectInRange (rectIn area)
+  pub flags-are : flags ≡ flagsOf (sitesOf (deckOf deck)) (deckOf deck .area)
+
+-- what a search asks: a deck in range, its sites, and room for the cells of so many rounds
+pub record Ready (deck : Deck) (sites : Sites) (rounds lent : ℕ) : Type 0 where
+  pub sites-are : sites ≡ sitesRecord (sitesOf (deckOf deck))
+  pub range : InRange (deckOf deck)
+  pub full : NonEmpty (deckOf deck .area)
+  pub posts : deck .posts ≤ 64
+  pub stops : deck .stops ≤ 512
+  pub rounds-limit : rounds ≤ 1000
+  pub room : 5 * (rounds + 1) ≤ lent
+
+-- the answer, and what the cell space then holds
+pub record Searched (deck : Deck) (rounds : ℕ) (before after : List ℤ) (r : Found) : Type 0 where
+  pub found : r ≡ foundOf (run (problem (deckOf deck)) rounds)
+  pub cells : after ≡ space (deckOf deck) rounds (length before)

@@ -1,0 +1,3 @@
+// The search by cells.
+pub mod run;
+pub mod space;

@@ -1,0 +1,635 @@
+// The search by cells: its start, its rounds and what it answers.
+use crate::space;
+use crate::space::Cell;
+use crate::space::Costs;
+use job::Deck;
+use pricing::Sites;
+use pricing::lines;
+use pricing::lines::Cut;
+use pricing::lines::Lines;
+use pricing::price;
+ghost use mathlib.Core.Path.{_≡_};
+ghost use mathlib.Core.List.{[]};
+ghost use Prim.Native.Nat.{_-_, _≤_};
+ghost use lib.ListN.{length, take};
+ghost use lib.Signed.{_≤ℤ_};
+ghost use Rattle.numbers.specs.Integer.{dist};
+ghost use Rattle.query.specs.Deck.{plain};
+ghost use Rattle.query.specs.Bound as Bound;
+ghost use Rattle.query.specs.Search as Search;
+ghost use Rattle.query.specs.Range.{costLimit, loadLimit, RectInRange};
+ghost use Rattle.job.specs.Record.{emptyRect};
+ghost use Rattle.query.specs.Place.{x-axis, y-axis};
+ghost use Rattle.query.specs.Lines.{lines};
+ghost use Rattle.query.specs.Figures as Figures;
+ghost use Rattle.pricing.specs.DeckOf.{deckOf};
+ghost use Rattle.pricing.specs.Sites.{loadOf, flagsOf};
+ghost use Rattle.pricing.specs.Columns.{siteRows, Figure};
+ghost use Rattle.pricing.specs.LineRecord.{Edges, onLines, cutRecord, linesRecord};
+ghost use Rattle.search.specs.Space.{queryCell};
+ghost use Rattle.search.specs.Run.{
+  siteProblem,
+  Sited,
+  Lined,
+  pricedOf,
+  spotOf,
+  rectIn,
+  cornerCosts,
+  cellFor,
+  Near20000,
+  Ranged,
+  spotAt,
+  CostsInRange,
+  bestCorner,
+  improved,
+  lowCorner,
+  highCorner,
+  firstRect,
+  secondRect,
+  firstCosts,
+  secondCosts,
+  halvesOf,
+  Cutting,
+  CutInRange,
+  Addable,
+  Added,
+  searchOf,
+  Takeable,
+  Holds,
+  Steady,
+  Answerable,
+  rowsOf,
+  InColumns,
+  Reaching,
+  foundOf,
+  Ready,
+  Searched,
+};
+
+// A place with its cost.
+pub struct Spot {
+    pub x: i64,
+    pub y: i64,
+    pub cost: u64,
+}
+
+// What a cut makes of a cell: its two new corners, and its two parts with the costs of their corners.
+pub struct Halves {
+    pub low: Spot,
+    pub high: Spot,
+    pub first: Cell,
+    pub first_costs: Costs,
+    pub second: Cell,
+    pub second_costs: Costs,
+}
+
+// A search while it runs: the slots of its live cells, the best place so far and the cuts made.
+pub struct State {
+    pub head: usize,
+    pub tail: usize,
+    pub best: Spot,
+    pub cuts: u64,
+}
+
+// What a search answers.
+pub struct Found {
+    pub done: bool,
+    pub x: i64,
+    pub y: i64,
+    pub high: u64,
+    pub low: i64,
+    pub cuts: u64,
+}
+
+// A place, priced.
+fn priced<'a>(
+    xs: &'a [i32; 512],
+    ys: &'a [i32; 512],
+    visits: &'a [u32; 512],
+    near: &'a [u32; 512],
+    n: usize,
+    x: i64,
+    y: i64,
+) -> Spot
+    requires { ⌜ Sited (now xs) (now ys) (now visits) (now near) n × Near20000 x y ⌝ }
+    ensures { λ r. ⌜ r ≡ spotOf (siteRows (now (xs .entry)) (now (ys .entry)) (now (visits .entry)) (now (near .entry)) n) (record { x = x; y = y }) ⌝ }
+{
+    let cost = price::cost(xs, ys, visits, near, n, x as i32, y as i32);
+    Spot { x, y, cost }
+}
+
+// The better of two places.
+fn improve(best: Spot, p: Spot) -> Spot
+    requires { ⌜ (best .cost ≤ costLimit) × (p .cost ≤ costLimit) ⌝ }
+    ensures { λ r. ⌜ r ≡ improved best p ⌝ }
+{
+    if space::precedes(p.cost as i64, p.x, p.y, best.cost as i64, best.x, best.y) {
+        return p;
+    }
+    best
+}
+
+// How far hi lies above lo.
+fn width(lo: i64, hi: i64) -> u64
+    requires { ⌜ Edges lo hi × (lo ≤ℤ hi) ⌝ }
+    ensures { λ r. ⌜ Figure (dist lo hi) 40000 r ⌝ }
+{
+    (hi - lo) as u64
+}
+
+// The width and the height of a cell, added.
+fn span(c: Cell) -> u64
+    requires { ⌜ Ranged (rectIn c) ⌝ }
+    ensures { λ r. ⌜ Figure (Bound.span plain (rectIn c)) 80000 r ⌝ }
+{
+    width(c.xlo, c.xhi) + width(c.ylo, c.yhi)
+}
+
+// The load of a cell.
+fn load_of<'a>(
+    xs: &'a [i32; 512],
+    ys: &'a [i32; 512],
+    visits: &'a [u32; 512],
+    near: &'a [u32; 512],
+    n: usize,
+    c: Cell,
+) -> u64
+    requires { ⌜ Sited (now xs) (now ys) (now visits) (now near) n × Ranged (rectIn c) ⌝ }
+    ensures { λ r. ⌜ Figure (loadOf (siteRows (now (xs .entry)) (now (ys .entry)) (now (visits .entry)) (now (near .entry)) n) (rectIn c)) loadLimit r ⌝ }
+{
+    price::load(
+        xs,
+        ys,
+        visits,
+        near,
+        n,
+        c.xlo as i32,
+        c.ylo as i32,
+        c.xhi as i32,
+        c.yhi as i32,
+    )
+}
+
+// A cell with its bound, from the costs of its corners.
+fn bounded<'a>(
+    xs: &'a [i32; 512],
+    ys: &'a [i32; 512],
+    visits: &'a [u32; 512],
+    near: &'a [u32; 512],
+    n: usize,
+    c: Cell,
+    k: Costs,
+) -> Cell
+    requires { ⌜ Sited (now xs) (now ys) (now visits) (now near) n × Ranged (rectIn c) × (k ≡ cornerCosts (siteRows (now xs) (now ys) (now visits) (now near) n) (rectIn c)) ⌝ }
+    ensures { λ r. ⌜ r ≡ cellFor (siteRows (now (xs .entry)) (now (ys .entry)) (now (visits .entry)) (now (near .entry)) n) (rectIn c) ⌝ }
+{
+    let load = load_of(xs, ys, visits, near, n, c);
+    let bound = price::bound(k.c00, k.c01, k.c10, k.c11, span(c), load);
+    Cell {
+        xlo: c.xlo,
+        ylo: c.ylo,
+        xhi: c.xhi,
+        yhi: c.yhi,
+        bound,
+    }
+}
+
+// Where a cell is cut.
+fn cut_of(v: &[i64; 514], nv: usize, h: &[i64; 514], nh: usize, c: Cell) -> Cut
+    requires { ⌜ Lined (now v) nv (now h) nh × RectInRange (rectIn c) ⌝ }
+    ensures { λ r. ⌜ r ≡ cutRecord (onLines (take nv (now (v .entry))) (take nh (now (h .entry)))) (rectIn c) ⌝ }
+{
+    lines::find_cut(v, nv, h, nh, c.xlo, c.ylo, c.xhi, c.yhi)
+}
+
+// The new corner that is the low corner of the part behind the cut.
+fn low_corner<'a>(
+    xs: &'a [i32; 512],
+    ys: &'a [i32; 512],
+    visits: &'a [u32; 512],
+    near: &'a [u32; 512],
+    n: usize,
+    c: Cell,
+    cut: Cut,
+) -> Spot
+    requires { ⌜ Sited (now xs) (now ys) (now visits) (now near) n × CutInRange c cut ⌝ }
+    ensures { λ r. ⌜ r ≡ spotOf (siteRows (now (xs .entry)) (now (ys .entry)) (now (visits .entry)) (now (near .entry)) n) (lowCorner (cut .across) (cut .at) (rectIn c)) ⌝ }
+{
+    if cut.across {
+        return priced(xs, ys, visits, near, n, cut.at, c.ylo);
+    }
+    priced(xs, ys, visits, near, n, c.xlo, cut.at)
+}
+
+// The new corner that is the high corner of the part before the cut.
+fn high_corner<'a>(
+    xs: &'a [i32; 512],
+    ys: &'a [i32; 512],
+    visits: &'a [u32; 512],
+    near: &'a [u32; 512],
+    n: usize,
+    c: Cell,
+    cut: Cut,
+) -> Spot
+    requires { ⌜ Sited (now xs) (now ys) (now visits) (now near) n × CutInRange c cut ⌝ }
+    ensures { λ r. ⌜ r ≡ spotOf (siteRows (now (xs .entry)) (now (ys .entry)) (now (visits .entry)) (now (near .entry)) n) (highCorner (cut .across) (cut .at) (rectIn c)) ⌝ }
+{
+    if cut.across {
+        return priced(xs, ys, visits, near, n, cut.at, c.yhi);
+    }
+    priced(xs, ys, visits, near, n, c.xhi, cut.at)
+}
+
+// The costs of the corners of the part before a cut, from those of the cell and of the new corners.
+fn costs_before(across: bool, k: Costs, low: u64, high: u64) -> Costs
+    ensures { λ r. ⌜ r ≡ firstCosts across k low high ⌝ }
+{
+    if across {
+        return Costs {
+            c00: k.c00,
+            c01: k.c01,
+            c10: low,
+            c11: high,
+        };
+    }
+    Costs {
+        c00: k.c00,
+        c01: low,
+        c10: k.c10,
+        c11: high,
+    }
+}
+
+// Those of the part behind it.
+fn costs_behind(across: bool, k: Costs, low: u64, high: u64) -> Costs
+    ensures { λ r. ⌜ r ≡ secondCosts across k low high ⌝ }
+{
+    if across {
+        return Costs {
+            c00: low,
+            c01: high,
+            c10: k.c10,
+            c11: k.c11,
+        };
+    }
+    Costs {
+        c00: low,
+        c01: k.c01,
+        c10: high,
+        c11: k.c11,
+    }
+}
+
+// The part of a cell before a cut, up to the new corner.
+fn cell_before(c: Cell, high: Spot) -> Cell
+    ensures { λ r. ⌜ rectIn r ≡ firstRect (rectIn c) (pricedOf high .at) ⌝ }
+{
+    Cell {
+        xlo: c.xlo,
+        ylo: c.ylo,
+        xhi: high.x,
+        yhi: high.y,
+        bound: 0,
+    }
+}
+
+// The part behind it, from the new corner on.
+fn cell_behind(c: Cell, low: Spot) -> Cell
+    ensures { λ r. ⌜ rectIn r ≡ secondRect (rectIn c) (pricedOf low .at) ⌝ }
+{
+    Cell {
+        xlo: low.x,
+        ylo: low.y,
+        xhi: c.xhi,
+        yhi: c.yhi,
+        bound: 0,
+    }
+}
+
+// What the cut of a cell makes of it.
+fn halve<'a>(
+    xs: &'a [i32; 512],
+    ys: &'a [i32; 512],
+    visits: &'a [u32; 512],
+    near: &'a [u32; 512],
+    n: usize,
+    v: &'a [i64; 514],
+    nv: usize,
+    h: &'a [i64; 514],
+    nh: usize,
+    c: Cell,
+    k: Costs,
+) -> Halves
+    requires { ⌜ Sited (now xs) (now ys) (now visits) (now near) n × Lined (now v) nv (now h) nh × Cutting (siteRows (now xs) (now ys) (now visits) (now near) n) (take nv (now v)) (take nh (now h)) c k ⌝ }
+    ensures { λ r. ⌜ r ≡ halvesOf (siteRows (now (xs .entry)) (now (ys .entry)) (now (visits .entry)) (now (near .entry)) n) (cutRecord (onLines (take nv (now (v .entry))) (take nh (now (h .entry)))) (rectIn c)) (rectIn c) ⌝ }
+{
+    let cut = cut_of(v, nv, h, nh, c);
+    let low = low_corner(xs, ys, visits, near, n, c, cut);
+    let high = high_corner(xs, ys, visits, near, n, c, cut);
+    let first_costs = costs_before(cut.across, k, low.cost, high.cost);
+    let second_costs = costs_behind(cut.across, k, low.cost, high.cost);
+    let first = bounded(xs, ys, visits, near, n, cell_before(c, high), first_costs);
+    let second = bounded(xs, ys, visits, near, n, cell_behind(c, low), second_costs);
+    Halves {
+        low,
+        high,
+        first,
+        first_costs,
+        second,
+        second_costs,
+    }
+}
+
+// Whether a cell is live: it can be cut and comes before the best place.
+fn is_live(v: &[i64; 514], nv: usize, h: &[i64; 514], nh: usize, c: Cell, best: Spot) -> bool
+    requires { ⌜ Lined (now v) nv (now h) nh × RectInRange (rectIn c) × (best .cost ≤ costLimit) ⌝ }
+    ensures { λ r. ⌜ r ≡ Search.isLive (onLines (take nv (now (v .entry))) (take nh (now (h .entry)))) (pricedOf best) (queryCell c) ⌝ }
+{
+    let cut = cut_of(v, nv, h, nh, c);
+    if cut.found {
+        return space::precedes(c.bound, c.xlo, c.ylo, best.cost as i64, best.x, best.y);
+    }
+    false
+}
+
+// One more entry among those from head up to tail, if its cell is live. Where they then start.
+fn add<'a>(
+    v: &'a [i64; 514],
+    nv: usize,
+    h: &'a [i64; 514],
+    nh: usize,
+    s: &mut [i64; 5005],
+    t: &mut [u64; 4004],
+    head: usize,
+    tail: usize,
+    c: Cell,
+    k: Costs,
+    best: Spot,
+) -> usize
+    requires { ⌜ Lined (now v) nv (now h) nh × Addable head tail c best ⌝ }
+    ensures { λ r. ⌜ Added (onLines (take nv (now (v .entry))) (take nh (now (h .entry)))) (pricedOf best) (record { cell = c; costs = k }) head tail (now (s .entry)) (now (t .entry)) (now (s .exit)) (now (t .exit)) r ⌝ }
+{
+    if is_live(v, nv, h, nh, c, best) {
+        space::insert(s, t, head, tail, c, k);
+        return head - 1;
+    }
+    head
+}
+
+// A round: the first entry is cut, the best place and the live cells are brought up to date.
+fn round<'a>(
+    xs: &'a [i32; 512],
+    ys: &'a [i32; 512],
+    visits: &'a [u32; 512],
+    near: &'a [u32; 512],
+    n: usize,
+    v: &'a [i64; 514],
+    nv: usize,
+    h: &'a [i64; 514],
+    nh: usize,
+    s: &mut [i64; 5005],
+    t: &mut [u64; 4004],
+    st: State,
+) -> State
+    requires { ⌜ Sited (now xs) (now ys) (now visits) (now near) n × Lined (now v) nv (now h) nh × Takeable (siteRows (now xs) (now ys) (now visits) (now near) n) (take nv (now v)) (take nh (now h)) (now s) (now t) st ⌝ }
+    ensures { λ r. ⌜ Holds (siteRows (now (xs .entry)) (now (ys .entry)) (now (visits .entry)) (now (near .entry)) n) (Search.round (siteProblem (siteRows (now (xs .entry)) (now (ys .entry)) (now (visits .entry)) (now (near .entry)) n) (take nv (now (v .entry))) (take nh (now (h .entry))) emptyRect) (searchOf (now (s .entry)) (now (t .entry)) st)) (st .head - 1) (now (s .exit)) (now (t .exit)) r ⌝ }
+{
+    let head = st.head;
+    let c = space::get_cell(s, head);
+    let k = space::get_costs(t, head);
+    let halves = halve(xs, ys, visits, near, n, v, nv, h, nh, c, k);
+    let best = improve(improve(st.best, halves.low), halves.high);
+    let first = halves.first;
+    let first_k = halves.first_costs;
+    let second = halves.second;
+    let second_k = halves.second_costs;
+    let tail = space::trim(s, head + 1, st.tail, best.cost, best.x, best.y);
+    let behind = add(v, nv, h, nh, s, t, head + 1, tail, second, second_k, best);
+    let front = add(v, nv, h, nh, s, t, behind, tail, first, first_k, best);
+    State {
+        head: front,
+        tail,
+        best,
+        cuts: st.cuts + 1,
+    }
+}
+
+// The costs of the corners of a cell.
+fn corners<'a>(
+    xs: &'a [i32; 512],
+    ys: &'a [i32; 512],
+    visits: &'a [u32; 512],
+    near: &'a [u32; 512],
+    n: usize,
+    c: Cell,
+) -> Costs
+    requires { ⌜ Sited (now xs) (now ys) (now visits) (now near) n × RectInRange (rectIn c) ⌝ }
+    ensures { λ r. ⌜ r ≡ cornerCosts (siteRows (now (xs .entry)) (now (ys .entry)) (now (visits .entry)) (now (near .entry)) n) (rectIn c) ⌝ }
+{
+    let front = priced(xs, ys, visits, near, n, c.xlo, c.ylo);
+    let left = priced(xs, ys, visits, near, n, c.xlo, c.yhi);
+    let right = priced(xs, ys, visits, near, n, c.xhi, c.ylo);
+    let back = priced(xs, ys, visits, near, n, c.xhi, c.yhi);
+    Costs {
+        c00: front.cost,
+        c01: left.cost,
+        c10: right.cost,
+        c11: back.cost,
+    }
+}
+
+// A place with a cost that is known.
+fn place(x: i64, y: i64, cost: u64) -> Spot
+    ensures { λ r. ⌜ r ≡ spotAt x y cost ⌝ }
+{
+    Spot { x, y, cost }
+}
+
+// The best of the corners of a cell.
+fn best_corner(c: Cell, k: Costs) -> Spot
+    requires { ⌜ CostsInRange k ⌝ }
+    ensures { λ r. ⌜ r ≡ bestCorner (rectIn c) k ⌝ }
+{
+    let front = place(c.xlo, c.ylo, k.c00);
+    let left = place(c.xlo, c.yhi, k.c01);
+    let right = place(c.xhi, c.ylo, k.c10);
+    let back = place(c.xhi, c.yhi, k.c11);
+    improve(improve(improve(front, left), right), back)
+}
+
+// The start of a search of an area.
+fn start<'a>(
+    xs: &'a [i32; 512],
+    ys: &'a [i32; 512],
+    visits: &'a [u32; 512],
+    near: &'a [u32; 512],
+    n: usize,
+    v: &'a [i64; 514],
+    nv: usize,
+    h: &'a [i64; 514],
+    nh: usize,
+    s: &mut [i64; 5005],
+    t: &mut [u64; 4004],
+    area: Cell,
+) -> State
+    requires { ⌜ Sited (now xs) (now ys) (now visits) (now near) n × Lined (now v) nv (now h) nh × Ranged (rectIn area) ⌝ }
+    ensures { λ r. ⌜ Holds (siteRows (now (xs .entry)) (now (ys .entry)) (now (visits .entry)) (now (near .entry)) n) (Search.start (siteProblem (siteRows (now (xs .entry)) (now (ys .entry)) (now (visits .entry)) (now (near .entry)) n) (take nv (now (v .entry))) (take nh (now (h .entry))) (rectIn area))) 1000 (now (s .exit)) (now (t .exit)) r ⌝ }
+{
+    let k = corners(xs, ys, visits, near, n, area);
+    let best = best_corner(area, k);
+    let c = bounded(xs, ys, visits, near, n, area, k);
+    let head = add(v, nv, h, nh, s, t, 1001, 1001, c, k, best);
+    State {
+        head,
+        tail: 1001,
+        best,
+        cuts: 0,
+    }
+}
+
+// A search of an area: its start, and its rounds while a cell is live, at most so many.
+fn run_of<'a>(
+    xs: &'a [i32; 512],
+    ys: &'a [i32; 512],
+    visits: &'a [u32; 512],
+    near: &'a [u32; 512],
+    n: usize,
+    v: &'a [i64; 514],
+    nv: usize,
+    h: &'a [i64; 514],
+    nh: usize,
+    s: &mut [i64; 5005],
+    t: &mut [u64; 4004],
+    area: Cell,
+    rounds: u64,
+) -> State
+    requires { ⌜ Sited (now xs) (now ys) (now visits) (now near) n × Lined (now v) nv (now h) nh × Ranged (rectIn area) × (rounds ≤ 1000) × Steady (siteProblem (siteRows (now xs) (now ys) (now visits) (now near) n) (take nv (now v)) (take nh (now h)) (rectIn area)) ⌝ }
+    ensures { λ r. ⌜ Holds (siteRows (now (xs .entry)) (now (ys .entry)) (now (visits .entry)) (now (near .entry)) n) (Search.run (siteProblem (siteRows (now (xs .entry)) (now (ys .entry)) (now (visits .entry)) (now (near .entry)) n) (take nv (now (v .entry))) (take nh (now (h .entry))) (rectIn area)) rounds) 0 (now (s .exit)) (now (t .exit)) r ⌝ }
+{
+    let mut st = start(xs, ys, visits, near, n, v, nv, h, nh, s, t, area);
+    let mut k: u64 = 0;
+    while k < rounds {
+        if st.tail <= st.head {
+            return st;
+        }
+        st = round(xs, ys, visits, near, n, v, nv, h, nh, s, t, st);
+        k += 1;
+    }
+    st
+}
+
+// The least of the best cost and the bounds of the live cells, which are in order.
+fn low_of(s: &[i64; 5005], st: State) -> i64
+    requires { ⌜ Answerable (now s) st ⌝ }
+    ensures { λ r. ⌜ r ≡ Figures.low (searchOf (now (s .entry)) [] st) ⌝ }
+{
+    let best = st.best;
+    let high = best.cost as i64;
+    let head = st.head;
+    if st.tail <= head {
+        return high;
+    }
+    let c = space::get_cell(s, head);
+    if c.bound < high {
+        return c.bound;
+    }
+    high
+}
+
+// What a search answers at its end.
+fn answer(s: &[i64; 5005], st: State) -> Found
+    requires { ⌜ Answerable (now s) st ⌝ }
+    ensures { λ r. ⌜ r ≡ foundOf (searchOf (now (s .entry)) [] st) ⌝ }
+{
+    let low = low_of(s, st);
+    let best = st.best;
+    Found {
+        done: st.tail <= st.head,
+        x: best.x,
+        y: best.y,
+        high: best.cost,
+        low,
+        cuts: st.cuts,
+    }
+}
+
+// The area of a deck.
+fn area_of(deck: Deck) -> Cell
+    ensures { λ r. ⌜ rectIn r ≡ deckOf deck .area ⌝ }
+{
+    Cell {
+        xlo: deck.xlo,
+        ylo: deck.ylo,
+        xhi: deck.xhi,
+        yhi: deck.yhi,
+        bound: 0,
+    }
+}
+
+// Which of a deck's sites reach its area.
+fn flags_of(area: Cell, sites: Sites) -> [u8; 512]
+    requires { ⌜ InColumns sites × (sites .count ≤ 512) × Ranged (rectIn area) ⌝ }
+    ensures { λ r. ⌜ r ≡ flagsOf (rowsOf sites) (rectIn area) ⌝ }
+{
+    let n = sites.count;
+    price::reach_flags(
+        &sites.x,
+        &sites.y,
+        &sites.near,
+        n,
+        area.xlo as i32,
+        area.ylo as i32,
+        area.xhi as i32,
+        area.yhi as i32,
+    )
+}
+
+// The lines of a deck: the vertical ones, and the horizontal ones.
+fn vertical(deck: Deck, area: Cell, flags: [u8; 512]) -> Lines
+    requires { ⌜ Reaching deck area flags ⌝ }
+    ensures { λ r. ⌜ r ≡ linesRecord (lines (deckOf deck) x-axis) ⌝ }
+{
+    let n = deck.stops;
+    lines::find_lines(&deck.stop_x, &flags, n, area.xlo, area.xhi)
+}
+
+fn horizontal(deck: Deck, area: Cell, flags: [u8; 512]) -> Lines
+    requires { ⌜ Reaching deck area flags ⌝ }
+    ensures { λ r. ⌜ r ≡ linesRecord (lines (deckOf deck) y-axis) ⌝ }
+{
+    let n = deck.stops;
+    lines::find_lines(&deck.stop_y, &flags, n, area.ylo, area.yhi)
+}
+
+// The search of a deck whose sites are given, for at most so many rounds: its answer, with its live cells in the cell space.
+pub fn search(deck: Deck, sites: Sites, rounds: u64, cells: &mut [i64]) -> Found
+    requires { ⌜ Ready deck sites rounds (length (now cells)) ⌝ }
+    ensures { λ r. ⌜ Searched deck rounds (now (cells .entry)) (now (cells .exit)) r ⌝ }
+{
+    let area = area_of(deck);
+    let flags = flags_of(area, sites);
+    let v = vertical(deck, area, flags);
+    let h = horizontal(deck, area, flags);
+    let n = sites.count;
+    let nv = v.count;
+    let nh = h.count;
+    let mut s = [0i64; 5005];
+    let mut t = [0u64; 4004];
+    let st = run_of(
+        &sites.x,
+        &sites.y,
+        &sites.visits,
+        &sites.near,
+        n,
+        &v.at,
+        nv,
+        &h.at,
+        nh,
+        &mut s,
+        &mut t,
+        area,
+        rounds,
+    );
+    space::write_out(&s, st.head, st.tail, cells);
+    answer(&s, st)
+}
