@@ -1,0 +1,4 @@
+pub mod Call
+pub mod Entry
+pub mod Exhaustive
+pub mod Demands
