@@ -25,6 +25,7 @@ use Rattle.job.proofs.Meaning.{accepted-law, refused-law, allowed-in-range}
 use Rattle.job.specs.declared.Refusal.{Refusal}
 use Rattle.job.specs.declared.Refusal.the-variants.{TooLong, Malformed, OutOfRange, EmptyArea, NoPosts, NoStops, SmallSpace, ShortOutput}
 use Rattle.report.specs.Text.{reportText}
+use Rattle.report.specs.Limits.{FiguresInRange}
 use Rattle.report.proofs.Fits.{report-fits}
 use Rattle.report.specs.declared.Report.{Report}
 use Rattle.report.specs.declared.State.the-variants.{Done, Stopped}
@@ -33,19 +34,21 @@ use Rattle.siting.specs.declared.Answer.the-variants as Answered
 use Rattle.siting.specs.Call.{Left, stateRecord, reportRecord, turnedDown, overwritten, reported, answered, reportCall}
 use Rattle.siting.specs.Demands.{Condition, Demand1, Accepted, Demand2, placeOf, ReportLaw, oneMore, Demand3Report, Demands}
 
--- every report fits 128 bytes
-text-fits : (job : Job) → Allowed job → length (reportText (figures (job .deck) (job .rounds))) ≤ 128
-text-fits job a =
+-- the figures of an allowed job are in range, so that its report fits 128 bytes
+pub job-limits : (job : Job) → Allowed job → FiguresInRange (figures (job .deck) (job .rounds))
+job-limits job a =
     let range = figures-in-range (job .deck) (allowed-in-range job a) (a .area-full) (job .rounds) in
-    report-fits .report-fits (figures (job .deck) (job .rounds))
-    (record { place = range .at-range; high-limit = range .high-limit; low-limit = range .low-limit; before-limit = range .before-limit; rounds-limit = omega (arith, range .rounds-limit, a .writable .rounds) })
+    record { place = range .at-range; high-limit = range .high-limit; low-limit = range .low-limit; before-limit = range .before-limit; rounds-limit = omega (arith, range .rounds-limit, a .writable .rounds) }
+
+text-fits : (job : Job) → Allowed job → length (reportText (figures (job .deck) (job .rounds))) ≤ 128
+text-fits job a = report-fits .report-fits (figures (job .deck) (job .rounds)) (job-limits job a)
 
 -- ---- an accepted job
 accepted-answer : (job : Job) (cells : List ℤ) (out : List ℕ) → 5 * (job .rounds + 1) ≤ length cells → 128 ≤ length out → answered (accepted job) cells out ≡ reported job cells out
 unfolding answered
 accepted-answer job cells out h k = cond-false (ltb (length cells) (5 * (job .rounds + 1))) _ _ (le→nltb _ _ h) ∙ cond-false (ltb (length out) 128) _ _ (le→nltb _ _ k)
 
-call-accepted : (bytes : List ℕ) (cells : List ℤ) (out : List ℕ) (j : Job) → Accepted bytes cells out j → reportCall bytes cells out ≡ reported j cells out
+pub call-accepted : (bytes : List ℕ) (cells : List ℤ) (out : List ℕ) (j : Job) → Accepted bytes cells out j → reportCall bytes cells out ≡ reported j cells out
 unfolding reportCall
 call-accepted bytes cells out j a = ap (λ (r : Result). answered r cells out) (a .read) ∙ accepted-answer j cells out (a .space) (a .output)
 
@@ -103,7 +106,7 @@ not-refused why r e = let z : _≡_ {A = ℕ} 0 1 = cc in omega arith
 
 module _ (bytes : List ℕ) (cells : List ℤ) (out : List ℕ) where
   -- what reading refuses, the call refuses
-  refused-call : (why : Refusal) → readJob bytes ≡ refused why → reportCall bytes cells out ≡ turnedDown why cells out
+  pub refused-call : (why : Refusal) → readJob bytes ≡ refused why → reportCall bytes cells out ≡ turnedDown why cells out
   unfolding reportCall answered
   refused-call why e = ap (λ (r : Result). answered r cells out) e
 
@@ -118,11 +121,11 @@ module _ (bytes : List ℕ) (cells : List ℤ) (out : List ℕ) where
   from-reading ShortOutput e = absurd (refused-law bytes ShortOutput .exactly .0 e)
 
   -- an accepted job, by what is lent
-  small-space : (j : Job) → readJob bytes ≡ accepted j → length cells < 5 * (j .rounds + 1) → reportCall bytes cells out ≡ turnedDown SmallSpace cells out
+  pub small-space : (j : Job) → readJob bytes ≡ accepted j → length cells < 5 * (j .rounds + 1) → reportCall bytes cells out ≡ turnedDown SmallSpace cells out
   unfolding reportCall answered
   small-space j e h = ap (λ (r : Result). answered r cells out) e ∙ cond-true (ltb (length cells) (5 * (j .rounds + 1))) _ _ (lt→ltb _ _ h)
 
-  short-output : (j : Job) → readJob bytes ≡ accepted j → 5 * (j .rounds + 1) ≤ length cells → length out < 128 → reportCall bytes cells out ≡ turnedDown ShortOutput cells out
+  pub short-output : (j : Job) → readJob bytes ≡ accepted j → 5 * (j .rounds + 1) ≤ length cells → length out < 128 → reportCall bytes cells out ≡ turnedDown ShortOutput cells out
   unfolding reportCall answered
   short-output j e h k = ap (λ (r : Result). answered r cells out) e ∙ cond-false (ltb (length cells) (5 * (j .rounds + 1))) _ _ (le→nltb _ _ h) ∙ cond-true (ltb (length out) 128) _ _ (lt→ltb _ _ k)
 

@@ -1,1 +1,4 @@
 pub mod Demands
+pub mod ReadLaws
+pub mod SolveLaws
+pub mod EntryLaws

@@ -1,4 +1,6 @@
 pub mod Call
 pub mod Entry
+pub mod Program
 pub mod Exhaustive
 pub mod Demands
+pub mod Parts

@@ -1,9 +1,132 @@
-// The public calls of the siting tool: so far their answers; what they are to give is in specs/.
+// The public calls of the siting tool.
+use job::Deck;
+use job::Outcome;
 use job::Refusal;
+use pricing::price;
 use report::Report;
+use report::State;
+use search::run;
+ghost use Prim.Native.Nat.{_≤_};
+ghost use mathlib.Core.Path.{_≡_};
+ghost use lib.ListN.{length};
+ghost use Rattle.siting.specs.Call.{Left, reportCall};
+ghost use Rattle.siting.specs.Entry.{Returned, entry};
+ghost use Rattle.siting.specs.Program.{answerText, textRecord};
+ghost use Rattle.siting.specs.Parts.{stateFor, Solvable, Solved, refusedResponse, Responded};
 
 // Each answer is either a report, itself done or stopped, or one refusal.
 pub enum Answer {
     Report(Report),
     Refused(Refusal),
+}
+
+// An answer, and how many bytes it has written.
+struct Response {
+    answer: Answer,
+    bytes: usize,
+}
+
+// A text: the first `length` bytes; the others are 0.
+pub struct Text {
+    pub length: usize,
+    pub bytes: [u8; 128],
+}
+
+fn state_of(done: bool) -> State
+    ensures { λ r. ⌜ r ≡ stateFor done ⌝ }
+{
+    if done { State::Done } else { State::Stopped }
+}
+
+// The report of a deck for so many rounds, with the live cells in the cell space.
+fn solve(deck: Deck, rounds: u64, cells: &mut [i64]) -> Report
+    requires { ⌜ Solvable deck rounds (length (now cells)) ⌝ }
+    ensures { λ r. ⌜ Solved deck rounds (now (cells .entry)) (now (cells .exit)) r ⌝ }
+{
+    let sites = price::sites(deck);
+    let n = sites.count;
+    let before = price::before(&sites.visits, &sites.near, n);
+    let found = run::search(deck, sites, rounds, cells);
+    let state = state_of(found.done);
+    Report {
+        state,
+        x: found.x,
+        y: found.y,
+        high: found.high,
+        low: found.low,
+        before,
+        rounds: found.cuts,
+    }
+}
+
+fn refuse(why: Refusal) -> Response
+    ensures { λ r. ⌜ r ≡ refusedResponse why ⌝ }
+{
+    Response {
+        answer: Answer::Refused(why),
+        bytes: 0,
+    }
+}
+
+// What the calls below answer. A refusal leaves the cell space and the output as they were.
+fn respond(job: &[u8], cells: &mut [i64], out: &mut [u8]) -> Response
+    ensures { λ r. ⌜ Responded (now (job .entry)) (now (cells .entry)) (now (out .entry)) (now (cells .exit)) (now (out .exit)) r ⌝ }
+{
+    let j = job::read(job);
+    let outcome = j.outcome;
+    let deck = j.deck;
+    let rounds = match outcome {
+        Outcome::Accepted(rounds) => rounds,
+        Outcome::Refused(why) => return refuse(why),
+    };
+    if (cells.len() as u64) < 5 * (rounds + 1) {
+        return refuse(Refusal::SmallSpace);
+    }
+    if out.len() < 128 {
+        return refuse(Refusal::ShortOutput);
+    }
+    let r = solve(deck, rounds, cells);
+    let bytes = report::write_report(out, r);
+    Response {
+        answer: Answer::Report(r),
+        bytes,
+    }
+}
+
+// The report of a job, with its text in the output and its live cells in the cell space, or the refusal that applies first.
+pub fn report(job: &[u8], cells: &mut [i64], out: &mut [u8]) -> Answer
+    ensures { λ r. ⌜ record { answer = r; cells = now (cells .exit); out = now (out .exit) } ≡ reportCall (now (job .entry)) (now (cells .entry)) (now (out .entry)) ⌝ }
+{
+    let given = respond(job, cells, out);
+    given.answer
+}
+
+// The entry for C, with a cell space of its own: the bytes written, or minus the number of the refusal.
+#[no_mangle]
+pub extern "C" fn siting_report(job: &[u8], out: &mut [u8]) -> i64
+    ensures { λ r. ⌜ record { result = r; out = now (out .exit) } ≡ entry (now (job .entry)) (now (out .entry)) ⌝ }
+{
+    let mut cells = [0i64; 5005];
+    let given = respond(job, &mut cells, out);
+    let answer = given.answer;
+    match answer {
+        Answer::Report(_) => given.bytes as i64,
+        Answer::Refused(why) => -(report::number_of(why) as i64),
+    }
+}
+
+// What the program prints for its input.
+pub fn answer_text(job: &[u8]) -> Text
+    ensures whole { λ r. ⌜ r ≡ textRecord (answerText (now (job .entry))) ⌝ }
+    ensures short { λ r. ⌜ r .length ≤ 128 ⌝ }
+{
+    let mut cells = [0i64; 5005];
+    let mut bytes = [0u8; 128];
+    let given = respond(job, &mut cells, &mut bytes);
+    let answer = given.answer;
+    let length = match answer {
+        Answer::Report(_) => given.bytes,
+        Answer::Refused(why) => report::write_refusal(&mut bytes, why),
+    };
+    Text { length, bytes }
 }

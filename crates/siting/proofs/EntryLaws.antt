@@ -1,0 +1,111 @@
+-- The C entry and the program's text, from the answer of the call.
+-- Assumes nothing.
+use Prim.Native.Nat.{ℕ, _+_, _-_, _≤_, _<_}
+use mathlib.Core.Path.{_≡_, refl, sym, ap, subst, _∙_}
+use mathlib.Core.List.{List, [], _++_}
+use native.Mathlib.Omega.{arith}
+use mir.Syntax.{w64}
+use mir.Val.{SFits, toZ, ofZ}
+use mir.ValLaws.{toZ-pos}
+use lib.IntN.{ℤ, pos, negℤ, _-ℤ_}
+use lib.ListN.{length, drop, replicate}
+use Rattle.numbers.proofs.Words.{word-fits}
+use Rattle.job.specs.Record.{padded}
+use Rattle.job.specs.Refusal.{numberOf}
+use Rattle.job.specs.declared.Refusal.{Refusal}
+use Rattle.job.specs.declared.Refusal.the-variants.{TooLong, Malformed, OutOfRange, EmptyArea, NoPosts, NoStops, SmallSpace, ShortOutput}
+use Rattle.report.specs.Report.{figuresOf}
+use Rattle.report.specs.Text.{reportText, refusalText}
+use Rattle.report.specs.Output.{Filled}
+use Rattle.report.proofs.Fits.{report-fits}
+use Rattle.pricing.proofs.LineRecordLaws.{drop-replicate}
+use Rattle.report.specs.declared.Report.{Report}
+use Rattle.siting.specs.declared.Answer.{Answer}
+use Rattle.siting.specs.declared.Answer.the-variants as Answered
+use Rattle.siting.specs.declared.Response.{Response}
+use Rattle.siting.specs.Call.{Left, reportCall}
+use Rattle.siting.specs.Entry.{Returned, resultOf, returned, entry}
+use Rattle.siting.specs.Program.{textOf, answerText, textRecord}
+use Rattle.siting.specs.Parts.{textWritten, Responded}
+
+abbrev zeros : List ℤ
+zeros = replicate 5005 (pos 0)
+
+-- ---- refusal numbers as signed words
+pub number-fits : (why : Refusal) (n : ℕ) → n ≡ numberOf why → SFits w64 (pos n)
+number-fits why n e = rw e (go why)
+  where
+    go : (why : Refusal) → SFits w64 (pos (numberOf why))
+    go TooLong = omega arith
+    go (Malformed line) = omega arith
+    go (OutOfRange line) = omega arith
+    go EmptyArea = omega arith
+    go NoPosts = omega arith
+    go NoStops = omega arith
+    go SmallSpace = omega arith
+    go ShortOutput = omega arith
+
+pub minus-fits : (why : Refusal) (n : ℕ) → n ≡ numberOf why → SFits w64 (toZ w64 0 -ℤ toZ w64 n)
+minus-fits why n e = rw e (go why)
+  where
+    go : (why : Refusal) → SFits w64 (toZ w64 0 -ℤ toZ w64 (numberOf why))
+    go TooLong = omega arith
+    go (Malformed line) = omega arith
+    go (OutOfRange line) = omega arith
+    go EmptyArea = omega arith
+    go NoPosts = omega arith
+    go NoStops = omega arith
+    go SmallSpace = omega arith
+    go ShortOutput = omega arith
+
+minus-number : (why : Refusal) → toZ w64 (ofZ w64 (toZ w64 0 -ℤ toZ w64 (numberOf why))) ≡ negℤ (pos (numberOf why))
+minus-number TooLong = refl
+minus-number (Malformed line) = refl
+minus-number (OutOfRange line) = refl
+minus-number EmptyArea = refl
+minus-number NoPosts = refl
+minus-number NoStops = refl
+minus-number SmallSpace = refl
+minus-number ShortOutput = refl
+
+-- ---- the C entry
+module _ (job out : List ℕ) (cells : List ℤ) (out′ : List ℕ) (r : Response) (s : Responded job zeros out cells out′ r) where
+  entry-is : record { result = resultOf (r .answer); out = out′ } ≡ entry job out
+  unfolding entry
+  entry-is = ap returned (s .left)
+
+  pub entry-report : (x : Report) → r .answer ≡ Answered.Report x → record { result = toZ w64 (r .bytes); out = out′ } ≡ entry job out
+  unfolding resultOf
+  entry-report x e = ap (λ (z : ℤ). record { result = z; out = out′ }) (toZ-pos w64 (r .bytes) (omega (arith, s .few)) ∙ ap pos (s .filled .number ∙ ap (λ (a : Answer). length (textWritten a)) e) ∙ ap resultOf (sym e)) ∙ entry-is
+
+  pub entry-refused : (why : Refusal) → r .answer ≡ Answered.Refused why → (n : ℕ) → n ≡ numberOf why → record { result = toZ w64 (ofZ w64 (toZ w64 0 -ℤ toZ w64 n)); out = out′ } ≡ entry job out
+  unfolding resultOf
+  entry-refused why e n f = ap (λ (z : ℤ). record { result = z; out = out′ }) (rw f (minus-number why) ∙ ap resultOf (sym e)) ∙ entry-is
+
+-- ---- the program's text
+padded-is : (text : List ℕ) → length text ≤ 128 → text ++ drop (length text) (replicate 128 0) ≡ padded 128 0 text
+unfolding padded
+padded-is text h = ap (λ (l : List ℕ). text ++ l) (drop-replicate 128 0 (length text) 128 h)
+
+-- a text written over zeros
+held : {out : List ℕ} {n : ℕ} (text : List ℕ) → Filled (replicate 128 0) text out n → length text ≤ 128 → record { length = n; bytes = out } ≡ textRecord text
+unfolding textRecord
+held text f h = rw (f .number, f .content) (ap (λ (l : List ℕ). record { length = length text; bytes = l }) (padded-is text h))
+
+module _ (job : List ℕ) (cells : List ℤ) (out : List ℕ) (r : Response) (s : Responded job zeros (replicate 128 0) cells out r) where
+  text-is : answerText job ≡ textOf (r .answer)
+  unfolding answerText
+  text-is = ap (λ (l : Left). textOf (l .answer)) (sym (s .left))
+
+  pub text-report : (x : Report) → r .answer ≡ Answered.Report x → record { length = r .bytes; bytes = out } ≡ textRecord (answerText job)
+  unfolding textRecord textOf
+  text-report x e =
+      let text = reportText (figuresOf x) in
+      let f : Filled (replicate 128 0) text out (r .bytes) = subst (λ (a : Answer). Filled (replicate 128 0) (textWritten a) out (r .bytes)) e (s .filled) in
+      held text f (omega (arith, s .few, f .number)) ∙ sym (ap textRecord (text-is ∙ ap textOf e))
+
+  pub text-refused : (why : Refusal) → r .answer ≡ Answered.Refused why → (out′ : List ℕ) (n : ℕ) → Filled out (refusalText why) out′ n → record { length = n; bytes = out′ } ≡ textRecord (answerText job)
+  unfolding textOf
+  text-refused why e out′ n f =
+      let g : Filled (replicate 128 0) [] out (r .bytes) = subst (λ (a : Answer). Filled (replicate 128 0) (textWritten a) out (r .bytes)) e (s .filled) in
+      held (refusalText why) (subst (λ (o : List ℕ). Filled o (refusalText why) out′ n) (g .content) f) (omega (arith, report-fits .refusal-longest why)) ∙ sym (ap textRecord (text-is ∙ ap textOf e))

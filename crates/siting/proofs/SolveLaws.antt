@@ -1,0 +1,133 @@
+-- The parts of `solve` and `respond` make up the call of document 01.
+-- Assumes nothing.
+use Prim.Native.Nat.{ℕ, _+_, _*_, _≤_}
+use mathlib.Core.Path.{_≡_, refl, sym, ap, subst, _∙_}
+use mathlib.Core.List.{List, [], _∷_, _++_}
+use native.Mathlib.Omega.{arith}
+use mir.Syntax.{w64}
+use mir.Val.{toZ, ofZ}
+use mir.ValLaws.{toZ-ofZ}
+use lib.IntN.{ℤ, pos}
+use lib.ListN.{length, drop}
+use Rattle.numbers.proofs.Words.{word-fits}
+use Rattle.query.specs.Deck as Deck
+use Rattle.query.specs.Problem.{problem}
+use Rattle.query.specs.Order as Query
+use Rattle.query.specs.Search.{Search, run}
+use Rattle.query.specs.Cost.{before}
+use Rattle.query.specs.Figures as Figures
+use Rattle.query.specs.Figures.{figures}
+use Rattle.query.specs.Space.{space}
+use Rattle.query.specs.Range.{FiguresInRange}
+use Rattle.query.proofs.FigureRanges.{figures-in-range}
+use Rattle.job.specs.Format.{Job, readJob}
+use Rattle.job.specs.Record.{jobRecord}
+use Rattle.job.specs.declared.Job as Held
+use Rattle.job.specs.declared.Deck.{Deck}
+use Rattle.job.specs.declared.Outcome.the-variants.{Accepted}
+use Rattle.job.specs.declared.Refusal.{Refusal}
+use Rattle.pricing.specs.DeckOf.{deckOf}
+use Rattle.pricing.specs.Sites.{sitesOf}
+use Rattle.pricing.specs.Record.{sitesRecord}
+use Rattle.pricing.specs.Columns.{BeforeIs}
+use Rattle.pricing.specs.declared.Sites.{Sites}
+use Rattle.pricing.proofs.RecordLaws.{made-range, made-before}
+use Rattle.report.specs.Report.{stateOf, figuresOf}
+use Rattle.report.specs.Text.{reportText}
+use Rattle.report.specs.Limits as Limits
+use Rattle.report.specs.Output.{Filled}
+use Rattle.report.specs.declared.Report.{Report}
+use Rattle.report.specs.declared.State.{State}
+use Rattle.report.proofs.Fits.{report-fits}
+use Rattle.search.specs.Run.{isDone, foundOf, Searched}
+use Rattle.search.specs.declared.run.Found.{Found}
+use Rattle.siting.specs.declared.Answer.the-variants as Answered
+use Rattle.siting.specs.declared.Response.{Response}
+use Rattle.siting.specs.Call.{stateRecord, reportRecord, turnedDown, overwritten, reported, reportCall}
+use Rattle.siting.specs.Parts.{stateFor, Solvable, Solved, refusedResponse, Responded}
+use Rattle.siting.proofs.ReadLaws.{Spelt, read-accepted, read-rounds, read-deckOf, read-full, sites-ask}
+use Rattle.siting.proofs.Demands.{job-limits, call-accepted}
+
+-- ---- solve
+state-is : (cells : List Query.Cell) → stateFor (isDone cells) ≡ stateRecord (Figures.stateOf cells)
+state-is [] = refl
+state-is (c ∷ cs) = refl
+
+found-report : (deck : Deck) (n : ℕ) (f : Found) (state : State) (b : ℕ) → f ≡ foundOf (run (problem (deckOf deck)) n) → state ≡ stateFor (f .done) → b ≡ before (deckOf deck) → record { state = state; x = f .x; y = f .y; high = f .high; low = f .low; before = b; rounds = f .cuts } ≡ reportRecord (figures (deckOf deck) n)
+unfolding figures Figures.figuresOf foundOf
+found-report deck n f state b e s h = rw (s, e, h, state-is (run (problem (deckOf deck)) n .live))
+
+module _ (deck : Deck) (n lent : ℕ) (h : Solvable deck n lent) (sites : Sites) (e : sites ≡ sitesRecord (sitesOf (deckOf deck))) where
+  pub before-is : (b : ℕ) → BeforeIs (sites .visits) (sites .near) (sites .count) b → b ≡ before (deckOf deck)
+  before-is b f = let range = made-range (deckOf deck) (h .range) sites e in f .is (sites .x) (sites .y) (range .x-long) (range .y-long) ∙ made-before (deckOf deck) (h .range) sites e
+
+  figures-range : FiguresInRange (deckOf deck) n
+  figures-range = figures-in-range (deckOf deck) (h .range) (h .full) n
+
+  -- the signed fields of an answer, as the code holds them
+  place-x : (f : Found) → f ≡ foundOf (run (problem (deckOf deck)) n) → toZ w64 (ofZ w64 (f .x)) ≡ f .x
+  unfolding figures Figures.figuresOf foundOf
+  place-x f e = toZ-ofZ w64 (f .x) (word-fits w64 (f .x) (rw e (omega (arith, figures-range .at-range .x-range))))
+
+  place-y : (f : Found) → f ≡ foundOf (run (problem (deckOf deck)) n) → toZ w64 (ofZ w64 (f .y)) ≡ f .y
+  unfolding figures Figures.figuresOf foundOf
+  place-y f e = toZ-ofZ w64 (f .y) (word-fits w64 (f .y) (rw e (omega (arith, figures-range .at-range .y-range))))
+
+  low-word : (f : Found) → f ≡ foundOf (run (problem (deckOf deck)) n) → toZ w64 (ofZ w64 (f .low)) ≡ f .low
+  unfolding figures Figures.figuresOf foundOf
+  low-word f e = toZ-ofZ w64 (f .low) (word-fits w64 (f .low) (rw e (omega (arith, figures-range .low-limit))))
+
+  pub solved : (cells cells′ : List ℤ) (f : Found) (state : State) (b : ℕ) → BeforeIs (sites .visits) (sites .near) (sites .count) b → Searched deck n cells cells′ f → state ≡ stateFor (f .done) → Solved deck n cells cells′ (record { state = state; x = toZ w64 (ofZ w64 (f .x)); y = toZ w64 (ofZ w64 (f .y)); high = f .high; low = toZ w64 (ofZ w64 (f .low)); before = b; rounds = f .cuts })
+  solved cells cells′ f state b g s t = record { report = rw (place-x f (s .found), place-y f (s .found), low-word f (s .found)) (found-report deck n f state b (s .found) t (before-is b g)); cells = s .cells }
+
+-- ---- respond
+pub respond-refused : (job : List ℕ) (cells : List ℤ) (out : List ℕ) (why : Refusal) → reportCall job cells out ≡ turnedDown why cells out → (r : Response) → r ≡ refusedResponse why → Responded job cells out cells out r
+respond-refused job cells out why e r f = subst (Responded job cells out cells out) (sym f) (record { left = sym e; filled = record { number = refl; content = refl }; few = omega arith })
+
+-- the figures of a report's record
+state-held : (state : Figures.State) → stateOf (stateRecord state) ≡ state
+state-held Figures.done = refl
+state-held Figures.stopped = refl
+
+figures-held : (f : Figures.Figures) → figuresOf (reportRecord f) ≡ f
+figures-held f = ap (λ (x : Figures.State). record { state = x; at = f .at; high = f .high; low = f .low; before = f .before; rounds = f .rounds }) (state-held (f .state))
+
+reported-is : (job : Job) (cells cells′ : List ℤ) (out out′ : List ℕ) (r : Report) (text : List ℕ) → r ≡ reportRecord (figures (job .deck) (job .rounds)) → cells′ ≡ space (job .deck) (job .rounds) (length cells) → text ≡ reportText (figures (job .deck) (job .rounds)) → out′ ≡ text ++ drop (length text) out → record { answer = Answered.Report r; cells = cells′; out = out′ } ≡ reported job cells out
+unfolding reported overwritten
+reported-is job cells cells′ out out′ r text e f g h = rw (h, g, f, e)
+
+-- an accepted job, as it was read
+module _ (job : List ℕ) (j : Held.Job) (e : j ≡ jobRecord (readJob job)) (rounds : ℕ) (o : j .outcome ≡ Accepted rounds) where
+  pub spelt : Spelt job
+  spelt = read-accepted job j e rounds o
+
+  pub rounds-same : rounds ≡ spelt .job .rounds
+  rounds-same = read-rounds job j e rounds o spelt
+
+  pub rounds-limit : rounds ≤ 1000
+  rounds-limit = omega (arith, rounds-same, spelt .allowed .writable .rounds)
+
+  pub solvable : (lent : ℕ) → 5 * (rounds + 1) ≤ lent → Solvable (j .deck) rounds lent
+  solvable lent h = let (range, posts, stops) = sites-ask spelt j e in record { range = range; full = read-full spelt j e; posts = posts; stops = stops; rounds-limit = rounds-limit; room = h }
+
+  module _ (cells cells′ : List ℤ) (r : Report) (s : Solved (j .deck) rounds cells cells′ r) where
+    solved-report : r ≡ reportRecord (figures (spelt .job .deck) (spelt .job .rounds))
+    solved-report = s .report ∙ ap (λ (deck : Deck.Deck). reportRecord (figures deck rounds)) (read-deckOf spelt j e) ∙ ap (λ (n : ℕ). reportRecord (figures (spelt .job .deck) n)) rounds-same
+
+    solved-cells : cells′ ≡ space (spelt .job .deck) (spelt .job .rounds) (length cells)
+    solved-cells = s .cells ∙ ap (λ (deck : Deck.Deck). space deck rounds (length cells)) (read-deckOf spelt j e) ∙ ap (λ (n : ℕ). space (spelt .job .deck) n (length cells)) rounds-same
+
+    solved-figures : figuresOf r ≡ figures (spelt .job .deck) (spelt .job .rounds)
+    solved-figures = ap figuresOf solved-report ∙ figures-held (figures (spelt .job .deck) (spelt .job .rounds))
+
+    pub report-limits : Limits.FiguresInRange (figuresOf r)
+    report-limits = subst Limits.FiguresInRange (sym solved-figures) (job-limits (spelt .job) (spelt .allowed))
+
+    pub respond-reported : (out out′ : List ℕ) (n : ℕ) → 5 * (rounds + 1) ≤ length cells → 128 ≤ length out → Filled out (reportText (figuresOf r)) out′ n → Responded job cells out cells′ out′ (record { answer = Answered.Report r; bytes = n })
+    respond-reported out out′ n h k f = record {
+      left =
+          reported-is (spelt .job) cells cells′ out out′ r (reportText (figuresOf r)) solved-report solved-cells (ap reportText solved-figures) (f .content)
+          ∙ sym (call-accepted job cells out (spelt .job) (record { read = spelt .read; space = omega (arith, rounds-same, h); output = k }));
+      filled = f;
+      few = omega (arith, f .number, report-fits .report-fits (figuresOf r) report-limits);
+    }

@@ -1,0 +1,56 @@
+-- What the parts of the call answer and leave.
+-- Assumes nothing.
+use Prim.Native.Nat.{ℕ, _+_, _*_, _≤_}
+use mathlib.Core.Path.{_≡_}
+use mathlib.Core.Bool.{Bool, cond}
+use mathlib.Core.List.{List, []}
+use lib.IntN.{ℤ}
+use lib.ListN.{length}
+use Rattle.query.specs.Place.{NonEmpty}
+use Rattle.query.specs.Figures.{figures}
+use Rattle.query.specs.Space.{space}
+use Rattle.query.specs.Range.{InRange}
+use Rattle.job.specs.declared.Deck.{Deck}
+use Rattle.job.specs.declared.Refusal.{Refusal}
+use Rattle.pricing.specs.DeckOf.{deckOf}
+use Rattle.report.specs.Report.{figuresOf}
+use Rattle.report.specs.Text.{reportText}
+use Rattle.report.specs.Output.{Filled}
+use Rattle.report.specs.declared.Report.{Report}
+use Rattle.report.specs.declared.State.{State}
+use Rattle.report.specs.declared.State.the-variants.{Done, Stopped}
+use Rattle.siting.specs.declared.Answer.{Answer}
+use Rattle.siting.specs.declared.Answer.the-variants as Answered
+use Rattle.siting.specs.declared.Response.{Response}
+use Rattle.siting.specs.Call.{reportRecord, reportCall}
+
+abbrev pub stateFor : Bool → State
+stateFor isDone = cond isDone Done Stopped
+
+-- a deck in range, rounds of a job, and room for their cells
+pub record Solvable (deck : Deck) (rounds lent : ℕ) : Type 0 where
+  pub range : InRange (deckOf deck)
+  pub full : NonEmpty (deckOf deck .area)
+  pub posts : deck .posts ≤ 64
+  pub stops : deck .stops ≤ 512
+  pub rounds-limit : rounds ≤ 1000
+  pub room : 5 * (rounds + 1) ≤ lent
+
+-- its report, and what the cell space then holds
+pub record Solved (deck : Deck) (rounds : ℕ) (before after : List ℤ) (r : Report) : Type 0 where
+  pub report : r ≡ reportRecord (figures (deckOf deck) rounds)
+  pub cells : after ≡ space (deckOf deck) rounds (length before)
+
+-- the text that an answer writes
+abbrev pub textWritten : Answer → List ℕ
+textWritten (Answered.Report r) = reportText (figuresOf r)
+textWritten (Answered.Refused why) = []
+
+abbrev pub refusedResponse : Refusal → Response
+refusedResponse why = record { answer = Answered.Refused why; bytes = 0 }
+
+-- the answer of the call, what it leaves of the memory that it is lent, and the bytes that it writes
+pub record Responded (job : List ℕ) (cells : List ℤ) (out : List ℕ) (cells′ : List ℤ) (out′ : List ℕ) (r : Response) : Type 0 where
+  pub left : record { answer = r .answer; cells = cells′; out = out′ } ≡ reportCall job cells out
+  pub filled : Filled out (textWritten (r .answer)) out′ (r .bytes)
+  pub few : r .bytes ≤ 128
