@@ -19,9 +19,9 @@ use Rattle.query.specs.Demand3.{Demand3}
 use Rattle.query.proofs.Demand3 as Query
 use Rattle.query.proofs.FigureRanges.{figures-in-range}
 use Rattle.job.specs.Format.{Job, Result, refused, accepted, readJob}
-use Rattle.job.specs.Spelling.{Allowed}
+use Rattle.job.specs.Spelling.{spell, Allowed}
 use Rattle.job.specs.Meaning as Meaning
-use Rattle.job.proofs.Meaning.{accepted-law, refused-law, allowed-in-range}
+use Rattle.job.proofs.Meaning.{accepted-law, refused-law, spelling-law, allowed-in-range}
 use Rattle.job.specs.declared.Refusal.{Refusal}
 use Rattle.job.specs.declared.Refusal.the-variants.{TooLong, Malformed, OutOfRange, EmptyArea, NoPosts, NoStops, SmallSpace, ShortOutput}
 use Rattle.report.specs.Text.{reportText}
@@ -53,7 +53,7 @@ unfolding reportCall
 call-accepted bytes cells out j a = ap (λ (r : Result). answered r cells out) (a .read) ∙ accepted-answer j cells out (a .space) (a .output)
 
 -- ---- demand 2
-demand-2 : (bytes : List ℕ) (cells : List ℤ) (out : List ℕ) (j : Job) → Accepted bytes cells out j → Demand2 bytes cells out j
+pub demand-2 : (bytes : List ℕ) (cells : List ℤ) (out : List ℕ) (j : Job) → Accepted bytes cells out j → Demand2 bytes cells out j
 unfolding reported overwritten
 demand-2 bytes cells out j a = let law = accepted-law bytes j .exactly .0 (a .read) in let e = call-accepted bytes cells out j a in record {
   spelled = law .1;
@@ -88,6 +88,15 @@ report-law j a = let law = Query.demand-3 (j .deck) (a .area-full) (j .rounds) i
 report-is : (bytes : List ℕ) (cells : List ℤ) (out : List ℕ) (j : Job) (r : Report) → Accepted bytes cells out j → reportCall bytes cells out .answer ≡ Answered.Report r → reportRecord (figures (j .deck) (j .rounds)) ≡ r
 report-is bytes cells out j r a e = let f = demand-2 bytes cells out j a .answer in cc
 
+-- one more round leaves a job allowed
+allowed-more : (j : Job) → j .rounds < 1000 → Allowed j → Allowed (oneMore j)
+allowed-more j h a = let w = a .writable in record {
+  writable = record { plain-axis = w .plain-axis; area = w .area; posts = w .posts; most-posts = w .most-posts; stops = w .stops; most-stops = w .most-stops; rounds = omega arith };
+  area-full = a .area-full;
+  some-posts = a .some-posts;
+  some-stops = a .some-stops;
+}
+
 demand-3 : (bytes : List ℕ) (cells : List ℤ) (out : List ℕ) (j : Job) (r : Report) → Accepted bytes cells out j → reportCall bytes cells out .answer ≡ Answered.Report r → Demand3Report bytes cells out j r
 demand-3 bytes cells out j r a e =
     let allowed = accepted-law bytes j .exactly .0 (a .read) .2 in
@@ -96,6 +105,7 @@ demand-3 bytes cells out j r a e =
       law = subst (ReportLaw j) same (report-law j allowed);
       one-more-low = λ bytes′ cells′ out′ r′ a′ e′. subst₂ (λ (p q : Report). p .low ≤ℤ q .low) same (report-is bytes′ cells′ out′ (oneMore j) r′ a′ e′) (law (j .rounds) .low-rises);
       one-more-high = λ bytes′ cells′ out′ r′ a′ e′. subst₂ (λ (p q : Report). q .high ≤ p .high) same (report-is bytes′ cells′ out′ (oneMore j) r′ a′ e′) (law (j .rounds) .high-falls);
+      one-more-read = λ h. let more = allowed-more j h allowed in accepted-law (spell (oneMore j)) (oneMore j) .exactly .1 (spelling-law (oneMore j) .fits more, refl, more);
       every-n = law;
     }
 
@@ -110,7 +120,7 @@ module _ (bytes : List ℕ) (cells : List ℤ) (out : List ℕ) where
   unfolding reportCall answered
   refused-call why e = ap (λ (r : Result). answered r cells out) e
 
-  from-reading : (why : Refusal) → readJob bytes ≡ refused why → Condition why bytes cells out
+  pub from-reading : (why : Refusal) → readJob bytes ≡ refused why → Condition why bytes cells out
   from-reading TooLong e = refused-law bytes TooLong .exactly .0 e
   from-reading (Malformed n) e = refused-law bytes (Malformed n) .exactly .0 e
   from-reading (OutOfRange n) e = refused-law bytes (OutOfRange n) .exactly .0 e
@@ -133,7 +143,7 @@ module _ (bytes : List ℕ) (cells : List ℤ) (out : List ℕ) where
   answer-of : (left : Left) → reportCall bytes cells out ≡ left → reportCall bytes cells out .answer ≡ left .answer
   answer-of left e = ap (λ (l : Left). l .answer) e
 
-  refuses : (why : Refusal) → Condition why bytes cells out → reportCall bytes cells out ≡ turnedDown why cells out
+  pub refuses : (why : Refusal) → Condition why bytes cells out → reportCall bytes cells out ≡ turnedDown why cells out
   refuses TooLong h = refused-call TooLong (refused-law bytes TooLong .exactly .1 h)
   refuses (Malformed n) h = refused-call (Malformed n) (refused-law bytes (Malformed n) .exactly .1 h)
   refuses (OutOfRange n) h = refused-call (OutOfRange n) (refused-law bytes (OutOfRange n) .exactly .1 h)

@@ -89,7 +89,7 @@ state-held : (state : Figures.State) → stateOf (stateRecord state) ≡ state
 state-held Figures.done = refl
 state-held Figures.stopped = refl
 
-figures-held : (f : Figures.Figures) → figuresOf (reportRecord f) ≡ f
+pub figures-held : (f : Figures.Figures) → figuresOf (reportRecord f) ≡ f
 figures-held f = ap (λ (x : Figures.State). record { state = x; at = f .at; high = f .high; low = f .low; before = f .before; rounds = f .rounds }) (state-held (f .state))
 
 reported-is : (job : Job) (cells cells′ : List ℤ) (out out′ : List ℕ) (r : Report) (text : List ℕ) → r ≡ reportRecord (figures (job .deck) (job .rounds)) → cells′ ≡ space (job .deck) (job .rounds) (length cells) → text ≡ reportText (figures (job .deck) (job .rounds)) → out′ ≡ text ++ drop (length text) out → record { answer = Answered.Report r; cells = cells′; out = out′ } ≡ reported job cells out

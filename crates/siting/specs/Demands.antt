@@ -5,8 +5,8 @@ use Prim.Native.Nat.{ℕ, suc, _+_, _-_, _*_, _≤_, _<_}
 use mathlib.Core.Path.{_≡_}
 use mathlib.Core.Logic.{_↔_, _≢_}
 use mathlib.Core.List.{List, _++_}
-use lib.IntN.{ℤ, pos}
-use lib.ListN.{length, drop}
+use lib.IntN.{ℤ, pos, negℤ}
+use lib.ListN.{length, drop, replicate}
 use lib.Signed.{_≤ℤ_}
 use Rattle.query.specs.Place.{Place, In, x-axis, y-axis}
 use Rattle.query.specs.Deck.{Deck}
@@ -17,6 +17,7 @@ use Rattle.query.specs.Figures.{figures}
 use Rattle.query.specs.Space.{space}
 use Rattle.query.specs.History.{cutsMade}
 use Rattle.query.specs.Demand3.{Beaten, Demand3}
+use Rattle.job.specs.Refusal.{numberOf}
 use Rattle.job.specs.Format.{Job, accepted, readJob}
 use Rattle.job.specs.Spelling.{spell, Allowed}
 use Rattle.job.specs.Meaning as Meaning
@@ -27,6 +28,7 @@ use Rattle.report.specs.declared.Report.{Report}
 use Rattle.report.specs.declared.State.the-variants.{Done, Stopped}
 use Rattle.siting.specs.declared.Answer.the-variants as Answered
 use Rattle.siting.specs.Call.{reportCall, reportRecord}
+use Rattle.siting.specs.Entry.{Returned, entry}
 
 -- ---- demand 1
 -- document 01, "Turned down": the condition of each refusal of the call, in the stated order
@@ -93,8 +95,17 @@ pub record Demand3Report (job : List ℕ) (cells : List ℤ) (out : List ℕ) (j
   -- "The same job with one more round has a low at least as large and a high at most as large", with enough lent for it
   pub one-more-low : (job′ : List ℕ) (cells′ : List ℤ) (out′ : List ℕ) (r′ : Report) → Accepted job′ cells′ out′ (oneMore j) → reportCall job′ cells′ out′ .answer ≡ Answered.Report r′ → r .low ≤ℤ r′ .low
   pub one-more-high : (job′ : List ℕ) (cells′ : List ℤ) (out′ : List ℕ) (r′ : Report) → Accepted job′ cells′ out′ (oneMore j) → reportCall job′ cells′ out′ .answer ≡ Answered.Report r′ → r′ .high ≤ r .high
+  -- up to 1,000 rounds such a job exists: j's bytes but for the rounds number
+  pub one-more-read : j .rounds < 1000 → readJob (spell (oneMore j)) ≡ accepted (oneMore j)
   -- past 1,000 rounds, where no job exists, of what the rules give
   pub every-n : (n : ℕ) → Demand3 (j .deck) n
+
+-- ---- the C entry
+-- 01 "The C entry has cell space of its own and never gives 7; its signed result is the bytes written, or minus the refusal number"
+pub record EntryLaw (job out : List ℕ) : Type 0 where
+  pub report : (j : Job) → readJob job ≡ accepted j → 128 ≤ length out → entry job out ≡ record { result = pos (length (reportText (figures (j .deck) (j .rounds)))); out = reportText (figures (j .deck) (j .rounds)) ++ drop (length (reportText (figures (j .deck) (j .rounds)))) out }
+  pub refusal : (why : Refusal) → Condition why job (replicate 5005 (pos 0)) out → entry job out ≡ record { result = negℤ (pos (numberOf why)); out = out }
+  pub never-7 : entry job out .result ≢ negℤ (pos 7)
 
 -- the three demands together
 pub record Demands (job : List ℕ) (cells : List ℤ) (out : List ℕ) : Type 0 where
