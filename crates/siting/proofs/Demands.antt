@@ -65,7 +65,7 @@ demand-2 bytes cells out j a = let law = accepted-law bytes j .exactly .0 (a .re
 }
 
 -- ---- demand 3
-is-done : (s : State) → stateRecord s ≡ Done → s ≡ done
+pub is-done : (s : State) → stateRecord s ≡ Done → s ≡ done
 is-done done e = refl
 is-done stopped e = cc
 
@@ -175,6 +175,20 @@ module _ (bytes : List ℕ) (cells : List ℤ) (out : List ℕ) where
       go : (r : Result) → readJob bytes ≡ r → Condition why bytes cells out
       go (refused w) e = subst (λ (w : Refusal). Condition w bytes cells out) (same-why why w (turnedDown w cells out) (refused-call w e) refl f) (from-reading w e)
       go (accepted j) e = lent j e
+
+  -- a report is that of an accepted job
+  pub accepted-report : (r : Report) → reportCall bytes cells out .answer ≡ Answered.Report r → (j : Job) × (readJob bytes ≡ accepted j) × (reportRecord (figures (j .deck) (j .rounds)) ≡ r)
+  accepted-report r f = go (readJob bytes) refl
+    where
+      refused-not : (why : Refusal) → reportCall bytes cells out ≡ turnedDown why cells out → ⊥
+      refused-not why e = not-refused why r (sym f ∙ answer-of (turnedDown why cells out) e)
+
+      go : (x : Result) → readJob bytes ≡ x → (j : Job) × (readJob bytes ≡ accepted j) × (reportRecord (figures (j .deck) (j .rounds)) ≡ r)
+      go (refused why) e = absurd (refused-not why (refused-call why e))
+      go (accepted j) e =
+          ⊎-elim (λ t. absurd (refused-not SmallSpace (small-space j e (ltb→lt _ _ t))))
+          (λ t. ⊎-elim (λ u. absurd (refused-not ShortOutput (short-output j e (nltb→le _ _ t) (ltb→lt _ _ u)))) (λ u. (j, e, report-is bytes cells out j r (record { read = e; space = nltb→le _ _ t; output = nltb→le _ _ u }) f)) (test (ltb (length out) 128)))
+          (test (ltb (length cells) (5 * (j .rounds + 1))))
 
   demand-1 : Demand1 bytes cells out
   demand-1 = record {

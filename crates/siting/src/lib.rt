@@ -6,6 +6,7 @@ use pricing::price;
 use report::Report;
 use report::State;
 use search::run;
+use search::run::Spot;
 ghost use Prim.Native.Nat.{_≤_};
 ghost use mathlib.Core.Path.{_≡_};
 ghost use lib.ListN.{length};
@@ -17,6 +18,12 @@ ghost use Rattle.siting.specs.Parts.{stateFor, Solvable, Solved, refused
 // Each answer is either a report, itself done or stopped, or one refusal.
 pub enum Answer {
     Report(Report),
+    Refused(Refusal),
+}
+
+// The place and the cost of the cheapest crossing of lines, or one refusal.
+pub enum Cheapest {
+    At(Spot),
     Refused(Refusal),
 }
 
