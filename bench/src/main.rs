@@ -33,17 +33,18 @@ fn timed(f: impl FnOnce() -> i64) -> (f64, i64) {
 const REPETITIONS: usize = 25;
 
 fn compare(name: &str, job: &[u8], k: u64, kernel: Kernel, twin: impl Fn(u64) -> i64) {
-    let (mut ours, mut theirs) = (f64::MAX, f64::MAX);
+    let (mut reading, mut ours, mut theirs) = (f64::MAX, f64::MAX, f64::MAX);
     for _ in 0..REPETITIONS {
-        let (reading, _) = timed(|| proved(kernel, black_box(job), 0));
+        let (t, _) = timed(|| proved(kernel, black_box(job), 0));
+        reading = reading.min(t);
         let (t, a) = timed(|| proved(kernel, black_box(job), k));
-        ours = ours.min((t - reading).max(0.0));
+        ours = ours.min(t);
         let (t, b) = timed(|| twin(black_box(k)));
         theirs = theirs.min(t);
         assert_eq!(a, b, "{name}: the twin gives another sum");
         assert!(a > 0, "{name}: an empty sum");
     }
-    let (ours, theirs) = (ours / k as f64, theirs / k as f64);
+    let (ours, theirs) = ((ours - reading) / k as f64, theirs / k as f64);
     println!("{name:<44} {ours:>10.1} {theirs:>10.1} {:>7.2}", ours / theirs);
 }
 

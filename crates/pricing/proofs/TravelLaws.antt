@@ -1,14 +1,14 @@
 -- The travel between two places, by their words.
 -- Assumes nothing.
 use mathlib.Core.Path.{_≡_, _∙_}
-use mathlib.Core.Bool.{cond}
+use mathlib.Core.Bool.{true, false, cond}
 use Prim.Native.Nat.{ℕ, _+_, _^_, _≤_, _<_}
 use native.Mathlib.Omega.{arith}
-use borrow.Author.Tests.{lt-ltb, le-ltb}
-use lib.Dec.{ltb}
 use lib.IntN.{ℤ, pos, natAbs, _+ℤ_}
+use lib.Signed.{ltZ}
 use mir.Syntax.{w32, w64}
-use mir.Val.{toZ, ofZ}
+use mir.Val.{SFits, toZ, ofZ}
+use mir.ValLaws.{toZ-ofZ}
 use Rattle.numbers.specs.Integer.{dist}
 use Rattle.numbers.proofs.Distance.{dist-most}
 use Rattle.query.specs.Place.{Place}
@@ -40,27 +40,25 @@ module _ (ux uy vx vy : ℤ) (u : Near180000 ux uy) (v : Near180000 vx vy) where
       (p ∙ rw (coordinate ux (u .x-range), coordinate vx (v .x-range))) (q ∙ rw (coordinate uy (u .y-range), coordinate vy (v .y-range)))
       (omega (arith, dist-most 180000 ux vx (u .x-range) (v .x-range))) (omega (arith, dist-most 180000 uy vy (u .y-range) (v .y-range)))
 
--- the smaller of two, by the code's test on t, which is d
-module _ (t d least : ℕ) (e : t ≡ d) where
-  pub picks-first : t < least → t ≡ cond (ltb d least) d least
-  picks-first h = rw (lt-ltb d least (rw e at h)) e
+-- the smaller of two, by the code's test on t, which is z
+module _ (t z least : ℤ) (e : toZ w32 (ofZ w32 t) ≡ z) (f : SFits w32 least) where
+  pub picks-first : ltZ (toZ w32 (ofZ w32 t)) (toZ w32 (ofZ w32 least)) ≡ true → toZ w32 (ofZ w32 t) ≡ cond (ltZ z least) z least
+  picks-first h = let l : ltZ z least ≡ true = rw (e, toZ-ofZ w32 least f) at h in rw l e
 
-  pub picks-second : least ≤ t → least ≡ cond (ltb d least) d least
-  picks-second h = rw (le-ltb d least (rw e at h))
+  pub picks-second : ltZ (toZ w32 (ofZ w32 t)) (toZ w32 (ofZ w32 least)) ≡ false → toZ w32 (ofZ w32 least) ≡ cond (ltZ z least) z least
+  picks-second h = let l : ltZ z least ≡ false = rw (e, toZ-ofZ w32 least f) at h in rw l (toZ-ofZ w32 least f)
 
--- ---- posts, whose coordinates are narrowed from 64-bit words
+-- ---- posts
+module _ (x y px py : ℤ) (at : Near180000 x y) (post : Near180000 px py) where
+  pub post-far : far (toZ w32 (ofZ w32 x)) (toZ w32 (ofZ w32 y)) (toZ w32 (ofZ w32 px)) (toZ w32 (ofZ w32 py)) ≡ far (toZ w32 (ofZ w32 x)) (toZ w32 (ofZ w32 y)) px py
+  post-far = rw (coordinate px (post .x-range), coordinate py (post .y-range))
+
+  pub post-small : far (toZ w32 (ofZ w32 x)) (toZ w32 (ofZ w32 y)) px py < 2 ^ 31
+  post-small = far-small (toZ w32 (ofZ w32 x)) (toZ w32 (ofZ w32 y)) px py (place-word at) post
+
+-- ---- stops, whose coordinates are narrowed from 64-bit words
 abbrev pub narrow : ℤ → ℤ
 narrow z = toZ w32 (ofZ w32 (toZ w64 (ofZ w64 z)))
 
 pub narrow-place : (x y : ℤ) → natAbs x ≤ 180000 → natAbs y ≤ 180000 → Near180000 (narrow x) (narrow y)
 narrow-place x y g h = rw (narrowed x g, narrowed y h) (record { x-range = g; y-range = h })
-
-module _ (x y px py : ℤ) (at : Near180000 x y) (post : Near180000 px py) where
-  pub post-word : Near180000 (narrow px) (narrow py)
-  post-word = narrow-place px py (post .x-range) (post .y-range)
-
-  pub post-far : far (toZ w32 (ofZ w32 x)) (toZ w32 (ofZ w32 y)) (narrow px) (narrow py) ≡ far (toZ w32 (ofZ w32 x)) (toZ w32 (ofZ w32 y)) px py
-  post-far = rw (narrowed px (post .x-range), narrowed py (post .y-range))
-
-  pub post-small : far (toZ w32 (ofZ w32 x)) (toZ w32 (ofZ w32 y)) px py < 2 ^ 31
-  post-small = far-small (toZ w32 (ofZ w32 x)) (toZ w32 (ofZ w32 y)) px py (place-word at) post

@@ -8,7 +8,7 @@ ghost use mathlib.Core.List.{map};
 ghost use Prim.Native.Nat.{_+_, _*_, _≤_, min, max};
 ghost use lib.Dec.{ltb};
 ghost use lib.IntN.{pos, natAbs, _-ℤ_};
-ghost use lib.Signed.{_≤ℤ_};
+ghost use lib.Signed.{ltZ, _≤ℤ_};
 ghost use lib.ListN.{take};
 ghost use Rattle.numbers.specs.Integer.{dist, clamp, halfUp};
 ghost use Rattle.query.specs.Place.{Place, Rect};
@@ -205,6 +205,20 @@ fn coordinates(from: &[i64; 512], n: usize) -> [i32; 512]
     to
 }
 
+// The same of a column of posts, narrowed before the loops over stops and posts.
+fn post_coordinates(from: &[i64; 64], n: usize) -> [i32; 64]
+    requires { ⌜ CoordinatesInRange 64 (now from) n ⌝ }
+    ensures { λ r. ⌜ r ≡ padded 64 (pos 0) (take n (now (from .entry))) ⌝ }
+{
+    let mut to = [0i32; 64];
+    let mut i: usize = 0;
+    while i < n {
+        to[i] = from[i] as i32;
+        i = i + 1;
+    }
+    to
+}
+
 // The first n numbers of a column of visits, and 0 behind them.
 fn visit_counts(from: &[u64; 512], n: usize) -> [u32; 512]
     requires { ⌜ VisitsInRange (now from) n ⌝ }
@@ -220,26 +234,26 @@ fn visit_counts(from: &[u64; 512], n: usize) -> [u32; 512]
 }
 
 // The smaller of a travel and of that from (x, y) to (px, py).
-fn closer(least: u32, x: i32, y: i32, px: i32, py: i32) -> u32
+fn closer(least: i32, x: i32, y: i32, px: i32, py: i32) -> i32
     requires { ⌜ Near180000 x y × Near180000 px py ⌝ }
-    ensures { λ r. ⌜ r ≡ cond (ltb (dist x px + dist y py) least) (dist x px + dist y py) least ⌝ }
+    ensures { λ r. ⌜ r ≡ cond (ltZ (pos (dist x px + dist y py)) least) (pos (dist x px + dist y py)) least ⌝ }
 {
-    let t = travelled(x, y, px, py) as u32;
+    let t = travelled(x, y, px, py);
     if t < least { t } else { least }
 }
 
 // The travel from a place to the closest of k posts.
-fn near_of<'a>(px: &'a [i64; 64], py: &'a [i64; 64], k: usize, x: i32, y: i32) -> u32
+fn near_of<'a>(px: &'a [i32; 64], py: &'a [i32; 64], k: usize, x: i32, y: i32) -> u32
     requires { ⌜ (1 ≤ k) × CoordinatesInRange 64 (now px) k × CoordinatesInRange 64 (now py) k × Near180000 x y ⌝ }
     ensures { λ r. ⌜ r ≡ closest plain (record { x = x; y = y }) (take k (places (now (px .entry)) (now (py .entry)))) ⌝ }
 {
-    let mut least = travelled(x, y, px[0] as i32, py[0] as i32) as u32;
+    let mut least = travelled(x, y, px[0], py[0]);
     let mut j: usize = 1;
     while j < k {
-        least = closer(least, x, y, px[j] as i32, py[j] as i32);
+        least = closer(least, x, y, px[j], py[j]);
         j = j + 1;
     }
-    least
+    least as u32
 }
 
 // The near of the first n stops, and 0 behind them.
@@ -254,10 +268,12 @@ fn nears<'a>(
     requires { ⌜ (1 ≤ k) × CoordinatesInRange 64 (now px) k × CoordinatesInRange 64 (now py) k × CoordinatesInRange 512 (now xs) n × CoordinatesInRange 512 (now ys) n ⌝ }
     ensures { λ r. ⌜ r ≡ padded 512 0 (take n (map (λ p. closest plain p (take k (places (now (px .entry)) (now (py .entry))))) (places (now (xs .entry)) (now (ys .entry))))) ⌝ }
 {
+    let u = post_coordinates(px, k);
+    let v = post_coordinates(py, k);
     let mut to = [0u32; 512];
     let mut i: usize = 0;
     while i < n {
-        to[i] = near_of(px, py, k, xs[i] as i32, ys[i] as i32);
+        to[i] = near_of(&u, &v, k, xs[i] as i32, ys[i] as i32);
         i = i + 1;
     }
     to

@@ -2,10 +2,10 @@
 -- Assumes nothing.
 use mathlib.Core.Path.{_≡_, ap, _∙_}
 use borrow.Author.Needs.{needs}
-use lib.IntN.{pos, natAbs}
+use lib.IntN.{pos}
 use mir.Syntax.{w32}
 use mir.Val.{toZ, ofZ}
-use Rattle.numbers.proofs.Words.{natural-is, natural-cast}
+use mir.ValLaws.{toZ-pos}
 use Rattle.pricing.proofs.TravelLaws.{far, far-small, far-word, picks-first, picks-second}
 use Rattle.pricing.proofs.price.closer.Statement.{statement}
 use Rattle.pricing.proofs.price.closer.Tie as tie
@@ -16,17 +16,14 @@ travelled-requires c κs = search needs
 total : (c : tie.After-travelled) → c .travelled .result ≡ pos (far (c .before .args .x) (c .before .args .y) (c .before .args .px) (c .before .args .py))
 total c = c .travelled .ensures ∙ ap pos (far-word _ _ _ _ (c .before .pre .0) (c .before .pre .1))
 
-total-is : (c : tie.After-travelled) → natAbs (toZ w32 (ofZ w32 (c .travelled .result))) ≡ far (c .before .args .x) (c .before .args .y) (c .before .args .px) (c .before .args .py)
-total-is c = natural-is w32 _ _ (total c) (far-small _ _ _ _ (c .before .pre .0) (c .before .pre .1))
-
-cast-t : tie.Need-cast-t
-cast-t c = natural-cast w32 _ _ (total c) (far-small _ _ _ _ (c .before .pre .0) (c .before .pre .1))
+total-is : (c : tie.After-travelled) → toZ w32 (ofZ w32 (c .travelled .result)) ≡ pos (far (c .before .args .x) (c .before .args .y) (c .before .args .px) (c .before .args .py))
+total-is c = rw (total c) (toZ-pos w32 _ (far-small _ _ _ _ (c .before .pre .0) (c .before .pre .1)))
 
 returns : tie.Need-returns
-returns c = picks-first _ _ _ (total-is (c .before)) (c .if1 .taken)
+returns c = picks-first (c .before .travelled .result) _ _ (total-is (c .before)) (c .before .before .fits .least) (c .if1 .taken)
 
 returns-2 : tie.Need-returns-2
-returns-2 c = picks-second _ _ _ (total-is (c .before)) (c .if1 .left)
+returns-2 c = picks-second (c .before .travelled .result) _ _ (total-is (c .before)) (c .before .before .fits .least) (c .if1 .left)
 
 pub closer-spec : {M : Type 1} → statement M
-closer-spec = tie.close (tie.spec travelled-requires cast-t returns returns-2)
+closer-spec = tie.close (tie.spec travelled-requires returns returns-2)

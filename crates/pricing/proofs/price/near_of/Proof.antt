@@ -7,9 +7,9 @@ use lib.IntN.{pos}
 use lib.ListN.{getD}
 use mir.Syntax.{w32}
 use mir.Val.{toZ, ofZ}
-use Rattle.numbers.proofs.Words.{natural-is, natural-cast}
-use Rattle.pricing.proofs.WordLaws.{coordinate, narrow-fits}
-use Rattle.pricing.proofs.TravelLaws.{far, place-word, post-word, post-far, post-small}
+use mir.ValLaws.{toZ-pos}
+use Rattle.pricing.proofs.WordLaws.{coordinate}
+use Rattle.pricing.proofs.TravelLaws.{far, place-word, post-far, post-small}
 use Rattle.pricing.proofs.ClosestLaws.{ClosestSoFar, closest-first, closest-more, closest-all, post-range}
 use Rattle.pricing.proofs.price.near_of.Statement.{statement}
 use Rattle.pricing.proofs.price.near_of.Tie as tie
@@ -23,28 +23,19 @@ abbrev μ-loop : tie.MeasureT-loop
 element-copy-out-travelled : tie.Need-element-copy-out-travelled Inv-loop μ-loop
 element-copy-out-travelled c = omega arith
 
-cast-travelled : tie.Need-cast-travelled Inv-loop μ-loop
-cast-travelled c = narrow-fits (getD (c .before .args .px .now) 0 (pos 0)) (c .before .pre .1 .range 0 (c .before .pre .0))
-
 element-copy-out-travelled-2 : tie.Need-element-copy-out-travelled-2 Inv-loop μ-loop
 element-copy-out-travelled-2 c = omega arith
 
-cast-travelled-2 : tie.Need-cast-travelled-2 Inv-loop μ-loop
-cast-travelled-2 c = narrow-fits (getD (c .before .before .args .py .now) 0 (pos 0)) (c .before .before .pre .2 .range 0 (c .before .before .pre .0))
-
 travelled-requires : tie.Need-travelled-requires Inv-loop μ-loop
-travelled-requires c κs = let s = c .before .before in (place-word (s .pre .3), post-word _ _ _ _ (s .pre .3) (post-range (s .pre .1) (s .pre .2) 0 (s .pre .0)))
+travelled-requires c κs = let s = c .before .before in (place-word (s .pre .3), place-word (post-range (s .pre .1) (s .pre .2) 0 (s .pre .0)))
 
 first : (c : tie.After-travelled Inv-loop μ-loop) →
     let s = c .before .before .before in
     c .travelled .result ≡ pos (far (toZ w32 (ofZ w32 (s .args .x))) (toZ w32 (ofZ w32 (s .args .y))) (getD (s .args .px .now) 0 (pos 0)) (getD (s .args .py .now) 0 (pos 0)))
 first c = let s = c .before .before .before in c .travelled .ensures ∙ ap pos (post-far _ _ _ _ (s .pre .3) (post-range (s .pre .1) (s .pre .2) 0 (s .pre .0)))
 
-cast-least : tie.Need-cast-least Inv-loop μ-loop
-cast-least c = let s = c .before .before .before in natural-cast w32 _ _ (first c) (post-small _ _ _ _ (s .pre .3) (post-range (s .pre .1) (s .pre .2) 0 (s .pre .0)))
-
 loop-holds : tie.Need-loop-holds Inv-loop μ-loop
-loop-holds c = let s = c .before .before .before in closest-first _ _ _ _ (s .pre .1) (s .pre .2) _ (s .pre .0) (natural-is w32 _ _ (first c) (post-small _ _ _ _ (s .pre .3) (post-range (s .pre .1) (s .pre .2) 0 (s .pre .0))))
+loop-holds c = let s = c .before .before .before in closest-first _ _ _ _ (s .pre .1) (s .pre .2) _ (s .pre .0) (post-small _ _ _ _ (s .pre .3) (post-range (s .pre .1) (s .pre .2) 0 (s .pre .0))) (first c)
 
 mul-closer : tie.Need-mul-closer Inv-loop μ-loop
 mul-closer c = omega arith
@@ -52,22 +43,16 @@ mul-closer c = omega arith
 element-copy-out-closer : tie.Need-element-copy-out-closer Inv-loop μ-loop
 element-copy-out-closer c = omega arith
 
-cast-closer : tie.Need-cast-closer Inv-loop μ-loop
-cast-closer c = let s = c .before .before .before .before .before .before in narrow-fits (getD (s .args .px .now) (c .before .before .loop .j) (pos 0)) (s .pre .1 .range _ (c .before .loop-test .taken))
-
 mul-closer-2 : tie.Need-mul-closer-2 Inv-loop μ-loop
 mul-closer-2 c = omega arith
 
 element-copy-out-closer-2 : tie.Need-element-copy-out-closer-2 Inv-loop μ-loop
 element-copy-out-closer-2 c = omega arith
 
-cast-closer-2 : tie.Need-cast-closer-2 Inv-loop μ-loop
-cast-closer-2 c = let s = c .before .before .before .before .before .before .before in narrow-fits (getD (s .args .py .now) (c .before .before .before .loop .j) (pos 0)) (s .pre .2 .range _ (c .before .before .loop-test .taken))
-
 closer-requires : tie.Need-closer-requires Inv-loop μ-loop
 closer-requires c κs =
     let s = c .before .before .before .before .before .before .before in
-    (place-word (s .pre .3), post-word _ _ _ _ (s .pre .3) (post-range (s .pre .1) (s .pre .2) _ (c .before .before .loop-test .taken)))
+    (place-word (s .pre .3), place-word (post-range (s .pre .1) (s .pre .2) _ (c .before .before .loop-test .taken)))
 
 add-j : tie.Need-add-j Inv-loop μ-loop
 add-j c = omega arith
@@ -80,10 +65,14 @@ loop-again c =
     let s = c .before .before .before .before .before .before .before .before in
     closest-more _ _ _ _ (s .pre .1) (s .pre .2) _ (c .before .before .before .before .loop .inv) (c .before .before .before .loop-test .taken) (c .closer .ensures)
 
+cast-result : tie.Need-cast-result Inv-loop μ-loop
+cast-result c = let small = c .before .loop .inv .small in rw (toZ-pos w32 (c .before .loop .least) small) (tt, record { fits = omega arith })
+
 returns : tie.Need-returns Inv-loop μ-loop
 returns c =
     let s = c .before .before .before .before .before in
-    closest-all _ _ _ _ (s .pre .1) (s .pre .2) (c .before .loop .inv) (c .loop-test .left) ∙ rw (coordinate (s .args .x) (s .pre .3 .x-range), coordinate (s .args .y) (s .pre .3 .y-range))
+    rw (toZ-pos w32 (c .before .loop .least) (c .before .loop .inv .small))
+    (closest-all _ _ _ _ (s .pre .1) (s .pre .2) (c .before .loop .inv) (c .loop-test .left) ∙ rw (coordinate (s .args .x) (s .pre .3 .x-range), coordinate (s .args .y) (s .pre .3 .y-range)))
 
 pub near-of-spec : {M : Type 1} → statement M
 near-of-spec =
@@ -92,20 +81,16 @@ near-of-spec =
     Inv-loop
     μ-loop
     element-copy-out-travelled
-    cast-travelled
     element-copy-out-travelled-2
-    cast-travelled-2
     travelled-requires
-    cast-least
     loop-holds
     mul-closer
     element-copy-out-closer
-    cast-closer
     mul-closer-2
     element-copy-out-closer-2
-    cast-closer-2
     closer-requires
     add-j
     loop-less
     loop-again
+    cast-result
     returns)

@@ -11,7 +11,7 @@ use Rattle.query.specs.Travel.{closest}
 use Rattle.pricing.specs.DeckOf.{places}
 use Rattle.pricing.proofs.WordLaws.{narrow-fits}
 use Rattle.pricing.proofs.PaddedLaws.{Filled, fill-none, fill-all}
-use Rattle.pricing.proofs.ClosestLaws.{narrow-row, figures-more}
+use Rattle.pricing.proofs.ClosestLaws.{places-front, copied-front, copied-range, narrow-row, figures-more}
 use Rattle.pricing.proofs.price.nears.Statement.{statement}
 use Rattle.pricing.proofs.price.nears.Tie as tie
 
@@ -20,10 +20,16 @@ abbrev nearBy : List ℤ → List ℤ → ℕ → Place → ℕ
 nearBy px py k p = closest plain p (take k (places px py))
 
 abbrev Inv-loop : tie.InvT-loop
-Inv-loop xs ys n px py k to₀ i₀ to i = Filled 512 0 (map (nearBy px py k) (places xs ys)) n to i
+Inv-loop xs ys n px py k u v to₀ i₀ to i = Filled 512 0 (map (nearBy px py k) (places xs ys)) n to i
 
 abbrev μ-loop : tie.MeasureT-loop
-μ-loop xs ys n px py k to₀ i₀ to i = n - i
+μ-loop xs ys n px py k u v to₀ i₀ to i = n - i
+
+post-coordinates-requires : tie.Need-post-coordinates-requires Inv-loop μ-loop
+post-coordinates-requires c κs = c .pre .1
+
+post-coordinates-requires-2 : tie.Need-post-coordinates-requires-2 Inv-loop μ-loop
+post-coordinates-requires-2 c κs = c .before .pre .2
 
 loop-holds : tie.Need-loop-holds Inv-loop μ-loop
 loop-holds c = fill-none _ _ _ _
@@ -35,7 +41,10 @@ element-copy-out-near-of : tie.Need-element-copy-out-near-of Inv-loop μ-loop
 element-copy-out-near-of c = omega arith
 
 cast-near-of : tie.Need-cast-near-of Inv-loop μ-loop
-cast-near-of c = narrow-fits (getD (c .before .before .before .args .xs .now) (c .before .before .loop .i) (pos 0)) (c .before .before .before .pre .3 .range _ (c .before .loop-test .taken))
+cast-near-of c =
+    let turn = c .before .before .before in
+    let s = turn .before .before .before .before in
+    narrow-fits (getD (s .args .xs .now) (turn .before .loop .i) (pos 0)) (s .pre .3 .range _ (turn .loop-test .taken))
 
 mul-near-of-2 : tie.Need-mul-near-of-2 Inv-loop μ-loop
 mul-near-of-2 c = omega arith
@@ -44,12 +53,17 @@ element-copy-out-near-of-2 : tie.Need-element-copy-out-near-of-2 Inv-loop μ-loo
 element-copy-out-near-of-2 c = omega arith
 
 cast-near-of-2 : tie.Need-cast-near-of-2 Inv-loop μ-loop
-cast-near-of-2 c = narrow-fits (getD (c .before .before .before .before .args .ys .now) (c .before .before .before .loop .i) (pos 0)) (c .before .before .before .before .pre .4 .range _ (c .before .before .loop-test .taken))
+cast-near-of-2 c =
+    let turn = c .before .before .before .before in
+    let s = turn .before .before .before .before in
+    narrow-fits (getD (s .args .ys .now) (turn .before .loop .i) (pos 0)) (s .pre .4 .range _ (turn .loop-test .taken))
 
 near-of-requires : tie.Need-near-of-requires Inv-loop μ-loop
 near-of-requires c κs =
-    let s = c .before .before .before .before in
-    (s .pre .0, s .pre .1, s .pre .2, narrow-row (s .pre .3) (s .pre .4) _ (c .before .before .loop-test .taken))
+    let turn = c .before .before .before .before in
+    let columns = turn .before .before in
+    let s = columns .before .before in
+    (s .pre .0, copied-range (s .pre .1) (columns .before .post-coordinates .ensures), copied-range (s .pre .2) (columns .post-coordinates2 .ensures), narrow-row (s .pre .3) (s .pre .4) _ (turn .loop-test .taken))
 
 mul-to : tie.Need-mul-to Inv-loop μ-loop
 mul-to c = omega arith
@@ -65,8 +79,11 @@ loop-less c = omega arith
 
 loop-again : tie.Need-loop-again Inv-loop μ-loop
 loop-again c =
-    let s = c .before .before .before .before .before in
-    figures-more _ _ _ _ (s .pre .3) (s .pre .4) _ (c .before .before .before .before .loop .inv) (c .before .before .before .loop-test .taken) (c .near-of .ensures)
+    let turn = c .before .before .before .before .before in
+    let columns = turn .before .before in
+    let s = columns .before .before in
+    let posts = places-front (s .args .k) _ _ _ _ (copied-front (s .pre .1) (columns .before .post-coordinates .ensures)) (copied-front (s .pre .2) (columns .post-coordinates2 .ensures)) in
+    figures-more _ _ _ _ (s .pre .3) (s .pre .4) _ (turn .before .loop .inv) (turn .loop-test .taken) (rw posts at (c .near-of .ensures))
 
 returns : tie.Need-returns Inv-loop μ-loop
 returns c = fill-all _ _ _ _ (c .before .loop .inv) (c .loop-test .left)
@@ -77,6 +94,8 @@ nears-spec =
     (tie.spec
     Inv-loop
     μ-loop
+    post-coordinates-requires
+    post-coordinates-requires-2
     loop-holds
     mul-near-of
     element-copy-out-near-of
