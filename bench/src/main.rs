@@ -7,6 +7,7 @@ use std::hint::black_box;
 use std::time::Instant;
 
 mod twin;
+mod whole;
 
 #[link(name = "trial", kind = "static")]
 extern "C" {
@@ -15,6 +16,7 @@ extern "C" {
     fn trial_bound_many(job: *const u8, len: usize, k: u64) -> i64;
     fn trial_cut_many(job: *const u8, len: usize, k: u64) -> i64;
     fn trial_near_many(job: *const u8, len: usize, k: u64) -> i64;
+    fn trial_report(job: *const u8, len: usize, cells: *mut i64, cells_len: usize, out: *mut u8, out_len: usize) -> i64;
 }
 
 type Kernel = unsafe extern "C" fn(*const u8, usize, u64) -> i64;
@@ -48,6 +50,48 @@ fn compare(name: &str, job: &[u8], k: u64, kernel: Kernel, twin: impl Fn(u64) ->
     println!("{name:<44} {ours:>10.1} {theirs:>10.1} {:>7.2}", ours / theirs);
 }
 
+fn proved_report(job: &[u8], cells: &mut [i64], out: &mut [u8]) -> i64 {
+    unsafe { trial_report(job.as_ptr(), job.len(), cells.as_mut_ptr(), cells.len(), out.as_mut_ptr(), out.len()) }
+}
+
+type Report = fn(&[u8], &mut [i64], &mut [u8]) -> i64;
+
+/// The report call, `turns` times: text and cell space must be the same. More repetitions than for a kernel, as a call is as long as a
+/// machine that is shared leaves one alone.
+fn compare_reports(name: &str, job: &[u8], turns: usize, twins: &[(&str, Report)]) {
+    let (mut cells, mut out) = ([77i64; 5005], [b'x'; 128]);
+    assert_eq!(proved_report(job, &mut cells, &mut out), 0, "{name}: refused");
+    println!("{name}: {}", String::from_utf8_lossy(&out).lines().take(6).collect::<Vec<_>>().join(" "));
+    let run = |report: Report| {
+        let (mut c, mut o) = ([55i64; 5005], [b'x'; 128]);
+        let (t, r) = timed(|| (0..turns).map(|_| report(black_box(job), &mut c, &mut o)).sum());
+        assert!(r == 0 && c == cells && o == out, "{name}: another text or cell space");
+        t / turns as f64
+    };
+    let mut best = vec![f64::MAX; twins.len() + 1];
+    for _ in 0..4 * REPETITIONS {
+        best[0] = best[0].min(run(proved_report));
+        for (b, twin) in best[1..].iter_mut().zip(twins) {
+            *b = b.min(run(twin.1));
+        }
+    }
+    for ((twin, _), t) in twins.iter().zip(&best[1..]) {
+        println!("{:<52} {:>10.1} {:>10.1} {:>7.2}", format!("{name}, {twin}"), best[0] / 1e3, t / 1e3, best[0] / t);
+    }
+}
+
+fn reports() {
+    println!();
+    println!("{:<52} {:>10} {:>10} {:>7}", "the report call, us a call", "proved", "twin", "ratio");
+    let twins: [(&str, Report); 3] = [("all stops", whole::report), ("stops in reach", whole::report_reaching), ("a list a cell", whole::report_listed)];
+    let decks = [("largest", 64, 40_001, 512, 20_000, 1_000), ("posts at one edge", 64, 2_000, 512, 20_000, 1_000), ("typical", 8, 40_001, 100, 6_325, 200)];
+    for (name, posts, strip, stops, half, rounds) in decks {
+        let job = |rounds| whole::job(posts, strip, stops, half, rounds);
+        compare_reports(name, &job(rounds), if rounds == 1_000 { 1 } else { 20 }, &twins);
+        compare_reports(&format!("{name}, 0 rounds"), &job(0), 20, &twins[..1]);
+    }
+}
+
 fn main() {
     let deck = twin::Deck::full(64, 512);
     let job = deck.spell();
@@ -61,4 +105,5 @@ fn main() {
     compare("bound of a cell, 512 stops (4 costs, load)", &job, 5_000, trial_bound_many, |k| twin::bound_many(&s, k, twin::bound));
     compare("the same, twin with one pass for all five", &job, 5_000, trial_bound_many, |k| twin::bound_many(&s, k, twin::bound_in_one_pass));
     compare("choice of a cut", &job, 100_000, trial_cut_many, |k| twin::cut_many(&xs, &ys, k));
+    reports();
 }

@@ -94,6 +94,106 @@ fn mirrored(v: i64, lo: i64, hi: i64) -> i64 {
     (lo + hi - v).clamp(-20_000, 20_000)
 }
 
+/// A job of a shape in which many places cost the same, or in which little is left to search.
+pub fn special(random: &mut Random) -> Job {
+    let size = [2, 5, 9, 40, 1_000, 20_000][random.range(0, 5) as usize];
+    let mut j = job_of(random, size, 12);
+    let a = j.area;
+    match random.range(1, 10) {
+        // the same from all four sides: stops and posts mirrored in the middle of the area
+        1 => {
+            j.stops = j.stops.iter().flat_map(|s| images(s.at, a).map(|at| Stop { at, ..*s })).collect();
+            j.posts = j.posts.iter().take(16).flat_map(|&p| images(p, a)).collect();
+        }
+        // the same with x and y exchanged: the sides of a cell are often equal
+        2 => {
+            let (lo, hi) = (a.xlo.min(a.ylo), a.xhi.max(a.yhi));
+            j.area = Rect { xlo: lo, ylo: lo, xhi: hi, yhi: hi };
+            j.stops = j.stops.iter().flat_map(|s| [s.at, (s.at.1, s.at.0)].map(|at| Stop { at, ..*s })).collect();
+            j.posts = j.posts.iter().take(32).flat_map(|&p| [p, (p.1, p.0)]).collect();
+        }
+        // a lattice
+        3 => {
+            let (n, step) = (random.range(2, 8), random.range(1, (size / 8).max(1)));
+            let visits = random.range(1, 3);
+            j.stops = (0..n * n).map(|i| Stop { at: (i / n * step, i % n * step), visits }).collect();
+            j.area = Rect { xlo: 0, ylo: 0, xhi: (n - 1) * step, yhi: (n - 1) * step };
+        }
+        // all stops at one place
+        4 => {
+            let at = j.stops[0].at;
+            j.stops.iter_mut().for_each(|s| s.at = at);
+        }
+        // each stop at a post: every place costs 0
+        5 => {
+            let posts = j.posts.clone();
+            j.stops.iter_mut().for_each(|s| s.at = posts[random.range(0, posts.len() as i64 - 1) as usize]);
+        }
+        // the area is a point, or a segment
+        6 => j.area = Rect { xhi: a.xlo, yhi: a.ylo, ..a },
+        7 => j.area = Rect { xhi: a.xlo, ..a },
+        8 => j.area = Rect { yhi: a.ylo, ..a },
+        // the stops on the edges of the area
+        9 => {
+            for s in &mut j.stops {
+                match random.range(1, 4) {
+                    1 => s.at.0 = a.xlo,
+                    2 => s.at.0 = a.xhi,
+                    3 => s.at.1 = a.ylo,
+                    _ => s.at.1 = a.yhi,
+                }
+            }
+        }
+        // all on one line through the area
+        _ => j.stops.iter_mut().for_each(|s| s.at.1 = a.ylo),
+    }
+    j
+}
+
+/// A place and its mirror images in the middle of the area, both ways.
+fn images(p: (i64, i64), a: Rect) -> [(i64, i64); 4] {
+    let q = (mirrored(p.0, a.xlo, a.xhi), mirrored(p.1, a.ylo, a.yhi));
+    [p, (q.0, p.1), (p.0, q.1), q]
+}
+
+/// The most stops and posts, at the ends of the range, with the most visits.
+pub fn largest(random: &mut Random) -> Job {
+    let far = random.range(1, 3);
+    let at = |random: &mut Random| match random.range(1, 3) {
+        1 => -20_000,
+        2 => 20_000,
+        _ if far == 1 => random.range(-20_000, 20_000),
+        _ => 0,
+    };
+    let ends = random.one_in(2);
+    let area = if ends {
+        Rect { xlo: -20_000, ylo: -20_000, xhi: 20_000, yhi: 20_000 }
+    } else {
+        rect(random, 20_000)
+    };
+    let posts = if random.one_in(3) { 1 } else { 64 };
+    let stops = 512;
+    Job {
+        area,
+        posts: (0..posts).map(|_| if random.one_in(2) { (20_000, 20_000) } else { (at(random), at(random)) }).collect(),
+        stops: (0..stops).map(|_| Stop { at: (at(random), at(random)), visits: if far == 2 { random.range(1, 65_535) } else { 65_535 } }).collect(),
+        rounds: 1_000,
+    }
+}
+
+/// A rectangle within -size ..= size on both axes.
+pub fn rect(random: &mut Random, size: i64) -> Rect {
+    let (x, y, mut u, mut v) = (random.range(-size, size), random.range(-size, size), random.range(-size, size), random.range(-size, size));
+    // points and segments
+    if random.one_in(6) {
+        u = x;
+    }
+    if random.one_in(6) {
+        v = y;
+    }
+    Rect { xlo: x.min(u), ylo: y.min(v), xhi: x.max(u), yhi: y.max(v) }
+}
+
 /// The bytes of a job, damaged in one of many ways.
 pub fn damaged(random: &mut Random) -> Vec<u8> {
     let mut job = job_of(random, 30, 5);

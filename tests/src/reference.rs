@@ -242,35 +242,50 @@ pub struct Found {
     pub cells: Vec<i64>,
 }
 
+/// A cell of the partition, with the cut that a round would make of it.
+struct Cell {
+    bound: i64,
+    r: Rect,
+    cut: Option<(bool, i64)>,
+}
+
+impl Cell {
+    /// The order of the cell space, and that in which rounds take the cells.
+    fn key(&self) -> (i64, Place) {
+        (self.bound, (self.r.xlo, self.r.ylo))
+    }
+
+    fn live(&self, best: (i64, Place)) -> bool {
+        self.cut.is_some()
+            && match self.bound.cmp(&best.0) {
+                Ordering::Less => true,
+                Ordering::Equal => (self.r.xlo, self.r.ylo) < best.1,
+                Ordering::Greater => false,
+            }
+    }
+}
+
 pub fn search(job: &Job) -> Found {
     let deck = Deck::new(job);
     let (vertical, horizontal) = (deck.vertical(), deck.horizontal());
+    let cell = |r: Rect| Cell { bound: deck.bound(r), r, cut: cut(&vertical, &horizontal, r) };
     let a = job.area;
     let mut best = [(a.xlo, a.ylo), (a.xlo, a.yhi), (a.xhi, a.ylo), (a.xhi, a.yhi)]
         .map(|p| deck.priced(p))
         .into_iter()
         .min()
         .unwrap();
-    let mut partition = vec![(deck.bound(a), a)];
+    let mut partition = vec![cell(a)];
     let mut rounds = 0;
-    let live = |best: (i64, Place), c: &(i64, Rect)| {
-        cut(&vertical, &horizontal, c.1).is_some()
-            && match c.0.cmp(&best.0) {
-                Ordering::Less => true,
-                Ordering::Equal => (c.1.xlo, c.1.ylo) < best.1,
-                Ordering::Greater => false,
-            }
-    };
-    let key = |c: &(i64, Rect)| (c.0, c.1.xlo, c.1.ylo);
     while rounds < job.rounds {
         let Some(i) = (0..partition.len())
-            .filter(|&i| live(best, &partition[i]))
-            .min_by_key(|&i| key(&partition[i]))
+            .filter(|&i| partition[i].live(best))
+            .min_by_key(|&i| partition[i].key())
         else {
             break;
         };
-        let r = partition.swap_remove(i).1;
-        let (across, v) = cut(&vertical, &horizontal, r).unwrap();
+        let Cell { r, cut, .. } = partition.swap_remove(i);
+        let (across, v) = cut.unwrap();
         let (first, second, corners) = if across {
             (Rect { xhi: v, ..r }, Rect { xlo: v, ..r }, [(v, r.ylo), (v, r.yhi)])
         } else {
@@ -279,20 +294,20 @@ pub fn search(job: &Job) -> Found {
         for p in corners {
             best = best.min(deck.priced(p));
         }
-        partition.push((deck.bound(first), first));
-        partition.push((deck.bound(second), second));
+        partition.push(cell(first));
+        partition.push(cell(second));
         rounds += 1;
     }
-    let mut cells: Vec<(i64, Rect)> = partition.into_iter().filter(|c| live(best, c)).collect();
-    cells.sort_by_key(key);
+    let mut cells: Vec<Cell> = partition.into_iter().filter(|c| c.live(best)).collect();
+    cells.sort_by_key(Cell::key);
     Found {
         done: cells.is_empty(),
         at: best.1,
         high: best.0,
-        low: cells.iter().map(|c| c.0).fold(best.0, i64::min),
+        low: cells.iter().map(|c| c.bound).fold(best.0, i64::min),
         before: deck.before(),
         rounds,
-        cells: cells.iter().flat_map(|c| [c.1.xlo, c.1.ylo, c.1.xhi, c.1.yhi, c.0]).collect(),
+        cells: cells.iter().flat_map(|c| [c.r.xlo, c.r.ylo, c.r.xhi, c.r.yhi, c.bound]).collect(),
     }
 }
 

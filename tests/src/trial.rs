@@ -16,6 +16,9 @@ extern "C" {
     fn trial_cut_axis(job: *const u8, len: usize, xlo: i64, ylo: i64, xhi: i64, yhi: i64) -> i64;
     fn trial_cut_line(job: *const u8, len: usize, xlo: i64, ylo: i64, xhi: i64, yhi: i64) -> i64;
     fn trial_lines(job: *const u8, len: usize, across: bool, out: *mut i64, out_len: usize) -> i64;
+    fn trial_report(job: *const u8, len: usize, cells: *mut i64, cells_len: usize, out: *mut u8, out_len: usize) -> i64;
+    fn trial_report_line(job: *const u8, len: usize, cells: *mut i64, cells_len: usize, out: *mut u8, out_len: usize) -> u64;
+    fn trial_report_figure(job: *const u8, len: usize, cells: *mut i64, cells_len: usize, out: *mut u8, out_len: usize, which: u64) -> i64;
 }
 
 pub fn refusal(job: &[u8]) -> u64 {
@@ -62,4 +65,18 @@ pub fn cut(job: &[u8], r: Rect) -> (i64, i64) {
 
 pub fn lines(job: &[u8], across: bool, out: &mut [i64]) -> i64 {
     unsafe { trial_lines(job.as_ptr(), job.len(), across, out.as_mut_ptr(), out.len()) }
+}
+
+/// 0 for a report, and minus the number of a refusal.
+pub fn report(job: &[u8], cells: &mut [i64], out: &mut [u8]) -> i64 {
+    unsafe { trial_report(job.as_ptr(), job.len(), cells.as_mut_ptr(), cells.len(), out.as_mut_ptr(), out.len()) }
+}
+
+pub fn report_line(job: &[u8], cells: &mut [i64], out: &mut [u8]) -> u64 {
+    unsafe { trial_report_line(job.as_ptr(), job.len(), cells.as_mut_ptr(), cells.len(), out.as_mut_ptr(), out.len()) }
+}
+
+/// A number that the report carries, from 0: state (1 for stopped), x, y, high, low, before, rounds. The least number where there is none.
+pub fn report_figure(job: &[u8], cells: &mut [i64], out: &mut [u8], which: u64) -> i64 {
+    unsafe { trial_report_figure(job.as_ptr(), job.len(), cells.as_mut_ptr(), cells.len(), out.as_mut_ptr(), out.len(), which) }
 }

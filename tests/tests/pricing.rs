@@ -1,7 +1,7 @@
 //! The proved reader and the proved pricing against the reference, on random bytes and decks.
 
-use siting_tests::generate::{damaged, job, job_of, noise, seed, Random};
-use siting_tests::reference::{cut, read, spell, Deck, Job, Place, Rect, Refusal, Stop};
+use siting_tests::generate::{damaged, job, job_of, largest, noise, rect, seed, Random};
+use siting_tests::reference::{cut, read, spell, Deck, Job, Place, Rect, Refusal};
 use siting_tests::trial;
 
 const LEAST: i64 = i64::MIN;
@@ -51,43 +51,6 @@ fn jobs_are_read_as_the_reference_reads_them() {
 }
 
 // ---- decks
-
-/// The most stops and posts, at the ends of the range, with the most visits.
-fn largest(random: &mut Random) -> Job {
-    let far = random.range(1, 3);
-    let at = |random: &mut Random| match random.range(1, 3) {
-        1 => -20_000,
-        2 => 20_000,
-        _ if far == 1 => random.range(-20_000, 20_000),
-        _ => 0,
-    };
-    let ends = random.one_in(2);
-    let area = if ends {
-        Rect { xlo: -20_000, ylo: -20_000, xhi: 20_000, yhi: 20_000 }
-    } else {
-        rect(random, 20_000)
-    };
-    let posts = if random.one_in(3) { 1 } else { 64 };
-    let stops = 512;
-    Job {
-        area,
-        posts: (0..posts).map(|_| if random.one_in(2) { (20_000, 20_000) } else { (at(random), at(random)) }).collect(),
-        stops: (0..stops).map(|_| Stop { at: (at(random), at(random)), visits: if far == 2 { random.range(1, 65_535) } else { 65_535 } }).collect(),
-        rounds: 1_000,
-    }
-}
-
-fn rect(random: &mut Random, size: i64) -> Rect {
-    let (x, y, mut u, mut v) = (random.range(-size, size), random.range(-size, size), random.range(-size, size), random.range(-size, size));
-    // points and segments
-    if random.one_in(6) {
-        u = x;
-    }
-    if random.one_in(6) {
-        v = y;
-    }
-    Rect { xlo: x.min(u), ylo: y.min(v), xhi: x.max(u), yhi: y.max(v) }
-}
 
 /// A rectangle with edges at lines of the area, as the cells of a search have them.
 fn cell(random: &mut Random, vertical: &[i64], horizontal: &[i64]) -> Rect {

@@ -68,7 +68,7 @@ minus-fits why n e = rw e (go why)
     go SmallSpace = omega arith
     go ShortOutput = omega arith
 
-minus-number : (why : Refusal) → toZ w64 (ofZ w64 (toZ w64 0 -ℤ toZ w64 (numberOf why))) ≡ negℤ (pos (numberOf why))
+pub minus-number : (why : Refusal) → toZ w64 (ofZ w64 (toZ w64 0 -ℤ toZ w64 (numberOf why))) ≡ negℤ (pos (numberOf why))
 minus-number TooLong = refl
 minus-number (Malformed line) = refl
 minus-number (OutOfRange line) = refl

@@ -36,7 +36,8 @@ use Rattle.pricing.proofs.CutRecordLaws.{cutRecord-found, cutRecord-cut, isX-tr
 use Rattle.trial.specs.Opened.{openedRecord, rectAllowed, Open}
 use Rattle.trial.specs.Trial.{minusOne, least, axisOf, axisNumber, Written, cutAxisFigure, cutLineFigure, linesWritten}
 use Rattle.trial.specs.declared.Opened.{Opened}
-use Rattle.trial.proofs.OpenLaws.{Spelt, open-is, on-job, inside}
+use Rattle.siting.proofs.ReadLaws.{Spelt}
+use Rattle.trial.proofs.OpenLaws.{open-is, on-job, inside}
 use Rattle.trial.proofs.RectLaws.{RectIs, Fits4, rect-held, word, rect-words}
 use Rattle.trial.proofs.FigureLaws.{deck-same, deckOf-same, rows-same, columns, count-same}
 

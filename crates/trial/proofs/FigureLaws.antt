@@ -36,7 +36,8 @@ use Rattle.pricing.proofs.SiteLaws.{siteOf, sitesOf-map, cost-law, load-law, be
 use Rattle.trial.specs.Opened.{openedDeck, openedRecord, rectAllowed, Open}
 use Rattle.trial.specs.Trial.{minusOne, least, boundOf, beforeFigure, nearFigure, costFigure, loadFigure, boundFigure}
 use Rattle.trial.specs.declared.Opened.{Opened}
-use Rattle.trial.proofs.OpenLaws.{Spelt, held-deck, open-is, on-job, inside}
+use Rattle.siting.proofs.ReadLaws.{Spelt, held-deck}
+use Rattle.trial.proofs.OpenLaws.{open-is, on-job, inside}
 use Rattle.trial.proofs.RectLaws.{Fits4, place-held, rect-held}
 
 module _ (o : Opened) (h : Open o) where

@@ -3,3 +3,4 @@ pub mod RectLaws
 pub mod FigureLaws
 pub mod CutLaws
 pub mod ManyLaws
+pub mod CallLaws

@@ -29,7 +29,8 @@ use Rattle.pricing.proofs.WordLaws.{difference, difference-fits}
 use Rattle.trial.specs.Opened.{rectAllowed}
 use Rattle.trial.specs.Trial.{minusOne}
 use Rattle.trial.specs.Many.{sumTo, side, spread, Spread, placeAt, rectAt, positive, manyFigure}
-use Rattle.trial.proofs.OpenLaws.{Spelt, on-job}
+use Rattle.siting.proofs.ReadLaws.{Spelt}
+use Rattle.trial.proofs.OpenLaws.{on-job}
 use Rattle.trial.proofs.RectLaws.{RectIs}
 
 -- ---- sums

@@ -1,106 +1,37 @@
 -- A job that was opened: what the record says of the bytes, and of the deck that they spell.
 -- Assumes nothing.
-use mathlib.Core.Path.{_≡_, refl, sym, ap, subst, _∙_}
+use mathlib.Core.Path.{_≡_, refl, sym, ap, _∙_}
 use mathlib.Core.Bool.{Bool, true, false, cond}
 use mathlib.Core.List.{List, []}
 use Prim.Native.Nat.{ℕ, _≤_}
 use native.Mathlib.Omega.{arith}
-use lib.Dec.{T}
 use lib.IntN.{pos}
-use Rattle.query.specs.Deck as Query
-use Rattle.query.specs.Deck.{AxisCosts, plain}
-use Rattle.query.specs.Range.{InRange}
-use Rattle.job.specs.Refusal.{numberOf, lineOf}
 use Rattle.job.specs.Format.{Job, Result, refused, accepted, readJob}
-use Rattle.job.specs.Spelling.{Allowed}
-use Rattle.job.specs.Record.{deckRecord, jobRecord}
+use Rattle.job.specs.Record.{jobRecord}
 use Rattle.job.specs.declared.Job as Held
 use Rattle.job.specs.declared.Refusal.{Refusal}
-use Rattle.job.specs.declared.Outcome.{Outcome}
-use Rattle.job.specs.declared.Outcome.the-variants.{Accepted, Refused}
-use Rattle.job.proofs.Meaning.{accepted-law, allowed-in-range}
+use Rattle.job.specs.declared.Outcome.the-variants.{Accepted}
+use Rattle.job.proofs.Meaning.{accepted-law}
 use Rattle.pricing.specs.DeckOf.{deckOf}
 use Rattle.pricing.specs.Sites.{sitesOf}
 use Rattle.pricing.specs.Record.{sitesRecord}
 use Rattle.pricing.specs.declared.Sites.{Sites}
-use Rattle.pricing.proofs.DeckLaws.{deck-record}
+use Rattle.siting.proofs.ReadLaws.{differ, Spelt, read-accepted, read-deck, read-rounds, spelt-range, read-deckOf}
 use Rattle.trial.specs.Opened.{openedDeck, openedRecord, Open}
-use Rattle.trial.specs.Trial.{onJob, minusOne, refusalNumber, refusalLine, roundsOf}
+use Rattle.trial.specs.Trial.{onJob, roundsOf}
 use Rattle.trial.specs.declared.Opened.{Opened}
 
--- a test's two outcomes differ
-differ : {P : Type 0} → true ≡ false → P
-differ e = absurd (subst T e tt)
+-- an accepted job has at most 1,000 rounds
+pub rounds-read : (bytes : List ℕ) (j : Held.Job) (e : j ≡ jobRecord (readJob bytes)) (rounds : ℕ) → j .outcome ≡ Accepted rounds → (rounds ≤ 1000) × (pos rounds ≡ roundsOf (readJob bytes))
+rounds-read bytes j e rounds f =
+    let s = read-accepted bytes j e rounds f in
+    let g = read-rounds bytes j e rounds f s in
+    (omega (arith, g, s .allowed .writable .rounds), ap (λ (n : ℕ). pos n) g ∙ sym (ap roundsOf (s .read)))
 
--- ---- what `read` answers
-abbrev isAccepted : Outcome → Bool
-isAccepted (Accepted rounds) = true
-isAccepted (Refused why) = false
-
-abbrev roundsIn : Outcome → ℕ
-roundsIn (Accepted rounds) = rounds
-roundsIn (Refused why) = 0
-
-abbrev refusalIn : Refusal → Outcome → Refusal
-refusalIn other (Accepted rounds) = other
-refusalIn other (Refused why) = why
-
-pub record Spelt (bytes : List ℕ) : Type 0 where
-  pub job : Job
-  pub read : readJob bytes ≡ accepted job
-  pub allowed : Allowed job
-
-module _ (bytes : List ℕ) (j : Held.Job) (e : j ≡ jobRecord (readJob bytes)) where
-  pub read-accepted : (rounds : ℕ) → j .outcome ≡ Accepted rounds → Spelt bytes
-  unfolding jobRecord
-  read-accepted rounds f = go (readJob bytes) refl e
-    where
-      go : (r : Result) → readJob bytes ≡ r → j ≡ jobRecord r → Spelt bytes
-      go (refused why) p q = differ (sym (ap isAccepted f) ∙ ap (λ (k : Held.Job). isAccepted (k .outcome)) q)
-      go (accepted job) p q = record { job = job; read = p; allowed = accepted-law bytes job .exactly .0 p .2 }
-
-  pub read-deck : (s : Spelt bytes) → j .deck ≡ deckRecord (s .job .deck .area) (s .job .deck .posts) (s .job .deck .stops)
-  unfolding jobRecord
-  read-deck s = ap (λ (k : Held.Job). k .deck) (e ∙ ap jobRecord (s .read))
-
-  pub read-rounds : (rounds : ℕ) → j .outcome ≡ Accepted rounds → (rounds ≤ 1000) × (pos rounds ≡ roundsOf (readJob bytes))
-  unfolding jobRecord
-  read-rounds rounds f =
-      let s = read-accepted rounds f in
-      let g : rounds ≡ s .job .rounds = sym (ap roundsIn f) ∙ ap (λ (k : Held.Job). roundsIn (k .outcome)) (e ∙ ap jobRecord (s .read)) in
-      (omega (arith, g, s .allowed .writable .rounds), ap (λ (n : ℕ). pos n) g ∙ sym (ap roundsOf (s .read)))
-
-  pub read-refused : (why : Refusal) → j .outcome ≡ Refused why → readJob bytes ≡ refused why
-  unfolding jobRecord
-  read-refused why f = go (readJob bytes) refl e
-    where
-      go : (r : Result) → readJob bytes ≡ r → j ≡ jobRecord r → readJob bytes ≡ refused why
-      go (refused other) p q = p ∙ ap refused (sym (ap (λ (k : Held.Job). refusalIn why (k .outcome)) q) ∙ ap (refusalIn why) f)
-      go (accepted job) p q = differ (sym (ap (λ (k : Held.Job). isAccepted (k .outcome)) q) ∙ ap isAccepted f)
-
--- ---- the deck
-deck-eta : (deck : Query.Deck) → deck .axis ≡ plain → record { axis = plain; area = deck .area; posts = deck .posts; stops = deck .stops } ≡ deck
-deck-eta deck e = ap (λ (a : AxisCosts). record { axis = a; area = deck .area; posts = deck .posts; stops = deck .stops }) (sym e)
-
-pub held-deck : (deck : Query.Deck) → deck .axis ≡ plain → deckOf (deckRecord (deck .area) (deck .posts) (deck .stops)) ≡ deck
-held-deck deck e = deck-record (deck .area) (deck .posts) (deck .stops) ∙ deck-eta deck e
-
--- what `sites` asks of the deck that was read
-module _ {bytes : List ℕ} (s : Spelt bytes) where
-  pub spelt-range : InRange (s .job .deck)
-  spelt-range = allowed-in-range (s .job) (s .allowed)
-
-  module _ (j : Held.Job) (e : j ≡ jobRecord (readJob bytes)) where
-    pub read-deckOf : deckOf (j .deck) ≡ s .job .deck
-    read-deckOf = ap deckOf (read-deck bytes j e s) ∙ held-deck (s .job .deck) (s .allowed .writable .plain-axis)
-
-    pub sites-ask : InRange (deckOf (j .deck)) × (j .deck .posts ≤ 64) × (j .deck .stops ≤ 512)
-    unfolding deckRecord
-    sites-ask = (subst InRange (sym read-deckOf) spelt-range, rw (read-deck bytes j e s) (s .allowed .writable .most-posts), rw (read-deck bytes j e s) (s .allowed .writable .most-stops))
-
-    pub opened-accepted : (sites : Sites) → sites ≡ sitesRecord (sitesOf (deckOf (j .deck))) → record { accepted = true; deck = j .deck; sites = sites } ≡ openedRecord (readJob bytes)
-    unfolding openedRecord openedDeck
-    opened-accepted sites f = rw (s .read, f, read-deckOf, read-deck bytes j e s)
+module _ {bytes : List ℕ} (s : Spelt bytes) (j : Held.Job) (e : j ≡ jobRecord (readJob bytes)) where
+  pub opened-accepted : (sites : Sites) → sites ≡ sitesRecord (sitesOf (deckOf (j .deck))) → record { accepted = true; deck = j .deck; sites = sites } ≡ openedRecord (readJob bytes)
+  unfolding openedRecord openedDeck
+  opened-accepted sites f = rw (s .read, f, read-deckOf s j e, read-deck bytes j e s)
 
 pub opened-refused : (bytes : List ℕ) (j : Held.Job) (why : Refusal) → j ≡ jobRecord (readJob bytes) → readJob bytes ≡ refused why → record { accepted = false; deck = j .deck; sites = sitesRecord [] } ≡ openedRecord (readJob bytes)
 unfolding openedRecord jobRecord

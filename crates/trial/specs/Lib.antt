@@ -1,3 +1,4 @@
 pub mod Opened
 pub mod Trial
 pub mod Many
+pub mod Calls

@@ -1,4 +1,5 @@
 // Functions for tests and benchmarks from Rust, and for nothing else: each reads a job's bytes and answers one figure of the job's deck.
+pub mod calls;
 pub mod many;
 
 use job::Deck;

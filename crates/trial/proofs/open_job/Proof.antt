@@ -1,7 +1,8 @@
 -- `trial::open_job` meets its contract: the deck that was read is in range, so that its sites can be found.
 -- Assumes nothing.
 use borrow.Author.Needs.{needs}
-use Rattle.trial.proofs.OpenLaws.{read-accepted, read-refused, sites-ask, opened-accepted, opened-refused}
+use Rattle.siting.proofs.ReadLaws.{read-accepted, read-refused, sites-ask}
+use Rattle.trial.proofs.OpenLaws.{opened-accepted, opened-refused}
 use Rattle.pricing.specs.Record.{sitesRecord}
 use Rattle.trial.proofs.open_job.Statement.{statement}
 use Rattle.trial.proofs.open_job.Tie as tie

@@ -10,7 +10,8 @@ use Rattle.job.specs.Lines.{placeInRange}
 use Rattle.job.specs.Format.{readJob}
 use Rattle.job.proofs.RangeLaws.{place-range}
 use Rattle.trial.specs.Opened.{Open}
-use Rattle.trial.proofs.OpenLaws.{Spelt, open-accepted, open-is, open-refused, outside}
+use Rattle.siting.proofs.ReadLaws.{Spelt}
+use Rattle.trial.proofs.OpenLaws.{open-accepted, open-is, open-refused, outside}
 use Rattle.trial.proofs.RectLaws.{place-held, tested-place}
 use Rattle.trial.proofs.FigureLaws.{columns, count-few, cost-answer}
 use borrow.Author.Needs.{needs}

@@ -10,7 +10,8 @@ use Rattle.numbers.proofs.Words.{is-true}
 use Rattle.query.specs.Place.{Rect}
 use Rattle.pricing.specs.LineRecord.{rectOf}
 use Rattle.trial.specs.Opened.{rectAllowed, Open}
-use Rattle.trial.proofs.OpenLaws.{Spelt, open-accepted, open-is, open-refused, outside}
+use Rattle.siting.proofs.ReadLaws.{Spelt}
+use Rattle.trial.proofs.OpenLaws.{open-accepted, open-is, open-refused, outside}
 use Rattle.trial.proofs.RectLaws.{Fits4, rect-held, tested-rect}
 use Rattle.trial.proofs.FigureLaws.{columns, count-few, load-answer}
 use borrow.Author.Needs.{needs}

@@ -2,7 +2,7 @@
 -- Assumes nothing.
 use mathlib.Core.Path.{sym, ap, _∙_}
 use Rattle.trial.specs.Trial.{refusalNumber}
-use Rattle.trial.proofs.OpenLaws.{read-accepted, read-refused}
+use Rattle.siting.proofs.ReadLaws.{read-accepted, read-refused}
 use borrow.Author.Needs.{needs}
 use Rattle.trial.proofs.trial_refusal.Statement.{statement}
 use Rattle.trial.proofs.trial_refusal.Tie as tie

@@ -2,7 +2,7 @@
 -- Assumes nothing.
 use mathlib.Core.Path.{sym, ap, _∙_}
 use Rattle.trial.specs.Trial.{refusalLine}
-use Rattle.trial.proofs.OpenLaws.{read-accepted, read-refused}
+use Rattle.siting.proofs.ReadLaws.{read-accepted, read-refused}
 use borrow.Author.Needs.{needs}
 use Rattle.trial.proofs.trial_refusal_line.Statement.{statement}
 use Rattle.trial.proofs.trial_refusal_line.Tie as tie

@@ -6,7 +6,8 @@ use mathlib.Core.Path.{_≡_, sym, ap, _∙_}
 use mir.Syntax.{w64}
 use mir.ValLaws.{toZ-pos}
 use Rattle.trial.specs.Trial.{roundsOf}
-use Rattle.trial.proofs.OpenLaws.{read-rounds, read-refused}
+use Rattle.siting.proofs.ReadLaws.{read-refused}
+use Rattle.trial.proofs.OpenLaws.{rounds-read}
 use Rattle.trial.proofs.trial_rounds.Statement.{statement}
 use Rattle.trial.proofs.trial_rounds.Tie as tie
 
@@ -17,13 +18,13 @@ enum-known-outcome : tie.Need-enum-known-outcome
 enum-known-outcome c = search needs
 
 cast-result : tie.Need-cast-result
-cast-result c = omega (arith, read-rounds _ _ (c .before .before .before .read .ensures) _ (c .before .outcome .given .1) .0)
+cast-result c = omega (arith, rounds-read _ _ (c .before .before .before .read .ensures) _ (c .before .outcome .given .1) .0)
 
 enum-told : tie.Need-enum-told
 enum-told c = search needs
 
 returns : tie.Need-returns
-returns c = let h = read-rounds _ _ (c .before .before .before .read .ensures) _ (c .before .outcome .given .1) in toZ-pos w64 _ (omega (arith, h .0)) ∙ h .1
+returns c = let h = rounds-read _ _ (c .before .before .before .read .ensures) _ (c .before .outcome .given .1) in toZ-pos w64 _ (omega (arith, h .0)) ∙ h .1
 
 returns-2 : tie.Need-returns-2
 returns-2 c = sym (ap roundsOf (read-refused _ _ (c .before .before .read .ensures) _ (c .enum-told .given .1)))

@@ -4,7 +4,8 @@ use mathlib.Core.Path.{_≡_}
 use borrow.Author.Tests.{not-true, not-false}
 use denote.Ref.{now}
 use Rattle.trial.specs.Opened.{Open}
-use Rattle.trial.proofs.OpenLaws.{Spelt, open-accepted, open-is, open-refused}
+use Rattle.siting.proofs.ReadLaws.{Spelt}
+use Rattle.trial.proofs.OpenLaws.{open-accepted, open-is, open-refused}
 use Rattle.trial.specs.Many.{costTurn, placeAt}
 use Rattle.trial.proofs.ManyLaws.{many-none, many-answer}
 use Rattle.trial.proofs.FigureLaws.{columns, count-few, cost-same}

@@ -1,0 +1,518 @@
+//! Hand-written Rust for the whole report call: reading, near, lines, the search with the costs of corners remembered and the cells
+//! in a heap, the text. Three of them, which differ in the stops that a pass of pricing goes over.
+
+use std::cmp::Reverse;
+use std::collections::BinaryHeap;
+
+/// The number and the line of a refusal.
+pub type Refused = (i64, i64);
+
+// ---- reading
+
+struct Reader<'a> {
+    job: &'a [u8],
+    at: usize,
+    line: i64,
+}
+
+impl Reader<'_> {
+    #[inline(always)]
+    fn number(&mut self, end: u8) -> Option<i32> {
+        let negative = self.job.get(self.at) == Some(&b'-');
+        let start = self.at + negative as usize;
+        let (mut i, mut value) = (start, 0u32);
+        while i < self.job.len() {
+            let digit = self.job[i].wrapping_sub(b'0');
+            if digit > 9 {
+                break;
+            }
+            value = value.wrapping_mul(10).wrapping_add(digit as u32);
+            i += 1;
+        }
+        let n = i - start;
+        if n == 0 || n > 9 || self.job[start] == b'0' && (n > 1 || negative) || self.job.get(i) != Some(&end) {
+            return None;
+        }
+        self.at = i + 1;
+        Some(if negative { -(value as i32) } else { value as i32 })
+    }
+
+    /// The numbers of the next line, each with its range.
+    #[inline(always)]
+    fn line<const N: usize>(&mut self, key: &[u8], ranges: [(i32, i32); N]) -> Result<[i32; N], Refused> {
+        self.line += 1;
+        let malformed = (2, self.line);
+        if !self.job[self.at..].starts_with(key) {
+            return Err(malformed);
+        }
+        self.at += key.len();
+        let mut values = [0; N];
+        for (i, v) in values.iter_mut().enumerate() {
+            *v = self.number(if i + 1 == N { b'\n' } else { b',' }).ok_or(malformed)?;
+        }
+        if values.iter().zip(ranges).all(|(&v, (lo, hi))| lo <= v && v <= hi) {
+            Ok(values)
+        } else {
+            Err((3, self.line))
+        }
+    }
+}
+
+const XY: (i32, i32) = (-20_000, 20_000);
+
+/// A deck with the near of each stop, one column a field.
+struct Deck {
+    area: Rect,
+    xs: Vec<i32>,
+    ys: Vec<i32>,
+    visits: Vec<u32>,
+    near: Vec<i32>,
+    rounds: usize,
+}
+
+#[derive(Clone, Copy)]
+struct Rect {
+    xlo: i32,
+    ylo: i32,
+    xhi: i32,
+    yhi: i32,
+}
+
+fn read(job: &[u8]) -> Result<Deck, Refused> {
+    if job.len() > 16_384 {
+        return Err((1, 0));
+    }
+    let mut r = Reader { job, at: 0, line: 0 };
+    let [xlo, ylo, xhi, yhi] = r.line(b"area=", [XY; 4])?;
+    let posts = r.line(b"posts=", [(0, 64)])?[0] as usize;
+    let (mut px, mut py) = (Vec::with_capacity(posts), Vec::with_capacity(posts));
+    for _ in 0..posts {
+        let [x, y] = r.line(b"post=", [XY; 2])?;
+        px.push(x);
+        py.push(y);
+    }
+    let n = r.line(b"stops=", [(0, 512)])?[0] as usize;
+    let (mut xs, mut ys, mut visits) = (Vec::with_capacity(n), Vec::with_capacity(n), Vec::with_capacity(n));
+    for _ in 0..n {
+        let [x, y, v] = r.line(b"stop=", [XY, XY, (1, 65_535)])?;
+        xs.push(x);
+        ys.push(y);
+        visits.push(v as u32);
+    }
+    let rounds = r.line(b"rounds=", [(0, 1_000)])?[0] as usize;
+    if r.at < job.len() {
+        return Err((2, r.line + 1));
+    }
+    if xlo > xhi || ylo > yhi {
+        return Err((4, 0));
+    }
+    if posts == 0 {
+        return Err((5, 0));
+    }
+    if n == 0 {
+        return Err((6, 0));
+    }
+    // post by post over the column of stops: no reduction inside the loop
+    let mut near = vec![i32::MAX; n];
+    for (&u, &v) in px.iter().zip(&py) {
+        for ((m, &x), &y) in near.iter_mut().zip(&xs).zip(&ys) {
+            *m = (*m).min((x - u).abs() + (y - v).abs());
+        }
+    }
+    Ok(Deck { area: Rect { xlo, ylo, xhi, yhi }, xs, ys, visits, near, rounds })
+}
+
+// ---- pricing
+
+#[derive(Clone, Copy)]
+struct Site {
+    x: i32,
+    y: i32,
+    visits: u32,
+    near: i32,
+}
+
+#[inline]
+fn outside(v: i32, lo: i32, hi: i32) -> i32 {
+    (lo - v).max(0) + (v - hi).max(0)
+}
+
+impl Site {
+    #[inline]
+    fn reaches(&self, r: Rect) -> bool {
+        outside(self.x, r.xlo, r.xhi) + outside(self.y, r.ylo, r.yhi) < self.near
+    }
+
+    #[inline]
+    fn pays(&self, x: i32, y: i32) -> u64 {
+        let m = ((self.x - x).abs() + (self.y - y).abs()).min(self.near);
+        self.visits as u64 * m as u32 as u64
+    }
+}
+
+impl Deck {
+    #[inline]
+    fn sites(&self) -> impl Iterator<Item = Site> + '_ {
+        let columns = self.xs.iter().zip(&self.ys).zip(&self.visits).zip(&self.near);
+        columns.map(|(((&x, &y), &visits), &near)| Site { x, y, visits, near })
+    }
+
+    fn before(&self) -> u64 {
+        self.visits.iter().zip(&self.near).map(|(&v, &near)| v as u64 * near as u32 as u64).sum()
+    }
+
+    fn cost(&self, x: i32, y: i32) -> u64 {
+        self.sites().map(|s| s.pays(x, y)).sum()
+    }
+
+    fn load(&self, r: Rect) -> u64 {
+        self.sites().map(|s| if s.reaches(r) { s.visits } else { 0 }).sum::<u32>() as u64
+    }
+
+    /// The costs of the two ends of a cut at v, and the loads of the parts on both sides of it, in one pass.
+    fn cut(&self, across: bool, (lo, v, hi): (i32, i32, i32), (near_end, far_end): (i32, i32)) -> ([u64; 2], [u64; 2]) {
+        let (us, ws) = if across { (&self.xs, &self.ys) } else { (&self.ys, &self.xs) };
+        let (mut low, mut high, mut before, mut behind) = (0u64, 0u64, 0u32, 0u32);
+        for (((&u, &w), &visits), &near) in us.iter().zip(ws).zip(&self.visits).zip(&self.near) {
+            let along = (u - v).abs();
+            low += visits as u64 * (along + (w - near_end).abs()).min(near) as u32 as u64;
+            high += visits as u64 * (along + (w - far_end).abs()).min(near) as u32 as u64;
+            let left = near - outside(w, near_end, far_end);
+            before += if outside(u, lo, v) < left { visits } else { 0 };
+            behind += if outside(u, v, hi) < left { visits } else { 0 };
+        }
+        ([low, high], [before as u64, behind as u64])
+    }
+
+    /// The lines at the x or the y of the sites that reach the area, and at its edges.
+    fn lines(&self, across: bool) -> Vec<i32> {
+        let a = self.area;
+        let (lo, hi) = if across { (a.xlo, a.xhi) } else { (a.ylo, a.yhi) };
+        let mut lines = Vec::with_capacity(self.xs.len() + 2);
+        lines.extend([lo, hi]);
+        lines.extend(self.sites().filter(|s| s.reaches(a)).map(|s| if across { s.x } else { s.y }).filter(|v| (lo..=hi).contains(v)));
+        lines.sort_unstable();
+        lines.dedup();
+        lines
+    }
+}
+
+// ---- the stops of a cell
+
+/// What a search prices with. `Stops` is what a cell keeps of the stops.
+pub trait Pricing {
+    type Stops: Copy;
+
+    /// The start: the costs of the area's corners, its load, its stops.
+    fn start(&mut self, area: (i32, i32, i32, i32)) -> ([u64; 4], u64, Self::Stops);
+
+    /// A cut of a cell with these stops in two parts: the costs of the two new corners, and the load and the stops of each part.
+    fn cut(&mut self, stops: Self::Stops, first: (i32, i32, i32, i32), second: (i32, i32, i32, i32)) -> ([u64; 2], [(u64, Self::Stops); 2]);
+}
+
+fn rect((xlo, ylo, xhi, yhi): (i32, i32, i32, i32)) -> Rect {
+    Rect { xlo, ylo, xhi, yhi }
+}
+
+/// Every pass over all stops.
+struct All<'a>(&'a Deck);
+
+impl Pricing for All<'_> {
+    type Stops = ();
+
+    fn start(&mut self, area: (i32, i32, i32, i32)) -> ([u64; 4], u64, ()) {
+        let r = rect(area);
+        let cost = |x, y| self.0.cost(x, y);
+        ([cost(r.xlo, r.ylo), cost(r.xlo, r.yhi), cost(r.xhi, r.ylo), cost(r.xhi, r.yhi)], self.0.load(r), ())
+    }
+
+    fn cut(&mut self, _: (), first: (i32, i32, i32, i32), second: (i32, i32, i32, i32)) -> ([u64; 2], [(u64, ()); 2]) {
+        let (f, s) = (rect(first), rect(second));
+        let (costs, [before, behind]) = if f.xhi < s.xhi {
+            self.0.cut(true, (f.xlo, f.xhi, s.xhi), (f.ylo, f.yhi))
+        } else {
+            self.0.cut(false, (f.ylo, f.yhi, s.yhi), (f.xlo, f.xhi))
+        };
+        (costs, [(before, ()), (behind, ())])
+    }
+}
+
+/// Every pass over the stops that reach the area. The others pay their near wherever in the area the post stands.
+struct Reaching {
+    deck: Deck,
+    others: u64,
+}
+
+impl Reaching {
+    fn new(deck: &Deck) -> Reaching {
+        let sites: Vec<Site> = deck.sites().filter(|s| s.reaches(deck.area)).collect();
+        let d = Deck {
+            area: deck.area,
+            xs: sites.iter().map(|s| s.x).collect(),
+            ys: sites.iter().map(|s| s.y).collect(),
+            visits: sites.iter().map(|s| s.visits).collect(),
+            near: sites.iter().map(|s| s.near).collect(),
+            rounds: deck.rounds,
+        };
+        Reaching { others: deck.before() - d.before(), deck: d }
+    }
+}
+
+impl Pricing for Reaching {
+    type Stops = ();
+
+    fn start(&mut self, area: (i32, i32, i32, i32)) -> ([u64; 4], u64, ()) {
+        let (costs, load, ()) = All(&self.deck).start(area);
+        (costs.map(|c| c + self.others), load, ())
+    }
+
+    fn cut(&mut self, stops: (), first: (i32, i32, i32, i32), second: (i32, i32, i32, i32)) -> ([u64; 2], [(u64, ()); 2]) {
+        let (costs, parts) = All(&self.deck).cut(stops, first, second);
+        (costs.map(|c| c + self.others), parts)
+    }
+}
+
+/// Every cell with a list of the stops that reach it, taken from the list of the cell that was cut.
+struct Listed {
+    rows: Vec<Site>,
+}
+
+/// A part of the rows, and what all other stops pay.
+#[derive(Clone, Copy)]
+struct List {
+    from: usize,
+    to: usize,
+    others: u64,
+}
+
+impl Pricing for Listed {
+    type Stops = List;
+
+    fn start(&mut self, area: (i32, i32, i32, i32)) -> ([u64; 4], u64, List) {
+        let r = rect(area);
+        let others = self.rows.iter().filter(|s| !s.reaches(r)).map(|s| s.visits as u64 * s.near as u64).sum();
+        self.rows.retain(|s| s.reaches(r));
+        let cost = |x, y| others + self.rows.iter().map(|s| s.pays(x, y)).sum::<u64>();
+        let load = self.rows.iter().map(|s| s.visits as u64).sum();
+        ([cost(r.xlo, r.ylo), cost(r.xlo, r.yhi), cost(r.xhi, r.ylo), cost(r.xhi, r.yhi)], load, List { from: 0, to: self.rows.len(), others })
+    }
+
+    fn cut(&mut self, stops: List, first: (i32, i32, i32, i32), second: (i32, i32, i32, i32)) -> ([u64; 2], [(u64, List); 2]) {
+        let (f, s) = (rect(first), rect(second));
+        let mut costs = [stops.others; 2];
+        for site in &self.rows[stops.from..stops.to] {
+            costs[0] += site.pays(s.xlo, s.ylo);
+            costs[1] += site.pays(f.xhi, f.yhi);
+        }
+        let parts = [f, s].map(|r| {
+            let from = self.rows.len();
+            let (mut load, mut others) = (0, stops.others);
+            for i in stops.from..stops.to {
+                let site = self.rows[i];
+                if site.reaches(r) {
+                    self.rows.push(site);
+                    load += site.visits as u64;
+                } else {
+                    others += site.visits as u64 * site.near as u64;
+                }
+            }
+            (load, List { from, to: self.rows.len(), others })
+        });
+        (costs, parts)
+    }
+}
+
+// ---- the search
+
+/// A place with its cost, ordered as the best place is: by cost, then x, then y.
+type Spot = (u64, i32, i32);
+
+#[derive(Clone, Copy)]
+struct Cell<S> {
+    /// First and last line, across and deep.
+    x: (u16, u16),
+    y: (u16, u16),
+    bound: i64,
+    /// At (xlo, ylo), (xlo, yhi), (xhi, ylo), (xhi, yhi).
+    costs: [u64; 4],
+    stops: S,
+}
+
+/// The line strictly inside that is closest to the middle, the smaller on a tie.
+fn middle(lines: &[i32], (lo, hi): (u16, u16)) -> u16 {
+    let twice = lines[lo as usize] + lines[hi as usize];
+    let inside = &lines[lo as usize + 1..hi as usize];
+    let at = inside.partition_point(|&v| 2 * v < twice);
+    let above = at == 0 || at < inside.len() && 2 * inside[at] - twice < twice - 2 * inside[at - 1];
+    lo + 1 + (if above { at } else { at - 1 }) as u16
+}
+
+fn bounded<S>(vertical: &[i32], horizontal: &[i32], mut c: Cell<S>, load: u64) -> Cell<S> {
+    let span = vertical[c.x.1 as usize] - vertical[c.x.0 as usize] + horizontal[c.y.1 as usize] - horizontal[c.y.0 as usize];
+    let [a, b, d, e] = c.costs;
+    c.bound = ((a + e).max(b + d) as i64 - span as i64 * load as i64 + 1) >> 1;
+    c
+}
+
+struct Found {
+    done: bool,
+    best: Spot,
+    low: i64,
+    rounds: usize,
+}
+
+fn search<P: Pricing>(deck: &Deck, pricing: &mut P, out: &mut [i64]) -> Found {
+    let (vertical, horizontal) = (deck.lines(true), deck.lines(false));
+    let (vs, hs) = (&vertical[..], &horizontal[..]);
+    let edges = |x: (u16, u16), y: (u16, u16)| (vs[x.0 as usize], hs[y.0 as usize], vs[x.1 as usize], hs[y.1 as usize]);
+    let a = deck.area;
+    let (x, y) = ((0, vs.len() as u16 - 1), (0, hs.len() as u16 - 1));
+    let (costs, load, stops) = pricing.start(edges(x, y));
+    let mut best: Spot = [(costs[0], a.xlo, a.ylo), (costs[1], a.xlo, a.yhi), (costs[2], a.xhi, a.ylo), (costs[3], a.xhi, a.yhi)].into_iter().min().unwrap();
+    // lines are in order, so that (xlo, ylo) and the numbers of their lines have the same order
+    let key = |c: &Cell<P::Stops>, i: usize| Reverse((c.bound, (c.x.0 as u32) << 16 | c.y.0 as u32, i as u32));
+    let can_cut = |c: &Cell<P::Stops>| c.x.1 - c.x.0 > 1 || c.y.1 - c.y.0 > 1;
+    let precedes = |c: &Cell<P::Stops>, best: Spot| (c.bound, vs[c.x.0 as usize], hs[c.y.0 as usize]) < (best.0 as i64, best.1, best.2);
+    let mut cells: Vec<Cell<P::Stops>> = Vec::with_capacity(deck.rounds * 2 + 1);
+    let mut heap = BinaryHeap::with_capacity(deck.rounds + 2);
+    let area = bounded(vs, hs, Cell { x, y, bound: 0, costs, stops }, load);
+    if can_cut(&area) && precedes(&area, best) {
+        heap.push(key(&area, 0));
+        cells.push(area);
+    }
+    let mut rounds = 0;
+    while rounds < deck.rounds {
+        let Some(&Reverse((_, _, i))) = heap.peek() else {
+            break;
+        };
+        let c = cells[i as usize];
+        if !precedes(&c, best) {
+            break;
+        }
+        heap.pop();
+        rounds += 1;
+        let [k00, k01, k10, k11] = c.costs;
+        let (wide, deep) = (c.x.1 - c.x.0 > 1, c.y.1 - c.y.0 > 1);
+        let (xlo, ylo, xhi, yhi) = edges(c.x, c.y);
+        let across = wide && (!deep || xhi - xlo >= yhi - ylo);
+        let (mut first, mut second) = (c, c);
+        if across {
+            let m = middle(vs, c.x);
+            first.x.1 = m;
+            second.x.0 = m;
+        } else {
+            let m = middle(hs, c.y);
+            first.y.1 = m;
+            second.y.0 = m;
+        }
+        let (f, s) = (edges(first.x, first.y), edges(second.x, second.y));
+        let ([low, high], [(load1, stops1), (load2, stops2)]) = pricing.cut(c.stops, f, s);
+        best = best.min((low, s.0, s.1)).min((high, f.2, f.3));
+        (first.costs, second.costs) = if across { ([k00, k01, low, high], [low, high, k10, k11]) } else { ([k00, low, k10, high], [low, k01, high, k11]) };
+        (first.stops, second.stops) = (stops1, stops2);
+        for (c, load) in [(first, load1), (second, load2)] {
+            if can_cut(&c) {
+                let c = bounded(vs, hs, c, load);
+                if precedes(&c, best) {
+                    heap.push(key(&c, cells.len()));
+                    cells.push(c);
+                }
+            }
+        }
+    }
+    let mut live: Vec<_> = heap.into_iter().map(|Reverse(k)| k).filter(|k| precedes(&cells[k.2 as usize], best)).collect();
+    live.sort_unstable();
+    for (slot, k) in out.chunks_exact_mut(5).zip(&live) {
+        let c = &cells[k.2 as usize];
+        let (xlo, ylo, xhi, yhi) = edges(c.x, c.y);
+        slot.copy_from_slice(&[xlo as i64, ylo as i64, xhi as i64, yhi as i64, c.bound]);
+    }
+    out[5 * live.len()..].fill(0);
+    Found { done: live.is_empty(), best, low: live.first().map_or(best.0 as i64, |k| k.0), rounds }
+}
+
+// ---- the text
+
+struct Text<'a> {
+    out: &'a mut [u8],
+    at: usize,
+}
+
+impl Text<'_> {
+    fn put(&mut self, bytes: &[u8]) -> &mut Self {
+        self.out[self.at..self.at + bytes.len()].copy_from_slice(bytes);
+        self.at += bytes.len();
+        self
+    }
+
+    fn number(&mut self, z: i64) -> &mut Self {
+        let (mut digits, mut i, mut n) = ([0u8; 20], 20, z.unsigned_abs());
+        loop {
+            i -= 1;
+            digits[i] = b'0' + (n % 10) as u8;
+            n /= 10;
+            if n == 0 {
+                break;
+            }
+        }
+        if z < 0 {
+            i -= 1;
+            digits[i] = b'-';
+        }
+        self.put(&digits[i..])
+    }
+}
+
+/// 0 for a report, else minus the number of the refusal, as `trial_report`.
+fn report_with(job: &[u8], cells: &mut [i64], out: &mut [u8], find: impl FnOnce(&Deck, &mut [i64]) -> Found) -> i64 {
+    let deck = match read(job) {
+        Ok(deck) => deck,
+        Err((number, _)) => return -number,
+    };
+    if cells.len() < 5 * (deck.rounds + 1) {
+        return -7;
+    }
+    if out.len() < 128 {
+        return -8;
+    }
+    let f = find(&deck, cells);
+    let mut t = Text { out, at: 0 };
+    t.put(b"state=").put(if f.done { b"done" } else { b"stopped" });
+    t.put(b"\nat=").number(f.best.1 as i64).put(b",").number(f.best.2 as i64);
+    t.put(b"\nhigh=").number(f.best.0 as i64).put(b"\nlow=").number(f.low);
+    t.put(b"\nbefore=").number(deck.before() as i64).put(b"\nrounds=").number(f.rounds as i64).put(b"\n");
+    0
+}
+
+pub fn report(job: &[u8], cells: &mut [i64], out: &mut [u8]) -> i64 {
+    report_with(job, cells, out, |deck, cells| search(deck, &mut All(deck), cells))
+}
+
+pub fn report_reaching(job: &[u8], cells: &mut [i64], out: &mut [u8]) -> i64 {
+    report_with(job, cells, out, |deck, cells| search(deck, &mut Reaching::new(deck), cells))
+}
+
+pub fn report_listed(job: &[u8], cells: &mut [i64], out: &mut [u8]) -> i64 {
+    report_with(job, cells, out, |deck, cells| search(deck, &mut Listed { rows: deck.sites().collect() }, cells))
+}
+
+// ---- decks
+
+/// A job over the whole range of coordinates from a fixed seed, with an area of this half side. Posts stand all over the deck, or
+/// in a strip of this width along its left edge.
+pub fn job(posts: usize, strip: u64, stops: usize, half: i64, rounds: usize) -> Vec<u8> {
+    let mut state: u64 = 0x2545_f491_4f6c_dd1d;
+    let mut at = |n: u64| {
+        state = state.wrapping_mul(6_364_136_223_846_793_005).wrapping_add(1_442_695_040_888_963_407);
+        ((state >> 33) % n) as i64
+    };
+    let mut text = format!("area=-{half},-{half},{half},{half}\nposts={posts}\n");
+    for _ in 0..posts {
+        text += &format!("post={},{}\n", at(strip) - 20_000, at(40_001) - 20_000);
+    }
+    text += &format!("stops={stops}\n");
+    for _ in 0..stops {
+        text += &format!("stop={},{},{}\n", at(40_001) - 20_000, at(40_001) - 20_000, at(1_000) + 1);
+    }
+    (text + &format!("rounds={rounds}\n")).into_bytes()
+}

@@ -1,0 +1,96 @@
+-- The call `report` as the tests see it: what its answer carries, as numbers.
+-- Assumes nothing.
+use Prim.Native.Nat.{ℕ, suc, _+_, _-_, _*_, _≤_}
+use mathlib.Core.Path.{_≡_, refl, sym, ap, subst, _∙_}
+use mathlib.Core.Logic.{⊎-elim}
+use mathlib.Core.List.{List}
+use native.Mathlib.Omega.{arith}
+use lib.Dec.{ltb, ltb→lt, nltb→le}
+use lib.IntN.{ℤ, pos, _-ℤ_}
+use lib.ListN.{length, getD}
+use mir.Syntax.{w64}
+use mir.Val.{toZ, ofZ}
+use mir.ValLaws.{toZ-ofZ, toZ-pos}
+use Rattle.numbers.proofs.Truth.{test}
+use Rattle.numbers.proofs.Words.{word-fits}
+use Rattle.query.specs.Figures.{figures}
+use Rattle.job.specs.Refusal.{numberOf}
+use Rattle.job.specs.Format.{Job, Result, refused, accepted, readJob}
+use Rattle.job.specs.declared.Refusal.{Refusal}
+use Rattle.job.specs.declared.Refusal.the-variants.{SmallSpace, ShortOutput}
+use Rattle.job.proofs.Meaning.{accepted-law}
+use Rattle.report.specs.Report.{figuresOf}
+use Rattle.report.specs.Limits.{FiguresInRange}
+use Rattle.report.specs.declared.Report.{Report}
+use Rattle.siting.specs.declared.Answer.{Answer}
+use Rattle.siting.specs.declared.Answer.the-variants as Answered
+use Rattle.siting.specs.Call.{Left, reportRecord, reported, reportCall}
+use Rattle.siting.proofs.Demands.{job-limits, call-accepted, refused-call, small-space, short-output}
+use Rattle.siting.proofs.EntryLaws.{minus-number}
+use Rattle.trial.specs.Trial.{least}
+use Rattle.trial.specs.Calls.{Called, called, LineCalled, lineCalled, numberFor, numbersOf}
+
+-- ---- the answer of the call, by its case
+module _ (job : List ℕ) (cells : List ℤ) (out : List ℕ) (answer : Answer) (cells′ : List ℤ) (out′ : List ℕ) (e : record { answer = answer; cells = cells′; out = out′ } ≡ reportCall job cells out) where
+  -- a result that is a figure of the answer
+  pub called-is : (f : Answer → ℤ) (z : ℤ) → z ≡ f answer → record { result = z; cells = cells′; out = out′ } ≡ called f (reportCall job cells out)
+  called-is f z g = ap (λ (v : ℤ). record { result = v; cells = cells′; out = out′ }) g ∙ ap (called f) e
+
+  pub line-is : (f : Answer → ℕ) (n : ℕ) → n ≡ f answer → record { result = n; cells = cells′; out = out′ } ≡ lineCalled f (reportCall job cells out)
+  line-is f n g = ap (λ (v : ℕ). record { result = v; cells = cells′; out = out′ }) g ∙ ap (lineCalled f) e
+
+  answer-is : (left : Left) → reportCall job cells out ≡ left → left .answer ≡ answer
+  answer-is left f = sym (ap (λ (l : Left). l .answer) (e ∙ f))
+
+  module _ (r : Report) (a : answer ≡ Answered.Report r) where
+    limits-of : (j : Job) → readJob job ≡ accepted j → reportCall job cells out ≡ reported j cells out → FiguresInRange (figuresOf r)
+    unfolding reported
+    limits-of j g f =
+        let h = job-limits j (accepted-law job j .exactly .0 g .2) in
+        let same : reportRecord (figures (j .deck) (j .rounds)) ≡ r = let k = answer-is _ f in cc in
+        subst (λ (x : Report). FiguresInRange (figuresOf x)) same (record { place = h .place; high-limit = h .high-limit; low-limit = h .low-limit; before-limit = h .before-limit; rounds-limit = h .rounds-limit })
+
+    not-refused : (why : Refusal) (left : Left) → reportCall job cells out ≡ left → left .answer ≡ Answered.Refused why → ⊥
+    not-refused why left f g = let k = answer-is left f in let z : _≡_ {A = ℕ} 0 1 = cc in omega arith
+
+    -- the report's figures are in range
+    pub limits : FiguresInRange (figuresOf r)
+    limits = go (readJob job) refl
+      where
+        go : (x : Result) → readJob job ≡ x → FiguresInRange (figuresOf r)
+        go (refused why) g = absurd (not-refused why _ (refused-call job cells out why g) refl)
+        go (accepted j) g =
+            ⊎-elim (λ t. absurd (not-refused SmallSpace _ (small-space job cells out j g (ltb→lt _ _ t)) refl))
+            (λ t. ⊎-elim (λ u. absurd (not-refused ShortOutput _ (short-output job cells out j g (nltb→le _ _ t) (ltb→lt _ _ u)) refl)) (λ u. limits-of j g (call-accepted job cells out j (record { read = g; space = nltb→le _ _ t; output = nltb→le _ _ u }))) (test (ltb (length out) 128)))
+            (test (ltb (length cells) (5 * (j .rounds + 1))))
+
+-- ---- the numbers of the answers
+pub minus-is : {answer : Answer} (why : Refusal) (n : ℕ) → answer ≡ Answered.Refused why → n ≡ numberOf why → toZ w64 (ofZ w64 (toZ w64 0 -ℤ toZ w64 n)) ≡ numberFor answer
+minus-is why n a e = rw (a, e) (minus-number why)
+
+-- ---- the numbers of a report
+pub figure-at : (r : Report) (which k : ℕ) (z : ℤ) → which ≡ k → z ≡ getD (numbersOf r) k least → z ≡ getD (numbersOf r) which least
+figure-at r which k z e f = rw e f
+
+pub no-figure : (r : Report) (which : ℕ) → 7 ≤ which → least ≡ getD (numbersOf r) which least
+no-figure r which h = figure-at r which (suc (suc (suc (suc (suc (suc (suc (which - 7)))))))) least (omega arith) refl
+
+-- as the code holds them
+module _ (r : Report) (h : FiguresInRange (figuresOf r)) (which : ℕ) where
+  pub x-figure : which ≡ 1 → toZ w64 (ofZ w64 (r .x)) ≡ getD (numbersOf r) which least
+  x-figure e = figure-at r which 1 _ e (toZ-ofZ w64 (r .x) (word-fits w64 (r .x) (omega (arith, h .place .x-range))))
+
+  pub y-figure : which ≡ 2 → toZ w64 (ofZ w64 (r .y)) ≡ getD (numbersOf r) which least
+  y-figure e = figure-at r which 2 _ e (toZ-ofZ w64 (r .y) (word-fits w64 (r .y) (omega (arith, h .place .y-range))))
+
+  pub high-figure : which ≡ 3 → toZ w64 (r .high) ≡ getD (numbersOf r) which least
+  high-figure e = figure-at r which 3 _ e (toZ-pos w64 (r .high) (omega (arith, h .high-limit)))
+
+  pub low-figure : which ≡ 4 → toZ w64 (ofZ w64 (r .low)) ≡ getD (numbersOf r) which least
+  low-figure e = figure-at r which 4 _ e (toZ-ofZ w64 (r .low) (word-fits w64 (r .low) (omega (arith, h .low-limit))))
+
+  pub before-figure : which ≡ 5 → toZ w64 (r .before) ≡ getD (numbersOf r) which least
+  before-figure e = figure-at r which 5 _ e (toZ-pos w64 (r .before) (omega (arith, h .before-limit)))
+
+  pub rounds-figure : which ≡ 6 → toZ w64 (r .rounds) ≡ getD (numbersOf r) which least
+  rounds-figure e = figure-at r which 6 _ e (toZ-pos w64 (r .rounds) (omega (arith, h .rounds-limit)))
