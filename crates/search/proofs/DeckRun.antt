@@ -45,15 +45,15 @@ use Rattle.search.specs.declared.space.Cell.{Cell}
 use Rattle.search.specs.declared.run.State.{State}
 use Rattle.search.specs.declared.run.Found.{Found}
 use Rattle.search.specs.Space.{entryCell, entries}
-use Rattle.search.specs.Run.{siteProblem, boundOf, Sited, Lined, Ranged, rectIn, searchOf, Holds, Steady, foundOf, rowsOf, InColumns, Reaching, Ready, Searched}
+use Rattle.search.specs.Run.{siteProblem, boundOf, Sited, Lined, Ranged, rectIn, unbounded, searchOf, Holds, Steady, foundOf, rowsOf, InColumns, Reaching, Ready, Searched}
 use Rattle.search.proofs.Keys.{back, fitting}
 use Rattle.search.proofs.StepLaws.{near-back, rect-narrow}
 use Rattle.search.proofs.RunLaws.{cells-are, holds-any}
 
 -- ---- the area
-pub area-back : (deck : Deck) → mag (deck .xlo) < 2 ^ 63 → mag (deck .ylo) < 2 ^ 63 → mag (deck .xhi) < 2 ^ 63 → mag (deck .yhi) < 2 ^ 63 → _≡_ {A = Rect} (record { xlo = back (deck .xlo); ylo = back (deck .ylo); xhi = back (deck .xhi); yhi = back (deck .yhi) }) (deckOf deck .area)
+pub area-back : (deck : Deck) → mag (deck .xlo) < 2 ^ 63 → mag (deck .ylo) < 2 ^ 63 → mag (deck .xhi) < 2 ^ 63 → mag (deck .yhi) < 2 ^ 63 → _≡_ {A = Cell} (record { xlo = back (deck .xlo); ylo = back (deck .ylo); xhi = back (deck .xhi); yhi = back (deck .yhi); bound = pos 0 }) (unbounded (deckOf deck .area))
 unfolding deckOf
-area-back deck a b c d = λ i. record { xlo = fitting (deck .xlo) a i; ylo = fitting (deck .ylo) b i; xhi = fitting (deck .xhi) c i; yhi = fitting (deck .yhi) d i }
+area-back deck a b c d = λ i. record { xlo = fitting (deck .xlo) a i; ylo = fitting (deck .ylo) b i; xhi = fitting (deck .xhi) c i; yhi = fitting (deck .yhi) d i; bound = pos 0 }
 
 -- ---- which sites reach it
 pub flags-are : (sites : Sites) (r : Rect) (flags : List ℕ) → RectInRange r → InColumns sites → FlagsAre (sites .x) (sites .y) (sites .near) (sites .count) (record { xlo = narrow (r .xlo); ylo = narrow (r .ylo); xhi = narrow (r .xhi); yhi = narrow (r .yhi) }) flags → flags ≡ flagsOf (rowsOf sites) r
@@ -177,7 +177,7 @@ module _ (deck : Deck) (sites : Sites) (rounds lent : ℕ) (ready : Ready deck s
       abbrev coded : Problem
       coded = siteProblem (rowsOf sites) (take (v .count) (v .at)) (take (h .count) (h .at)) (rectIn area)
 
-      coded-is : coded ≡ problem (deckOf deck)
+      pub coded-is : coded ≡ problem (deckOf deck)
       coded-is =
           (λ i. siteProblem (rows-are i) ((ap (λ (l : Lines). take (l .count) (l .at)) ve ∙ record-front (lines (deckOf deck) x-axis)) i) ((ap (λ (l : Lines). take (l .count) (l .at)) he ∙ record-front (lines (deckOf deck) y-axis)) i) (area-is i))
           ∙ deck-problem (deckOf deck) (plain-axis deck)

@@ -70,6 +70,10 @@ spotOf sites p = record { x = p .x; y = p .y; cost = costOf sites p }
 abbrev pub rectIn : Cell → Rect
 rectIn c = queryCell c .rect
 
+-- a rectangle whose bound is not known yet
+abbrev pub unbounded : Rect → Cell
+unbounded r = record { xlo = r .xlo; ylo = r .ylo; xhi = r .xhi; yhi = r .yhi; bound = pos 0 }
+
 -- the costs of the corners of a rectangle, and its cell
 abbrev pub cornerCosts : List Site → Rect → Costs
 cornerCosts sites r = record { c00 = costOf sites (record { x = r .xlo; y = r .ylo }); c01 = costOf sites (record { x = r .xlo; y = r .yhi }); c10 = costOf sites (record { x = r .xhi; y = r .ylo }); c11 = costOf sites (record { x = r .xhi; y = r .yhi }) }

@@ -34,6 +34,7 @@ ghost use Rattle.search.specs.Run.{
   pricedOf,
   spotOf,
   rectIn,
+  unbounded,
   cornerCosts,
   cellFor,
   Near20000,
@@ -102,7 +103,7 @@ pub struct Found {
 }
 
 // A place, priced.
-fn priced<'a>(
+pub fn priced<'a>(
     xs: &'a [i32; 512],
     ys: &'a [i32; 512],
     visits: &'a [u32; 512],
@@ -439,7 +440,7 @@ fn corners<'a>(
 }
 
 // A place with a cost that is known.
-fn place(x: i64, y: i64, cost: u64) -> Spot
+pub fn place(x: i64, y: i64, cost: u64) -> Spot
     ensures { λ r. ⌜ r ≡ spotAt x y cost ⌝ }
 {
     Spot { x, y, cost }
@@ -553,9 +554,9 @@ fn answer(s: &[i64; 5005], st: State) -> Found
     }
 }
 
-// The area of a deck.
-fn area_of(deck: Deck) -> Cell
-    ensures { λ r. ⌜ rectIn r ≡ deckOf deck .area ⌝ }
+// The area of a deck, with no bound yet.
+pub fn area_of(deck: Deck) -> Cell
+    ensures { λ r. ⌜ r ≡ unbounded (deckOf deck .area) ⌝ }
 {
     Cell {
         xlo: deck.xlo,
@@ -567,7 +568,7 @@ fn area_of(deck: Deck) -> Cell
 }
 
 // Which of a deck's sites reach its area.
-fn flags_of(area: Cell, sites: Sites) -> [u8; 512]
+pub fn flags_of(area: Cell, sites: Sites) -> [u8; 512]
     requires { ⌜ InColumns sites × (sites .count ≤ 512) × Ranged (rectIn area) ⌝ }
     ensures { λ r. ⌜ r ≡ flagsOf (rowsOf sites) (rectIn area) ⌝ }
 {
@@ -585,7 +586,7 @@ fn flags_of(area: Cell, sites: Sites) -> [u8; 512]
 }
 
 // The lines of a deck: the vertical ones, and the horizontal ones.
-fn vertical(deck: Deck, area: Cell, flags: [u8; 512]) -> Lines
+pub fn vertical(deck: Deck, area: Cell, flags: [u8; 512]) -> Lines
     requires { ⌜ Reaching deck area flags ⌝ }
     ensures { λ r. ⌜ r ≡ linesRecord (lines (deckOf deck) x-axis) ⌝ }
 {
@@ -593,7 +594,7 @@ fn vertical(deck: Deck, area: Cell, flags: [u8; 512]) -> Lines
     lines::find_lines(&deck.stop_x, &flags, n, area.xlo, area.xhi)
 }
 
-fn horizontal(deck: Deck, area: Cell, flags: [u8; 512]) -> Lines
+pub fn horizontal(deck: Deck, area: Cell, flags: [u8; 512]) -> Lines
     requires { ⌜ Reaching deck area flags ⌝ }
     ensures { λ r. ⌜ r ≡ linesRecord (lines (deckOf deck) y-axis) ⌝ }
 {

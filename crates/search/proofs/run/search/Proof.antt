@@ -1,7 +1,9 @@
 -- `search::run::search` meets its contract: the code's problem is the deck's, whose runs stay in range, so that the answer and the cell space are those of document 01.
 -- Assumes nothing.
+use mathlib.Core.Path.{ap}
 use native.Mathlib.Omega.{arith}
 use borrow.Author.Needs.{needs}
+use Rattle.search.specs.Run.{rectIn}
 use Rattle.search.proofs.DeckRun.{columns-range, sites-count, deck-sited, area-ranged, reaching, deck-lined, coded-steady, searched}
 use Rattle.search.proofs.RunLaws.{cell-count, answerable}
 use Rattle.search.proofs.run.search.Statement.{statement}
@@ -11,18 +13,18 @@ area-of-requires : tie.Need-area-of-requires
 area-of-requires c κs = search needs
 
 flags-of-requires : tie.Need-flags-of-requires
-flags-of-requires c κs = let s = c .before in (columns-range _ _ _ _ (s .pre), sites-count _ _ _ _ (s .pre), area-ranged _ _ _ _ (s .pre) (c .area-of .result) (c .area-of .ensures))
+flags-of-requires c κs = let s = c .before in (columns-range _ _ _ _ (s .pre), sites-count _ _ _ _ (s .pre), area-ranged _ _ _ _ (s .pre) (c .area-of .result) (ap rectIn (c .area-of .ensures)))
 
 vertical-requires : tie.Need-vertical-requires
-vertical-requires c κs = reaching _ _ _ _ (c .before .before .pre) (c .before .area-of .result) (c .before .area-of .ensures) _ (c .flags-of .ensures)
+vertical-requires c κs = reaching _ _ _ _ (c .before .before .pre) (c .before .area-of .result) (ap rectIn (c .before .area-of .ensures)) _ (c .flags-of .ensures)
 
 horizontal-requires : tie.Need-horizontal-requires
-horizontal-requires c κs = reaching _ _ _ _ (c .before .before .before .pre) (c .before .before .area-of .result) (c .before .before .area-of .ensures) _ (c .before .flags-of .ensures)
+horizontal-requires c κs = reaching _ _ _ _ (c .before .before .before .pre) (c .before .before .area-of .result) (ap rectIn (c .before .before .area-of .ensures)) _ (c .before .flags-of .ensures)
 
 run-of-requires : tie.Need-run-of-requires
 run-of-requires c κs =
     let s = c .before .before .before .before .before .before .before .before .before .before .before .before .before .before .before in
-    (deck-sited _ _ _ _ (s .pre), deck-lined _ _ _ _ (s .pre) (c .before .before .before .before .before .before .before .before .before .before .before .before .before .before .area-of .result) (c .before .before .before .before .before .before .before .before .before .before .before .before .before .before .area-of .ensures) _ _ (c .before .before .before .before .before .before .before .before .before .before .before .before .vertical .ensures) (c .before .before .before .before .before .before .before .before .before .before .before .horizontal .ensures), area-ranged _ _ _ _ (s .pre) (c .before .before .before .before .before .before .before .before .before .before .before .before .before .before .area-of .result) (c .before .before .before .before .before .before .before .before .before .before .before .before .before .before .area-of .ensures), s .pre .rounds-limit, coded-steady _ _ _ _ (s .pre) (c .before .before .before .before .before .before .before .before .before .before .before .before .before .before .area-of .result) (c .before .before .before .before .before .before .before .before .before .before .before .before .before .before .area-of .ensures) _ _ (c .before .before .before .before .before .before .before .before .before .before .before .before .vertical .ensures) (c .before .before .before .before .before .before .before .before .before .before .before .horizontal .ensures))
+    (deck-sited _ _ _ _ (s .pre), deck-lined _ _ _ _ (s .pre) (c .before .before .before .before .before .before .before .before .before .before .before .before .before .before .area-of .result) (ap rectIn (c .before .before .before .before .before .before .before .before .before .before .before .before .before .before .area-of .ensures)) _ _ (c .before .before .before .before .before .before .before .before .before .before .before .before .vertical .ensures) (c .before .before .before .before .before .before .before .before .before .before .before .horizontal .ensures), area-ranged _ _ _ _ (s .pre) (c .before .before .before .before .before .before .before .before .before .before .before .before .before .before .area-of .result) (ap rectIn (c .before .before .before .before .before .before .before .before .before .before .before .before .before .before .area-of .ensures)), s .pre .rounds-limit, coded-steady _ _ _ _ (s .pre) (c .before .before .before .before .before .before .before .before .before .before .before .before .before .before .area-of .result) (ap rectIn (c .before .before .before .before .before .before .before .before .before .before .before .before .before .before .area-of .ensures)) _ _ (c .before .before .before .before .before .before .before .before .before .before .before .before .vertical .ensures) (c .before .before .before .before .before .before .before .before .before .before .before .horizontal .ensures))
 
 write-out-requires : tie.Need-write-out-requires
 write-out-requires c κs =
@@ -32,7 +34,7 @@ write-out-requires c κs =
 answer-requires : tie.Need-answer-requires
 answer-requires c κs =
     let s = c .before .before .before .before .before .before .before .before .before .before .before .before .before .before .before .before .before .before .before .before .before in
-    answerable _ _ _ _ _ _ _ (c .before .before .before .before .before .run-of .ensures) (coded-steady _ _ _ _ (s .pre) (c .before .before .before .before .before .before .before .before .before .before .before .before .before .before .before .before .before .before .before .before .area-of .result) (c .before .before .before .before .before .before .before .before .before .before .before .before .before .before .before .before .before .before .before .before .area-of .ensures) _ _ (c .before .before .before .before .before .before .before .before .before .before .before .before .before .before .before .before .before .before .vertical .ensures) (c .before .before .before .before .before .before .before .before .before .before .before .before .before .before .before .before .before .horizontal .ensures))
+    answerable _ _ _ _ _ _ _ (c .before .before .before .before .before .run-of .ensures) (coded-steady _ _ _ _ (s .pre) (c .before .before .before .before .before .before .before .before .before .before .before .before .before .before .before .before .before .before .before .before .area-of .result) (ap rectIn (c .before .before .before .before .before .before .before .before .before .before .before .before .before .before .before .before .before .before .before .before .area-of .ensures)) _ _ (c .before .before .before .before .before .before .before .before .before .before .before .before .before .before .before .before .before .before .vertical .ensures) (c .before .before .before .before .before .before .before .before .before .before .before .before .before .before .before .before .before .horizontal .ensures))
 
 same-length : tie.Need-same-length
 same-length c = search needs
@@ -40,7 +42,7 @@ same-length c = search needs
 returns : tie.Need-returns
 returns c =
     let s = c .before .before .before .before .before .before .before .before .before .before .before .before .before .before .before .before .before .before .before .before .before .before in
-    searched _ _ _ _ (s .pre) (c .before .before .before .before .before .before .before .before .before .before .before .before .before .before .before .before .before .before .before .before .before .area-of .result) (c .before .before .before .before .before .before .before .before .before .before .before .before .before .before .before .before .before .before .before .before .before .area-of .ensures) _ _ (c .before .before .before .before .before .before .before .before .before .before .before .before .before .before .before .before .before .before .before .vertical .ensures) (c .before .before .before .before .before .before .before .before .before .before .before .before .before .before .before .before .before .before .horizontal .ensures) _ _ _ (c .before .before .before .before .before .before .run-of .ensures) _ _ _ (c .answer .ensures) (c .before .before .before .write-out .ensures)
+    searched _ _ _ _ (s .pre) (c .before .before .before .before .before .before .before .before .before .before .before .before .before .before .before .before .before .before .before .before .before .area-of .result) (ap rectIn (c .before .before .before .before .before .before .before .before .before .before .before .before .before .before .before .before .before .before .before .before .before .area-of .ensures)) _ _ (c .before .before .before .before .before .before .before .before .before .before .before .before .before .before .before .before .before .before .before .vertical .ensures) (c .before .before .before .before .before .before .before .before .before .before .before .before .before .before .before .before .before .before .horizontal .ensures) _ _ _ (c .before .before .before .before .before .before .run-of .ensures) _ _ _ (c .answer .ensures) (c .before .before .before .write-out .ensures)
 
 pub search-spec : {M : Type 1} → statement M
 search-spec =

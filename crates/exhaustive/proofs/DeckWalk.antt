@@ -1,0 +1,123 @@
+-- The exhaustive search of a deck as the code prepares it: its lines in range, and its crossings in turn.
+-- Assumes nothing.
+use mathlib.Core.Path.{_≡_, refl, sym, ap, subst, _∙_}
+use mathlib.Core.Bool.{not}
+use mathlib.Core.List.{List, flatMap, List·Memᴰ, Memᴰ·of-map}
+use Prim.Native.Nat.{ℕ, _≤_, _<_}
+use native.Mathlib.Omega.{arith}
+use lib.Dec.{T}
+use lib.IntN.{ℤ, pos, natAbs}
+use lib.ListN.{length, getD, take}
+use lib.Seq.{getD-take}
+use lib.Signed.{_≤ℤ_}
+use Rattle.numbers.proofs.Integer.{order, abs-range}
+use Rattle.numbers.proofs.Members.{nonEmpty-length, some-nonEmpty, flatMap-from}
+use Rattle.query.specs.Place.{Place, Rect, NonEmpty, Axis, x-axis, y-axis, low-edge, high-edge, corner, earlier}
+use Rattle.query.specs.Deck as Query
+use Rattle.query.specs.Lines.{lines}
+use Rattle.query.specs.Laws.{edge-low}
+use Rattle.query.specs.Exhaustive.{cheapestCrossing, exhaustive}
+use Rattle.query.specs.Range.{InRange, costLimit}
+use Rattle.query.proofs.KeyOrder.{not-earlier}
+use Rattle.query.proofs.LineLaws.{lines-law, lines-range}
+use Rattle.job.specs.declared.Deck.{Deck}
+use Rattle.pricing.specs.DeckOf.{deckOf}
+use Rattle.pricing.specs.Sites.{beforeOf, flagsOf}
+use Rattle.pricing.specs.Columns.{PaidInRange, Figure, BeforeIs}
+use Rattle.pricing.specs.LineRecord.{linesRecord}
+use Rattle.pricing.specs.declared.Sites.{Sites}
+use Rattle.pricing.specs.declared.lines.Lines.{Lines}
+use Rattle.pricing.proofs.Indexed.{member-at}
+use Rattle.pricing.proofs.LineRecordLaws.{record-front}
+use Rattle.pricing.proofs.DeckLines.{lines-in-order}
+use Rattle.pricing.proofs.RecordLaws.{paid-range}
+use Rattle.search.specs.declared.space.Cell.{Cell}
+use Rattle.search.specs.declared.run.Spot.{Spot}
+use Rattle.search.specs.Run as Run
+use Rattle.search.specs.Run.{Sited, pricedOf, spotOf, rectIn, Near20000, Ranged, rowsOf, InColumns, Reaching}
+use Rattle.search.proofs.Keys.{back}
+use Rattle.search.proofs.StepLaws.{near-places, spot-back}
+use Rattle.search.proofs.DeckRun.{columns-range, sites-count, deck-sited, area-ranged, reaching, coded-is}
+use Rattle.exhaustive.specs.Ramps.{LinesInRange}
+use Rattle.exhaustive.specs.Cheapest.{firstCheapest, along, Ready}
+use Rattle.exhaustive.proofs.CrossingOrder.{InTurn, crossing-turn, walk-is}
+
+-- ---- the lines of a deck in range
+edges-abs : (lo v hi : ℤ) (k : ℕ) → natAbs lo ≤ k → natAbs hi ≤ k → lo ≤ℤ v → v ≤ℤ hi → natAbs v ≤ k
+edges-abs lo v hi k a b g h = abs-range v k .1 (omega (arith, order, abs-range lo k .0 a, abs-range hi k .0 b))
+
+module _ (deck : Query.Deck) (range : InRange deck) (full : NonEmpty (deck .area)) where
+  edge-range : (axis : Axis) → (natAbs (low-edge axis (deck .area)) ≤ 20000) × (natAbs (high-edge axis (deck .area)) ≤ 20000)
+  edge-range x-axis = (range .area .low-corner .x-range, range .area .high-corner .x-range)
+  edge-range y-axis = (range .area .low-corner .y-range, range .area .high-corner .y-range)
+
+  module _ (axis : Axis) (l : Lines) (e : l ≡ linesRecord (lines deck axis)) where
+    pub deck-front : take (l .count) (l .at) ≡ lines deck axis
+    deck-front = ap (λ (r : Lines). take (r .count) (r .at)) e ∙ record-front (lines deck axis)
+
+    counted : l .count ≡ length (lines deck axis)
+    unfolding linesRecord
+    counted = ap (λ (r : Lines). r .count) e
+
+    line-is : (j : ℕ) → j < l .count → getD (l .at) j (pos 0) ≡ getD (lines deck axis) j (pos 0)
+    line-is j h = sym (getD-take (l .count) (l .at) j (pos 0) h) ∙ rw deck-front
+
+    pub deck-some : 1 ≤ l .count
+    deck-some = omega (arith, counted, nonEmpty-length (lines deck axis) (some-nonEmpty (lines deck axis) (lines-law deck axis .named (low-edge axis (deck .area)) .1 (edge-low refl))))
+
+    pub deck-lines : LinesInRange (l .at) (l .count)
+    deck-lines = record {
+      in-order = rw e (lines-in-order deck axis (range .most-stops));
+      range = λ j h. rw (line-is j h) (let m = lines-range deck axis full (getD (lines deck axis) j (pos 0)) (member-at (pos 0) (lines deck axis) j (omega (arith, counted))) in edges-abs (low-edge axis (deck .area)) _ (high-edge axis (deck .area)) 20000 (edge-range axis .0) (edge-range axis .1) (m .0) (m .1));
+    }
+
+  -- its crossings, in turn and none earlier than the area's corner
+  pub deck-turn : InTurn (flatMap (along (lines deck y-axis)) (lines deck x-axis))
+  deck-turn = crossing-turn (lines deck y-axis) (lines deck x-axis) (lines-law deck y-axis .increasing) (lines-law deck x-axis .increasing)
+
+  pub deck-corner : (q : Place) → List·Memᴰ q (flatMap (along (lines deck y-axis)) (lines deck x-axis)) → T (not (earlier q (corner (deck .area))))
+  deck-corner q m =
+      let (v, on-v, n) = flatMap-from (along (lines deck y-axis)) (lines deck x-axis) m in
+      let (h, on-h, e) = Memᴰ·of-map (λ (h : ℤ). record { x = v; y = h }) (lines deck y-axis) n in
+      rw (← e) (not-earlier (record { x = v; y = h }) (corner (deck .area)) (lines-range deck x-axis full v on-v .0) (lines-range deck y-axis full h on-h .0))
+
+-- ---- a deck and its sites
+module _ (deck : Deck) (sites : Sites) (ready : Ready deck sites) where
+  -- what a search of no rounds asks
+  searchable : Run.Ready deck sites 0 5
+  searchable = record { sites-are = ready .sites-are; range = ready .range; full = ready .full; posts = ready .posts; stops = ready .stops; rounds-limit = omega arith; room = omega arith }
+
+  pub columns : InColumns sites
+  columns = columns-range deck sites 0 5 searchable
+
+  pub count : sites .count ≤ 512
+  count = sites-count deck sites 0 5 searchable
+
+  pub sited : Sited (sites .x) (sites .y) (sites .visits) (sites .near) (sites .count)
+  sited = deck-sited deck sites 0 5 searchable
+
+  pub paid : PaidInRange (sites .visits) (sites .near)
+  paid = paid-range columns
+
+  pub before-is : (b : ℕ) → BeforeIs (sites .visits) (sites .near) (sites .count) b → Figure (beforeOf (rowsOf sites)) costLimit b
+  before-is b h = record { is = h .is (sites .x) (sites .y) (columns .x-long) (columns .y-long); within = h .within }
+
+  module _ (area : Cell) (area-is : rectIn area ≡ deckOf deck .area) where
+    pub ranged : Ranged (rectIn area)
+    ranged = area-ranged deck sites 0 5 searchable area area-is
+
+    pub reaches : (flags : List ℕ) → flags ≡ flagsOf (rowsOf sites) (rectIn area) → Reaching deck area flags
+    reaches = reaching deck sites 0 5 searchable area area-is
+
+    pub corner-near : Near20000 (back (area .xlo)) (back (area .ylo))
+    corner-near = near-places (area .xlo) (area .ylo) (ranged .range .low-corner .x-range) (ranged .range .low-corner .y-range)
+
+    pub answers : (v h : Lines) → v ≡ linesRecord (lines (deckOf deck) x-axis) → h ≡ linesRecord (lines (deckOf deck) y-axis) → (first r : Spot) → first ≡ spotOf (rowsOf sites) (record { x = back (area .xlo); y = back (area .ylo) }) → r ≡ firstCheapest (rowsOf sites) first (flatMap (along (take (h .count) (h .at))) (take (v .count) (v .at))) → pricedOf r ≡ exhaustive (deckOf deck)
+    unfolding exhaustive
+    answers v h ve he first r e b =
+        let corner-first : first ≡ spotOf (rowsOf sites) (corner (rectIn area)) = spot-back (rowsOf sites) (area .xlo) (area .ylo) first (ranged .range .low-corner .x-range) (ranged .range .low-corner .y-range) e in
+        let vs = deck-front (deckOf deck) (ready .range) (ready .full) x-axis v ve in
+        let hs = deck-front (deckOf deck) (ready .range) (ready .full) y-axis h he in
+        ap pricedOf (b ∙ ap (λ (s : Spot). firstCheapest (rowsOf sites) s (flatMap (along (take (h .count) (h .at))) (take (v .count) (v .at)))) corner-first)
+        ∙ walk-is (rowsOf sites) (take (v .count) (v .at)) (take (h .count) (h .at)) (rectIn area) (rw (vs, hs) (deck-turn (deckOf deck) (ready .range) (ready .full))) (λ q m. subst (λ (r : Rect). T (not (earlier q (corner r)))) (sym area-is) (deck-corner (deckOf deck) (ready .range) (ready .full) q (rw (vs, hs) at m)))
+        ∙ ap cheapestCrossing (coded-is deck sites 0 5 searchable area area-is v h ve he)

@@ -1,0 +1,10 @@
+pub mod Heights
+pub mod Prefixes
+pub mod RampLaws
+pub mod SiteRamps
+pub mod AllSites
+pub mod CheapestLaws
+pub mod SweepLaws
+pub mod WalkLaws
+pub mod CrossingOrder
+pub mod DeckWalk

@@ -1,0 +1,128 @@
+-- A sweep along a vertical line: after j lines the sums are those of the first j buckets, and what is left to compare are the lines from j on.
+-- Assumes nothing.
+use mathlib.Core.Path.{_≡_, refl, sym, ap, _∙_}
+use mathlib.Core.List.{List, _∷_}
+use Prim.Native.Nat.{ℕ, _+_, _*_, _^_, _≤_, _<_}
+use native.Mathlib.Numerals.{add-one}
+use native.Mathlib.Omega.{arith}
+use lib.IntN.{ℤ, pos, natAbs}
+use lib.ListN.{getD, take, drop, length-take, drop-of-length-le}
+use lib.Seq.{drop-cons, getD-take, length-take-le}
+use Rattle.pricing.specs.Sites.{Site, costOf, beforeOf}
+use Rattle.search.specs.declared.run.Spot.{Spot}
+use Rattle.search.specs.Run.{spotOf, spotAt}
+use Rattle.search.proofs.Keys.{back}
+use Rattle.exhaustive.specs.Ramps.{heightOf, prefixSum, LinesInRange, RampSums, SitesAdded, Payable, Sweepable}
+use Rattle.exhaustive.specs.Cheapest.{cheaperOf, firstCheapest, along, Swept}
+use Rattle.exhaustive.proofs.Heights.{height-most}
+use Rattle.exhaustive.proofs.Prefixes.{prefix-none, prefix-more, prefix-most}
+use Rattle.exhaustive.proofs.SiteRamps.{sums-more, small-back}
+use Rattle.exhaustive.proofs.CheapestLaws.{cheapest-none, cheapest-more}
+
+-- ---- the sums stay small
+module _ {ws us : List ℕ} (sums : RampSums ws us 1200) (n : ℕ) (h : n ≤ 515) where
+  pub weights-cap : prefixSum ws n ≤ 2 ^ 40
+  weights-cap = omega (arith, prefix-most ws 157284000 (λ k. sums .weights-most k) n)
+
+  pub starts-cap : prefixSum us n ≤ 2 ^ 60
+  starts-cap = omega (arith, prefix-most us 314568000000000 (λ k. sums .starts-most k) n)
+
+-- ---- the loop
+pub record Sweeping (ls : List ℤ) (n : ℕ) (v : ℤ) (up us down ds : List ℕ) (before : ℕ) (best found : Spot) (a b c d j : ℕ) : Type 0 where
+  pub count : j ≤ n
+  pub ups : a ≡ prefixSum up j
+  pub up-starts : b ≡ prefixSum us j
+  pub downs : c ≡ prefixSum down j
+  pub down-starts : d ≡ prefixSum ds j
+  pub left : (sites : List Site) (m : ℕ) → SitesAdded sites m ls n v up us down ds → before ≡ beforeOf sites → firstCheapest sites best (along (take n ls) v) ≡ firstCheapest sites found (along (drop j (take n ls)) v)
+
+module _ (ls : List ℤ) (n : ℕ) (v : ℤ) (up us down ds : List ℕ) (before : ℕ) (best : Spot) where
+  pub sweep-none : Sweeping ls n v up us down ds before best best 0 0 0 0 0
+  sweep-none = record {
+    count = omega arith;
+    ups = sym (prefix-none up);
+    up-starts = sym (prefix-none us);
+    downs = sym (prefix-none down);
+    down-starts = sym (prefix-none ds);
+    left = λ sites m s e. refl;
+  }
+
+  pub sweep-all : {found : Spot} {a b c d j : ℕ} → Sweeping ls n v up us down ds before best found a b c d j → n ≤ j → Swept ls n v up us down ds before best found
+  sweep-all {found} {j = j} s h = record {
+    is = λ sites m q e. sym (s .left sites m q e ∙ rw (drop-of-length-le (take n ls) {i = j} (omega (arith, length-take n ls))) (cheapest-none sites found));
+  }
+
+  module _ (lines : LinesInRange ls n) (ok : Sweepable ls n up us down ds before) {found : Spot} {a b c d j : ℕ} (s : Sweeping ls n v up us down ds before best found a b c d j) (h : j < n) where
+    abbrev y : ℤ
+    y = getD ls j (pos 0)
+
+    few : j + 1 ≤ 515
+    few = omega (arith, lines .in-order .within)
+
+    pub ups-next : a + getD up j 0 ≡ prefixSum up (j + 1)
+    ups-next = omega (arith, prefix-more up j, s .ups)
+
+    pub up-starts-next : b + getD us j 0 ≡ prefixSum us (j + 1)
+    up-starts-next = omega (arith, prefix-more us j, s .up-starts)
+
+    pub downs-next : c + getD down j 0 ≡ prefixSum down (j + 1)
+    downs-next = omega (arith, prefix-more down j, s .downs)
+
+    pub down-starts-next : d + getD ds j 0 ≡ prefixSum ds (j + 1)
+    down-starts-next = omega (arith, prefix-more ds j, s .down-starts)
+
+    pub ups-cap : a + getD up j 0 ≤ 2 ^ 40
+    ups-cap = rw ups-next (weights-cap (sums-more 600 1200 (ok .sums .up-sums) (omega arith)) (j + 1) few)
+
+    pub up-starts-cap : b + getD us j 0 ≤ 2 ^ 60
+    up-starts-cap = rw up-starts-next (starts-cap (sums-more 600 1200 (ok .sums .up-sums) (omega arith)) (j + 1) few)
+
+    pub downs-cap : c + getD down j 0 ≤ 2 ^ 40
+    downs-cap = rw downs-next (weights-cap (ok .sums .down-sums) (j + 1) few)
+
+    pub down-starts-cap : d + getD ds j 0 ≤ 2 ^ 60
+    down-starts-cap = rw down-starts-next (starts-cap (ok .sums .down-sums) (j + 1) few)
+
+    y-back : back y ≡ y
+    y-back = small-back y (omega (arith, lines .range j h))
+
+    pub y-range : natAbs (back y) ≤ 900000
+    y-range = rw y-back (omega (arith, lines .range j h))
+
+    module _ (t : ℕ) (e : t ≡ heightOf (back y)) where
+      t-is : t ≡ heightOf y
+      t-is = e ∙ rw y-back
+
+      pub payable : Payable before (a + getD up j 0) (b + getD us j 0) (c + getD down j 0) (d + getD ds j 0) t
+      payable = record {
+        before-small = omega (arith, ok .before-most);
+        up-small = ups-cap;
+        up-at-small = up-starts-cap;
+        down-small = downs-cap;
+        down-at-small = down-starts-cap;
+        height-small = omega (arith, t-is, height-most y 20000 (lines .range j h) (omega arith));
+        enough = rw (t-is, ups-next, up-starts-next, downs-next, down-starts-next) (ok .enough j h);
+      }
+
+      module _ (cost : ℕ) (q : cost + ((c + getD down j 0) * t + (b + getD us j 0)) ≡ before + ((a + getD up j 0) * t + (d + getD ds j 0))) where
+        balance : cost + (prefixSum down (j + 1) * heightOf y + prefixSum us (j + 1)) ≡ before + (prefixSum up (j + 1) * heightOf y + prefixSum ds (j + 1))
+        balance = rw (t-is, ups-next, up-starts-next, downs-next, down-starts-next) at q
+
+        cost-is : (sites : List Site) (m : ℕ) → SitesAdded sites m ls n v up us down ds → before ≡ beforeOf sites → cost ≡ costOf sites (record { x = v; y = y })
+        cost-is sites m added f = omega (arith, balance, added .cost j h, f)
+
+        spot-is : (p : Spot) → p ≡ spotAt v (back y) cost → (sites : List Site) (m : ℕ) → SitesAdded sites m ls n v up us down ds → before ≡ beforeOf sites → p ≡ spotOf sites (record { x = v; y = y })
+        spot-is p f sites m added k = f ∙ rw (y-back, cost-is sites m added k)
+
+        line-next : drop j (take n ls) ≡ y ∷ drop (j + 1) (take n ls)
+        line-next = drop-cons (take n ls) j (pos 0) (rw (length-take-le n ls (omega (arith, lines .in-order .within, lines .in-order .full))) h) ∙ rw (getD-take n ls j (pos 0) h, add-one j)
+
+        pub sweep-more : (p found′ : Spot) → p ≡ spotAt v (back y) cost → found′ ≡ cheaperOf found p → Sweeping ls n v up us down ds before best found′ (a + getD up j 0) (b + getD us j 0) (c + getD down j 0) (d + getD ds j 0) (j + 1)
+        sweep-more p found′ f g = record {
+          count = omega arith;
+          ups = ups-next;
+          up-starts = up-starts-next;
+          downs = downs-next;
+          down-starts = down-starts-next;
+          left = λ sites m added k. s .left sites m added k ∙ rw line-next (cheapest-more sites found (record { x = v; y = y }) (along (drop (j + 1) (take n ls)) v)) ∙ ap (λ (q : Spot). firstCheapest sites q (along (drop (j + 1) (take n ls)) v)) (sym (g ∙ ap (cheaperOf found) (spot-is p f sites m added k)));
+        }

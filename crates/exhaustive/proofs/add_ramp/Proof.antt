@@ -1,0 +1,80 @@
+-- `exhaustive::add_ramp` meets its contract: one index of each column grows, and the sums stay far below 2 ^ 64.
+-- Assumes nothing.
+use mathlib.Core.Path.{_≡_, _∙_}
+use native.Mathlib.Omega.{arith}
+use borrow.Author.Needs.{needs}
+use mir.Syntax.{w64}
+use mir.ValLaws.{toZ-ofZ}
+use denote.Ref.{now}
+use Rattle.pricing.specs.LineRecord.{FirstAtLeast}
+use Rattle.exhaustive.specs.Ramps.{heightOf}
+use Rattle.exhaustive.proofs.RampLaws.{ramp-weight, ramp-added}
+use Rattle.exhaustive.proofs.add_ramp.Statement.{statement}
+use Rattle.exhaustive.proofs.add_ramp.Tie as tie
+
+found : (c : tie.After-first-at-least) → let a = c .before .args in FirstAtLeast (now (a .h)) (a .nh) (a .start) (c .first-at-least .result)
+found c = rw (toZ-ofZ w64 (c .before .args .start) (c .before .fits .start)) at (c .first-at-least .ensures)
+
+risen : (c : tie.After-height) → c .height .result ≡ heightOf (c .before .before .before .before .args .start)
+risen c = let s = c .before .before .before .before in c .height .ensures ∙ rw (toZ-ofZ w64 (s .args .start) (s .fits .start))
+
+first-at-least-requires : tie.Need-first-at-least-requires
+first-at-least-requires c κs = c .pre .0 .in-order
+
+mul-weights : tie.Need-mul-weights
+mul-weights c = search needs
+
+element-copy-out-weights : tie.Need-element-copy-out-weights
+element-copy-out-weights c = search needs
+
+add-weights : tie.Need-add-weights
+add-weights c = let s = c .before .before in omega (arith, s .pre .1 .weights-most (c .before .first-at-least .result), s .pre .2 .weight-range)
+
+mul-weights-2 : tie.Need-mul-weights-2
+mul-weights-2 c = search needs
+
+element-write-weights : tie.Need-element-write-weights
+element-write-weights c = search needs
+
+mul-starts : tie.Need-mul-starts
+mul-starts c = search needs
+
+element-copy-out-starts : tie.Need-element-copy-out-starts
+element-copy-out-starts c = search needs
+
+height-requires : tie.Need-height-requires
+height-requires c κs = search needs
+
+mul-starts-2 : tie.Need-mul-starts-2
+mul-starts-2 c = let s = c .before .before .before .before in rw (risen c) (omega (arith, ramp-weight _ _ (s .args .start) (s .args .w) _ _ _ (s .pre .0) (s .pre .2) (found (c .before .before .before)) (s .pre .1)))
+
+add-starts : tie.Need-add-starts
+add-starts c = let s = c .before .before .before .before in rw (risen c) (omega (arith, s .pre .1 .starts-most (c .before .before .before .first-at-least .result), ramp-weight _ _ (s .args .start) (s .args .w) _ _ _ (s .pre .0) (s .pre .2) (found (c .before .before .before)) (s .pre .1)))
+
+mul-starts-3 : tie.Need-mul-starts-3
+mul-starts-3 c = search needs
+
+element-write-starts : tie.Need-element-write-starts
+element-write-starts c = search needs
+
+returns : tie.Need-returns
+returns c = let s = c .before .before .before .before in rw (risen c) (ramp-added _ _ _ _ _ _ _ (s .pre .0) (s .pre .2) (found (c .before .before .before)) (s .pre .1))
+
+pub add-ramp-spec : {M : Type 1} → statement M
+add-ramp-spec =
+    tie.close
+    (tie.spec
+    first-at-least-requires
+    mul-weights
+    element-copy-out-weights
+    add-weights
+    mul-weights-2
+    element-write-weights
+    mul-starts
+    element-copy-out-starts
+    height-requires
+    mul-starts-2
+    add-starts
+    mul-starts-3
+    element-write-starts
+    returns)

@@ -1,0 +1,64 @@
+-- `exhaustive::add_site` meets its contract: three ramps are what the site pays, or none where the line is no nearer than a post.
+-- Assumes nothing.
+use native.Mathlib.Omega.{arith}
+use borrow.Author.Needs.{needs}
+use Rattle.exhaustive.proofs.SiteRamps.{sums-more, small-back, low-fits, high-fits, low-range, middle-range, high-range, site-none, site-added}
+use Rattle.exhaustive.proofs.add_site.Statement.{statement}
+use Rattle.exhaustive.proofs.add_site.Tie as tie
+
+abs-diff-requires : tie.Need-abs-diff-requires
+abs-diff-requires c κs = rw (small-back (c .args .sx) (omega (arith, c .pre .3 .x-range)), small-back (c .args .v) (omega (arith, c .pre .1))) (omega (arith, c .pre .3 .x-range), omega (arith, c .pre .1))
+
+returns : tie.Need-returns
+returns c = let s = c .before .before in site-none (s .args .v) (s .args .sx) (s .args .sy) (s .args .visits) (s .args .near) _ (s .pre .1) (s .pre .3) (c .before .abs-diff .ensures) _ _ (s .pre .0) _ _ _ _ (c .if1 .taken)
+
+sub-r : tie.Need-sub-r
+sub-r c = search needs
+
+cast-r : tie.Need-cast-r
+cast-r c = search needs
+
+sub-add-ramp : tie.Need-sub-add-ramp
+sub-add-ramp c = let s = c .before .before .before .before in low-fits (s .args .v) (s .args .sx) (s .args .sy) (s .args .visits) (s .args .near) _ (s .pre .1) (s .pre .3) (c .before .before .before .abs-diff .ensures)
+
+add-ramp-requires : tie.Need-add-ramp-requires
+add-ramp-requires c κs =
+    let s = c .before .before .before .before in
+    (s .pre .0, sums-more 1200 2000 (s .pre .2 .down-sums) (omega arith), low-range (s .args .v) (s .args .sx) (s .args .sy) (s .args .visits) (s .args .near) _ (s .pre .1) (s .pre .3) (c .before .before .before .abs-diff .ensures))
+
+mul-add-ramp : tie.Need-mul-add-ramp
+mul-add-ramp c = search needs
+
+add-ramp-requires-2 : tie.Need-add-ramp-requires-2
+add-ramp-requires-2 c κs =
+    let s = c .before .before .before .before .before .before .before in
+    (s .pre .0, sums-more 600 2000 (s .pre .2 .up-sums) (omega arith), middle-range (s .args .v) (s .args .sx) (s .args .sy) (s .args .visits) (s .args .near) _ (s .pre .1) (s .pre .3) (c .before .before .before .before .before .before .abs-diff .ensures))
+
+add-add-ramp : tie.Need-add-add-ramp
+add-add-ramp c = let s = c .before .before .before .before .before .before .before .before .before .before in high-fits (s .args .v) (s .args .sx) (s .args .sy) (s .args .visits) (s .args .near) _ (s .pre .1) (s .pre .3) (c .before .before .before .before .before .before .before .before .before .abs-diff .ensures)
+
+add-ramp-requires-3 : tie.Need-add-ramp-requires-3
+add-ramp-requires-3 c κs =
+    let s = c .before .before .before .before .before .before .before .before .before .before in
+    (s .pre .0, sums-more 1201 2000 (c .before .before .before .before .before .add-ramp .ensures .sums 1200 (s .pre .2 .down-sums)) (omega arith), high-range (s .args .v) (s .args .sx) (s .args .sy) (s .args .visits) (s .args .near) _ (s .pre .1) (s .pre .3) (c .before .before .before .before .before .before .before .before .before .abs-diff .ensures))
+
+returns-2 : tie.Need-returns-2
+returns-2 c =
+    let s = c .before .before .before .before .before .before .before .before .before .before .before in
+    site-added (s .args .v) (s .args .sx) (s .args .sy) (s .args .visits) (s .args .near) _ (s .pre .1) (s .pre .3) (c .before .before .before .before .before .before .before .before .before .before .abs-diff .ensures) _ _ (s .pre .0) _ _ _ _ _ _ _ _ _ _ (c .before .before .before .before .before .before .before .before .before .if1 .left) (c .before .before .before .before .before .before .add-ramp .ensures) (c .before .before .before .add-ramp2 .ensures) (c .add-ramp3 .ensures)
+
+pub add-site-spec : {M : Type 1} → statement M
+add-site-spec =
+    tie.close
+    (tie.spec
+    abs-diff-requires
+    returns
+    sub-r
+    cast-r
+    sub-add-ramp
+    add-ramp-requires
+    mul-add-ramp
+    add-ramp-requires-2
+    add-add-ramp
+    add-ramp-requires-3
+    returns-2)

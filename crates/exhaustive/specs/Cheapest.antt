@@ -1,0 +1,49 @@
+-- The exhaustive search as the code runs it: the crossings in their order, one vertical line after another, and of equal costs the first.
+-- Assumes nothing.
+use Prim.Native.Nat.{ℕ, _≤_}
+use mathlib.Core.Path.{_≡_}
+use mathlib.Core.Bool.{cond}
+use mathlib.Core.List.{List, map, foldl}
+use lib.Dec.{ltb}
+use lib.IntN.{ℤ, pos}
+use lib.ListN.{getD, take}
+use Rattle.query.specs.Place.{Place, NonEmpty}
+use Rattle.query.specs.Range.{InRange}
+use Rattle.job.specs.declared.Deck.{Deck}
+use Rattle.pricing.specs.DeckOf.{deckOf}
+use Rattle.pricing.specs.Sites.{Site, sitesOf, costOf, beforeOf}
+use Rattle.pricing.specs.Record.{sitesRecord}
+use Rattle.pricing.specs.declared.Sites.{Sites}
+use Rattle.search.specs.declared.run.Spot.{Spot}
+use Rattle.search.specs.Run.{spotOf}
+use Rattle.exhaustive.specs.Ramps.{SitesAdded}
+
+-- the cheaper of two spots, the first of them where they cost the same
+unfoldable pub cheaperOf : Spot → Spot → Spot
+cheaperOf best p = cond (ltb (p .cost) (best .cost)) p best
+
+-- the cheapest of a spot and some places, the first among equals
+unfoldable pub firstCheapest : List Site → Spot → List Place → Spot
+unfolding cheaperOf costOf
+firstCheapest sites first places = foldl (λ best p. cheaperOf best (spotOf sites p)) first places
+
+-- the crossings of the vertical line at v, in their order
+abbrev pub along : List ℤ → ℤ → List Place
+along horizontal v = map (λ h. record { x = v; y = h }) horizontal
+
+-- the cheapest of them, where there are some
+unfoldable pub cheapestOn : List Site → List ℤ → ℤ → Spot
+unfolding firstCheapest costOf
+cheapestOn sites horizontal v = firstCheapest sites (spotOf sites (record { x = v; y = getD horizontal 0 (pos 0) })) (along horizontal v)
+
+-- the cheapest of a spot and the crossings of the vertical line at v, whatever the sites whose ramps the columns hold
+pub record Swept (ls : List ℤ) (n : ℕ) (v : ℤ) (up up-at down down-at : List ℕ) (before : ℕ) (first r : Spot) : Type 0 where
+  pub is : (sites : List Site) (m : ℕ) → SitesAdded sites m ls n v up up-at down down-at → before ≡ beforeOf sites → r ≡ firstCheapest sites first (along (take n ls) v)
+
+-- what the search asks: a deck in range, and its sites
+pub record Ready (deck : Deck) (sites : Sites) : Type 0 where
+  pub sites-are : sites ≡ sitesRecord (sitesOf (deckOf deck))
+  pub range : InRange (deckOf deck)
+  pub full : NonEmpty (deckOf deck .area)
+  pub posts : deck .posts ≤ 64
+  pub stops : deck .stops ≤ 512

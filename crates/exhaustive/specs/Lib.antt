@@ -1,0 +1,2 @@
+pub mod Ramps
+pub mod Cheapest

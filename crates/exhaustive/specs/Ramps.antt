@@ -1,0 +1,89 @@
+-- The cost of the places of a vertical line as a sum of ramps. A ramp of weight w from a start s on is w × (t − s) at a height t above s,
+-- and 0 below. Along the line at v a site with d = |sx − v| pays for each visit near where near ≤ d; else, with r = near − d, it pays
+-- near, less a ramp from sy − r on, plus two from sy on, less one from sy + r on.
+-- Assumes nothing.
+use Prim.Native.Nat.{ℕ, zero, suc, _+_, _*_, _-_, _≤_, _<_, min, _^_}
+use mathlib.Core.Path.{_≡_}
+use mathlib.Core.List.{List}
+use lib.IntN.{ℤ, pos, natAbs, _+ℤ_}
+use lib.ListN.{length, getD}
+use Rattle.numbers.specs.Integer.{dist}
+use Rattle.query.specs.Range.{costLimit}
+use Rattle.pricing.specs.Sites.{Site, costOf, beforeOf}
+use Rattle.pricing.specs.LineRecord.{InOrder}
+
+-- how far a coordinate lies above −1,000,000
+unfoldable pub heightOf : ℤ → ℕ
+heightOf y = natAbs (y +ℤ pos 1000000)
+
+-- the sum of the first n numbers
+unfoldable pub prefixSum : List ℕ → ℕ → ℕ
+prefixSum xs zero = 0
+prefixSum xs (suc n) = prefixSum xs n + getD xs n 0
+
+-- lines in order and in range
+pub record LinesInRange (ls : List ℤ) (n : ℕ) : Type 0 where
+  pub in-order : InOrder ls n
+  pub range : (j : ℕ) → j < n → natAbs (getD ls j (pos 0)) ≤ 20000
+
+-- ramps are held by line, at the first line that is not below the start, in two columns: the sum of their weights, and that of weight × height
+-- of the start. Up to line j the weights times the height of that line, and the starts
+abbrev pub weightsAt : List ℤ → List ℕ → ℕ → ℕ
+weightsAt ls weights j = prefixSum weights (j + 1) * heightOf (getD ls j (pos 0))
+
+abbrev pub startsAt : List ℕ → ℕ → ℕ
+startsAt starts j = prefixSum starts (j + 1)
+
+-- columns of such sums, each of at most m ramps
+pub record RampSums (weights starts : List ℕ) (m : ℕ) : Type 0 where
+  pub weights-long : length weights ≡ 515
+  pub starts-long : length starts ≡ 515
+  pub weights-most : (k : ℕ) → getD weights k 0 ≤ m * 131070
+  pub starts-most : (k : ℕ) → getD starts k 0 ≤ m * 262140000000
+
+pub record RampInRange (start : ℤ) (w : ℕ) : Type 0 where
+  pub start-range : natAbs start ≤ 900000
+  pub weight-range : w ≤ 131070
+
+-- one ramp more
+pub record RampAdded (ls : List ℤ) (n : ℕ) (start : ℤ) (w : ℕ) (weights starts weights′ starts′ : List ℕ) : Type 0 where
+  pub sums : (m : ℕ) → RampSums weights starts m → RampSums weights′ starts′ (m + 1)
+  pub added : (j : ℕ) → j < n → weightsAt ls weights′ j + startsAt starts j ≡ weightsAt ls weights j + startsAt starts′ j + w * (heightOf (getD ls j (pos 0)) - heightOf start)
+
+-- the columns of the ramps that raise the cost and of those that lower it, of at most m sites
+pub record SiteSums (up up-at down down-at : List ℕ) (m : ℕ) : Type 0 where
+  pub up-sums : RampSums up up-at m
+  pub down-sums : RampSums down down-at (2 * m)
+
+-- what they come to at line j: raisedAt − loweredAt, each with the starts of the other, so that both are sums
+abbrev pub raisedAt : List ℤ → List ℕ → List ℕ → ℕ → ℕ
+raisedAt ls up down-at j = weightsAt ls up j + startsAt down-at j
+
+abbrev pub loweredAt : List ℤ → List ℕ → List ℕ → ℕ → ℕ
+loweredAt ls down up-at j = weightsAt ls down j + startsAt up-at j
+
+-- one site more, along the line at v
+pub record SiteAdded (ls : List ℤ) (n : ℕ) (v sx sy : ℤ) (visits near : ℕ) (up up-at down down-at up′ up-at′ down′ down-at′ : List ℕ) : Type 0 where
+  pub sums : (m : ℕ) → SiteSums up up-at down down-at m → SiteSums up′ up-at′ down′ down-at′ (m + 1)
+  pub added : (j : ℕ) → j < n → visits * min near (dist sx v + dist sy (getD ls j (pos 0))) + loweredAt ls down′ up-at′ j + raisedAt ls up down-at j ≡ visits * near + raisedAt ls up′ down-at′ j + loweredAt ls down up-at j
+
+-- the columns of m sites along the line at v: the cost at each line is what the sites pay now and what is added, less what is taken off
+pub record SitesAdded (sites : List Site) (m : ℕ) (ls : List ℤ) (n : ℕ) (v : ℤ) (up up-at down down-at : List ℕ) : Type 0 where
+  pub sums : SiteSums up up-at down down-at m
+  pub cost : (j : ℕ) → j < n → costOf sites (record { x = v; y = getD ls j (pos 0) }) + loweredAt ls down up-at j ≡ beforeOf sites + raisedAt ls up down-at j
+
+-- what `cost_at` asks: no sum is too large, and not more is taken off than is there
+pub record Payable (before up up-at down down-at t : ℕ) : Type 0 where
+  pub before-small : before ≤ 2 ^ 60
+  pub up-small : up ≤ 2 ^ 40
+  pub up-at-small : up-at ≤ 2 ^ 60
+  pub down-small : down ≤ 2 ^ 40
+  pub down-at-small : down-at ≤ 2 ^ 60
+  pub height-small : t ≤ 2000000
+  pub enough : down * t + up-at ≤ before + (up * t + down-at)
+
+-- what `sweep` asks: at each line not more is taken off than is there
+pub record Sweepable (ls : List ℤ) (n : ℕ) (up up-at down down-at : List ℕ) (before : ℕ) : Type 0 where
+  pub before-most : before ≤ costLimit
+  pub sums : SiteSums up up-at down down-at 600
+  pub enough : (j : ℕ) → j < n → loweredAt ls down up-at j ≤ before + raisedAt ls up down-at j

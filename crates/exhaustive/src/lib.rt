@@ -1,0 +1,278 @@
+// The exhaustive search: the cheapest crossing of a deck's lines. Along one vertical line the cost is a sum of ramps (specs/Ramps.antt),
+// so that the costs of all its crossings follow from prefix sums, with no pass over the sites for each.
+use job::Deck;
+use numbers::abs_diff;
+use pricing::Sites;
+use pricing::lines;
+use pricing::price;
+use search::run;
+use search::run::Spot;
+ghost use mathlib.Core.Path.{_≡_};
+ghost use mathlib.Core.List.{flatMap};
+ghost use Prim.Native.Nat.{_+_, _*_, _≤_};
+ghost use lib.IntN.{natAbs};
+ghost use lib.ListN.{take};
+ghost use Rattle.query.specs.Range.{costLimit};
+ghost use Rattle.query.specs.Exhaustive.{exhaustive};
+ghost use Rattle.pricing.specs.DeckOf.{deckOf};
+ghost use Rattle.pricing.specs.Sites.{beforeOf};
+ghost use Rattle.pricing.specs.Columns.{siteRows, SiteInRange, Figure};
+ghost use Rattle.search.specs.Run.{Sited, pricedOf};
+ghost use Rattle.exhaustive.specs.Ramps.{
+  heightOf,
+  LinesInRange,
+  RampSums,
+  RampInRange,
+  RampAdded,
+  SiteSums,
+  SiteAdded,
+  SitesAdded,
+  Payable,
+  Sweepable,
+};
+ghost use Rattle.exhaustive.specs.Cheapest.{cheaperOf, firstCheapest, along, cheapestOn, Swept, Ready};
+
+// How far a coordinate lies above −1,000,000, which is below every start of a ramp.
+fn height(y: i64) -> u64
+    requires { ⌜ natAbs y ≤ 900000 ⌝ }
+    ensures { λ r. ⌜ r ≡ heightOf y ⌝ }
+{
+    (y + 1000000) as u64
+}
+
+// Adds a ramp of weight `w` from `start` on, at the first line that is not below `start`. Ramps are held in two columns, by line:
+// their weights, and their weights times the heights at which they start.
+fn add_ramp(
+    h: &[i64; 514],
+    nh: usize,
+    weights: &mut [u64; 515],
+    starts: &mut [u64; 515],
+    start: i64,
+    w: u64,
+)
+    requires { ⌜ LinesInRange (now h) nh × RampSums (now weights) (now starts) 2000 × RampInRange start w ⌝ }
+    ensures { λ _. ⌜ RampAdded (now (h .entry)) nh start w (now (weights .entry)) (now (starts .entry)) (now (weights .exit)) (now (starts .exit)) ⌝ }
+{
+    let k = lines::first_at_least(h, nh, start);
+    weights[k] = weights[k] + w;
+    starts[k] = starts[k] + w * height(start);
+}
+
+// Adds the ramps of a site along the vertical line at `v`. A site that is not nearer to the line than to its closest post has none.
+fn add_site(
+    h: &[i64; 514],
+    nh: usize,
+    v: i64,
+    up: &mut [u64; 515],
+    up_at: &mut [u64; 515],
+    down: &mut [u64; 515],
+    down_at: &mut [u64; 515],
+    sx: i64,
+    sy: i64,
+    visits: u64,
+    near: u64,
+)
+    requires { ⌜ LinesInRange (now h) nh × (natAbs v ≤ 20000) × SiteSums (now up) (now «up_at») (now down) (now «down_at») 600 × SiteInRange sx sy visits near ⌝ }
+    ensures { λ _. ⌜ SiteAdded (now (h .entry)) nh v sx sy visits near (now (up .entry)) (now («up_at» .entry)) (now (down .entry)) (now («down_at» .entry)) (now (up .exit)) (now («up_at» .exit)) (now (down .exit)) (now («down_at» .exit)) ⌝ }
+{
+    let d = abs_diff(sx, v);
+    if near <= d {
+        return;
+    }
+    let r = (near - d) as i64;
+    add_ramp(h, nh, down, down_at, sy - r, visits);
+    add_ramp(h, nh, up, up_at, sy, 2 * visits);
+    add_ramp(h, nh, down, down_at, sy + r, visits);
+}
+
+// The ramps of all sites along the vertical line at `v`, in columns that were 0.
+fn add_sites<'a>(
+    xs: &'a [i32; 512],
+    ys: &'a [i32; 512],
+    visits: &'a [u32; 512],
+    near: &'a [u32; 512],
+    n: usize,
+    h: &'a [i64; 514],
+    nh: usize,
+    v: i64,
+    up: &mut [u64; 515],
+    up_at: &mut [u64; 515],
+    down: &mut [u64; 515],
+    down_at: &mut [u64; 515],
+)
+    requires { ⌜ Sited (now xs) (now ys) (now visits) (now near) n × LinesInRange (now h) nh × (natAbs v ≤ 20000) × SiteSums (now up) (now «up_at») (now down) (now «down_at») 0 ⌝ }
+    ensures { λ _. ⌜ SitesAdded (siteRows (now (xs .entry)) (now (ys .entry)) (now (visits .entry)) (now (near .entry)) n) n (now (h .entry)) nh v (now (up .exit)) (now («up_at» .exit)) (now (down .exit)) (now («down_at» .exit)) ⌝ }
+{
+    let mut i: usize = 0;
+    while i < n {
+        let sx = xs[i] as i64;
+        let sy = ys[i] as i64;
+        add_site(
+            h,
+            nh,
+            v,
+            up,
+            up_at,
+            down,
+            down_at,
+            sx,
+            sy,
+            visits[i] as u64,
+            near[i] as u64,
+        );
+        i += 1;
+    }
+}
+
+// The cost of a place, at height `t` of its line, from the sums of the ramps up to it.
+fn cost_at(before: u64, up: u64, up_at: u64, down: u64, down_at: u64, t: u64) -> u64
+    requires { ⌜ Payable before up «up_at» down «down_at» t ⌝ }
+    ensures { λ r. ⌜ r + (down * t + «up_at») ≡ before + (up * t + «down_at») ⌝ }
+{
+    before + (up * t + down_at) - (down * t + up_at)
+}
+
+// The cheaper of two spots, the first of them where they cost the same.
+fn cheaper(best: Spot, p: Spot) -> Spot
+    ensures { λ r. ⌜ r ≡ cheaperOf best p ⌝ }
+{
+    if p.cost < best.cost {
+        return p;
+    }
+    best
+}
+
+// The cheapest of a spot and the crossings of the vertical line at `v`, in their order, from the ramps along the line.
+fn sweep<'a>(
+    h: &'a [i64; 514],
+    nh: usize,
+    v: i64,
+    up: &'a [u64; 515],
+    up_at: &'a [u64; 515],
+    down: &'a [u64; 515],
+    down_at: &'a [u64; 515],
+    before: u64,
+    first: Spot,
+) -> Spot
+    requires { ⌜ LinesInRange (now h) nh × (natAbs v ≤ 20000) × Sweepable (now h) nh (now up) (now «up_at») (now down) (now «down_at») before ⌝ }
+    ensures { λ r. ⌜ Swept (now (h .entry)) nh v (now (up .entry)) (now («up_at» .entry)) (now (down .entry)) (now («down_at» .entry)) before first r ⌝ }
+{
+    let mut found = first;
+    let mut ups: u64 = 0;
+    let mut up_from: u64 = 0;
+    let mut downs: u64 = 0;
+    let mut down_from: u64 = 0;
+    let mut j: usize = 0;
+    while j < nh {
+        ups = ups + up[j];
+        up_from = up_from + up_at[j];
+        downs = downs + down[j];
+        down_from = down_from + down_at[j];
+        let y = h[j];
+        let cost = cost_at(before, ups, up_from, downs, down_from, height(y));
+        found = cheaper(found, run::place(v, y, cost));
+        j += 1;
+    }
+    found
+}
+
+// The cheapest crossing of the vertical line at `v`, the first among equals.
+fn cheapest_on<'a>(
+    xs: &'a [i32; 512],
+    ys: &'a [i32; 512],
+    visits: &'a [u32; 512],
+    near: &'a [u32; 512],
+    n: usize,
+    h: &'a [i64; 514],
+    nh: usize,
+    v: i64,
+    before: u64,
+) -> Spot
+    requires { ⌜ Sited (now xs) (now ys) (now visits) (now near) n × LinesInRange (now h) nh × (1 ≤ nh) × (natAbs v ≤ 20000) × Figure (beforeOf (siteRows (now xs) (now ys) (now visits) (now near) n)) costLimit before ⌝ }
+    ensures { λ r. ⌜ r ≡ cheapestOn (siteRows (now (xs .entry)) (now (ys .entry)) (now (visits .entry)) (now (near .entry)) n) (take nh (now (h .entry))) v ⌝ }
+{
+    let mut up = [0u64; 515];
+    let mut up_at = [0u64; 515];
+    let mut down = [0u64; 515];
+    let mut down_at = [0u64; 515];
+    add_sites(
+        xs,
+        ys,
+        visits,
+        near,
+        n,
+        h,
+        nh,
+        v,
+        &mut up,
+        &mut up_at,
+        &mut down,
+        &mut down_at,
+    );
+    let first = run::priced(xs, ys, visits, near, n, v, h[0]);
+    sweep(h, nh, v, &up, &up_at, &down, &down_at, before, first)
+}
+
+// The cheapest of a spot and the crossings of all lines, the first among equals.
+fn cheapest_of<'a>(
+    xs: &'a [i32; 512],
+    ys: &'a [i32; 512],
+    visits: &'a [u32; 512],
+    near: &'a [u32; 512],
+    n: usize,
+    v: &'a [i64; 514],
+    nv: usize,
+    h: &'a [i64; 514],
+    nh: usize,
+    before: u64,
+    first: Spot,
+) -> Spot
+    requires { ⌜ Sited (now xs) (now ys) (now visits) (now near) n × LinesInRange (now v) nv × LinesInRange (now h) nh × (1 ≤ nh) × Figure (beforeOf (siteRows (now xs) (now ys) (now visits) (now near) n)) costLimit before ⌝ }
+    ensures { λ r. ⌜ r ≡ firstCheapest (siteRows (now (xs .entry)) (now (ys .entry)) (now (visits .entry)) (now (near .entry)) n) first (flatMap (along (take nh (now (h .entry)))) (take nv (now (v .entry)))) ⌝ }
+{
+    let mut found = first;
+    let mut i: usize = 0;
+    while i < nv {
+        let line = cheapest_on(xs, ys, visits, near, n, h, nh, v[i], before);
+        found = cheaper(found, line);
+        i += 1;
+    }
+    found
+}
+
+// The cheapest crossing of a deck's lines, the earliest among equals, with its cost.
+pub fn cheapest(deck: Deck, sites: Sites) -> Spot
+    requires { ⌜ Ready deck sites ⌝ }
+    ensures { λ r. ⌜ pricedOf r ≡ exhaustive (deckOf deck) ⌝ }
+{
+    let area = run::area_of(deck);
+    let flags = run::flags_of(area, sites);
+    let v = run::vertical(deck, area, flags);
+    let h = run::horizontal(deck, area, flags);
+    let n = sites.count;
+    let nv = v.count;
+    let nh = h.count;
+    let before = price::before(&sites.visits, &sites.near, n);
+    let first = run::priced(
+        &sites.x,
+        &sites.y,
+        &sites.visits,
+        &sites.near,
+        n,
+        area.xlo,
+        area.ylo,
+    );
+    cheapest_of(
+        &sites.x,
+        &sites.y,
+        &sites.visits,
+        &sites.near,
+        n,
+        &v.at,
+        nv,
+        &h.at,
+        nh,
+        before,
+        first,
+    )
+}
