@@ -90,6 +90,20 @@ pub fn job_of(random: &mut Random, size: i64, most_stops: i64) -> Job {
     Job { area, posts, stops, rounds }
 }
 
+/// 512 stops anywhere on a deck of twice `width` by twice `depth`, and 64 posts at its left and right ends: a long search.
+pub fn crowded(random: &mut Random, width: i64, depth: i64, most_visits: i64) -> Job {
+    let stop = |random: &mut Random| Stop {
+        at: (random.range(-width, width), random.range(-depth, depth)),
+        visits: random.range(1, most_visits),
+    };
+    Job {
+        area: Rect { xlo: -width, ylo: -depth, xhi: width, yhi: depth },
+        posts: (0..64).map(|i| (if i % 2 == 0 { -width } else { width }, random.range(-depth, depth))).collect(),
+        stops: (0..512).map(|_| stop(random)).collect(),
+        rounds: 1_000,
+    }
+}
+
 fn mirrored(v: i64, lo: i64, hi: i64) -> i64 {
     (lo + hi - v).clamp(-20_000, 20_000)
 }

@@ -1,5 +1,8 @@
 //! Tests of the proved library from Rust. `reference` is written from document 01 alone and shares nothing with the proved code.
 
+pub mod decks;
+pub mod entry;
 pub mod generate;
+pub mod program;
 pub mod reference;
 pub mod trial;

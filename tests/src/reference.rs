@@ -348,6 +348,14 @@ pub fn refusal_text(r: Refusal) -> String {
     format!("refused={}\nline={}\n", r.number, r.line)
 }
 
+/// What the program prints for its input.
+pub fn answer_text(bytes: &[u8]) -> String {
+    match read(bytes) {
+        Ok(job) => report_text(&search(&job)),
+        Err(why) => refusal_text(why),
+    }
+}
+
 #[cfg(test)]
 mod tests {
     use super::*;
