@@ -16,16 +16,26 @@ use Rattle.query.specs.Demand3.{Beaten}
 use Rattle.query.proofs.ExhaustiveLaws.{exhaustive-law}
 use Rattle.job.specs.Format.{Job, Result, refused, accepted, readJob}
 use Rattle.job.proofs.Meaning.{accepted-law, refused-law}
+use Rattle.job.specs.Record.{jobRecord}
+use Rattle.job.specs.declared.Job as Held
+use Rattle.job.specs.declared.Outcome.the-variants.{Accepted, Refused}
 use Rattle.job.specs.declared.Refusal.{Refusal}
+use Rattle.pricing.specs.DeckOf.{deckOf}
+use Rattle.pricing.specs.Sites.{sitesOf}
+use Rattle.pricing.specs.Record.{sitesRecord}
+use Rattle.pricing.specs.declared.Sites.{Sites}
 use Rattle.report.specs.declared.Report.{Report}
 use Rattle.report.specs.declared.State.the-variants.{Done}
+use Rattle.search.specs.Run.{pricedOf}
 use Rattle.search.specs.declared.run.Spot.{Spot}
+use Rattle.exhaustive.specs.Cheapest.{Ready}
 use Rattle.siting.specs.declared.Cheapest.{Cheapest}
 use Rattle.siting.specs.declared.Cheapest.the-variants as Cheapest
 use Rattle.siting.specs.declared.Answer.the-variants as Answered
 use Rattle.siting.specs.Call.{reportRecord, reportCall}
 use Rattle.siting.specs.Exhaustive.{spotRecord, cheapestOf, exhaustiveCall, ExhaustiveCallLaw}
 use Rattle.siting.proofs.Demands.{is-done, accepted-report}
+use Rattle.siting.proofs.ReadLaws.{read-accepted, read-refused, read-deckOf, read-full, sites-ask}
 
 abbrev refusalIn : Refusal → Cheapest → Refusal
 refusalIn other (Cheapest.At spot) = other
@@ -79,3 +89,23 @@ module _ (job : List ℕ) where
     done-report = λ cells out r f d. let (j, e, g) = accepted-report job cells out r f in let finished = is-done (figures (j .deck) (j .rounds) .state) (ap (λ (s : Report). s .state) g ∙ d) in
         call-accepted j e ∙ ap (λ (p : Priced). Cheapest.At (spotRecord p)) (sym (both j e finished)) ∙ ap (λ (s : Report). Cheapest.At (record { x = s .x; y = s .y; cost = s .high })) g;
   }
+
+-- ---- the code of the call
+spot-is : (s : Spot) (p : Priced) → pricedOf s ≡ p → s ≡ spotRecord p
+spot-is s p e = ap spotRecord e
+
+module _ (job : List ℕ) (j : Held.Job) (e : j ≡ jobRecord (readJob job)) where
+  -- what `cheapest` asks
+  pub walk-ready : (rounds : ℕ) → j .outcome ≡ Accepted rounds → (sites : Sites) → sites ≡ sitesRecord (sitesOf (deckOf (j .deck))) → Ready (j .deck) sites
+  walk-ready rounds o sites f =
+      let s = read-accepted job j e rounds o in
+      let (range, posts, stops) = sites-ask s j e in
+      record { sites-are = f; range = range; full = read-full s j e; posts = posts; stops = stops }
+
+  pub walk-found : (rounds : ℕ) → j .outcome ≡ Accepted rounds → (s : Spot) → pricedOf s ≡ Query.exhaustive (deckOf (j .deck)) → Cheapest.At s ≡ exhaustiveCall job
+  walk-found rounds o s f =
+      let t = read-accepted job j e rounds o in
+      ap Cheapest.At (spot-is s (Query.exhaustive (t .job .deck)) (f ∙ ap Query.exhaustive (read-deckOf t j e))) ∙ sym (call-accepted job (t .job) (t .read))
+
+  pub walk-refused : (why : Refusal) → j .outcome ≡ Refused why → Cheapest.Refused why ≡ exhaustiveCall job
+  walk-refused why o = sym (call-refused job why (read-refused job j e why o))

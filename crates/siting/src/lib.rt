@@ -13,6 +13,7 @@ ghost use lib.ListN.{length};
 ghost use Rattle.siting.specs.Call.{Left, reportCall};
 ghost use Rattle.siting.specs.Entry.{Returned, entry};
 ghost use Rattle.siting.specs.Program.{answerText, textRecord};
+ghost use Rattle.siting.specs.Exhaustive.{exhaustiveCall};
 ghost use Rattle.siting.specs.Parts.{stateFor, Solvable, Solved, refusedResponse, Responded};
 
 // Each answer is either a report, itself done or stopped, or one refusal.
@@ -119,6 +120,22 @@ pub extern "C" fn siting_report(job: &[u8], out: &mut [u8]) -> i64
     match answer {
         Answer::Report(_) => given.bytes as i64,
         Answer::Refused(why) => -(report::number_of(why) as i64),
+    }
+}
+
+// The cheapest crossing of lines, the earliest among equals, or the refusal of the job. Its rounds are not used.
+pub fn exhaustive(job: &[u8]) -> Cheapest
+    ensures { λ r. ⌜ r ≡ exhaustiveCall (now (job .entry)) ⌝ }
+{
+    let j = job::read(job);
+    let outcome = j.outcome;
+    let deck = j.deck;
+    match outcome {
+        Outcome::Accepted(_) => {
+            let sites = price::sites(deck);
+            Cheapest::At(exhaustive::cheapest(deck, sites))
+        }
+        Outcome::Refused(why) => Cheapest::Refused(why),
     }
 }
 
