@@ -24,12 +24,12 @@ use Rattle.job.specs.declared.Deck.{Deck}
 use Rattle.pricing.specs.DeckOf.{deckOf}
 use Rattle.pricing.specs.Sites.{beforeOf, flagsOf}
 use Rattle.pricing.specs.Columns.{PaidInRange, Figure, BeforeIs}
-use Rattle.pricing.specs.LineRecord.{linesRecord}
+use Rattle.lines.specs.LineRecord.{linesRecord}
 use Rattle.pricing.specs.declared.Sites.{Sites}
-use Rattle.pricing.specs.declared.lines.Lines.{Lines}
-use Rattle.pricing.proofs.Indexed.{member-at}
-use Rattle.pricing.proofs.LineRecordLaws.{record-front}
-use Rattle.pricing.proofs.DeckLines.{lines-in-order}
+use Rattle.lines.specs.declared.Lines.{Lines}
+use Rattle.lines.proofs.Indexed.{member-at}
+use Rattle.lines.proofs.LineRecordLaws.{record-front}
+use Rattle.lines.proofs.DeckLines.{lines-in-order}
 use Rattle.pricing.proofs.RecordLaws.{paid-range}
 use Rattle.search.specs.declared.space.Cell.{Cell}
 use Rattle.search.specs.declared.run.Spot.{Spot}

@@ -10,7 +10,7 @@ use lib.Dec.{ltb, ltb→lt, nltb→le}
 use lib.IntN.{ℤ, pos, natAbs}
 use lib.ListN.{getD, set, length-set}
 use Rattle.numbers.proofs.Truth.{test}
-use Rattle.pricing.specs.LineRecord.{FirstAtLeast}
+use Rattle.lines.specs.LineRecord.{FirstAtLeast}
 use Rattle.exhaustive.specs.Ramps.{heightOf, LinesInRange, weightsAt, startsAt, RampSums, RampInRange, RampAdded}
 use Rattle.exhaustive.proofs.Heights.{height-most, height-le, height-lt}
 use Rattle.exhaustive.proofs.Prefixes.{prefix-before, prefix-behind, set-each}

@@ -10,7 +10,7 @@ use lib.ListN.{length, getD}
 use Rattle.numbers.specs.Integer.{dist}
 use Rattle.query.specs.Range.{costLimit}
 use Rattle.pricing.specs.Sites.{Site, costOf, beforeOf}
-use Rattle.pricing.specs.LineRecord.{InOrder}
+use Rattle.lines.specs.LineRecord.{InOrder}
 
 -- how far a coordinate lies above −1,000,000
 unfoldable pub heightOf : ℤ → ℕ

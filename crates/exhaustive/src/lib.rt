@@ -3,7 +3,6 @@
 use job::Deck;
 use numbers::abs_diff;
 use pricing::Sites;
-use pricing::lines;
 use pricing::price;
 use search::run;
 use search::run::Spot;

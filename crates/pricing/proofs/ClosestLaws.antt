@@ -25,7 +25,7 @@ use Rattle.pricing.specs.Columns.{CoordinatesInRange, Near180000}
 use Rattle.pricing.proofs.WordLaws.{coordinate, narrowed}
 use Rattle.pricing.proofs.TravelLaws.{far, travel-plain, narrow, narrow-place}
 use Rattle.pricing.proofs.PaddedLaws.{padded-length, Filled, fill-more}
-use Rattle.pricing.proofs.LineRecordLaws.{padded-front}
+use Rattle.lines.proofs.LineRecordLaws.{padded-front}
 
 -- ---- two lists side by side
 module _ {A B C : Type 0} (f : A → B → C) where

@@ -8,13 +8,3 @@ pub mod TravelLaws
 pub mod ClosestLaws
 pub mod DeckLaws
 pub mod RecordLaws
-pub mod Indexed
-pub mod Machine
-pub mod Shifted
-pub mod InsertLaws
-pub mod StopLaws
-pub mod LineRecordLaws
-pub mod MiddleLaws
-pub mod NextLaws
-pub mod CutRecordLaws
-pub mod DeckLines

@@ -2,4 +2,3 @@ pub mod DeckOf
 pub mod Sites
 pub mod Columns
 pub mod Record
-pub mod LineRecord

@@ -1,5 +1,4 @@
-// Pricing: near, cost, load, bound, lines and the choice of a cut.
-pub mod lines;
+// Pricing: near, cost, before, load and bound over columns of sites.
 pub mod price;
 
 // The sites of a deck, one column a field. The first `count` numbers of a column count; the others are 0.

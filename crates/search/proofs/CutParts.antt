@@ -16,9 +16,9 @@ use Rattle.query.specs.Cut.{canCut, cutLine, cutBefore, cutAfter, newCorners}
 use Rattle.query.specs.Range.{RectInRange}
 use Rattle.query.proofs.CutLaws.{cut-law}
 use Rattle.pricing.specs.Sites.{Site, costOf}
-use Rattle.pricing.specs.LineRecord.{isX, cutAt, cutRecord}
-use Rattle.pricing.specs.declared.lines.Cut.{Cut}
-use Rattle.pricing.proofs.CutRecordLaws.{cutRecord-cut}
+use Rattle.lines.specs.LineRecord.{isX, cutAt, cutRecord}
+use Rattle.lines.specs.declared.Cut.{Cut}
+use Rattle.lines.proofs.CutRecordLaws.{cutRecord-cut}
 use Rattle.search.specs.declared.space.Cell.{Cell}
 use Rattle.search.specs.declared.space.Costs.{Costs}
 use Rattle.search.specs.declared.run.Spot.{Spot}

@@ -32,14 +32,14 @@ use Rattle.pricing.specs.DeckOf.{places, stopsOf, deckOf}
 use Rattle.pricing.specs.Sites.{sitesOf, costOf, loadOf, flagsOf}
 use Rattle.pricing.specs.Record.{sitesRecord}
 use Rattle.pricing.specs.Columns.{FlagsAre}
-use Rattle.pricing.specs.LineRecord.{Rows, marked, linesBetween, linesRecord}
+use Rattle.lines.specs.LineRecord.{Rows, marked, linesBetween, linesRecord}
 use Rattle.pricing.specs.declared.Sites.{Sites}
-use Rattle.pricing.specs.declared.lines.Lines.{Lines}
+use Rattle.lines.specs.declared.Lines.{Lines}
 use Rattle.pricing.proofs.SiteLaws.{siteOf, sitesOf-map, cost-law, load-law, flags-law}
 use Rattle.pricing.proofs.RecordLaws.{record-rows, sites-range}
 use Rattle.pricing.proofs.DeckLaws.{DeckColumns}
-use Rattle.pricing.proofs.LineRecordLaws.{record-front}
-use Rattle.pricing.proofs.DeckLines.{coordinates, reached, lines-marked, lines-in-order, padded-reached}
+use Rattle.lines.proofs.LineRecordLaws.{record-front}
+use Rattle.lines.proofs.DeckLines.{coordinates, reached, lines-marked, lines-in-order, padded-reached}
 use Rattle.pricing.proofs.TravelLaws.{narrow}
 use Rattle.search.specs.declared.space.Cell.{Cell}
 use Rattle.search.specs.declared.run.State.{State}

@@ -24,9 +24,9 @@ use Rattle.query.proofs.KeyOrder.{cellBefore-strict}
 use Rattle.query.proofs.CellsAfter.{after-is}
 use Rattle.job.specs.Record.{emptyRect}
 use Rattle.pricing.specs.Sites.{Site, costOf}
-use Rattle.pricing.specs.LineRecord.{onLines, isX, cutAt, cutRecord}
-use Rattle.pricing.specs.declared.lines.Cut.{Cut}
-use Rattle.pricing.proofs.CutRecordLaws.{canCut-lines, cutLine-lines}
+use Rattle.lines.specs.LineRecord.{onLines, isX, cutAt, cutRecord}
+use Rattle.lines.specs.declared.Cut.{Cut}
+use Rattle.lines.proofs.CutRecordLaws.{canCut-lines, cutLine-lines}
 use Rattle.search.specs.declared.space.Cell.{Cell}
 use Rattle.search.specs.declared.space.Costs.{Costs}
 use Rattle.search.specs.declared.run.Spot.{Spot}

@@ -22,8 +22,8 @@ use Rattle.query.specs.Range.{RectInRange, costLimit, loadLimit}
 use Rattle.query.specs.Order.{precedes, better}
 use Rattle.pricing.specs.Sites.{Site, costOf, loadOf}
 use Rattle.pricing.specs.Columns.{Near180000, EdgesInRange, BoundInRange, Figure}
-use Rattle.pricing.specs.LineRecord.{Edges}
-use Rattle.pricing.specs.declared.lines.Cut.{Cut}
+use Rattle.lines.specs.LineRecord.{Edges}
+use Rattle.lines.specs.declared.Cut.{Cut}
 use Rattle.pricing.proofs.WordLaws.{narrow-fits, narrowed}
 use Rattle.pricing.proofs.TravelLaws.{narrow, narrow-place}
 use Rattle.search.specs.declared.space.Cell.{Cell}

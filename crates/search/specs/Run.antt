@@ -25,10 +25,10 @@ use Rattle.pricing.specs.DeckOf.{deckOf}
 use Rattle.pricing.specs.Sites.{Site, sitesOf, costOf, loadOf, flagsOf}
 use Rattle.pricing.specs.Record.{sitesRecord}
 use Rattle.pricing.specs.Columns.{siteRows, ColumnsInRange}
-use Rattle.pricing.specs.LineRecord as Lines
-use Rattle.pricing.specs.LineRecord.{onLines}
+use Rattle.lines.specs.LineRecord as Lines
+use Rattle.lines.specs.LineRecord.{onLines}
 use Rattle.pricing.specs.declared.Sites.{Sites}
-use Rattle.pricing.specs.declared.lines.Cut.{Cut}
+use Rattle.lines.specs.declared.Cut.{Cut}
 use Rattle.search.specs.declared.space.Cell.{Cell}
 use Rattle.search.specs.declared.space.Costs.{Costs}
 use Rattle.search.specs.declared.run.Spot.{Spot}

@@ -3,10 +3,9 @@ use crate::space;
 use crate::space::Cell;
 use crate::space::Costs;
 use job::Deck;
+use lines::Cut;
+use lines::Lines;
 use pricing::Sites;
-use pricing::lines;
-use pricing::lines::Cut;
-use pricing::lines::Lines;
 use pricing::price;
 ghost use mathlib.Core.Path.{_≡_};
 ghost use mathlib.Core.List.{[]};
@@ -25,7 +24,7 @@ ghost use Rattle.query.specs.Figures as Figures;
 ghost use Rattle.pricing.specs.DeckOf.{deckOf};
 ghost use Rattle.pricing.specs.Sites.{loadOf, flagsOf};
 ghost use Rattle.pricing.specs.Columns.{siteRows, Figure};
-ghost use Rattle.pricing.specs.LineRecord.{Edges, onLines, cutRecord, linesRecord};
+ghost use Rattle.lines.specs.LineRecord.{Edges, onLines, cutRecord, linesRecord};
 ghost use Rattle.search.specs.Space.{queryCell};
 ghost use Rattle.search.specs.Run.{
   siteProblem,

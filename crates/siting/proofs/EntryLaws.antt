@@ -25,7 +25,7 @@ use Rattle.report.specs.Report.{figuresOf}
 use Rattle.report.specs.Text.{reportText, refusalText}
 use Rattle.report.specs.Output.{Filled}
 use Rattle.report.proofs.Fits.{report-fits}
-use Rattle.pricing.proofs.LineRecordLaws.{drop-replicate}
+use Rattle.lines.proofs.LineRecordLaws.{drop-replicate}
 use Rattle.report.specs.declared.Report.{Report}
 use Rattle.siting.specs.declared.Answer.{Answer}
 use Rattle.siting.specs.declared.Answer.the-variants as Answered

@@ -26,13 +26,13 @@ use Rattle.job.proofs.RangeTests.{held, held-is}
 use Rattle.pricing.specs.DeckOf.{deckOf}
 use Rattle.pricing.specs.Sites.{sitesOf, flagsOf}
 use Rattle.pricing.specs.Columns.{FlagsAre}
-use Rattle.pricing.specs.LineRecord.{rectOf, Rows, marked, linesBetween, linesRecord, InOrder, onLines, cutAt, isX, cutRecord}
-use Rattle.pricing.specs.declared.lines.Lines.{Lines}
-use Rattle.pricing.specs.declared.lines.Cut.{Cut}
+use Rattle.lines.specs.LineRecord.{rectOf, Rows, marked, linesBetween, linesRecord, InOrder, onLines, cutAt, isX, cutRecord}
+use Rattle.lines.specs.declared.Lines.{Lines}
+use Rattle.lines.specs.declared.Cut.{Cut}
 use Rattle.pricing.proofs.SiteLaws.{flags-law}
-use Rattle.pricing.proofs.DeckLines.{coordinates, reached, lines-marked, lines-in-order, padded-coordinates, padded-reached, padded-rows, deck-cut}
-use Rattle.pricing.proofs.LineRecordLaws.{record-front}
-use Rattle.pricing.proofs.CutRecordLaws.{cutRecord-found, cutRecord-cut, isX-true, isX-false}
+use Rattle.lines.proofs.DeckLines.{coordinates, reached, lines-marked, lines-in-order, padded-coordinates, padded-reached, padded-rows, deck-cut}
+use Rattle.lines.proofs.LineRecordLaws.{record-front}
+use Rattle.lines.proofs.CutRecordLaws.{cutRecord-found, cutRecord-cut, isX-true, isX-false}
 use Rattle.trial.specs.Opened.{openedRecord, rectAllowed, Open}
 use Rattle.trial.specs.Trial.{minusOne, least, axisOf, axisNumber, Written, cutAxisFigure, cutLineFigure, linesWritten}
 use Rattle.trial.specs.declared.Opened.{Opened}

@@ -28,7 +28,7 @@ use Rattle.job.proofs.RangeTests.{held}
 use Rattle.pricing.specs.DeckOf.{deckOf}
 use Rattle.pricing.specs.Sites.{Site, sitesOf, costOf, beforeOf, loadOf}
 use Rattle.pricing.specs.Columns.{Figure, BeforeIs}
-use Rattle.pricing.specs.LineRecord.{rectOf}
+use Rattle.lines.specs.LineRecord.{rectOf}
 use Rattle.pricing.specs.Record.{sitesRecord}
 use Rattle.pricing.specs.declared.Sites.{Sites}
 use Rattle.pricing.proofs.RecordLaws.{rowsOf, record-rows, InColumns, sites-range}

@@ -24,7 +24,7 @@ use Rattle.job.specs.Format.{Job, readJob}
 use Rattle.job.proofs.RangeLaws.{place-range}
 use Rattle.job.proofs.RangeTests.{held, held-is}
 use Rattle.pricing.specs.Columns.{Figure}
-use Rattle.pricing.specs.LineRecord.{rectOf, Edges}
+use Rattle.lines.specs.LineRecord.{rectOf, Edges}
 use Rattle.pricing.proofs.WordLaws.{difference, difference-fits}
 use Rattle.trial.specs.Opened.{rectAllowed}
 use Rattle.trial.specs.Trial.{minusOne}

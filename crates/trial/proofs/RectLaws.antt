@@ -16,7 +16,7 @@ use Rattle.job.specs.Lines.{placeInRange}
 use Rattle.job.proofs.RangeLaws.{place-range}
 use Rattle.job.proofs.RangeTests.{held, held-is, and-on, and-off}
 use Rattle.pricing.specs.Columns.{Near180000, EdgesInRange}
-use Rattle.pricing.specs.LineRecord.{rectOf, Edges}
+use Rattle.lines.specs.LineRecord.{rectOf, Edges}
 use Rattle.pricing.proofs.WordLaws.{narrowed, narrow-fits}
 use Rattle.trial.specs.Opened.{rectAllowed}
 

@@ -16,7 +16,7 @@ use Rattle.query.specs.Problem.{problem}
 use Rattle.job.specs.Format.{Job, Result}
 use Rattle.pricing.specs.Sites.{sitesOf}
 use Rattle.pricing.specs.Record.{sitesRecord}
-use Rattle.pricing.specs.LineRecord.{cutRecord}
+use Rattle.lines.specs.LineRecord.{cutRecord}
 use Rattle.trial.specs.Trial.{onJob, minusOne}
 
 -- f 0 + .. + f (k - 1)

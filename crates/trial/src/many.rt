@@ -1,8 +1,7 @@
 // The kernels of pricing over many places and rectangles, for the benchmarks: the job is read once and the loop runs here.
 use crate::Opened;
 use job::Deck;
-use pricing::lines;
-use pricing::lines::Cut;
+use lines::Cut;
 use pricing::price;
 ghost use mathlib.Core.Path.{_≡_};
 ghost use Prim.Native.Nat.{ℕ, _*_, _%_, _≤_};
@@ -13,7 +12,7 @@ ghost use Rattle.pricing.specs.Columns.{siteRows, ColumnsInRange, Figure};
 ghost use Rattle.pricing.specs.DeckOf.{deckOf};
 ghost use Rattle.pricing.specs.Record.{sitesRecord};
 ghost use Rattle.pricing.specs.Sites.{sitesOf, costOf, loadOf};
-ghost use Rattle.pricing.specs.LineRecord.{InOrder, onLines, cutRecord};
+ghost use Rattle.lines.specs.LineRecord.{InOrder, onLines, cutRecord};
 ghost use Rattle.trial.specs.Trial.{boundOf};
 ghost use Rattle.trial.specs.Many.{sumTo, Spread, placeAt, rectAt, positive, manyFigure, costTurn, loadTurn, boundTurn, cutTurn, nearTurn};
 

@@ -6,7 +6,7 @@ use borrow.Author.Needs.{needs}
 use mir.Syntax.{w64}
 use mir.ValLaws.{toZ-ofZ}
 use denote.Ref.{now}
-use Rattle.pricing.specs.LineRecord.{FirstAtLeast}
+use Rattle.lines.specs.LineRecord.{FirstAtLeast}
 use Rattle.exhaustive.specs.Ramps.{heightOf}
 use Rattle.exhaustive.proofs.RampLaws.{ramp-weight, ramp-added}
 use Rattle.exhaustive.proofs.add_ramp.Statement.{statement}

@@ -3,7 +3,7 @@
 use mathlib.Core.Path.{_≡_, subst, sym, _∙_, ap}
 use Rattle.query.specs.Place.{Rect, x-axis, y-axis}
 use Rattle.job.proofs.RangeTests.{held, held-is}
-use Rattle.pricing.specs.LineRecord.{Edges, rectOf}
+use Rattle.lines.specs.LineRecord.{Edges, rectOf}
 use Rattle.trial.proofs.RectLaws.{Fits4, RectIs, allowed-is, x-edges, y-edges}
 use Rattle.trial.proofs.CutLaws.{found-in-order, found-cut}
 use Rattle.trial.proofs.cut_of.Statement.{statement}

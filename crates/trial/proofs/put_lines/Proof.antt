@@ -7,7 +7,7 @@ use lib.IntN.{pos}
 use lib.ListN.{length, getD, length-set}
 use mir.Syntax.{w64}
 use mir.ValLaws.{toZ-ofZ}
-use Rattle.pricing.proofs.Shifted.{over, over-set}
+use Rattle.lines.proofs.Shifted.{over, over-set}
 use Rattle.trial.proofs.put_lines.Statement.{statement}
 use Rattle.trial.proofs.put_lines.Tie as tie
 

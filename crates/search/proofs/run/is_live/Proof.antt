@@ -6,9 +6,9 @@ use denote.Ref.{now}
 use lib.IntN.{pos}
 use lib.ListN.{take}
 use Rattle.query.specs.Cut.{canCut}
-use Rattle.pricing.proofs.CutRecordLaws.{cutRecord-found}
-use Rattle.pricing.specs.LineRecord.{onLines}
-use Rattle.pricing.specs.declared.lines.Cut.{Cut}
+use Rattle.lines.proofs.CutRecordLaws.{cutRecord-found}
+use Rattle.lines.specs.LineRecord.{onLines}
+use Rattle.lines.specs.declared.Cut.{Cut}
 use Rattle.search.specs.Run.{pricedOf, rectIn}
 use Rattle.search.specs.Space.{queryCell}
 use Rattle.search.proofs.Keys.{cell-precedes}

@@ -6,8 +6,8 @@ use lib.ListN.{take}
 use mir.Syntax.{w64}
 use mir.ValLaws.{toZ-ofZ}
 use Rattle.query.specs.Place.{Rect}
-use Rattle.pricing.specs.LineRecord.{onLines, cutRecord}
-use Rattle.pricing.specs.declared.lines.Cut.{Cut}
+use Rattle.lines.specs.LineRecord.{onLines, cutRecord}
+use Rattle.lines.specs.declared.Cut.{Cut}
 use Rattle.trial.specs.Many.{rectAt, positive}
 use Rattle.trial.proofs.ManyLaws.{Summed, summed-none, summed-more, summed-all, rect-turn, x-ok, y-ok}
 use borrow.Author.Needs.{needs}

@@ -1,0 +1,97 @@
+-- The lines that `find_lines` finds for a deck's stops are the deck's, and stand in order.
+-- Assumes nothing.
+use mathlib.Core.Path.{_≡_, refl, sym, ap, _∙_}
+use mathlib.Core.Bool.{Bool, true, false, cond}
+use mathlib.Core.List.{List, [], _∷_, map}
+use Prim.Native.Nat.{ℕ, _+_, _-_, max, _≤_}
+use native.Mathlib.Omega.{arith}
+use lib.Dec.{eqb}
+use lib.IntN.{ℤ, pos}
+use lib.ListN.{length, take, length-map}
+use Rattle.numbers.specs.Lists.{keep}
+use Rattle.numbers.proofs.Members.{keep-length}
+use Rattle.query.specs.Place.{Rect, Axis, x-axis, y-axis, coordinate, low-edge, high-edge}
+use Rattle.query.specs.Deck.{Stop, Deck}
+use Rattle.query.specs.Reach.{reach}
+use Rattle.query.specs.Lines.{stopCoordinates, lines, gaps}
+use Rattle.query.specs.Problem.{problem}
+use Rattle.query.proofs.LineLaws.{lines-law}
+use Rattle.job.specs.Record.{padded}
+use Rattle.lines.specs.LineRecord.{InOrder, Rows, flagged, marked, linesBetween, linesRecord, onLines, cutRecord}
+use Rattle.lines.proofs.LineRecordLaws.{padded-length, padded-front, linesBetween-length, record-front, record-in-order}
+use Rattle.lines.proofs.CutRecordLaws.{cutRecord-lines}
+
+-- ---- the lines of a deck
+problem-vertical : (deck : Deck) → problem deck .vertical ≡ lines deck x-axis
+unfolding problem
+problem-vertical deck = refl
+
+problem-horizontal : (deck : Deck) → problem deck .horizontal ≡ lines deck y-axis
+unfolding problem
+problem-horizontal deck = refl
+
+abbrev pub flag : Bool → ℕ
+flag b = cond b 1 0
+
+-- the flagged ones of a list of which the test flags some
+pub flagged-map : {A : Type 0} (f : A → ℤ) (p : A → Bool) (xs : List A) → flagged (map f xs) (map (λ x. flag (p x)) xs) ≡ map f (keep p xs)
+unfolding flagged keep
+flagged-map f p [] = refl
+flagged-map {A} f p (x ∷ xs) = go (p x) (flagged-map f p xs)
+  where
+    go : (b : Bool) → flagged (map f xs) (map (λ x. flag (p x)) xs) ≡ map f (keep p xs) → cond (eqb (flag b) 1) (f x ∷ flagged (map f xs) (map (λ x. flag (p x)) xs)) (flagged (map f xs) (map (λ x. flag (p x)) xs)) ≡ map f (cond b (x ∷ keep p xs) (keep p xs))
+    go true e = ap (λ (l : List ℤ). f x ∷ l) e
+    go false e = e
+
+module _ (deck : Deck) (axis : Axis) where
+  -- the stops' coordinates along the axis, and 1 where a stop is within reach of the area
+  abbrev pub coordinates : List ℤ
+  coordinates = map (λ stop. coordinate axis (stop .at)) (deck .stops)
+
+  abbrev pub reached : List ℕ
+  reached = map (λ stop. flag (reach deck (deck .area) stop)) (deck .stops)
+
+  lines-is : lines deck axis ≡ linesBetween (low-edge axis (deck .area)) (high-edge axis (deck .area)) (map (λ stop. coordinate axis (stop .at)) (keep (reach deck (deck .area)) (deck .stops)))
+  unfolding linesBetween lines stopCoordinates
+  lines-is = refl
+
+  -- columns whose first n rows are these
+  module _ (coords : List ℤ) (flags : List ℕ) (n : ℕ) (same-coords : take n coords ≡ coordinates) (same-flags : take n flags ≡ reached) where
+    pub marked-stops : marked coords flags n ≡ map (λ stop. coordinate axis (stop .at)) (keep (reach deck (deck .area)) (deck .stops))
+    unfolding marked
+    marked-stops = rw (same-coords, same-flags) (flagged-map (λ stop. coordinate axis (stop .at)) (reach deck (deck .area)) (deck .stops))
+
+    pub lines-marked : linesBetween (low-edge axis (deck .area)) (high-edge axis (deck .area)) (marked coords flags n) ≡ lines deck axis
+    lines-marked = rw (marked-stops, lines-is)
+
+  pub lines-few : length (lines deck axis) ≤ length (deck .stops) + 2
+  lines-few =
+      let stops = keep (reach deck (deck .area)) (deck .stops) in
+      let at : Stop → ℤ = λ stop. coordinate axis (stop .at) in
+      rw lines-is (omega (arith, linesBetween-length (low-edge axis (deck .area)) (high-edge axis (deck .area)) (map at stops), length-map stops at, keep-length (reach deck (deck .area)) (deck .stops)))
+
+  pub lines-in-order : length (deck .stops) ≤ 512 → InOrder (linesRecord (lines deck axis) .at) (linesRecord (lines deck axis) .count)
+  lines-in-order h = record-in-order (lines deck axis) (lines-law deck axis .increasing) (omega (arith, lines-few))
+
+  -- arrays that hold the stops in front
+  pub padded-coordinates : take (length (deck .stops)) (padded 512 (pos 0) coordinates) ≡ coordinates
+  padded-coordinates = rw (← length-map (deck .stops) (λ stop. coordinate axis (stop .at))) (padded-front 512 (pos 0) coordinates)
+
+  pub padded-reached : take (length (deck .stops)) (padded 512 0 reached) ≡ reached
+  padded-reached = rw (← length-map (deck .stops) (λ stop. flag (reach deck (deck .area) stop))) (padded-front 512 0 reached)
+
+  pub padded-rows : length (deck .stops) ≤ 512 → Rows (padded 512 (pos 0) coordinates) (padded 512 0 reached) (length (deck .stops))
+  padded-rows h = record {
+    within = h;
+    coords-full = omega (arith, padded-length 512 (pos 0) coordinates (omega (arith, length-map (deck .stops) (λ stop. coordinate axis (stop .at)))));
+    flags-full = omega (arith, padded-length 512 0 reached (omega (arith, length-map (deck .stops) (λ stop. flag (reach deck (deck .area) stop)))));
+  }
+
+  -- what `gaps` makes of the count
+  pub count-gaps : max 1 (linesRecord (lines deck axis) .count - 1) ≡ gaps deck axis
+  unfolding gaps linesRecord
+  count-gaps = refl
+
+-- what `find_cut` chooses on the deck's lines is the search's cut
+pub deck-cut : (deck : Deck) (r : Rect) → cutRecord (onLines (take (linesRecord (lines deck x-axis) .count) (linesRecord (lines deck x-axis) .at)) (take (linesRecord (lines deck y-axis) .count) (linesRecord (lines deck y-axis) .at))) r ≡ cutRecord (problem deck) r
+deck-cut deck r = rw (record-front (lines deck x-axis), record-front (lines deck y-axis)) (sym (cutRecord-lines (problem deck) r ∙ rw (problem-vertical, problem-horizontal)))
