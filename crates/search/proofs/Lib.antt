@@ -5,6 +5,7 @@ pub mod Moves
 pub mod Trims
 pub mod Numbers
 pub mod SpaceLaws
+pub mod Inserts
 pub mod StepLaws
 pub mod CutParts
 pub mod RoundLaws

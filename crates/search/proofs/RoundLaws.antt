@@ -3,7 +3,7 @@
 use mathlib.Core.Path.{_≡_, refl, sym, ap, subst, _∙_}
 use mathlib.Core.Bool.{Bool, true, false, cond, not, _&&_}
 use mathlib.Core.Logic.{_⊎_, inr, ⊎-elim}
-use mathlib.Core.List.{List, [], _∷_, map, List·Memᴰ, List·Memᴰ·head, List·Memᴰ·tail, List·Memᴰ·not-nil, Pairwise, Pairwise·of-cons, Memᴰ·of-map}
+use mathlib.Core.List.{List, [], _∷_, map, List·Memᴰ, List·Memᴰ·head, List·Memᴰ·tail, List·Memᴰ·not-nil, Pairwise, Pairwise·nil, Pairwise·of-cons, Memᴰ·of-map}
 use Prim.Native.Nat.{ℕ, suc, _+_, _-_, _^_, _≤_, _<_}
 use native.Mathlib.Numerals.{add-one}
 use native.Mathlib.Omega.{arith}
@@ -36,7 +36,7 @@ use Rattle.search.specs.Space.{Entry, keyOf, queryCell, entryCell, cellA
 use Rattle.search.specs.Steps.{InOrder, Trimmed}
 use Rattle.search.specs.Run.{siteProblem, pricedOf, spotOf, rectIn, cornerCosts, cellFor, improved, bestCorner, lowCorner, highCorner, halvesOf, withLive, Ranged, Cutting, Takeable, Added, Costed, searchOf, Holds}
 use Rattle.search.proofs.Keys.{back, fitting}
-use Rattle.search.proofs.SpaceLaws.{keep-insert-in, keep-insert-out, keep-agree, cells-insert, cells-keep, cells-in-order, entries-first, entries-none}
+use Rattle.search.proofs.SpaceLaws.{keep-insert-in, keep-insert-out, keep-agree, cells-insert, cells-keep, cells-in-order, insert-in-order, keep-in-order, entries-first, entries-none}
 use Rattle.search.proofs.StepLaws.{improved-limit}
 use Rattle.search.proofs.CutParts.{first-is, second-is, corners-are, cut-is, first-range, second-range}
 
@@ -44,22 +44,34 @@ use Rattle.search.proofs.CutParts.{first-is, second-is, corners-are, cu
 module _ (P : Problem) (best : Priced) (e : Entry) (head tail : ℕ) (s : List ℤ) (t : List ℕ) where
   pub added-none : (r : Bool) → r ≡ isLive P best (entryCell e) → r ≡ false → Added P best e head tail s t s t head
   unfolding withLive
-  added-none r f g = let dead : isLive P best (entryCell e) ≡ false = sym f ∙ g in record { down = omega arith; by-one = omega arith; entries-are = rw dead }
+  added-none r f g = let dead : isLive P best (entryCell e) ≡ false = sym f ∙ g in record { down = omega arith; by-one = omega arith; entries-are = λ order. rw dead }
 
-  pub added-one : (s′ : List ℤ) (t′ : List ℕ) (r : Bool) → r ≡ isLive P best (entryCell e) → r ≡ true → 1 ≤ head → head ≤ tail → entries s′ t′ (head - 1) (tail - head + 1) ≡ insertBy entryBefore e (entries s t head (tail - head)) → Added P best e head tail s t s′ t′ (head - 1)
+  pub added-one : (s′ : List ℤ) (t′ : List ℕ) (r : Bool) → r ≡ isLive P best (entryCell e) → r ≡ true → 1 ≤ head → head ≤ tail → (InOrder (entries s t head (tail - head)) → entries s′ t′ (head - 1) (tail - head + 1) ≡ insertBy entryBefore e (entries s t head (tail - head))) → Added P best e head tail s t s′ t′ (head - 1)
   unfolding withLive
   added-one s′ t′ r f g h k q =
       let live : isLive P best (entryCell e) ≡ true = sym f ∙ g in
       let count : tail - (head - 1) ≡ tail - head + 1 = omega arith in
-      record { down = omega arith; by-one = omega arith; entries-are = rw (live, count) q }
+      record { down = omega arith; by-one = omega arith; entries-are = λ order. rw (live, count) (q order) }
+
+and-right : (b : Bool) → b ≡ b && true
+and-right true = refl
+and-right false = refl
+
+and-never : (b : Bool) → false ≡ b && false
+and-never true = refl
+and-never false = refl
 
 -- what a test of `is_live` says
 module _ (P : Problem) (best : Priced) (c : Query.Cell) where
-  pub live-not : canCut P (c .rect) ≡ false → false ≡ isLive P best c
+  pub live-behind : (r : Bool) → r ≡ precedes (cellKey c) (pricedKey best) → r ≡ false → false ≡ isLive P best c
   unfolding isLive
-  live-not e = rw e
+  live-behind r e f = let g : precedes (cellKey c) (pricedKey best) ≡ false = sym e ∙ f in rw g (and-never (canCut P (c .rect)))
 
-  pub live-precedes : canCut P (c .rect) ≡ true → (r : Bool) → r ≡ precedes (cellKey c) (pricedKey best) → r ≡ isLive P best c
+  pub live-cut : (r : Bool) → r ≡ precedes (cellKey c) (pricedKey best) → r ≡ true → canCut P (c .rect) ≡ isLive P best c
+  unfolding isLive
+  live-cut r e f = let g : precedes (cellKey c) (pricedKey best) ≡ true = sym e ∙ f in rw g (and-right (canCut P (c .rect)))
+
+  live-precedes : canCut P (c .rect) ≡ true → (r : Bool) → r ≡ precedes (cellKey c) (pricedKey best) → r ≡ isLive P best c
   unfolding isLive
   live-precedes e r f = rw e f
 
@@ -91,6 +103,14 @@ module _ (P : Problem) (best : Priced) where
   -- where all can be cut, those that come before the best are the live ones
   keep-live : (cs : List Query.Cell) → ((c : Query.Cell) → List·Memᴰ c cs → T (canCut P (c .rect))) → keep (λ c. precedes (cellKey c) (pricedKey best)) cs ≡ keep (isLive P best) cs
   keep-live cs h = keep-agree (λ c. precedes (cellKey c) (pricedKey best)) (isLive P best) cs (λ c m. live-precedes P best c (holds (canCut P (c .rect)) (h c m)) (precedes (cellKey c) (pricedKey best)) refl)
+
+  with-in-order : (e : Entry) (es : List Entry) → InOrder es → InOrder (withLive P best e es)
+  unfolding withLive
+  with-in-order e es order = go (isLive P best (entryCell e))
+    where
+      go : (b : Bool) → InOrder (cond b (insertBy entryBefore e es) es)
+      go true = insert-in-order e es order
+      go false = order
 
   with-cases : (e : Entry) (es : List Entry) {f : Entry} → List·Memᴰ f (withLive P best e es) → (f ≡ e) ⊎ List·Memᴰ f es
   unfolding withLive
@@ -189,7 +209,7 @@ started sites vs hs c area k best s s′ t t′ head costs best-is cell added = 
     bests = ap pricedOf (best-is ∙ ap (bestCorner (rectIn area)) costs) ∙ start-best sites vs hs (rectIn area)
 
     one : entries s′ t′ head (1001 - head) ≡ withLive (onLines vs hs) (pricedOf best) e []
-    one = added .entries-are ∙ ap (withLive (onLines vs hs) (pricedOf best) e) (entries-none s t 1001)
+    one = added .entries-are (subst InOrder (sym (entries-none s t 1001)) Pairwise·nil) ∙ ap (withLive (onLines vs hs) (pricedOf best) e) (entries-none s t 1001)
 
     cells : map entryCell (entries s′ t′ head (1001 - head)) ≡ keep (isLive P (startBest P)) (cellOf P (rectIn area) ∷ [])
     cells =
@@ -335,7 +355,10 @@ module _ (sites : List Site) (vs hs : List ℤ) (s : List ℤ) (t : List ℕ) (s
   rounded hv hve b best be bests tail trimmed s₁ t₁ behind one s₂ t₂ front two =
       let all : best ≡ improved (improved (st .best) (halves .low)) (halves .high) = bests ∙ (λ i. improved ((be ∙ ap (λ (x : Halves). improved (st .best) (x .low)) hve) i) (hve i .high)) in
       let es₁ : entries s t (st .head + 1) (tail - (st .head + 1)) ≡ keep (λ e. precedes (cellKey (entryCell e)) (pricedKey (pricedOf best))) others = trimmed .live t (Pairwise·of-cons (subst InOrder split (h .in-order))) in
-      go best all hv hve es₁ (one .entries-are) (two .entries-are)
+      let order₁ : InOrder (entries s t (st .head + 1) (tail - (st .head + 1))) = subst InOrder (sym es₁) (keep-in-order (λ e. precedes (cellKey (entryCell e)) (pricedKey (pricedOf best))) others turn) in
+      let es₂ = one .entries-are order₁ in
+      let order₂ : InOrder (entries s₁ t₁ behind (tail - behind)) = subst InOrder (sym es₂) (with-in-order (onLines vs hs) (pricedOf best) (record { cell = hv .second; costs = hv .«second_costs» }) (entries s t (st .head + 1) (tail - (st .head + 1))) order₁) in
+      go best all hv hve es₁ es₂ (two .entries-are order₂)
     where
       halves : Halves
       halves = halvesOf sites (cutRecord (onLines vs hs) (rectIn c)) (rectIn c)

@@ -168,11 +168,11 @@ pub record Addable (head tail : ℕ) (c : Cell) (best : Spot) : Type 0 where
   pub ranged : RectInRange (rectIn c)
   pub cost-limit : best .cost ≤ costLimit
 
--- the entries from r on are those from head on and e, if it is live
+-- the entries from r on are those from head on, where these are in order, and e, if it is live
 pub record Added (P : Problem) (best : Priced) (e : Entry) (head tail : ℕ) (s : List ℤ) (t : List ℕ) (s′ : List ℤ) (t′ : List ℕ) (r : ℕ) : Type 0 where
   pub down : r ≤ head
   pub by-one : head ≤ r + 1
-  pub entries-are : entries s′ t′ r (tail - r) ≡ withLive P best e (entries s t head (tail - head))
+  pub entries-are : InOrder (entries s t head (tail - head)) → entries s′ t′ r (tail - r) ≡ withLive P best e (entries s t head (tail - head))
 
 -- each has the costs of its corners
 pub record Costed (sites : List Site) (es : List Entry) : Type 0 where

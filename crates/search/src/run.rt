@@ -25,7 +25,7 @@ ghost use Rattle.pricing.specs.DeckOf.{deckOf};
 ghost use Rattle.pricing.specs.Sites.{loadOf, flagsOf};
 ghost use Rattle.pricing.specs.Columns.{siteRows, Figure};
 ghost use Rattle.lines.specs.LineRecord.{Edges, onLines, cutRecord, linesRecord};
-ghost use Rattle.search.specs.Space.{queryCell};
+ghost use Rattle.search.specs.Space.{queryCell, cellsIn, costsIn, Numbered};
 ghost use Rattle.search.specs.Run.{
   siteProblem,
   Sited,
@@ -83,7 +83,7 @@ pub struct Halves {
     pub second_costs: Costs,
 }
 
-// A search while it runs: the slots of its live cells, the best place so far and the cuts made.
+// A search while it runs: where its live cells stand in the order, the best place so far and the cuts made.
 pub struct State {
     pub head: usize,
     pub tail: usize,
@@ -340,14 +340,14 @@ fn halve<'a>(
     }
 }
 
-// Whether a cell is live: it can be cut and comes before the best place.
+// Whether a cell is live: it comes before the best place and can be cut.
 fn is_live(v: &[i64; 514], nv: usize, h: &[i64; 514], nh: usize, c: Cell, best: Spot) -> bool
     requires { ⌜ Lined (now v) nv (now h) nh × RectInRange (rectIn c) × (best .cost ≤ costLimit) ⌝ }
     ensures { λ r. ⌜ r ≡ Search.isLive (onLines (take nv (now (v .entry))) (take nh (now (h .entry)))) (pricedOf best) (queryCell c) ⌝ }
 {
-    let cut = cut_of(v, nv, h, nh, c);
-    if cut.found {
-        return space::precedes(c.bound, c.xlo, c.ylo, best.cost as i64, best.x, best.y);
+    if space::precedes(c.bound, c.xlo, c.ylo, best.cost as i64, best.x, best.y) {
+        let cut = cut_of(v, nv, h, nh, c);
+        return cut.found;
     }
     false
 }
@@ -360,17 +360,18 @@ fn add<'a>(
     nh: usize,
     s: &mut [i64; 5005],
     t: &mut [u64; 4004],
+    o: &mut [u16; 1001],
     head: usize,
     tail: usize,
     c: Cell,
     k: Costs,
     best: Spot,
 ) -> usize
-    requires { ⌜ Lined (now v) nv (now h) nh × Addable head tail c best ⌝ }
-    ensures { λ r. ⌜ Added (onLines (take nv (now (v .entry))) (take nh (now (h .entry)))) (pricedOf best) (record { cell = c; costs = k }) head tail (now (s .entry)) (now (t .entry)) (now (s .exit)) (now (t .exit)) r ⌝ }
+    requires { ⌜ Lined (now v) nv (now h) nh × Addable head tail c best × Numbered (now o) ⌝ }
+    ensures { λ r. ⌜ Added (onLines (take nv (now (v .entry))) (take nh (now (h .entry)))) (pricedOf best) (record { cell = c; costs = k }) head tail (cellsIn (now (s .entry)) (now (o .entry))) (costsIn (now (t .entry)) (now (o .entry))) (cellsIn (now (s .exit)) (now (o .exit))) (costsIn (now (t .exit)) (now (o .exit))) r × Numbered (now (o .exit)) ⌝ }
 {
     if is_live(v, nv, h, nh, c, best) {
-        space::insert(s, t, head, tail, c, k);
+        space::insert(s, t, o, head, tail, c, k);
         return head - 1;
     }
     head
@@ -389,23 +390,37 @@ fn round<'a>(
     nh: usize,
     s: &mut [i64; 5005],
     t: &mut [u64; 4004],
+    o: &mut [u16; 1001],
     st: State,
 ) -> State
-    requires { ⌜ Sited (now xs) (now ys) (now visits) (now near) n × Lined (now v) nv (now h) nh × Takeable (siteRows (now xs) (now ys) (now visits) (now near) n) (take nv (now v)) (take nh (now h)) (now s) (now t) st ⌝ }
-    ensures { λ r. ⌜ Holds (siteRows (now (xs .entry)) (now (ys .entry)) (now (visits .entry)) (now (near .entry)) n) (Search.round (siteProblem (siteRows (now (xs .entry)) (now (ys .entry)) (now (visits .entry)) (now (near .entry)) n) (take nv (now (v .entry))) (take nh (now (h .entry))) emptyRect) (searchOf (now (s .entry)) (now (t .entry)) st)) (st .head - 1) (now (s .exit)) (now (t .exit)) r ⌝ }
+    requires { ⌜ Sited (now xs) (now ys) (now visits) (now near) n × Lined (now v) nv (now h) nh × Takeable (siteRows (now xs) (now ys) (now visits) (now near) n) (take nv (now v)) (take nh (now h)) (cellsIn (now s) (now o)) (costsIn (now t) (now o)) st × Numbered (now o) ⌝ }
+    ensures { λ r. ⌜ Holds (siteRows (now (xs .entry)) (now (ys .entry)) (now (visits .entry)) (now (near .entry)) n) (Search.round (siteProblem (siteRows (now (xs .entry)) (now (ys .entry)) (now (visits .entry)) (now (near .entry)) n) (take nv (now (v .entry))) (take nh (now (h .entry))) emptyRect) (searchOf (cellsIn (now (s .entry)) (now (o .entry))) (costsIn (now (t .entry)) (now (o .entry))) st)) (st .head - 1) (cellsIn (now (s .exit)) (now (o .exit))) (costsIn (now (t .exit)) (now (o .exit))) r × Numbered (now (o .exit)) ⌝ }
 {
     let head = st.head;
-    let c = space::get_cell(s, head);
-    let k = space::get_costs(t, head);
+    let c = space::cell_at(s, o, head);
+    let k = space::costs_at(t, o, head);
     let halves = halve(xs, ys, visits, near, n, v, nv, h, nh, c, k);
     let best = improve(improve(st.best, halves.low), halves.high);
     let first = halves.first;
     let first_k = halves.first_costs;
     let second = halves.second;
     let second_k = halves.second_costs;
-    let tail = space::trim(s, head + 1, st.tail, best.cost, best.x, best.y);
-    let behind = add(v, nv, h, nh, s, t, head + 1, tail, second, second_k, best);
-    let front = add(v, nv, h, nh, s, t, behind, tail, first, first_k, best);
+    let tail = space::trim(s, o, head + 1, st.tail, best.cost, best.x, best.y);
+    let behind = add(
+        v,
+        nv,
+        h,
+        nh,
+        s,
+        t,
+        o,
+        head + 1,
+        tail,
+        second,
+        second_k,
+        best,
+    );
+    let front = add(v, nv, h, nh, s, t, o, behind, tail, first, first_k, best);
     State {
         head: front,
         tail,
@@ -470,15 +485,16 @@ fn start<'a>(
     nh: usize,
     s: &mut [i64; 5005],
     t: &mut [u64; 4004],
+    o: &mut [u16; 1001],
     area: Cell,
 ) -> State
-    requires { ⌜ Sited (now xs) (now ys) (now visits) (now near) n × Lined (now v) nv (now h) nh × Ranged (rectIn area) ⌝ }
-    ensures { λ r. ⌜ Holds (siteRows (now (xs .entry)) (now (ys .entry)) (now (visits .entry)) (now (near .entry)) n) (Search.start (siteProblem (siteRows (now (xs .entry)) (now (ys .entry)) (now (visits .entry)) (now (near .entry)) n) (take nv (now (v .entry))) (take nh (now (h .entry))) (rectIn area))) 1000 (now (s .exit)) (now (t .exit)) r ⌝ }
+    requires { ⌜ Sited (now xs) (now ys) (now visits) (now near) n × Lined (now v) nv (now h) nh × Ranged (rectIn area) × Numbered (now o) ⌝ }
+    ensures { λ r. ⌜ Holds (siteRows (now (xs .entry)) (now (ys .entry)) (now (visits .entry)) (now (near .entry)) n) (Search.start (siteProblem (siteRows (now (xs .entry)) (now (ys .entry)) (now (visits .entry)) (now (near .entry)) n) (take nv (now (v .entry))) (take nh (now (h .entry))) (rectIn area))) 1000 (cellsIn (now (s .exit)) (now (o .exit))) (costsIn (now (t .exit)) (now (o .exit))) r × Numbered (now (o .exit)) ⌝ }
 {
     let k = corners(xs, ys, visits, near, n, area);
     let best = best_corner(area, k);
     let c = bounded(xs, ys, visits, near, n, area, k);
-    let head = add(v, nv, h, nh, s, t, 1001, 1001, c, k, best);
+    let head = add(v, nv, h, nh, s, t, o, 1001, 1001, c, k, best);
     State {
         head,
         tail: 1001,
@@ -500,28 +516,29 @@ fn run_of<'a>(
     nh: usize,
     s: &mut [i64; 5005],
     t: &mut [u64; 4004],
+    o: &mut [u16; 1001],
     area: Cell,
     rounds: u64,
 ) -> State
-    requires { ⌜ Sited (now xs) (now ys) (now visits) (now near) n × Lined (now v) nv (now h) nh × Ranged (rectIn area) × (rounds ≤ 1000) × Steady (siteProblem (siteRows (now xs) (now ys) (now visits) (now near) n) (take nv (now v)) (take nh (now h)) (rectIn area)) ⌝ }
-    ensures { λ r. ⌜ Holds (siteRows (now (xs .entry)) (now (ys .entry)) (now (visits .entry)) (now (near .entry)) n) (Search.run (siteProblem (siteRows (now (xs .entry)) (now (ys .entry)) (now (visits .entry)) (now (near .entry)) n) (take nv (now (v .entry))) (take nh (now (h .entry))) (rectIn area)) rounds) 0 (now (s .exit)) (now (t .exit)) r ⌝ }
+    requires { ⌜ Sited (now xs) (now ys) (now visits) (now near) n × Lined (now v) nv (now h) nh × Ranged (rectIn area) × (rounds ≤ 1000) × Steady (siteProblem (siteRows (now xs) (now ys) (now visits) (now near) n) (take nv (now v)) (take nh (now h)) (rectIn area)) × Numbered (now o) ⌝ }
+    ensures { λ r. ⌜ Holds (siteRows (now (xs .entry)) (now (ys .entry)) (now (visits .entry)) (now (near .entry)) n) (Search.run (siteProblem (siteRows (now (xs .entry)) (now (ys .entry)) (now (visits .entry)) (now (near .entry)) n) (take nv (now (v .entry))) (take nh (now (h .entry))) (rectIn area)) rounds) 0 (cellsIn (now (s .exit)) (now (o .exit))) (costsIn (now (t .exit)) (now (o .exit))) r × Numbered (now (o .exit)) ⌝ }
 {
-    let mut st = start(xs, ys, visits, near, n, v, nv, h, nh, s, t, area);
+    let mut st = start(xs, ys, visits, near, n, v, nv, h, nh, s, t, o, area);
     let mut k: u64 = 0;
     while k < rounds {
         if st.tail <= st.head {
             return st;
         }
-        st = round(xs, ys, visits, near, n, v, nv, h, nh, s, t, st);
+        st = round(xs, ys, visits, near, n, v, nv, h, nh, s, t, o, st);
         k += 1;
     }
     st
 }
 
 // The least of the best cost and the bounds of the live cells, which are in order.
-fn low_of(s: &[i64; 5005], st: State) -> i64
-    requires { ⌜ Answerable (now s) st ⌝ }
-    ensures { λ r. ⌜ r ≡ Figures.low (searchOf (now (s .entry)) [] st) ⌝ }
+fn low_of<'a>(s: &'a [i64; 5005], o: &'a [u16; 1001], st: State) -> i64
+    requires { ⌜ Answerable (cellsIn (now s) (now o)) st × Numbered (now o) ⌝ }
+    ensures { λ r. ⌜ r ≡ Figures.low (searchOf (cellsIn (now (s .entry)) (now (o .entry))) [] st) ⌝ }
 {
     let best = st.best;
     let high = best.cost as i64;
@@ -529,7 +546,7 @@ fn low_of(s: &[i64; 5005], st: State) -> i64
     if st.tail <= head {
         return high;
     }
-    let c = space::get_cell(s, head);
+    let c = space::cell_at(s, o, head);
     if c.bound < high {
         return c.bound;
     }
@@ -537,11 +554,11 @@ fn low_of(s: &[i64; 5005], st: State) -> i64
 }
 
 // What a search answers at its end.
-fn answer(s: &[i64; 5005], st: State) -> Found
-    requires { ⌜ Answerable (now s) st ⌝ }
-    ensures { λ r. ⌜ r ≡ foundOf (searchOf (now (s .entry)) [] st) ⌝ }
+fn answer<'a>(s: &'a [i64; 5005], o: &'a [u16; 1001], st: State) -> Found
+    requires { ⌜ Answerable (cellsIn (now s) (now o)) st × Numbered (now o) ⌝ }
+    ensures { λ r. ⌜ r ≡ foundOf (searchOf (cellsIn (now (s .entry)) (now (o .entry))) [] st) ⌝ }
 {
-    let low = low_of(s, st);
+    let low = low_of(s, o, st);
     let best = st.best;
     Found {
         done: st.tail <= st.head,
@@ -615,6 +632,8 @@ pub fn search(deck: Deck, sites: Sites, rounds: u64, cells: &mut [i64]) -> Found
     let nh = h.count;
     let mut s = [0i64; 5005];
     let mut t = [0u64; 4004];
+    let mut o = [0u16; 1001];
+    space::number(&mut o);
     let st = run_of(
         &sites.x,
         &sites.y,
@@ -627,9 +646,10 @@ pub fn search(deck: Deck, sites: Sites, rounds: u64, cells: &mut [i64]) -> Found
         nh,
         &mut s,
         &mut t,
+        &mut o,
         area,
         rounds,
     );
-    space::write_out(&s, st.head, st.tail, cells);
-    answer(&s, st)
+    space::write_out(&s, &o, st.head, st.tail, cells);
+    answer(&s, &o, st)
 }

@@ -9,16 +9,16 @@ is-live-requires : tie.Need-is-live-requires
 is-live-requires c κs = (c .pre .0, c .pre .1 .ranged, c .pre .1 .cost-limit)
 
 insert-requires : tie.Need-insert-requires
-insert-requires c κs = omega arith
+insert-requires c κs = let s = c .before .before .before .before .before in (s .pre .2, (s .pre .1 .room, (s .pre .1 .in-turn, s .pre .1 .ends)))
 
 sub-result : tie.Need-sub-result
-sub-result c = omega arith
+sub-result c = omega (arith, c .before .before .before .before .before .before .pre .1 .room)
 
 returns : tie.Need-returns
-returns c = let s = c .before .before .before .before .before in added-one _ _ _ (s .args .head) (s .args .tail) _ _ _ _ _ (c .before .before .before .before .is-live .ensures) (c .before .before .before .if1 .taken) (s .pre .1 .room) (s .pre .1 .in-turn) (c .insert .ensures)
+returns c = let s = c .before .before .before .before .before .before in (added-one _ _ _ (s .args .head) (s .args .tail) _ _ _ _ _ (c .before .before .before .before .before .is-live .ensures) (c .before .before .before .before .if1 .taken) (s .pre .1 .room) (s .pre .1 .in-turn) (c .insert .ensures .entries-are), c .insert .ensures .numbered)
 
 returns-2 : tie.Need-returns-2
-returns-2 c = let s = c .before .before in added-none _ _ _ (s .args .head) (s .args .tail) _ _ _ (c .before .is-live .ensures) (c .if1 .left)
+returns-2 c = let s = c .before .before in (added-none _ _ _ (s .args .head) (s .args .tail) _ _ _ (c .before .is-live .ensures) (c .if1 .left), s .pre .2)
 
 pub add-spec : {M : Type 1} → statement M
 add-spec = tie.close (tie.spec is-live-requires insert-requires sub-result returns returns-2)

@@ -12,73 +12,74 @@ use Rattle.search.proofs.run.round.Statement.{statement}
 use Rattle.search.proofs.run.round.Tie as tie
 
 -- what is known of the cell, of its parts, and of the best place
-whole : (c : tie.After-get-costs) → Cutting (siteRows (now (c .before .before .before .before .args .xs)) (now (c .before .before .before .before .args .ys)) (now (c .before .before .before .before .args .visits)) (now (c .before .before .before .before .args .near)) (c .before .before .before .before .args .n)) (take (c .before .before .before .before .args .nv) (now (c .before .before .before .before .args .v))) (take (c .before .before .before .before .args .nh) (now (c .before .before .before .before .args .h))) (c .before .before .get-cell .result) (c .get-costs .result)
-whole c = let s = c .before .before .before .before in cutting _ _ _ _ _ (s .args .st) (s .pre .2) _ _ (c .before .before .get-cell .ensures) (c .get-costs .ensures)
+whole : (c : tie.After-costs-at) → let a = c .before .before .before .before .before .before .args in Cutting (siteRows (now (a .xs)) (now (a .ys)) (now (a .visits)) (now (a .near)) (a .n)) (take (a .nv) (now (a .v))) (take (a .nh) (now (a .h))) (c .before .before .before .cell-at .result) (c .costs-at .result)
+whole c = let s = c .before .before .before .before .before .before in cutting _ _ _ _ _ (s .args .st) (s .pre .2) _ _ (c .before .before .before .cell-at .ensures) (c .costs-at .ensures)
 
 limits : (c : tie.After-halve) → (c .halve .result .low .cost ≤ costLimit) × (c .halve .result .high .cost ≤ costLimit)
-limits c = halves-limit _ _ (c .before .before .before .before .before .pre .0 .cost-limit) _ _ (c .halve .ensures)
+limits c = halves-limit _ _ (c .before .before .before .before .before .before .before .pre .0 .cost-limit) _ _ (c .halve .ensures)
 
 ranges : (c : tie.After-halve) → RectInRange (rectIn (c .halve .result .first)) × RectInRange (rectIn (c .halve .result .second))
 ranges c = let w = whole (c .before) in halves-ranged _ _ _ _ (w .can-cut) (w .ranged) (c .halve .ensures)
 
 first-limit : (c : tie.After-improve) → c .improve .result .cost ≤ costLimit
-first-limit c = limit-of _ _ _ (c .improve .ensures) (c .before .before .before .before .before .before .pre .2 .cost-limit) (limits (c .before) .0)
+first-limit c = limit-of _ _ _ (c .improve .ensures) (c .before .before .before .before .before .before .before .before .pre .2 .cost-limit) (limits (c .before) .0)
 
 second-limit : (c : tie.After-improve2) → c .improve2 .result .cost ≤ costLimit
 second-limit c = limit-of _ _ _ (c .improve2 .ensures) (first-limit (c .before)) (limits (c .before .before) .1)
 
-get-cell-requires : tie.Need-get-cell-requires
-get-cell-requires c κs = let s = c .before in omega (arith, s .pre .2 .some, s .pre .2 .ends)
+cell-at-requires : tie.Need-cell-at-requires
+cell-at-requires c κs = let s = c .before .before in (s .pre .3, omega (arith, s .pre .2 .some, s .pre .2 .ends))
 
-get-costs-requires : tie.Need-get-costs-requires
-get-costs-requires c κs = let s = c .before .before .before in omega (arith, s .pre .2 .some, s .pre .2 .ends)
+costs-at-requires : tie.Need-costs-at-requires
+costs-at-requires c κs = let s = c .before .before .before .before .before in (s .pre .3, omega (arith, s .pre .2 .some, s .pre .2 .ends))
 
 halve-requires : tie.Need-halve-requires
-halve-requires c κs = let s = c .before .before .before .before in (s .pre .0, s .pre .1, whole c)
+halve-requires c κs = let s = c .before .before .before .before .before .before in (s .pre .0, s .pre .1, whole c)
 
 improve-requires : tie.Need-improve-requires
-improve-requires c κs = let s = c .before .before .before .before .before in (s .pre .2 .cost-limit, limits c .0)
+improve-requires c κs = (c .before .before .before .before .before .before .before .pre .2 .cost-limit, limits c .0)
 
 improve-requires-2 : tie.Need-improve-requires-2
 improve-requires-2 c κs = (first-limit c, limits (c .before) .1)
 
 add-trim : tie.Need-add-trim
-add-trim c = omega (arith, c .before .before .before .before .before .before .before .before .before .before .before .before .pre .2 .some, c .before .before .before .before .before .before .before .before .before .before .before .before .pre .2 .ends)
+add-trim c = let s = c .before .before .before .before .before .before .before .before .before .before .before .before .before .before .before in omega (arith, s .pre .2 .some, s .pre .2 .ends)
 
 trim-requires : tie.Need-trim-requires
-trim-requires c κs = let s = c .before .before .before .before .before .before .before .before .before .before .before .before .before .before in (omega (arith, s .pre .2 .some), (s .pre .2 .ends, omega (arith, second-limit (c .before .before .before .before .before .before .before))))
+trim-requires c κs = let s = c .before .before .before .before .before .before .before .before .before .before .before .before .before .before .before .before .before in (s .pre .3, (omega (arith, s .pre .2 .some), (s .pre .2 .ends, omega (arith, second-limit (c .before .before .before .before .before .before .before .before)))))
 
 add-add : tie.Need-add-add
-add-add c = omega (arith, c .before .before .before .before .before .before .before .before .before .before .before .before .before .before .before .before .before .pre .2 .some, c .before .before .before .before .before .before .before .before .before .before .before .before .before .before .before .before .before .pre .2 .ends)
+add-add c = let s = c .before .before .before .before .before .before .before .before .before .before .before .before .before .before .before .before .before .before .before .before .before in omega (arith, s .pre .2 .some, s .pre .2 .ends)
 
 add-requires : tie.Need-add-requires
 add-requires c κs =
-    let s = c .before .before .before .before .before .before .before .before .before .before .before .before .before .before .before .before .before in
-    let cut = c .before .before .trim .ensures in
-    (s .pre .1, record { room = omega arith; in-turn = cut .from-head; ends = omega (arith, cut .to-tail, s .pre .2 .ends); ranged = ranges (c .before .before .before .before .before .before .before .before .before .before .before .before) .1; cost-limit = second-limit (c .before .before .before .before .before .before .before .before .before .before) })
+    let s = c .before .before .before .before .before .before .before .before .before .before .before .before .before .before .before .before .before .before .before .before .before in
+    let cut = c .before .before .before .trim .ensures in
+    (s .pre .1, record { room = omega arith; in-turn = cut .from-head; ends = omega (arith, cut .to-tail, s .pre .2 .ends); ranged = ranges (c .before .before .before .before .before .before .before .before .before .before .before .before .before .before) .1; cost-limit = second-limit (c .before .before .before .before .before .before .before .before .before .before .before .before) }, s .pre .3)
 
 add-requires-2 : tie.Need-add-requires-2
 add-requires-2 c κs =
-    let s = c .before .before .before .before .before .before .before .before .before .before .before .before .before .before .before .before .before .before .before .before in
-    let cut = c .before .before .before .before .before .trim .ensures in
-    let one = c .before .before .add .ensures in
-    (s .pre .1, record { room = omega (arith, one .by-one, s .pre .2 .room); in-turn = omega (arith, one .down, cut .from-head); ends = omega (arith, cut .to-tail, s .pre .2 .ends); ranged = ranges (c .before .before .before .before .before .before .before .before .before .before .before .before .before .before .before) .0; cost-limit = second-limit (c .before .before .before .before .before .before .before .before .before .before .before .before .before) })
+    let s = c .before .before .before .before .before .before .before .before .before .before .before .before .before .before .before .before .before .before .before .before .before .before .before .before .before in
+    let cut = c .before .before .before .before .before .before .before .trim .ensures in
+    let one = c .before .before .before .add .ensures in
+    (s .pre .1, record { room = omega (arith, one .0 .by-one, s .pre .2 .room); in-turn = omega (arith, one .0 .down, cut .from-head); ends = omega (arith, cut .to-tail, s .pre .2 .ends); ranged = ranges (c .before .before .before .before .before .before .before .before .before .before .before .before .before .before .before .before .before .before) .0; cost-limit = second-limit (c .before .before .before .before .before .before .before .before .before .before .before .before .before .before .before .before) }, one .1)
 
-add-t34 : tie.Need-add-t34
-add-t34 c = omega (arith, c .before .before .before .before .before .before .before .before .before .before .before .before .before .before .before .before .before .before .before .before .before .before .pre .2 .few)
+add-t40 : tie.Need-add-t40
+add-t40 c = omega (arith, c .before .before .before .before .before .before .before .before .before .before .before .before .before .before .before .before .before .before .before .before .before .before .before .before .before .before .before .pre .2 .few)
 
 returns : tie.Need-returns
 returns c =
-    let s = c .before .before .before .before .before .before .before .before .before .before .before .before .before .before .before .before .before .before .before .before .before .before in
-    let told = c .before .before .before .before .before .before .before .before .before .struct-told .given in
-    rounded _ _ _ _ _ (s .args .st) (s .pre .2) _ _ (c .before .before .before .before .before .before .before .before .before .before .before .before .before .before .before .before .before .before .before .before .get-cell .ensures) (c .before .before .before .before .before .before .before .before .before .before .before .before .before .before .before .before .before .before .get-costs .ensures) _ (c .before .before .before .before .before .before .before .before .before .before .before .before .before .before .before .before .before .halve .ensures) _ _ (c .before .before .before .before .before .before .before .before .before .before .before .before .before .before .before .before .improve .ensures) (c .before .before .before .before .before .before .before .before .before .before .before .before .before .before .before .improve2 .ensures) _ (trim-key _ _ _ _ _ (c .before .before .before .before .before .before .before .before .before .before .before .before .before .before .before .improve2 .result .x) (c .before .before .before .before .before .before .before .before .before .before .before .before .before .before .before .improve2 .result .y) (told .0 .1) (told .1 .0 .1) (c .before .before .before .before .before .before .before .trim .ensures)) _ _ _ (c .before .before .before .before .add .ensures) _ _ _ (c .before .add2 .ensures)
+    let s = c .before .before .before .before .before .before .before .before .before .before .before .before .before .before .before .before .before .before .before .before .before .before .before .before .before .before .before in
+    let told = c .before .before .before .before .before .before .before .before .before .before .before .struct-told .given in
+    let best = c .before .before .before .before .before .before .before .before .before .before .before .before .before .before .before .before .before .before .improve2 in
+    (rounded _ _ _ _ _ (s .args .st) (s .pre .2) _ _ (c .before .before .before .before .before .before .before .before .before .before .before .before .before .before .before .before .before .before .before .before .before .before .before .before .cell-at .ensures) (c .before .before .before .before .before .before .before .before .before .before .before .before .before .before .before .before .before .before .before .before .before .costs-at .ensures) _ (c .before .before .before .before .before .before .before .before .before .before .before .before .before .before .before .before .before .before .before .before .halve .ensures) _ _ (c .before .before .before .before .before .before .before .before .before .before .before .before .before .before .before .before .before .before .before .improve .ensures) (best .ensures) _ (trim-key _ _ _ _ _ (best .result .x) (best .result .y) (told .0 .1) (told .1 .0 .1) (c .before .before .before .before .before .before .before .before .before .trim .ensures)) _ _ _ (c .before .before .before .before .before .add .ensures .0) _ _ _ (c .before .add2 .ensures .0), c .before .add2 .ensures .1)
 
 pub round-spec : {M : Type 1} → statement M
 round-spec =
     tie.close
     (tie.spec
-    get-cell-requires
-    get-costs-requires
+    cell-at-requires
+    costs-at-requires
     halve-requires
     improve-requires
     improve-requires-2
@@ -87,5 +88,5 @@ round-spec =
     add-add
     add-requires
     add-requires-2
-    add-t34
+    add-t40
     returns)

@@ -21,28 +21,33 @@ vertical-requires c κs = reaching _ _ _ _ (c .before .before .pre) (c .before .
 horizontal-requires : tie.Need-horizontal-requires
 horizontal-requires c κs = reaching _ _ _ _ (c .before .before .before .pre) (c .before .before .area-of .result) (ap rectIn (c .before .before .area-of .ensures)) _ (c .before .flags-of .ensures)
 
+number-requires : tie.Need-number-requires
+number-requires c κs = search needs
+
 run-of-requires : tie.Need-run-of-requires
 run-of-requires c κs =
-    let s = c .before .before .before .before .before .before .before .before .before .before .before .before .before .before .before in
-    (deck-sited _ _ _ _ (s .pre), deck-lined _ _ _ _ (s .pre) (c .before .before .before .before .before .before .before .before .before .before .before .before .before .before .area-of .result) (ap rectIn (c .before .before .before .before .before .before .before .before .before .before .before .before .before .before .area-of .ensures)) _ _ (c .before .before .before .before .before .before .before .before .before .before .before .before .vertical .ensures) (c .before .before .before .before .before .before .before .before .before .before .before .horizontal .ensures), area-ranged _ _ _ _ (s .pre) (c .before .before .before .before .before .before .before .before .before .before .before .before .before .before .area-of .result) (ap rectIn (c .before .before .before .before .before .before .before .before .before .before .before .before .before .before .area-of .ensures)), s .pre .rounds-limit, coded-steady _ _ _ _ (s .pre) (c .before .before .before .before .before .before .before .before .before .before .before .before .before .before .area-of .result) (ap rectIn (c .before .before .before .before .before .before .before .before .before .before .before .before .before .before .area-of .ensures)) _ _ (c .before .before .before .before .before .before .before .before .before .before .before .before .vertical .ensures) (c .before .before .before .before .before .before .before .before .before .before .before .horizontal .ensures))
+    let s = c .before .before .before .before .before .before .before .before .before .before .before .before .before .before .before .before .before .before in
+    let area = c .before .before .before .before .before .before .before .before .before .before .before .before .before .before .before .before .before .area-of in
+    (deck-sited _ _ _ _ (s .pre), deck-lined _ _ _ _ (s .pre) (area .result) (ap rectIn (area .ensures)) _ _ (c .before .before .before .before .before .before .before .before .before .before .before .before .before .before .before .vertical .ensures) (c .before .before .before .before .before .before .before .before .before .before .before .before .before .before .horizontal .ensures), area-ranged _ _ _ _ (s .pre) (area .result) (ap rectIn (area .ensures)), s .pre .rounds-limit, coded-steady _ _ _ _ (s .pre) (area .result) (ap rectIn (area .ensures)) _ _ (c .before .before .before .before .before .before .before .before .before .before .before .before .before .before .before .vertical .ensures) (c .before .before .before .before .before .before .before .before .before .before .before .before .before .before .horizontal .ensures), c .before .before .before .before .before .before .before .before .before .before .before .before .number .ensures)
 
 write-out-requires : tie.Need-write-out-requires
 write-out-requires c κs =
-    let g = c .before .before .run-of .ensures in
-    (g .in-turn, (g .ends, omega (arith, c .before .before .before .before .before .before .before .before .before .before .before .before .before .before .before .before .before .before .pre .room, cell-count _ _ _ _ _ _ _ g)))
+    let g = c .before .before .before .run-of .ensures in
+    (g .1, (g .0 .in-turn, (g .0 .ends, omega (arith, c .before .before .before .before .before .before .before .before .before .before .before .before .before .before .before .before .before .before .before .before .before .before .pre .room, cell-count _ _ _ _ _ _ _ (g .0)))))
 
 answer-requires : tie.Need-answer-requires
 answer-requires c κs =
-    let s = c .before .before .before .before .before .before .before .before .before .before .before .before .before .before .before .before .before .before .before .before .before in
-    answerable _ _ _ _ _ _ _ (c .before .before .before .before .before .run-of .ensures) (coded-steady _ _ _ _ (s .pre) (c .before .before .before .before .before .before .before .before .before .before .before .before .before .before .before .before .before .before .before .before .area-of .result) (ap rectIn (c .before .before .before .before .before .before .before .before .before .before .before .before .before .before .before .before .before .before .before .before .area-of .ensures)) _ _ (c .before .before .before .before .before .before .before .before .before .before .before .before .before .before .before .before .before .before .vertical .ensures) (c .before .before .before .before .before .before .before .before .before .before .before .before .before .before .before .before .before .horizontal .ensures))
+    let area = c .before .before .before .before .before .before .before .before .before .before .before .before .before .before .before .before .before .before .before .before .before .before .before .before .before .area-of in
+    let g = c .before .before .before .before .before .before .before .run-of .ensures in
+    (answerable _ _ _ _ _ _ _ (g .0) (coded-steady _ _ _ _ (c .before .before .before .before .before .before .before .before .before .before .before .before .before .before .before .before .before .before .before .before .before .before .before .before .before .before .pre) (area .result) (ap rectIn (area .ensures)) _ _ (c .before .before .before .before .before .before .before .before .before .before .before .before .before .before .before .before .before .before .before .before .before .before .before .vertical .ensures) (c .before .before .before .before .before .before .before .before .before .before .before .before .before .before .before .before .before .before .before .before .before .before .horizontal .ensures)), g .1)
 
 same-length : tie.Need-same-length
 same-length c = search needs
 
 returns : tie.Need-returns
 returns c =
-    let s = c .before .before .before .before .before .before .before .before .before .before .before .before .before .before .before .before .before .before .before .before .before .before in
-    searched _ _ _ _ (s .pre) (c .before .before .before .before .before .before .before .before .before .before .before .before .before .before .before .before .before .before .before .before .before .area-of .result) (ap rectIn (c .before .before .before .before .before .before .before .before .before .before .before .before .before .before .before .before .before .before .before .before .before .area-of .ensures)) _ _ (c .before .before .before .before .before .before .before .before .before .before .before .before .before .before .before .before .before .before .before .vertical .ensures) (c .before .before .before .before .before .before .before .before .before .before .before .before .before .before .before .before .before .before .horizontal .ensures) _ _ _ (c .before .before .before .before .before .before .run-of .ensures) _ _ _ (c .answer .ensures) (c .before .before .before .write-out .ensures)
+    let area = c .before .before .before .before .before .before .before .before .before .before .before .before .before .before .before .before .before .before .before .before .before .before .before .before .before .before .area-of in
+    searched _ _ _ _ (c .before .before .before .before .before .before .before .before .before .before .before .before .before .before .before .before .before .before .before .before .before .before .before .before .before .before .before .pre) (area .result) (ap rectIn (area .ensures)) _ _ (c .before .before .before .before .before .before .before .before .before .before .before .before .before .before .before .before .before .before .before .before .before .before .before .before .vertical .ensures) (c .before .before .before .before .before .before .before .before .before .before .before .before .before .before .before .before .before .before .before .before .before .before .before .horizontal .ensures) _ _ _ (c .before .before .before .before .before .before .before .before .run-of .ensures .0) _ _ _ (c .answer .ensures) (c .before .before .before .before .write-out .ensures)
 
 pub search-spec : {M : Type 1} → statement M
 search-spec =
@@ -52,6 +57,7 @@ search-spec =
     flags-of-requires
     vertical-requires
     horizontal-requires
+    number-requires
     run-of-requires
     write-out-requires
     answer-requires
