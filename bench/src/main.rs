@@ -7,6 +7,7 @@ use std::hint::black_box;
 use std::time::Instant;
 
 mod twin;
+mod walk;
 mod whole;
 
 #[link(name = "trial", kind = "static")]
@@ -17,6 +18,7 @@ extern "C" {
     fn trial_cut_many(job: *const u8, len: usize, k: u64) -> i64;
     fn trial_near_many(job: *const u8, len: usize, k: u64) -> i64;
     fn trial_report(job: *const u8, len: usize, cells: *mut i64, cells_len: usize, out: *mut u8, out_len: usize) -> i64;
+    fn trial_exhaustive(job: *const u8, len: usize, which: u64) -> i64;
 }
 
 type Kernel = unsafe extern "C" fn(*const u8, usize, u64) -> i64;
@@ -92,6 +94,39 @@ fn reports() {
     }
 }
 
+/// The exhaustive call, `turns` times: place and cost must be the same. The plain walk, last of the twins, is long, and has few repetitions.
+fn compare_walks(name: &str, job: &[u8], turns: usize, twins: &[(&str, fn(&[u8]) -> walk::Spot)]) {
+    let proved = |job: &[u8], which| unsafe { trial_exhaustive(job.as_ptr(), job.len(), which) };
+    assert_eq!(proved(job, 3), 0, "{name}: refused");
+    let found = (proved(job, 2), proved(job, 0) as i32, proved(job, 1) as i32);
+    println!("{name}: at {},{} cost {}", found.1, found.2, found.0);
+    let mut best = vec![f64::MAX; twins.len() + 1];
+    for i in 0..4 * REPETITIONS {
+        let (t, r) = timed(|| (0..turns).map(|_| proved(black_box(job), 2)).sum());
+        assert_eq!(r, turns as i64 * found.0);
+        best[0] = best[0].min(t / turns as f64);
+        for (j, (b, twin)) in best[1..].iter_mut().zip(twins).enumerate() {
+            if j + 1 < twins.len() || i % 10 == 0 {
+                let (t, r) = timed(|| (0..turns).filter(|_| twin.1(black_box(job)) == found).count() as i64);
+                assert_eq!(r, turns as i64, "{name}, {}: another place or cost", twin.0);
+                *b = b.min(t / turns as f64);
+            }
+        }
+    }
+    for ((twin, _), t) in twins.iter().zip(&best[1..]) {
+        println!("{:<52} {:>10.1} {:>10.1} {:>7.3}", format!("{name}, {twin}"), best[0] / 1e3, t / 1e3, best[0] / t);
+    }
+}
+
+fn walks() {
+    println!();
+    println!("{:<52} {:>10} {:>10} {:>7}", "the exhaustive call, us a call", "proved", "twin", "ratio");
+    let twins: [(&str, fn(&[u8]) -> walk::Spot); 3] = [("ramps by search", walk::searched), ("ramps by table", walk::looked_up), ("every crossing", walk::every_crossing)];
+    compare_walks("largest", &whole::job(64, 40_001, 512, 20_000, 0), 1, &twins);
+    compare_walks("a post in a corner", &walk::cornered(whole::job(1, 40_001, 512, 20_000, 0)), 1, &twins);
+    compare_walks("typical", &whole::job(8, 40_001, 100, 6_325, 0), 20, &twins);
+}
+
 fn main() {
     let deck = twin::Deck::full(64, 512);
     let job = deck.spell();
@@ -106,4 +141,5 @@ fn main() {
     compare("the same, twin with one pass for all five", &job, 5_000, trial_bound_many, |k| twin::bound_many(&s, k, twin::bound_in_one_pass));
     compare("choice of a cut", &job, 100_000, trial_cut_many, |k| twin::cut_many(&xs, &ys, k));
     reports();
+    walks();
 }

@@ -61,8 +61,8 @@ impl Reader<'_> {
 const XY: (i32, i32) = (-20_000, 20_000);
 
 /// A deck with the near of each stop, one column a field.
-struct Deck {
-    area: Rect,
+pub struct Deck {
+    pub area: Rect,
     xs: Vec<i32>,
     ys: Vec<i32>,
     visits: Vec<u32>,
@@ -71,14 +71,14 @@ struct Deck {
 }
 
 #[derive(Clone, Copy)]
-struct Rect {
-    xlo: i32,
-    ylo: i32,
-    xhi: i32,
-    yhi: i32,
+pub struct Rect {
+    pub xlo: i32,
+    pub ylo: i32,
+    pub xhi: i32,
+    pub yhi: i32,
 }
 
-fn read(job: &[u8]) -> Result<Deck, Refused> {
+pub fn read(job: &[u8]) -> Result<Deck, Refused> {
     if job.len() > 16_384 {
         return Err((1, 0));
     }
@@ -125,11 +125,11 @@ fn read(job: &[u8]) -> Result<Deck, Refused> {
 // ---- pricing
 
 #[derive(Clone, Copy)]
-struct Site {
-    x: i32,
-    y: i32,
-    visits: u32,
-    near: i32,
+pub struct Site {
+    pub x: i32,
+    pub y: i32,
+    pub visits: u32,
+    pub near: i32,
 }
 
 #[inline]
@@ -139,7 +139,7 @@ fn outside(v: i32, lo: i32, hi: i32) -> i32 {
 
 impl Site {
     #[inline]
-    fn reaches(&self, r: Rect) -> bool {
+    pub fn reaches(&self, r: Rect) -> bool {
         outside(self.x, r.xlo, r.xhi) + outside(self.y, r.ylo, r.yhi) < self.near
     }
 
@@ -152,16 +152,16 @@ impl Site {
 
 impl Deck {
     #[inline]
-    fn sites(&self) -> impl Iterator<Item = Site> + '_ {
+    pub fn sites(&self) -> impl Iterator<Item = Site> + '_ {
         let columns = self.xs.iter().zip(&self.ys).zip(&self.visits).zip(&self.near);
         columns.map(|(((&x, &y), &visits), &near)| Site { x, y, visits, near })
     }
 
-    fn before(&self) -> u64 {
+    pub fn before(&self) -> u64 {
         self.visits.iter().zip(&self.near).map(|(&v, &near)| v as u64 * near as u32 as u64).sum()
     }
 
-    fn cost(&self, x: i32, y: i32) -> u64 {
+    pub fn cost(&self, x: i32, y: i32) -> u64 {
         self.sites().map(|s| s.pays(x, y)).sum()
     }
 
@@ -185,7 +185,7 @@ impl Deck {
     }
 
     /// The lines at the x or the y of the sites that reach the area, and at its edges.
-    fn lines(&self, across: bool) -> Vec<i32> {
+    pub fn lines(&self, across: bool) -> Vec<i32> {
         let a = self.area;
         let (lo, hi) = if across { (a.xlo, a.xhi) } else { (a.ylo, a.yhi) };
         let mut lines = Vec::with_capacity(self.xs.len() + 2);

@@ -19,6 +19,8 @@ extern "C" {
     fn trial_report(job: *const u8, len: usize, cells: *mut i64, cells_len: usize, out: *mut u8, out_len: usize) -> i64;
     fn trial_report_line(job: *const u8, len: usize, cells: *mut i64, cells_len: usize, out: *mut u8, out_len: usize) -> u64;
     fn trial_report_figure(job: *const u8, len: usize, cells: *mut i64, cells_len: usize, out: *mut u8, out_len: usize, which: u64) -> i64;
+    fn trial_exhaustive(job: *const u8, len: usize, which: u64) -> i64;
+    fn trial_exhaustive_line(job: *const u8, len: usize) -> u64;
 }
 
 pub fn refusal(job: &[u8]) -> u64 {
@@ -79,4 +81,14 @@ pub fn report_line(job: &[u8], cells: &mut [i64], out: &mut [u8]) -> u64 {
 /// A number that the report carries, from 0: state (1 for stopped), x, y, high, low, before, rounds. The least number where there is none.
 pub fn report_figure(job: &[u8], cells: &mut [i64], out: &mut [u8], which: u64) -> i64 {
     unsafe { trial_report_figure(job.as_ptr(), job.len(), cells.as_mut_ptr(), cells.len(), out.as_mut_ptr(), out.len(), which) }
+}
+
+/// A number of the exhaustive call's answer, from 0: x, y, cost, the number of the refusal (0 for none). The least number where there is none.
+pub fn exhaustive(job: &[u8], which: u64) -> i64 {
+    unsafe { trial_exhaustive(job.as_ptr(), job.len(), which) }
+}
+
+/// The line of its refusal, and 0 for none.
+pub fn exhaustive_line(job: &[u8]) -> u64 {
+    unsafe { trial_exhaustive_line(job.as_ptr(), job.len()) }
 }

@@ -1,6 +1,6 @@
 -- The exhaustive search of a deck as the code prepares it: its lines in range, and its crossings in turn.
 -- Assumes nothing.
-use mathlib.Core.Path.{_≡_, refl, sym, ap, subst, _∙_}
+use mathlib.Core.Path.{_≡_, sym, ap, subst, _∙_}
 use mathlib.Core.Bool.{not}
 use mathlib.Core.List.{List, flatMap, List·Memᴰ, Memᴰ·of-map}
 use Prim.Native.Nat.{ℕ, _≤_, _<_}
@@ -11,11 +11,10 @@ use lib.ListN.{length, getD, take}
 use lib.Seq.{getD-take}
 use lib.Signed.{_≤ℤ_}
 use Rattle.numbers.proofs.Integer.{order, abs-range}
-use Rattle.numbers.proofs.Members.{nonEmpty-length, some-nonEmpty, flatMap-from}
+use Rattle.numbers.proofs.Members.{flatMap-from}
 use Rattle.query.specs.Place.{Place, Rect, NonEmpty, Axis, x-axis, y-axis, low-edge, high-edge, corner, earlier}
 use Rattle.query.specs.Deck as Query
 use Rattle.query.specs.Lines.{lines}
-use Rattle.query.specs.Laws.{edge-low}
 use Rattle.query.specs.Exhaustive.{cheapestCrossing, exhaustive}
 use Rattle.query.specs.Range.{InRange, costLimit}
 use Rattle.query.proofs.KeyOrder.{not-earlier}
@@ -61,9 +60,6 @@ module _ (deck : Query.Deck) (range : InRange deck) (full : NonEmpty (deck .area
 
     line-is : (j : ℕ) → j < l .count → getD (l .at) j (pos 0) ≡ getD (lines deck axis) j (pos 0)
     line-is j h = sym (getD-take (l .count) (l .at) j (pos 0) h) ∙ rw deck-front
-
-    pub deck-some : 1 ≤ l .count
-    deck-some = omega (arith, counted, nonEmpty-length (lines deck axis) (some-nonEmpty (lines deck axis) (lines-law deck axis .named (low-edge axis (deck .area)) .1 (edge-low refl))))
 
     pub deck-lines : LinesInRange (l .at) (l .count)
     deck-lines = record {

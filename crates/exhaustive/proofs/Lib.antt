@@ -2,6 +2,7 @@ pub mod Heights
 pub mod Prefixes
 pub mod RampLaws
 pub mod SiteRamps
+pub mod TableLaws
 pub mod AllSites
 pub mod CheapestLaws
 pub mod SweepLaws

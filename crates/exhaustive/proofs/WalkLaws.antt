@@ -1,24 +1,23 @@
 -- One vertical line after another: the columns of a line, and the cheapest crossing over the lines.
 -- Assumes nothing.
-use mathlib.Core.Path.{_≡_, refl, sym, ap, _∙_}
+use mathlib.Core.Path.{_≡_, refl, sym, _∙_}
 use mathlib.Core.List.{List, _∷_, flatMap}
 use Prim.Native.Nat.{ℕ, zero, suc, _+_, _≤_, _<_}
 use native.Mathlib.Numerals.{add-one}
 use native.Mathlib.Omega.{arith}
 use lib.IntN.{ℤ, pos}
-use lib.ListN.{length, getD, take, drop, replicate, length-replicate, length-take, drop-of-length-le}
+use lib.ListN.{getD, take, drop, replicate, length-replicate, length-take, drop-of-length-le}
 use lib.Seq.{drop-cons, getD-take, length-take-le}
 use Rattle.query.specs.Range.{costLimit}
 use Rattle.pricing.specs.Sites.{Site, beforeOf}
 use Rattle.pricing.specs.Columns.{Figure}
 use Rattle.search.specs.declared.run.Spot.{Spot}
-use Rattle.search.specs.Run.{spotOf}
 use Rattle.search.proofs.Keys.{back}
 use Rattle.exhaustive.specs.Ramps.{LinesInRange, RampSums, SiteSums, SitesAdded, Sweepable}
-use Rattle.exhaustive.specs.Cheapest.{cheaperOf, firstCheapest, along, cheapestOn, Swept}
+use Rattle.exhaustive.specs.Cheapest.{firstCheapest, along, Swept}
 use Rattle.exhaustive.proofs.SiteRamps.{small-back}
 use Rattle.exhaustive.proofs.AllSites.{sums-few}
-use Rattle.exhaustive.proofs.CheapestLaws.{cheapest-none, cheapest-append, line-once}
+use Rattle.exhaustive.proofs.CheapestLaws.{cheapest-none, cheapest-append}
 
 -- ---- columns of no ramps
 zeros : (n k : ℕ) → getD {A = ℕ} (replicate n 0) k 0 ≡ 0
@@ -46,10 +45,8 @@ module _ (sites : List Site) (m : ℕ) (ls : List ℤ) (n : ℕ) (v : ℤ) (up u
     enough = λ j h. omega (arith, added .cost j h, now .is);
   }
 
-  -- swept from the first crossing on
-  pub swept-line : LinesInRange ls n → 1 ≤ n → (first r : Spot) → first ≡ spotOf sites (record { x = v; y = back (getD ls 0 (pos 0)) }) → Swept ls n v up us down ds before first r → r ≡ cheapestOn sites (take n ls) v
-  unfolding cheapestOn
-  swept-line lines h first r e s = s .is sites m added (now .is) ∙ ap (λ (p : Spot). firstCheapest sites p (along (take n ls) v)) (e ∙ rw (small-back (getD ls 0 (pos 0)) (omega (arith, lines .range 0 h)), getD-take n ls 0 (pos 0) h))
+  pub swept-line : (first r : Spot) → Swept ls n v up us down ds before first r → r ≡ firstCheapest sites first (along (take n ls) v)
+  swept-line first r s = s .is sites m added (now .is)
 
 -- ---- line after line
 pub record Walking (sites : List Site) (hs vs : List ℤ) (n : ℕ) (first found : Spot) (i : ℕ) : Type 0 where
@@ -64,13 +61,12 @@ module _ (sites : List Site) (hs vs : List ℤ) (n : ℕ) (first : Spot) where
   unfolding flatMap
   walk-all {found} {i} w h = sym (w .left ∙ rw (drop-of-length-le (take n vs) {i = i} (omega (arith, length-take n vs))) (cheapest-none sites found))
 
-  pub walk-more : {found : Spot} {i : ℕ} → LinesInRange vs n → 1 ≤ length hs → Walking sites hs vs n first found i → i < n → (line found′ : Spot) → line ≡ cheapestOn sites hs (back (getD vs i (pos 0))) → found′ ≡ cheaperOf found line → Walking sites hs vs n first found′ (i + 1)
+  pub walk-more : {found : Spot} {i : ℕ} → LinesInRange vs n → Walking sites hs vs n first found i → i < n → (found′ : Spot) → found′ ≡ firstCheapest sites found (along hs (back (getD vs i (pos 0)))) → Walking sites hs vs n first found′ (i + 1)
   unfolding flatMap
-  walk-more {found} {i} lines some w h line found′ b c =
+  walk-more {found} {i} lines w h found′ b =
       let v = getD vs i (pos 0) in
       let line-next : drop i (take n vs) ≡ v ∷ drop (i + 1) (take n vs) = drop-cons (take n vs) i (pos 0) (rw (length-take-le n vs (omega (arith, lines .in-order .within, lines .in-order .full))) h) ∙ rw (getD-take n vs i (pos 0) h, add-one i) in
-      let same : line ≡ cheapestOn sites hs v = rw (small-back v (omega (arith, lines .range i h))) at b in
-      let e : found′ ≡ firstCheapest sites found (along hs v) = c ∙ ap (cheaperOf found) same ∙ sym (line-once sites found hs v some) in
+      let e : found′ ≡ firstCheapest sites found (along hs v) = rw (small-back v (omega (arith, lines .range i h))) at b in
       record {
         count = omega arith;
         left = w .left ∙ rw (line-next, e) (cheapest-append sites found (along hs v) (flatMap (along hs) (drop (i + 1) (take n vs))));

@@ -5,8 +5,8 @@ use mathlib.Core.Path.{_≡_}
 use mathlib.Core.Bool.{cond}
 use mathlib.Core.List.{List, map, foldl}
 use lib.Dec.{ltb}
-use lib.IntN.{ℤ, pos}
-use lib.ListN.{getD, take}
+use lib.IntN.{ℤ}
+use lib.ListN.{take}
 use Rattle.query.specs.Place.{Place, NonEmpty}
 use Rattle.query.specs.Range.{InRange}
 use Rattle.job.specs.declared.Deck.{Deck}
@@ -30,11 +30,6 @@ firstCheapest sites first places = foldl (λ best p. cheaperOf best (spotOf site
 -- the crossings of the vertical line at v, in their order
 abbrev pub along : List ℤ → ℤ → List Place
 along horizontal v = map (λ h. record { x = v; y = h }) horizontal
-
--- the cheapest of them, where there are some
-unfoldable pub cheapestOn : List Site → List ℤ → ℤ → Spot
-unfolding firstCheapest costOf
-cheapestOn sites horizontal v = firstCheapest sites (spotOf sites (record { x = v; y = getD horizontal 0 (pos 0) })) (along horizontal v)
 
 -- the cheapest of a spot and the crossings of the vertical line at v, whatever the sites whose ramps the columns hold
 pub record Swept (ls : List ℤ) (n : ℕ) (v : ℤ) (up up-at down down-at : List ℕ) (before : ℕ) (first r : Spot) : Type 0 where

@@ -26,6 +26,23 @@ pub record LinesInRange (ls : List ℤ) (n : ℕ) : Type 0 where
   pub in-order : InOrder ls n
   pub range : (j : ℕ) → j < n → natAbs (getD ls j (pos 0)) ≤ 20000
 
+-- slots from `from` on that are before `to` hold j now, and those before `from` what they held
+pub record Filled (xs : List ℕ) (from to j : ℕ) (xs′ : List ℕ) : Type 0 where
+  pub long : length xs′ ≡ length xs
+  pub inside : (t : ℕ) → from ≤ t → t < to → getD xs′ t 0 ≡ j
+  pub outside : (t : ℕ) → t < from → getD xs′ t 0 ≡ getD xs t 0
+
+-- r of the first n lines are lower than a height t, and stand in front
+pub record Parted (ls : List ℤ) (n t r : ℕ) : Type 0 where
+  pub within : r ≤ n
+  pub before : (k : ℕ) → k < r → heightOf (getD ls k (pos 0)) < t
+  pub after : (k : ℕ) → r ≤ k → k < n → t ≤ heightOf (getD ls k (pos 0))
+
+-- a table of how many are, by heights from that of −20,000 to that of 20,000
+pub record Numbered (ls : List ℤ) (n : ℕ) (table : List ℕ) : Type 0 where
+  pub long : length table ≡ 40001
+  pub parted : (t : ℕ) → t ≤ 40000 → Parted ls n (t + 980000) (getD table t 0)
+
 -- ramps are held by line, at the first line that is not below the start, in two columns: the sum of their weights, and that of weight × height
 -- of the start. Up to line j the weights times the height of that line, and the starts
 abbrev pub weightsAt : List ℤ → List ℕ → ℕ → ℕ

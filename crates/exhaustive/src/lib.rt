@@ -10,16 +10,19 @@ ghost use mathlib.Core.Path.{_≡_};
 ghost use mathlib.Core.List.{flatMap};
 ghost use Prim.Native.Nat.{_+_, _*_, _≤_};
 ghost use lib.IntN.{natAbs};
-ghost use lib.ListN.{take};
+ghost use lib.ListN.{length, take};
 ghost use Rattle.query.specs.Range.{costLimit};
 ghost use Rattle.query.specs.Exhaustive.{exhaustive};
 ghost use Rattle.pricing.specs.DeckOf.{deckOf};
 ghost use Rattle.pricing.specs.Sites.{beforeOf};
 ghost use Rattle.pricing.specs.Columns.{siteRows, SiteInRange, Figure};
+ghost use Rattle.lines.specs.LineRecord.{FirstAtLeast};
 ghost use Rattle.search.specs.Run.{Sited, pricedOf};
 ghost use Rattle.exhaustive.specs.Ramps.{
   heightOf,
   LinesInRange,
+  Filled,
+  Numbered,
   RampSums,
   RampInRange,
   RampAdded,
@@ -29,7 +32,7 @@ ghost use Rattle.exhaustive.specs.Ramps.{
   Payable,
   Sweepable,
 };
-ghost use Rattle.exhaustive.specs.Cheapest.{cheaperOf, firstCheapest, along, cheapestOn, Swept, Ready};
+ghost use Rattle.exhaustive.specs.Cheapest.{cheaperOf, firstCheapest, along, Swept, Ready};
 
 // How far a coordinate lies above −1,000,000, which is below every start of a ramp.
 fn height(y: i64) -> u64
@@ -39,20 +42,65 @@ fn height(y: i64) -> u64
     (y + 1000000) as u64
 }
 
+// Puts `j` into the slots from `from` on that are before `to`.
+fn fill(table: &mut [u16; 40001], from: usize, to: usize, j: u16)
+    requires { ⌜ (length (now table) ≡ 40001) × (to ≤ 40001) ⌝ }
+    ensures { λ _. ⌜ Filled (now (table .entry)) from to j (now (table .exit)) ⌝ }
+{
+    let mut i = from;
+    while i < to {
+        table[i] = j;
+        i += 1;
+    }
+}
+
+// For each coordinate from −20,000 to 20,000 the number of the first line that is not below it.
+fn number_lines(h: &[i64; 514], nh: usize, table: &mut [u16; 40001])
+    requires { ⌜ LinesInRange (now h) nh × (length (now table) ≡ 40001) ⌝ }
+    ensures { λ _. ⌜ Numbered (now (h .entry)) nh (now (table .exit)) ⌝ }
+{
+    let mut from: usize = 0;
+    let mut j: usize = 0;
+    while j < nh {
+        let y = h[j];
+        let to = (height(y) - 979999) as usize;
+        fill(table, from, to, j as u16);
+        from = to;
+        j += 1;
+    }
+    fill(table, from, 40001, nh as u16);
+}
+
+// The number of the first line that is not below `start`, or that of all lines.
+fn line_from(h: &[i64; 514], nh: usize, table: &[u16; 40001], start: i64) -> usize
+    requires { ⌜ LinesInRange (now h) nh × Numbered (now h) nh (now table) × (natAbs start ≤ 900000) ⌝ }
+    ensures { λ r. ⌜ FirstAtLeast (now (h .entry)) nh start r ⌝ }
+{
+    let t = height(start);
+    if t < 980000 {
+        return 0;
+    }
+    if 1020000 < t {
+        return nh;
+    }
+    table[(t - 980000) as usize] as usize
+}
+
 // Adds a ramp of weight `w` from `start` on, at the first line that is not below `start`. Ramps are held in two columns, by line:
 // their weights, and their weights times the heights at which they start.
 fn add_ramp(
     h: &[i64; 514],
     nh: usize,
+    table: &[u16; 40001],
     weights: &mut [u64; 515],
     starts: &mut [u64; 515],
     start: i64,
     w: u64,
 )
-    requires { ⌜ LinesInRange (now h) nh × RampSums (now weights) (now starts) 2000 × RampInRange start w ⌝ }
+    requires { ⌜ LinesInRange (now h) nh × RampSums (now weights) (now starts) 2000 × RampInRange start w × Numbered (now h) nh (now table) ⌝ }
     ensures { λ _. ⌜ RampAdded (now (h .entry)) nh start w (now (weights .entry)) (now (starts .entry)) (now (weights .exit)) (now (starts .exit)) ⌝ }
 {
-    let k = lines::first_at_least(h, nh, start);
+    let k = line_from(h, nh, table, start);
     weights[k] = weights[k] + w;
     starts[k] = starts[k] + w * height(start);
 }
@@ -61,6 +109,7 @@ fn add_ramp(
 fn add_site(
     h: &[i64; 514],
     nh: usize,
+    table: &[u16; 40001],
     v: i64,
     up: &mut [u64; 515],
     up_at: &mut [u64; 515],
@@ -71,7 +120,7 @@ fn add_site(
     visits: u64,
     near: u64,
 )
-    requires { ⌜ LinesInRange (now h) nh × (natAbs v ≤ 20000) × SiteSums (now up) (now «up_at») (now down) (now «down_at») 600 × SiteInRange sx sy visits near ⌝ }
+    requires { ⌜ LinesInRange (now h) nh × (natAbs v ≤ 20000) × SiteSums (now up) (now «up_at») (now down) (now «down_at») 600 × SiteInRange sx sy visits near × Numbered (now h) nh (now table) ⌝ }
     ensures { λ _. ⌜ SiteAdded (now (h .entry)) nh v sx sy visits near (now (up .entry)) (now («up_at» .entry)) (now (down .entry)) (now («down_at» .entry)) (now (up .exit)) (now («up_at» .exit)) (now (down .exit)) (now («down_at» .exit)) ⌝ }
 {
     let d = abs_diff(sx, v);
@@ -79,9 +128,9 @@ fn add_site(
         return;
     }
     let r = (near - d) as i64;
-    add_ramp(h, nh, down, down_at, sy - r, visits);
-    add_ramp(h, nh, up, up_at, sy, 2 * visits);
-    add_ramp(h, nh, down, down_at, sy + r, visits);
+    add_ramp(h, nh, table, down, down_at, sy - r, visits);
+    add_ramp(h, nh, table, up, up_at, sy, 2 * visits);
+    add_ramp(h, nh, table, down, down_at, sy + r, visits);
 }
 
 // The ramps of all sites along the vertical line at `v`, in columns that were 0.
@@ -93,13 +142,14 @@ fn add_sites<'a>(
     n: usize,
     h: &'a [i64; 514],
     nh: usize,
+    table: &'a [u16; 40001],
     v: i64,
     up: &mut [u64; 515],
     up_at: &mut [u64; 515],
     down: &mut [u64; 515],
     down_at: &mut [u64; 515],
 )
-    requires { ⌜ Sited (now xs) (now ys) (now visits) (now near) n × LinesInRange (now h) nh × (natAbs v ≤ 20000) × SiteSums (now up) (now «up_at») (now down) (now «down_at») 0 ⌝ }
+    requires { ⌜ Sited (now xs) (now ys) (now visits) (now near) n × LinesInRange (now h) nh × (natAbs v ≤ 20000) × SiteSums (now up) (now «up_at») (now down) (now «down_at») 0 × Numbered (now h) nh (now table) ⌝ }
     ensures { λ _. ⌜ SitesAdded (siteRows (now (xs .entry)) (now (ys .entry)) (now (visits .entry)) (now (near .entry)) n) n (now (h .entry)) nh v (now (up .exit)) (now («up_at» .exit)) (now (down .exit)) (now («down_at» .exit)) ⌝ }
 {
     let mut i: usize = 0;
@@ -109,6 +159,7 @@ fn add_sites<'a>(
         add_site(
             h,
             nh,
+            table,
             v,
             up,
             up_at,
@@ -131,14 +182,23 @@ fn cost_at(before: u64, up: u64, up_at: u64, down: u64, down_at: u64, t: u64) ->
     before + (up * t + down_at) - (down * t + up_at)
 }
 
-// The cheaper of two spots, the first of them where they cost the same.
+// The cheaper of two spots, the first of them where they cost the same. It is taken field by field: of a whole spot the compiler picks
+// the address and copies what is there, which costs more than all else in `sweep`.
 fn cheaper(best: Spot, p: Spot) -> Spot
     ensures { λ r. ⌜ r ≡ cheaperOf best p ⌝ }
 {
     if p.cost < best.cost {
-        return p;
+        return Spot {
+            x: p.x,
+            y: p.y,
+            cost: p.cost,
+        };
     }
-    best
+    Spot {
+        x: best.x,
+        y: best.y,
+        cost: best.cost,
+    }
 }
 
 // The cheapest of a spot and the crossings of the vertical line at `v`, in their order, from the ramps along the line.
@@ -175,7 +235,7 @@ fn sweep<'a>(
     found
 }
 
-// The cheapest crossing of the vertical line at `v`, the first among equals.
+// The cheapest of a spot and the crossings of the vertical line at `v`, the first among equals.
 fn cheapest_on<'a>(
     xs: &'a [i32; 512],
     ys: &'a [i32; 512],
@@ -184,11 +244,13 @@ fn cheapest_on<'a>(
     n: usize,
     h: &'a [i64; 514],
     nh: usize,
+    table: &'a [u16; 40001],
     v: i64,
     before: u64,
+    first: Spot,
 ) -> Spot
-    requires { ⌜ Sited (now xs) (now ys) (now visits) (now near) n × LinesInRange (now h) nh × (1 ≤ nh) × (natAbs v ≤ 20000) × Figure (beforeOf (siteRows (now xs) (now ys) (now visits) (now near) n)) costLimit before ⌝ }
-    ensures { λ r. ⌜ r ≡ cheapestOn (siteRows (now (xs .entry)) (now (ys .entry)) (now (visits .entry)) (now (near .entry)) n) (take nh (now (h .entry))) v ⌝ }
+    requires { ⌜ Sited (now xs) (now ys) (now visits) (now near) n × LinesInRange (now h) nh × (natAbs v ≤ 20000) × Figure (beforeOf (siteRows (now xs) (now ys) (now visits) (now near) n)) costLimit before × Numbered (now h) nh (now table) ⌝ }
+    ensures { λ r. ⌜ r ≡ firstCheapest (siteRows (now (xs .entry)) (now (ys .entry)) (now (visits .entry)) (now (near .entry)) n) first (along (take nh (now (h .entry))) v) ⌝ }
 {
     let mut up = [0u64; 515];
     let mut up_at = [0u64; 515];
@@ -202,13 +264,13 @@ fn cheapest_on<'a>(
         n,
         h,
         nh,
+        table,
         v,
         &mut up,
         &mut up_at,
         &mut down,
         &mut down_at,
     );
-    let first = run::priced(xs, ys, visits, near, n, v, h[0]);
     sweep(h, nh, v, &up, &up_at, &down, &down_at, before, first)
 }
 
@@ -223,17 +285,17 @@ fn cheapest_of<'a>(
     nv: usize,
     h: &'a [i64; 514],
     nh: usize,
+    table: &'a [u16; 40001],
     before: u64,
     first: Spot,
 ) -> Spot
-    requires { ⌜ Sited (now xs) (now ys) (now visits) (now near) n × LinesInRange (now v) nv × LinesInRange (now h) nh × (1 ≤ nh) × Figure (beforeOf (siteRows (now xs) (now ys) (now visits) (now near) n)) costLimit before ⌝ }
+    requires { ⌜ Sited (now xs) (now ys) (now visits) (now near) n × LinesInRange (now v) nv × LinesInRange (now h) nh × Figure (beforeOf (siteRows (now xs) (now ys) (now visits) (now near) n)) costLimit before × Numbered (now h) nh (now table) ⌝ }
     ensures { λ r. ⌜ r ≡ firstCheapest (siteRows (now (xs .entry)) (now (ys .entry)) (now (visits .entry)) (now (near .entry)) n) first (flatMap (along (take nh (now (h .entry)))) (take nv (now (v .entry)))) ⌝ }
 {
     let mut found = first;
     let mut i: usize = 0;
     while i < nv {
-        let line = cheapest_on(xs, ys, visits, near, n, h, nh, v[i], before);
-        found = cheaper(found, line);
+        found = cheapest_on(xs, ys, visits, near, n, h, nh, table, v[i], before, found);
         i += 1;
     }
     found
@@ -251,6 +313,8 @@ pub fn cheapest(deck: Deck, sites: Sites) -> Spot
     let n = sites.count;
     let nv = v.count;
     let nh = h.count;
+    let mut table = [0u16; 40001];
+    number_lines(&h.at, nh, &mut table);
     let before = price::before(&sites.visits, &sites.near, n);
     let first = run::priced(
         &sites.x,
@@ -271,6 +335,7 @@ pub fn cheapest(deck: Deck, sites: Sites) -> Spot
         nv,
         &h.at,
         nh,
+        &table,
         before,
         first,
     )

@@ -1,8 +1,8 @@
--- The call `report` as the tests see it: what its answer carries, as numbers.
+-- The calls `report` and `exhaustive` as the tests see them: what their answers carry, as numbers.
 -- Assumes nothing.
-use Prim.Native.Nat.{ℕ, suc, _+_, _-_, _*_, _≤_}
+use Prim.Native.Nat.{ℕ, zero, suc, _+_, _-_, _*_, _≤_}
 use mathlib.Core.Path.{_≡_, refl, sym, ap, subst, _∙_}
-use mathlib.Core.Logic.{⊎-elim}
+use mathlib.Core.Logic.{⊎-elim, _≢_}
 use mathlib.Core.List.{List}
 use native.Mathlib.Omega.{arith}
 use lib.Dec.{ltb, ltb→lt, nltb→le}
@@ -14,21 +14,28 @@ use mir.ValLaws.{toZ-ofZ, toZ-pos}
 use Rattle.numbers.proofs.Truth.{test}
 use Rattle.numbers.proofs.Words.{word-fits}
 use Rattle.query.specs.Figures.{figures}
+use Rattle.query.proofs.Ranges.{figure-limits}
+use Rattle.query.proofs.FigureRanges.{point-in-range}
 use Rattle.job.specs.Refusal.{numberOf}
 use Rattle.job.specs.Format.{Job, Result, refused, accepted, readJob}
 use Rattle.job.specs.declared.Refusal.{Refusal}
-use Rattle.job.specs.declared.Refusal.the-variants.{SmallSpace, ShortOutput}
-use Rattle.job.proofs.Meaning.{accepted-law}
+use Rattle.job.specs.declared.Refusal.the-variants.{TooLong, Malformed, OutOfRange, EmptyArea, NoPosts, NoStops, SmallSpace, ShortOutput}
+use Rattle.job.proofs.Meaning.{accepted-law, refused-law, allowed-in-range}
 use Rattle.report.specs.Report.{figuresOf}
 use Rattle.report.specs.Limits.{FiguresInRange}
 use Rattle.report.specs.declared.Report.{Report}
+use Rattle.search.specs.declared.run.Spot.{Spot}
 use Rattle.siting.specs.declared.Answer.{Answer}
 use Rattle.siting.specs.declared.Answer.the-variants as Answered
+use Rattle.siting.specs.declared.Cheapest.{Cheapest}
+use Rattle.siting.specs.declared.Cheapest.the-variants as Cheapest
 use Rattle.siting.specs.Call.{Left, reportRecord, reported, reportCall}
+use Rattle.siting.specs.Exhaustive.{exhaustiveCall}
 use Rattle.siting.proofs.Demands.{job-limits, call-accepted, refused-call, small-space, short-output}
 use Rattle.siting.proofs.EntryLaws.{minus-number}
+use Rattle.siting.proofs.ExhaustiveLaws.{exhaustive-call-law}
 use Rattle.trial.specs.Trial.{least}
-use Rattle.trial.specs.Calls.{Called, called, LineCalled, lineCalled, numberFor, numbersOf}
+use Rattle.trial.specs.Calls.{Called, called, LineCalled, lineCalled, numberFor, numbersOf, SpotInRange, spotNumbers, refusalNumbers}
 
 -- ---- the answer of the call, by its case
 module _ (job : List ℕ) (cells : List ℤ) (out : List ℕ) (answer : Answer) (cells′ : List ℤ) (out′ : List ℕ) (e : record { answer = answer; cells = cells′; out = out′ } ≡ reportCall job cells out) where
@@ -94,3 +101,59 @@ module _ (r : Report) (h : FiguresInRange (figuresOf r)) (which : ℕ) where
 
   pub rounds-figure : which ≡ 6 → toZ w64 (r .rounds) ≡ getD (numbersOf r) which least
   rounds-figure e = figure-at r which 6 _ e (toZ-pos w64 (r .rounds) (omega (arith, h .rounds-limit)))
+
+-- ---- the call `exhaustive`
+abbrev isRefusal : Cheapest → ℕ
+isRefusal (Cheapest.At s) = 0
+isRefusal (Cheapest.Refused why) = 1
+
+-- the cheapest crossing is a place of the area, and its cost that of a place
+pub spot-limits : (job : List ℕ) (answer : Cheapest) (s : Spot) → answer ≡ exhaustiveCall job → answer ≡ Cheapest.At s → SpotInRange s
+spot-limits job answer s e a = go (readJob job) refl
+  where
+    found : exhaustiveCall job ≡ Cheapest.At s
+    found = sym e ∙ a
+
+    go : (r : Result) → readJob job ≡ r → SpotInRange s
+    go (refused why) g = let z : _≡_ {A = ℕ} 1 0 = ap isRefusal (sym (exhaustive-call-law job .refused-exactly why .1 (refused-law job why .exactly .0 g)) ∙ found) in absurd (omega arith)
+    go (accepted j) g =
+        let range = allowed-in-range j (accepted-law job j .exactly .0 g .2) in
+        let place = point-in-range (j .deck .area) (record { x = s .x; y = s .y }) (range .area) (exhaustive-call-law job .in-area j s g found) in
+        record { x-range = place .x-range; y-range = place .y-range; cost-limit = omega (arith, figure-limits (j .deck) range .cost-limit (record { x = s .x; y = s .y }), exhaustive-call-law job .costs j s g found) }
+
+pub spot-at : (s : Spot) (which k : ℕ) (z : ℤ) → which ≡ k → z ≡ getD (spotNumbers s) k least → z ≡ getD (spotNumbers s) which least
+spot-at s which k z e f = rw e f
+
+pub no-spot-figure : (s : Spot) (which : ℕ) → 4 ≤ which → least ≡ getD (spotNumbers s) which least
+no-spot-figure s which h = spot-at s which (suc (suc (suc (suc (which - 4))))) least (omega arith) refl
+
+-- as the code holds them
+module _ (s : Spot) (h : SpotInRange s) (which : ℕ) where
+  pub spot-x : which ≡ 0 → toZ w64 (ofZ w64 (s .x)) ≡ getD (spotNumbers s) which least
+  spot-x e = spot-at s which 0 _ e (toZ-ofZ w64 (s .x) (word-fits w64 (s .x) (omega (arith, h .x-range))))
+
+  pub spot-y : which ≡ 1 → toZ w64 (ofZ w64 (s .y)) ≡ getD (spotNumbers s) which least
+  spot-y e = spot-at s which 1 _ e (toZ-ofZ w64 (s .y) (word-fits w64 (s .y) (omega (arith, h .y-range))))
+
+  pub spot-cost : which ≡ 2 → toZ w64 (s .cost) ≡ getD (spotNumbers s) which least
+  spot-cost e = spot-at s which 2 _ e (toZ-pos w64 (s .cost) (omega (arith, h .cost-limit)))
+
+pub refusal-at : (why : Refusal) (which n : ℕ) → which ≡ 3 → n ≡ numberOf why → toZ w64 n ≡ getD (refusalNumbers why) which least
+refusal-at why which n e f = rw (e, f) (number why)
+  where
+    number : (why : Refusal) → toZ w64 (numberOf why) ≡ pos (numberOf why)
+    number TooLong = refl
+    number (Malformed line) = refl
+    number (OutOfRange line) = refl
+    number EmptyArea = refl
+    number NoPosts = refl
+    number NoStops = refl
+    number SmallSpace = refl
+    number ShortOutput = refl
+
+pub no-refusal-figure : (why : Refusal) (which : ℕ) → which ≢ 3 → least ≡ getD (refusalNumbers why) which least
+no-refusal-figure why zero h = refl
+no-refusal-figure why (suc zero) h = refl
+no-refusal-figure why (suc (suc zero)) h = refl
+no-refusal-figure why (suc (suc (suc zero))) h = absurd (h refl)
+no-refusal-figure why (suc (suc (suc (suc n)))) h = refl

@@ -1,15 +1,21 @@
--- What the functions over the call `report` answer: a figure of its answer, and what it leaves of the memory that it is lent.
+-- What the functions over the calls `report` and `exhaustive` answer: a figure of the answer, and what `report` leaves of the memory that
+-- it is lent.
 -- Assumes nothing.
-use Prim.Native.Nat.{ℕ}
+use Prim.Native.Nat.{ℕ, _≤_}
 use mathlib.Core.List.{List, [], _∷_}
-use lib.IntN.{ℤ, pos, negℤ}
+use lib.IntN.{ℤ, pos, natAbs, negℤ}
 use lib.ListN.{getD}
+use Rattle.query.specs.Range.{costLimit}
 use Rattle.job.specs.Refusal.{numberOf, lineOf}
+use Rattle.job.specs.declared.Refusal as Job
 use Rattle.report.specs.declared.Report as Report
 use Rattle.report.specs.declared.State.{State}
 use Rattle.report.specs.declared.State.the-variants.{Done, Stopped}
+use Rattle.search.specs.declared.run.Spot.{Spot}
 use Rattle.siting.specs.declared.Answer.{Answer}
 use Rattle.siting.specs.declared.Answer.the-variants.{Report, Refused}
+use Rattle.siting.specs.declared.Cheapest.{Cheapest}
+use Rattle.siting.specs.declared.Cheapest.the-variants as Cheapest
 use Rattle.siting.specs.Call.{Left}
 use Rattle.trial.specs.Trial.{least}
 
@@ -53,3 +59,26 @@ numbersOf r = stateNumber (r .state) ∷ r .x ∷ r .y ∷ pos (r .high) ∷ r .
 abbrev pub figureFor : ℕ → Answer → ℤ
 figureFor which (Report r) = getD (numbersOf r) which least
 figureFor which (Refused why) = least
+
+-- ---- the call `exhaustive`
+pub record SpotInRange (s : Spot) : Type 0 where
+  pub x-range : natAbs (s .x) ≤ 20000
+  pub y-range : natAbs (s .y) ≤ 20000
+  pub cost-limit : s .cost ≤ costLimit
+
+-- x, y and cost of the cheapest crossing, and the number of the refusal, as numbers: of an answer with a crossing, and of a refusal
+abbrev pub spotNumbers : Spot → List ℤ
+spotNumbers s = s .x ∷ s .y ∷ pos (s .cost) ∷ pos 0 ∷ []
+
+abbrev pub refusalNumbers : Job.Refusal → List ℤ
+refusalNumbers why = least ∷ least ∷ least ∷ pos (numberOf why) ∷ []
+
+-- number `which` of them, counted from 0; the least number where there is none
+abbrev pub cheapestFigure : ℕ → Cheapest → ℤ
+cheapestFigure which (Cheapest.At s) = getD (spotNumbers s) which least
+cheapestFigure which (Cheapest.Refused why) = getD (refusalNumbers why) which least
+
+-- the line of a refusal, and 0 for none
+abbrev pub cheapestLine : Cheapest → ℕ
+cheapestLine (Cheapest.At s) = 0
+cheapestLine (Cheapest.Refused why) = lineOf why

@@ -1,14 +1,34 @@
-// The call `siting::report`, for the tests: its answer as one number, and all that it leaves in the memory that it is lent.
+// The calls `siting::report` and `siting::exhaustive`, for the tests: their answers as numbers, and all that the first leaves in the
+// memory that it is lent.
+use job::Refusal;
 use report::Report;
 use report::State;
+use search::run::Spot;
 use siting::Answer;
+use siting::Cheapest;
 ghost use mathlib.Core.Path.{_≡_};
 ghost use lib.ListN.{getD};
 ghost use Rattle.report.specs.Report.{figuresOf};
 ghost use Rattle.report.specs.Limits.{FiguresInRange};
 ghost use Rattle.siting.specs.Call.{reportCall};
+ghost use Rattle.siting.specs.Exhaustive.{exhaustiveCall};
 ghost use Rattle.trial.specs.Trial.{least};
-ghost use Rattle.trial.specs.Calls.{Called, called, LineCalled, lineCalled, numberFor, lineFor, stateNumber, numbersOf, figureFor};
+ghost use Rattle.trial.specs.Calls.{
+  Called,
+  called,
+  LineCalled,
+  lineCalled,
+  numberFor,
+  lineFor,
+  stateNumber,
+  numbersOf,
+  figureFor,
+  SpotInRange,
+  spotNumbers,
+  refusalNumbers,
+  cheapestFigure,
+  cheapestLine,
+};
 
 // 0 for a report, and minus the number of a refusal.
 #[no_mangle]
@@ -87,5 +107,59 @@ pub extern "C" fn trial_report_figure(
     match answer {
         Answer::Report(r) => figure(r, which),
         Answer::Refused(_) => -9223372036854775808,
+    }
+}
+
+// A number that goes with the cheapest crossing: x, y, cost, and 0 for no refusal. The least number behind them.
+fn spot_figure(s: Spot, which: u64) -> i64
+    requires { ⌜ SpotInRange s ⌝ }
+    ensures { λ v. ⌜ v ≡ getD (spotNumbers s) which least ⌝ }
+{
+    if which == 0 {
+        return s.x;
+    }
+    if which == 1 {
+        return s.y;
+    }
+    if which == 2 {
+        return s.cost as i64;
+    }
+    if which == 3 {
+        return 0;
+    }
+    -9223372036854775808
+}
+
+// The number of a refusal at the same place as that 0, and the least number elsewhere.
+fn refusal_figure(why: Refusal, which: u64) -> i64
+    ensures { λ v. ⌜ v ≡ getD (refusalNumbers why) which least ⌝ }
+{
+    if which == 3 {
+        return report::number_of(why) as i64;
+    }
+    -9223372036854775808
+}
+
+// Of the exhaustive call's answer: x, y, the cost, the number of the refusal (0 for none); the least number where there is no such figure.
+#[no_mangle]
+pub extern "C" fn trial_exhaustive(job: &[u8], which: u64) -> i64
+    ensures { λ r. ⌜ r ≡ cheapestFigure which (exhaustiveCall (now (job .entry))) ⌝ }
+{
+    let answer = siting::exhaustive(job);
+    match answer {
+        Cheapest::At(s) => spot_figure(s, which),
+        Cheapest::Refused(why) => refusal_figure(why, which),
+    }
+}
+
+// The line of its refusal, and 0 for none.
+#[no_mangle]
+pub extern "C" fn trial_exhaustive_line(job: &[u8]) -> u64
+    ensures { λ r. ⌜ r ≡ cheapestLine (exhaustiveCall (now (job .entry))) ⌝ }
+{
+    let answer = siting::exhaustive(job);
+    match answer {
+        Cheapest::At(_) => 0,
+        Cheapest::Refused(why) => report::line_of(why),
     }
 }

@@ -12,14 +12,14 @@ use Rattle.exhaustive.proofs.RampLaws.{ramp-weight, ramp-added}
 use Rattle.exhaustive.proofs.add_ramp.Statement.{statement}
 use Rattle.exhaustive.proofs.add_ramp.Tie as tie
 
-found : (c : tie.After-first-at-least) → let a = c .before .args in FirstAtLeast (now (a .h)) (a .nh) (a .start) (c .first-at-least .result)
-found c = rw (toZ-ofZ w64 (c .before .args .start) (c .before .fits .start)) at (c .first-at-least .ensures)
+found : (c : tie.After-line-from) → let a = c .before .args in FirstAtLeast (now (a .h)) (a .nh) (a .start) (c .line-from .result)
+found c = rw (toZ-ofZ w64 (c .before .args .start) (c .before .fits .start)) at (c .line-from .ensures)
 
 risen : (c : tie.After-height) → c .height .result ≡ heightOf (c .before .before .before .before .args .start)
 risen c = let s = c .before .before .before .before in c .height .ensures ∙ rw (toZ-ofZ w64 (s .args .start) (s .fits .start))
 
-first-at-least-requires : tie.Need-first-at-least-requires
-first-at-least-requires c κs = c .pre .0 .in-order
+line-from-requires : tie.Need-line-from-requires
+line-from-requires c κs = (c .pre .0, c .pre .3, rw (toZ-ofZ w64 (c .args .start) (c .fits .start)) (c .pre .2 .start-range))
 
 mul-weights : tie.Need-mul-weights
 mul-weights c = search needs
@@ -28,7 +28,7 @@ element-copy-out-weights : tie.Need-element-copy-out-weights
 element-copy-out-weights c = search needs
 
 add-weights : tie.Need-add-weights
-add-weights c = let s = c .before .before in omega (arith, s .pre .1 .weights-most (c .before .first-at-least .result), s .pre .2 .weight-range)
+add-weights c = let s = c .before .before in omega (arith, s .pre .1 .weights-most (c .before .line-from .result), s .pre .2 .weight-range)
 
 mul-weights-2 : tie.Need-mul-weights-2
 mul-weights-2 c = search needs
@@ -49,7 +49,7 @@ mul-starts-2 : tie.Need-mul-starts-2
 mul-starts-2 c = let s = c .before .before .before .before in rw (risen c) (omega (arith, ramp-weight _ _ (s .args .start) (s .args .w) _ _ _ (s .pre .0) (s .pre .2) (found (c .before .before .before)) (s .pre .1)))
 
 add-starts : tie.Need-add-starts
-add-starts c = let s = c .before .before .before .before in rw (risen c) (omega (arith, s .pre .1 .starts-most (c .before .before .before .first-at-least .result), ramp-weight _ _ (s .args .start) (s .args .w) _ _ _ (s .pre .0) (s .pre .2) (found (c .before .before .before)) (s .pre .1)))
+add-starts c = let s = c .before .before .before .before in rw (risen c) (omega (arith, s .pre .1 .starts-most (c .before .before .before .line-from .result), ramp-weight _ _ (s .args .start) (s .args .w) _ _ _ (s .pre .0) (s .pre .2) (found (c .before .before .before)) (s .pre .1)))
 
 mul-starts-3 : tie.Need-mul-starts-3
 mul-starts-3 c = search needs
@@ -64,7 +64,7 @@ pub add-ramp-spec : {M : Type 1} → statement M
 add-ramp-spec =
     tie.close
     (tie.spec
-    first-at-least-requires
+    line-from-requires
     mul-weights
     element-copy-out-weights
     add-weights

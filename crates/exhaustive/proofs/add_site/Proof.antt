@@ -24,7 +24,7 @@ sub-add-ramp c = let s = c .before .before .before .before in low-fits (s .args 
 add-ramp-requires : tie.Need-add-ramp-requires
 add-ramp-requires c κs =
     let s = c .before .before .before .before in
-    (s .pre .0, sums-more 1200 2000 (s .pre .2 .down-sums) (omega arith), low-range (s .args .v) (s .args .sx) (s .args .sy) (s .args .visits) (s .args .near) _ (s .pre .1) (s .pre .3) (c .before .before .before .abs-diff .ensures))
+    (s .pre .0, sums-more 1200 2000 (s .pre .2 .down-sums) (omega arith), low-range (s .args .v) (s .args .sx) (s .args .sy) (s .args .visits) (s .args .near) _ (s .pre .1) (s .pre .3) (c .before .before .before .abs-diff .ensures), s .pre .4)
 
 mul-add-ramp : tie.Need-mul-add-ramp
 mul-add-ramp c = search needs
@@ -32,7 +32,7 @@ mul-add-ramp c = search needs
 add-ramp-requires-2 : tie.Need-add-ramp-requires-2
 add-ramp-requires-2 c κs =
     let s = c .before .before .before .before .before .before .before in
-    (s .pre .0, sums-more 600 2000 (s .pre .2 .up-sums) (omega arith), middle-range (s .args .v) (s .args .sx) (s .args .sy) (s .args .visits) (s .args .near) _ (s .pre .1) (s .pre .3) (c .before .before .before .before .before .before .abs-diff .ensures))
+    (s .pre .0, sums-more 600 2000 (s .pre .2 .up-sums) (omega arith), middle-range (s .args .v) (s .args .sx) (s .args .sy) (s .args .visits) (s .args .near) _ (s .pre .1) (s .pre .3) (c .before .before .before .before .before .before .abs-diff .ensures), s .pre .4)
 
 add-add-ramp : tie.Need-add-add-ramp
 add-add-ramp c = let s = c .before .before .before .before .before .before .before .before .before .before in high-fits (s .args .v) (s .args .sx) (s .args .sy) (s .args .visits) (s .args .near) _ (s .pre .1) (s .pre .3) (c .before .before .before .before .before .before .before .before .before .abs-diff .ensures)
@@ -40,7 +40,7 @@ add-add-ramp c = let s = c .before .before .before .before .before .before .befo
 add-ramp-requires-3 : tie.Need-add-ramp-requires-3
 add-ramp-requires-3 c κs =
     let s = c .before .before .before .before .before .before .before .before .before .before in
-    (s .pre .0, sums-more 1201 2000 (c .before .before .before .before .before .add-ramp .ensures .sums 1200 (s .pre .2 .down-sums)) (omega arith), high-range (s .args .v) (s .args .sx) (s .args .sy) (s .args .visits) (s .args .near) _ (s .pre .1) (s .pre .3) (c .before .before .before .before .before .before .before .before .before .abs-diff .ensures))
+    (s .pre .0, sums-more 1201 2000 (c .before .before .before .before .before .add-ramp .ensures .sums 1200 (s .pre .2 .down-sums)) (omega arith), high-range (s .args .v) (s .args .sx) (s .args .sy) (s .args .visits) (s .args .near) _ (s .pre .1) (s .pre .3) (c .before .before .before .before .before .before .before .before .before .abs-diff .ensures), s .pre .4)
 
 returns-2 : tie.Need-returns-2
 returns-2 c =

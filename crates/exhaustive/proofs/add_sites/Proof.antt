@@ -16,10 +16,10 @@ use Rattle.exhaustive.proofs.add_sites.Statement.{statement}
 use Rattle.exhaustive.proofs.add_sites.Tie as tie
 
 abbrev Inv-loop : tie.InvT-loop
-Inv-loop xs ys visits near n h nh v up₀ up-at₀ down₀ down-at₀ i₀ up up-at down down-at i = (i ≤ n) × SitesAdded (siteRows xs ys visits near i) i h nh (toZ w64 v) up up-at down down-at
+Inv-loop xs ys visits near n h nh table v up₀ up-at₀ down₀ down-at₀ i₀ up up-at down down-at i = (i ≤ n) × SitesAdded (siteRows xs ys visits near i) i h nh (toZ w64 v) up up-at down down-at
 
 abbrev μ-loop : tie.MeasureT-loop
-μ-loop xs ys visits near n h nh v up₀ up-at₀ down₀ down-at₀ i₀ up up-at down down-at i = n - i
+μ-loop xs ys visits near n h nh table v up₀ up-at₀ down₀ down-at₀ i₀ up up-at down down-at i = n - i
 
 loop-holds : tie.Need-loop-holds Inv-loop μ-loop
 loop-holds c = (omega arith, sites-none _ _ _ _ _ _ _ _ _ _ _ (c .pre .3))
@@ -64,7 +64,7 @@ add-site-requires : tie.Need-add-site-requires Inv-loop μ-loop
 add-site-requires c κs =
     let at = c .before .before .before .before .before .before .before .before .before in
     let s = at .before in
-    (s .pre .1, rw (small-back (s .args .v) (omega (arith, s .pre .2))) (s .pre .2), sums-few (at .loop .i) (at .loop .inv .1 .sums) (omega (arith, at .loop .inv .0, s .pre .0 .count)), site-range _ _ _ _ (s .pre .0 .range) (at .loop .i) (omega (arith, c .before .before .before .before .before .before .before .before .loop-test .taken, s .pre .0 .count)))
+    (s .pre .1, rw (small-back (s .args .v) (omega (arith, s .pre .2))) (s .pre .2), sums-few (at .loop .i) (at .loop .inv .1 .sums) (omega (arith, at .loop .inv .0, s .pre .0 .count)), site-range _ _ _ _ (s .pre .0 .range) (at .loop .i) (omega (arith, c .before .before .before .before .before .before .before .before .loop-test .taken, s .pre .0 .count)), s .pre .4)
 
 add-i : tie.Need-add-i Inv-loop μ-loop
 add-i c = omega arith

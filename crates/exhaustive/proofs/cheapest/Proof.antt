@@ -1,11 +1,13 @@
 -- `exhaustive::cheapest` meets its contract: the lines and sites are the deck's, so that the best over them is the cheapest crossing.
 -- Assumes nothing.
+use Prim.Native.Nat.{ℕ}
 use mathlib.Core.Path.{ap}
+use lib.ListN.{length-replicate}
 use borrow.Author.Needs.{needs}
 use Rattle.query.specs.Place.{x-axis, y-axis}
 use Rattle.pricing.specs.DeckOf.{deckOf}
 use Rattle.search.specs.Run.{rectIn}
-use Rattle.exhaustive.proofs.DeckWalk.{deck-lines, deck-some, columns, count, sited, paid, before-is, ranged, reaches, corner-near, answers}
+use Rattle.exhaustive.proofs.DeckWalk.{deck-lines, columns, count, sited, paid, before-is, ranged, reaches, corner-near, answers}
 use Rattle.exhaustive.proofs.cheapest.Statement.{statement}
 use Rattle.exhaustive.proofs.cheapest.Tie as tie
 
@@ -21,29 +23,36 @@ vertical-requires c κs = reaches _ _ (c .before .before .pre) (c .before .area-
 horizontal-requires : tie.Need-horizontal-requires
 horizontal-requires c κs = reaches _ _ (c .before .before .before .pre) (c .before .before .area-of .result) (ap rectIn (c .before .before .area-of .ensures)) _ (c .before .flags-of .ensures)
 
+number-lines-requires : tie.Need-number-lines-requires
+number-lines-requires c κs =
+    let h = c .before .before .before in
+    let s = h .before .before .before .before in
+    (deck-lines (deckOf (s .args .deck)) (s .pre .range) (s .pre .full) y-axis _ (h .horizontal .ensures), length-replicate {A = ℕ} 40001 0)
+
 before-requires : tie.Need-before-requires
-before-requires c κs = let p = c .before .before .before .before .before .before .before .pre in (count _ _ p, paid _ _ p)
+before-requires c κs = let p = c .before .before .before .before .before .before .before .before .before .before .before .pre in (count _ _ p, paid _ _ p)
 
 priced-requires : tie.Need-priced-requires
 priced-requires c κs =
-    let a = c .before .before .before .before .before .before .before .before .before .before .before .before .before .before in
+    let a = c .before .before .before .before .before .before .before .before .before .before .before .before .before .before .before .before .before .before in
     (sited _ _ (a .before .pre), corner-near _ _ (a .before .pre) (a .area-of .result) (ap rectIn (a .area-of .ensures)))
 
 cheapest-of-requires : tie.Need-cheapest-of-requires
 cheapest-of-requires c κs =
-    let h = c .before .before .before .before .before .before .before .before .before .before .before .before .before .before .before .before .before .before .before .before .before in
+    let lines = c .before .before .before .before .before .before .before .before .before .before .before .before .before .before .before .before .before .before .before .before .before .before in
+    let h = lines .before .before .before .before in
     let v = h .before in
     let a = v .before .before in
     let p = a .before .pre in
     let deck = deckOf (a .before .args .deck) in
-    (sited _ _ p, deck-lines deck (p .range) (p .full) x-axis _ (v .vertical .ensures), deck-lines deck (p .range) (p .full) y-axis _ (h .horizontal .ensures), deck-some deck (p .range) (p .full) y-axis _ (h .horizontal .ensures), before-is _ _ p _ (c .before .before .before .before .before .before .before .before .before .before .before .before .before .before .before .before .before .before2 .ensures))
+    (sited _ _ p, deck-lines deck (p .range) (p .full) x-axis _ (v .vertical .ensures), deck-lines deck (p .range) (p .full) y-axis _ (h .horizontal .ensures), before-is _ _ p _ (c .before .before .before .before .before .before .before .before .before .before .before .before .before .before .before .before .before .before .before2 .ensures), lines .number-lines .ensures)
 
 returns : tie.Need-returns
 returns c =
-    let h = c .before .before .before .before .before .before .before .before .before .before .before .before .before .before .before .before .before .before .before .before .before .before in
+    let h = c .before .before .before .before .before .before .before .before .before .before .before .before .before .before .before .before .before .before .before .before .before .before .before .before .before .before .before in
     let v = h .before in
     let a = v .before .before in
-    answers _ _ (a .before .pre) (a .area-of .result) (ap rectIn (a .area-of .ensures)) _ _ (v .vertical .ensures) (h .horizontal .ensures) _ _ (c .before .before .before .before .before .before .before .before .before .before .priced .ensures) (c .cheapest-of .ensures)
+    answers _ _ (a .before .pre) (a .area-of .result) (ap rectIn (a .area-of .ensures)) _ _ (v .vertical .ensures) (h .horizontal .ensures) _ _ (c .before .before .before .before .before .before .before .before .before .before .before .priced .ensures) (c .cheapest-of .ensures)
 
 pub cheapest-spec : {M : Type 1} → statement M
 cheapest-spec =
@@ -53,6 +62,7 @@ cheapest-spec =
     flags-of-requires
     vertical-requires
     horizontal-requires
+    number-lines-requires
     before-requires
     priced-requires
     cheapest-of-requires

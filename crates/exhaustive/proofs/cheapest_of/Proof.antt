@@ -1,9 +1,9 @@
 -- `exhaustive::cheapest_of` meets its contract: after i turns the vertical lines from i on are left to compare.
 -- Assumes nothing.
-use Prim.Native.Nat.{_-_, _≤_}
+use Prim.Native.Nat.{_-_}
 use native.Mathlib.Omega.{arith}
 use lib.IntN.{pos}
-use lib.ListN.{length, getD, take, length-take}
+use lib.ListN.{getD, take}
 use denote.Ref.{now}
 use Rattle.pricing.specs.Columns.{siteRows}
 use Rattle.exhaustive.proofs.SiteRamps.{small-back}
@@ -12,10 +12,10 @@ use Rattle.exhaustive.proofs.cheapest_of.Statement.{statement}
 use Rattle.exhaustive.proofs.cheapest_of.Tie as tie
 
 abbrev Inv-loop : tie.InvT-loop
-Inv-loop xs ys visits near n v nv h nh before found₀ i₀ found i = Walking (siteRows xs ys visits near n) (take nh h) v nv found₀ found i
+Inv-loop xs ys visits near n v nv h nh table before found₀ i₀ found i = Walking (siteRows xs ys visits near n) (take nh h) v nv found₀ found i
 
 abbrev μ-loop : tie.MeasureT-loop
-μ-loop xs ys visits near n v nv h nh before found₀ i₀ found i = nv - i
+μ-loop xs ys visits near n v nv h nh table before found₀ i₀ found i = nv - i
 
 loop-holds : tie.Need-loop-holds Inv-loop μ-loop
 loop-holds c = walk-none _ _ _ _ _
@@ -31,23 +31,18 @@ cheapest-on-requires c κs =
     let at = c .before .before in
     let s = at .before in
     let r = s .pre .1 .range (at .loop .i) (c .before .loop-test .taken) in
-    (s .pre .0, s .pre .2, s .pre .3, rw (small-back (getD (now (s .args .v)) (at .loop .i) (pos 0)) (omega (arith, r))) r, s .pre .4)
-
-cheaper-requires : tie.Need-cheaper-requires Inv-loop μ-loop
-cheaper-requires c κs = tt
+    (s .pre .0, s .pre .2, rw (small-back (getD (now (s .args .v)) (at .loop .i) (pos 0)) (omega (arith, r))) r, s .pre .3, s .pre .4)
 
 add-i : tie.Need-add-i Inv-loop μ-loop
 add-i c = omega arith
 
 loop-less : tie.Need-loop-less Inv-loop μ-loop
-loop-less c = omega (arith, c .before .before .before .loop-test .taken)
+loop-less c = omega (arith, c .before .before .loop-test .taken)
 
 loop-again : tie.Need-loop-again Inv-loop μ-loop
 loop-again c =
-    let at = c .before .before .before .before in
-    let s = at .before in
-    let some : 1 ≤ length (take (s .args .nh) (now (s .args .h))) = omega (arith, length-take (s .args .nh) (now (s .args .h)), s .pre .2 .in-order .full, s .pre .3) in
-    walk-more _ _ _ _ _ (s .pre .1) some (at .loop .inv) (c .before .before .before .loop-test .taken) _ _ (c .before .cheapest-on .ensures) (c .cheaper .ensures)
+    let at = c .before .before .before in
+    walk-more _ _ _ _ _ (at .before .pre .1) (at .loop .inv) (c .before .before .loop-test .taken) _ (c .cheapest-on .ensures)
 
 returns : tie.Need-returns Inv-loop μ-loop
 returns c = walk-all _ _ _ _ _ (c .before .loop .inv) (c .loop-test .left)
@@ -62,7 +57,6 @@ cheapest-of-spec =
     mul-cheapest-on
     element-copy-out-cheapest-on
     cheapest-on-requires
-    cheaper-requires
     add-i
     loop-less
     loop-again

@@ -1,35 +1,23 @@
 -- `exhaustive::cheapest_on` meets its contract: the columns start at 0, and hold the ramps of all sites when they are swept.
 -- Assumes nothing.
 use native.Mathlib.Omega.{arith}
-use lib.IntN.{pos}
-use lib.ListN.{getD}
-use denote.Ref.{now}
-use Rattle.search.proofs.StepLaws.{near-places}
 use Rattle.exhaustive.proofs.SiteRamps.{small-back}
 use Rattle.exhaustive.proofs.WalkLaws.{zero-sums, sweepable, swept-line}
 use Rattle.exhaustive.proofs.cheapest_on.Statement.{statement}
 use Rattle.exhaustive.proofs.cheapest_on.Tie as tie
 
 add-sites-requires : tie.Need-add-sites-requires
-add-sites-requires c κs = let s = c .before .before .before .before in (s .pre .0, s .pre .1, rw (small-back (s .args .v) (omega (arith, s .pre .3))) (s .pre .3), zero-sums)
-
-element-copy-out-priced : tie.Need-element-copy-out-priced
-element-copy-out-priced c = omega arith
-
-priced-requires : tie.Need-priced-requires
-priced-requires c κs = let s = c .before .before .before .before .before .before in (s .pre .0, near-places (s .args .v) (getD (now (s .args .h)) 0 (pos 0)) (s .pre .3) (s .pre .1 .range 0 (s .pre .2)))
+add-sites-requires c κs = let s = c .before .before .before .before in (s .pre .0, s .pre .1, rw (small-back (s .args .v) (omega (arith, s .pre .2))) (s .pre .2), zero-sums, s .pre .4)
 
 sweep-requires : tie.Need-sweep-requires
 sweep-requires c κs =
-    let s = c .before .before .before .before .before .before .before .before .before .before .before in
-    (s .pre .1, rw (small-back (s .args .v) (omega (arith, s .pre .3))) (s .pre .3), sweepable _ _ _ _ _ _ _ _ _ _ (s .pre .0 .count) (s .pre .4) (c .before .before .before .before .before .before .add-sites .ensures))
+    let s = c .before .before .before .before .before .before .before .before .before in
+    (s .pre .1, rw (small-back (s .args .v) (omega (arith, s .pre .2))) (s .pre .2), sweepable _ _ _ _ _ _ _ _ _ _ (s .pre .0 .count) (s .pre .3) (c .before .before .before .before .add-sites .ensures))
 
 returns : tie.Need-returns
 returns c =
-    let s = c .before .before .before .before .before .before .before .before .before .before .before .before in
-    rw (small-back (s .args .v) (omega (arith, s .pre .3))) at (swept-line _ _ _ _ _ _ _ _ _ _ (s .pre .0 .count) (s .pre .4) (c .before .before .before .before .before .before .before .add-sites .ensures) (s .pre .1) (s .pre .2) _ _ (c .before .before .before .before .before .priced .ensures) (c .sweep .ensures))
+    let s = c .before .before .before .before .before .before .before .before .before .before in
+    rw (small-back (s .args .v) (omega (arith, s .pre .2))) at (swept-line _ _ _ _ _ _ _ _ _ _ (s .pre .0 .count) (s .pre .3) (c .before .before .before .before .before .add-sites .ensures) _ _ (c .sweep .ensures))
 
 pub cheapest-on-spec : {M : Type 1} → statement M
-cheapest-on-spec =
-    tie.close
-    (tie.spec add-sites-requires element-copy-out-priced priced-requires sweep-requires returns)
+cheapest-on-spec = tie.close (tie.spec add-sites-requires sweep-requires returns)
