@@ -11,7 +11,7 @@ use Rattle.query.specs.Place.{Place}
 use Rattle.pricing.specs.Sites.{Site}
 use Rattle.search.specs.declared.run.Spot.{Spot}
 use Rattle.search.specs.Run.{spotOf}
-use Rattle.search.proofs.Keys.{back, fitting}
+use Rattle.cells.proofs.Keys.{back, fitting}
 use Rattle.exhaustive.specs.Cheapest.{cheaperOf, firstCheapest}
 
 -- ---- the cheaper of two

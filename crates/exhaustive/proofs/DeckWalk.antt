@@ -30,11 +30,11 @@ use Rattle.lines.proofs.Indexed.{member-at}
 use Rattle.lines.proofs.LineRecordLaws.{record-front}
 use Rattle.lines.proofs.DeckLines.{lines-in-order}
 use Rattle.pricing.proofs.RecordLaws.{paid-range}
-use Rattle.search.specs.declared.space.Cell.{Cell}
+use Rattle.cells.specs.declared.Cell.{Cell}
 use Rattle.search.specs.declared.run.Spot.{Spot}
 use Rattle.search.specs.Run as Run
 use Rattle.search.specs.Run.{Sited, pricedOf, spotOf, rectIn, Near20000, Ranged, rowsOf, InColumns, Reaching}
-use Rattle.search.proofs.Keys.{back}
+use Rattle.cells.proofs.Keys.{back}
 use Rattle.search.proofs.StepLaws.{near-places, spot-back}
 use Rattle.search.proofs.DeckRun.{columns-range, sites-count, deck-sited, area-ranged, reaching, coded-is}
 use Rattle.exhaustive.specs.Ramps.{LinesInRange}

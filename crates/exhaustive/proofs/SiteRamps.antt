@@ -14,7 +14,7 @@ use Rattle.numbers.proofs.Integer.{add-nat, sub-nat}
 use Rattle.numbers.proofs.Words.{word-fits}
 use Rattle.pricing.specs.Columns.{SiteInRange}
 use Rattle.lines.proofs.Machine.{sum-abs, sub-abs}
-use Rattle.search.proofs.Keys.{back}
+use Rattle.cells.proofs.Keys.{back}
 use Rattle.exhaustive.specs.Ramps.{heightOf, LinesInRange, RampSums, RampInRange, RampAdded, SiteAdded}
 use Rattle.exhaustive.proofs.Heights.{height-nat, height-least, height-dist}
 

@@ -11,7 +11,7 @@ use lib.Seq.{drop-cons, getD-take, length-take-le}
 use Rattle.pricing.specs.Sites.{Site, costOf, beforeOf}
 use Rattle.search.specs.declared.run.Spot.{Spot}
 use Rattle.search.specs.Run.{spotOf, spotAt}
-use Rattle.search.proofs.Keys.{back}
+use Rattle.cells.proofs.Keys.{back}
 use Rattle.exhaustive.specs.Ramps.{heightOf, prefixSum, LinesInRange, RampSums, SitesAdded, Payable, Sweepable}
 use Rattle.exhaustive.specs.Cheapest.{cheaperOf, firstCheapest, along, Swept}
 use Rattle.exhaustive.proofs.Heights.{height-most}

@@ -12,7 +12,7 @@ use Rattle.query.specs.Range.{costLimit}
 use Rattle.pricing.specs.Sites.{Site, beforeOf}
 use Rattle.pricing.specs.Columns.{Figure}
 use Rattle.search.specs.declared.run.Spot.{Spot}
-use Rattle.search.proofs.Keys.{back}
+use Rattle.cells.proofs.Keys.{back}
 use Rattle.exhaustive.specs.Ramps.{LinesInRange, RampSums, SiteSums, SitesAdded, Sweepable}
 use Rattle.exhaustive.specs.Cheapest.{firstCheapest, along, Swept}
 use Rattle.exhaustive.proofs.SiteRamps.{small-back}

@@ -19,8 +19,8 @@ use Rattle.pricing.specs.Sites.{Site, costOf}
 use Rattle.lines.specs.LineRecord.{isX, cutAt, cutRecord}
 use Rattle.lines.specs.declared.Cut.{Cut}
 use Rattle.lines.proofs.CutRecordLaws.{cutRecord-cut}
-use Rattle.search.specs.declared.space.Cell.{Cell}
-use Rattle.search.specs.declared.space.Costs.{Costs}
+use Rattle.cells.specs.declared.Cell.{Cell}
+use Rattle.cells.specs.declared.Costs.{Costs}
 use Rattle.search.specs.declared.run.Spot.{Spot}
 use Rattle.search.specs.declared.run.Halves.{Halves}
 use Rattle.search.specs.Run.{pricedOf, spotOf, cornerCosts, cellFor, Ranged, lowCorner, highCorner, firstRect, secondRect, firstCosts, secondCosts, halvesOf}

@@ -41,12 +41,12 @@ use Rattle.pricing.proofs.DeckLaws.{DeckColumns}
 use Rattle.lines.proofs.LineRecordLaws.{record-front}
 use Rattle.lines.proofs.DeckLines.{coordinates, reached, lines-marked, lines-in-order, padded-reached}
 use Rattle.pricing.proofs.TravelLaws.{narrow}
-use Rattle.search.specs.declared.space.Cell.{Cell}
+use Rattle.cells.specs.declared.Cell.{Cell}
 use Rattle.search.specs.declared.run.State.{State}
 use Rattle.search.specs.declared.run.Found.{Found}
-use Rattle.search.specs.Space.{entryCell, entries}
+use Rattle.cells.specs.Space.{entryCell, entries}
 use Rattle.search.specs.Run.{siteProblem, boundOf, Sited, Lined, Ranged, rectIn, unbounded, searchOf, Holds, Steady, foundOf, rowsOf, InColumns, Reaching, Ready, Searched}
-use Rattle.search.proofs.Keys.{back, fitting}
+use Rattle.cells.proofs.Keys.{back, fitting}
 use Rattle.search.proofs.StepLaws.{near-back, rect-narrow}
 use Rattle.search.proofs.RunLaws.{cells-are, holds-any}
 

@@ -27,16 +27,16 @@ use Rattle.pricing.specs.Sites.{Site, costOf}
 use Rattle.lines.specs.LineRecord.{onLines, isX, cutAt, cutRecord}
 use Rattle.lines.specs.declared.Cut.{Cut}
 use Rattle.lines.proofs.CutRecordLaws.{canCut-lines, cutLine-lines}
-use Rattle.search.specs.declared.space.Cell.{Cell}
-use Rattle.search.specs.declared.space.Costs.{Costs}
+use Rattle.cells.specs.declared.Cell.{Cell}
+use Rattle.cells.specs.declared.Costs.{Costs}
 use Rattle.search.specs.declared.run.Spot.{Spot}
 use Rattle.search.specs.declared.run.Halves.{Halves}
 use Rattle.search.specs.declared.run.State.{State}
-use Rattle.search.specs.Space.{Entry, keyOf, queryCell, entryCell, cellAt, costsAt, entries, entryBefore}
-use Rattle.search.specs.Steps.{InOrder, Trimmed}
+use Rattle.cells.specs.Space.{Entry, keyOf, queryCell, entryCell, cellAt, costsAt, entries, entryBefore}
+use Rattle.cells.specs.Steps.{InOrder, Trimmed}
 use Rattle.search.specs.Run.{siteProblem, pricedOf, spotOf, rectIn, cornerCosts, cellFor, improved, bestCorner, lowCorner, highCorner, halvesOf, withLive, Ranged, Cutting, Takeable, Added, Costed, searchOf, Holds}
-use Rattle.search.proofs.Keys.{back, fitting}
-use Rattle.search.proofs.SpaceLaws.{keep-insert-in, keep-insert-out, keep-agree, cells-insert, cells-keep, cells-in-order, insert-in-order, keep-in-order, entries-first, entries-none}
+use Rattle.cells.proofs.Keys.{back, fitting}
+use Rattle.cells.proofs.SpaceLaws.{keep-insert-in, keep-insert-out, keep-agree, cells-insert, cells-keep, cells-in-order, insert-in-order, keep-in-order, entries-first, entries-none}
 use Rattle.search.proofs.StepLaws.{improved-limit}
 use Rattle.search.proofs.CutParts.{first-is, second-is, corners-are, cut-is, first-range, second-range}
 

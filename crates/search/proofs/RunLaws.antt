@@ -27,14 +27,14 @@ use Rattle.query.proofs.SearchLaws.{run-in-order, partition-law}
 use Rattle.query.proofs.Counts.{cuts-most, live-count}
 use Rattle.job.specs.Record.{emptyRect}
 use Rattle.pricing.specs.Sites.{Site}
-use Rattle.search.specs.declared.space.Cell.{Cell}
+use Rattle.cells.specs.declared.Cell.{Cell}
 use Rattle.search.specs.declared.run.State.{State}
 use Rattle.search.specs.declared.run.Found.{Found}
-use Rattle.search.specs.Space.{Entry, queryCell, entryCell, cellAt, entryAt, entries}
-use Rattle.search.specs.Steps.{InOrder}
+use Rattle.cells.specs.Space.{Entry, queryCell, entryCell, cellAt, entryAt, entries}
+use Rattle.cells.specs.Steps.{InOrder}
 use Rattle.search.specs.Run.{siteProblem, pricedOf, searchOf, Takeable, Holds, Steady, Answerable, isDone, foundOf}
-use Rattle.search.proofs.Keys.{back, fitting}
-use Rattle.search.proofs.SpaceLaws.{cells-in-order, entries-first, entries-none, entries-length}
+use Rattle.cells.proofs.Keys.{back, fitting}
+use Rattle.cells.proofs.SpaceLaws.{cells-in-order, entries-first, entries-none, entries-length}
 use Rattle.search.proofs.RoundLaws.{can-lines, search-is, round-area}
 
 -- ---- rounds from a search on

@@ -26,12 +26,12 @@ use Rattle.lines.specs.LineRecord.{Edges}
 use Rattle.lines.specs.declared.Cut.{Cut}
 use Rattle.pricing.proofs.WordLaws.{narrow-fits, narrowed}
 use Rattle.pricing.proofs.TravelLaws.{narrow, narrow-place}
-use Rattle.search.specs.declared.space.Cell.{Cell}
-use Rattle.search.specs.declared.space.Costs.{Costs}
+use Rattle.cells.specs.declared.Cell.{Cell}
+use Rattle.cells.specs.declared.Costs.{Costs}
 use Rattle.search.specs.declared.run.Spot.{Spot}
-use Rattle.search.specs.Space.{keyOf}
+use Rattle.cells.specs.Space.{keyOf}
 use Rattle.search.specs.Run.{pricedOf, spotOf, rectIn, cornerCosts, cellFor, boundOf, Near20000, Ranged, spotAt, CostsInRange, improved, bestCorner, lowCorner, highCorner, CutInRange}
-use Rattle.search.proofs.Keys.{back, fitting, KeyFits, key-back}
+use Rattle.cells.proofs.Keys.{back, fitting, KeyFits, key-back}
 
 -- ---- coordinates as words
 pub near-back : (z : ℤ) → natAbs z ≤ 20000 → back z ≡ z

@@ -1,3 +1,1 @@
-pub mod Space
-pub mod Steps
 pub mod Run

@@ -29,14 +29,14 @@ use Rattle.lines.specs.LineRecord as Lines
 use Rattle.lines.specs.LineRecord.{onLines}
 use Rattle.pricing.specs.declared.Sites.{Sites}
 use Rattle.lines.specs.declared.Cut.{Cut}
-use Rattle.search.specs.declared.space.Cell.{Cell}
-use Rattle.search.specs.declared.space.Costs.{Costs}
+use Rattle.cells.specs.declared.Cell.{Cell}
+use Rattle.cells.specs.declared.Costs.{Costs}
 use Rattle.search.specs.declared.run.Spot.{Spot}
 use Rattle.search.specs.declared.run.Halves.{Halves}
 use Rattle.search.specs.declared.run.State.{State}
 use Rattle.search.specs.declared.run.Found.{Found}
-use Rattle.search.specs.Space.{Entry, queryCell, entryCell, cellAt, entries, entryBefore}
-use Rattle.search.specs.Steps.{InOrder}
+use Rattle.cells.specs.Space.{Entry, queryCell, entryCell, cellAt, entries, entryBefore}
+use Rattle.cells.specs.Steps.{InOrder}
 
 -- ---- the problem of document 01 from sites and lines
 -- the bound of a cell

@@ -1,3 +1,2 @@
 // The search by cells.
 pub mod run;
-pub mod space;

@@ -1,7 +1,6 @@
 // The search by cells: its start, its rounds and what it answers.
-use crate::space;
-use crate::space::Cell;
-use crate::space::Costs;
+use cells::Cell;
+use cells::Costs;
 use job::Deck;
 use lines::Cut;
 use lines::Lines;
@@ -25,7 +24,7 @@ ghost use Rattle.pricing.specs.DeckOf.{deckOf};
 ghost use Rattle.pricing.specs.Sites.{loadOf, flagsOf};
 ghost use Rattle.pricing.specs.Columns.{siteRows, Figure};
 ghost use Rattle.lines.specs.LineRecord.{Edges, onLines, cutRecord, linesRecord};
-ghost use Rattle.search.specs.Space.{queryCell, cellsIn, costsIn, Numbered};
+ghost use Rattle.cells.specs.Space.{queryCell, cellsIn, costsIn, Numbered};
 ghost use Rattle.search.specs.Run.{
   siteProblem,
   Sited,
@@ -123,7 +122,7 @@ fn improve(best: Spot, p: Spot) -> Spot
     requires { ⌜ (best .cost ≤ costLimit) × (p .cost ≤ costLimit) ⌝ }
     ensures { λ r. ⌜ r ≡ improved best p ⌝ }
 {
-    if space::precedes(p.cost as i64, p.x, p.y, best.cost as i64, best.x, best.y) {
+    if cells::precedes(p.cost as i64, p.x, p.y, best.cost as i64, best.x, best.y) {
         return p;
     }
     best
@@ -345,7 +344,7 @@ fn is_live(v: &[i64; 514], nv: usize, h: &[i64; 514], nh: usize, c: Cell, best: 
     requires { ⌜ Lined (now v) nv (now h) nh × RectInRange (rectIn c) × (best .cost ≤ costLimit) ⌝ }
     ensures { λ r. ⌜ r ≡ Search.isLive (onLines (take nv (now (v .entry))) (take nh (now (h .entry)))) (pricedOf best) (queryCell c) ⌝ }
 {
-    if space::precedes(c.bound, c.xlo, c.ylo, best.cost as i64, best.x, best.y) {
+    if cells::precedes(c.bound, c.xlo, c.ylo, best.cost as i64, best.x, best.y) {
         let cut = cut_of(v, nv, h, nh, c);
         return cut.found;
     }
@@ -371,7 +370,7 @@ fn add<'a>(
     ensures { λ r. ⌜ Added (onLines (take nv (now (v .entry))) (take nh (now (h .entry)))) (pricedOf best) (record { cell = c; costs = k }) head tail (cellsIn (now (s .entry)) (now (o .entry))) (costsIn (now (t .entry)) (now (o .entry))) (cellsIn (now (s .exit)) (now (o .exit))) (costsIn (now (t .exit)) (now (o .exit))) r × Numbered (now (o .exit)) ⌝ }
 {
     if is_live(v, nv, h, nh, c, best) {
-        space::insert(s, t, o, head, tail, c, k);
+        cells::insert(s, t, o, head, tail, c, k);
         return head - 1;
     }
     head
@@ -397,15 +396,15 @@ fn round<'a>(
     ensures { λ r. ⌜ Holds (siteRows (now (xs .entry)) (now (ys .entry)) (now (visits .entry)) (now (near .entry)) n) (Search.round (siteProblem (siteRows (now (xs .entry)) (now (ys .entry)) (now (visits .entry)) (now (near .entry)) n) (take nv (now (v .entry))) (take nh (now (h .entry))) emptyRect) (searchOf (cellsIn (now (s .entry)) (now (o .entry))) (costsIn (now (t .entry)) (now (o .entry))) st)) (st .head - 1) (cellsIn (now (s .exit)) (now (o .exit))) (costsIn (now (t .exit)) (now (o .exit))) r × Numbered (now (o .exit)) ⌝ }
 {
     let head = st.head;
-    let c = space::cell_at(s, o, head);
-    let k = space::costs_at(t, o, head);
+    let c = cells::cell_at(s, o, head);
+    let k = cells::costs_at(t, o, head);
     let halves = halve(xs, ys, visits, near, n, v, nv, h, nh, c, k);
     let best = improve(improve(st.best, halves.low), halves.high);
     let first = halves.first;
     let first_k = halves.first_costs;
     let second = halves.second;
     let second_k = halves.second_costs;
-    let tail = space::trim(s, o, head + 1, st.tail, best.cost, best.x, best.y);
+    let tail = cells::trim(s, o, head + 1, st.tail, best.cost, best.x, best.y);
     let behind = add(
         v,
         nv,
@@ -546,7 +545,7 @@ fn low_of<'a>(s: &'a [i64; 5005], o: &'a [u16; 1001], st: State) -> i64
     if st.tail <= head {
         return high;
     }
-    let c = space::cell_at(s, o, head);
+    let c = cells::cell_at(s, o, head);
     if c.bound < high {
         return c.bound;
     }
@@ -633,7 +632,7 @@ pub fn search(deck: Deck, sites: Sites, rounds: u64, cells: &mut [i64]) -> Found
     let mut s = [0i64; 5005];
     let mut t = [0u64; 4004];
     let mut o = [0u16; 1001];
-    space::number(&mut o);
+    cells::number(&mut o);
     let st = run_of(
         &sites.x,
         &sites.y,
@@ -650,6 +649,6 @@ pub fn search(deck: Deck, sites: Sites, rounds: u64, cells: &mut [i64]) -> Found
         area,
         rounds,
     );
-    space::write_out(&s, &o, st.head, st.tail, cells);
+    cells::write_out(&s, &o, st.head, st.tail, cells);
     answer(&s, &o, st)
 }

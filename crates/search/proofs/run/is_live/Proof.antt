@@ -7,8 +7,8 @@ use Rattle.query.specs.Order.{precedes, cellKey, pricedKey}
 use Rattle.lines.proofs.CutRecordLaws.{cutRecord-found}
 use Rattle.lines.specs.declared.Cut.{Cut}
 use Rattle.search.specs.Run.{pricedOf}
-use Rattle.search.specs.Space.{queryCell}
-use Rattle.search.proofs.Keys.{cell-precedes}
+use Rattle.cells.specs.Space.{queryCell}
+use Rattle.cells.proofs.Keys.{cell-precedes}
 use Rattle.search.proofs.RoundLaws.{live-behind, live-cut}
 use Rattle.search.proofs.run.is_live.Statement.{statement}
 use Rattle.search.proofs.run.is_live.Tie as tie

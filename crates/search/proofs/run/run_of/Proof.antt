@@ -7,7 +7,7 @@ use lib.ListN.{take}
 use Rattle.query.specs.Search.{run}
 use Rattle.job.specs.Record.{emptyRect}
 use Rattle.pricing.specs.Columns.{siteRows}
-use Rattle.search.specs.Space.{cellsIn, costsIn, Numbered}
+use Rattle.cells.specs.Space.{cellsIn, costsIn, Numbered}
 use Rattle.search.specs.Run.{siteProblem, rectIn, searchOf, Holds}
 use Rattle.search.proofs.RunLaws.{roundsFrom, holds-first, holds-more, holds-run, ended, finished, takeable}
 use Rattle.search.proofs.run.run_of.Statement.{statement}
