@@ -17,6 +17,7 @@ extern "C" {
     fn trial_bound_many(job: *const u8, len: usize, k: u64) -> i64;
     fn trial_cut_many(job: *const u8, len: usize, k: u64) -> i64;
     fn trial_near_many(job: *const u8, len: usize, k: u64) -> i64;
+    fn trial_refusal(job: *const u8, len: usize) -> u64;
     fn trial_report(job: *const u8, len: usize, cells: *mut i64, cells_len: usize, out: *mut u8, out_len: usize) -> i64;
     fn trial_exhaustive(job: *const u8, len: usize, which: u64) -> i64;
 }
@@ -94,6 +95,41 @@ fn reports() {
     }
 }
 
+/// Reading a job: the proved reader, with its record of the deck, beside the twin's.
+fn compare_reading(name: &str, job: &[u8]) {
+    let turns = 20;
+    let (mut ours, mut theirs) = (f64::MAX, f64::MAX);
+    for _ in 0..4 * REPETITIONS {
+        let (t, refused) = timed(|| (0..turns).map(|_| unsafe { trial_refusal(black_box(job).as_ptr(), job.len()) } as i64).sum());
+        ours = ours.min(t);
+        let (t, accepted) = timed(|| (0..turns).filter(|_| black_box(whole::read(black_box(job))).is_ok()).count() as i64);
+        theirs = theirs.min(t);
+        assert!(refused == 0 && accepted == turns, "{name}: refused");
+    }
+    let (ours, theirs) = (ours / turns as f64 / 1e3, theirs / turns as f64 / 1e3);
+    println!("{name:<52} {ours:>10.1} {theirs:>10.1} {:>7.2}", ours / theirs);
+}
+
+/// How the report call grows: one of the numbers of the largest deck is changed at a time.
+fn growth() {
+    println!();
+    println!("{:<52} {:>10} {:>10} {:>7}", "reading, us a job", "proved", "twin", "ratio");
+    compare_reading("largest", &whole::job(64, 40_001, 512, 20_000, 1_000));
+    compare_reading("typical", &whole::job(8, 40_001, 100, 6_325, 200));
+    println!();
+    println!("{:<52} {:>10} {:>10} {:>7}", "growth of the report call, us a call", "proved", "twin", "ratio");
+    let twin: [(&str, Report); 1] = [("all stops", whole::report)];
+    for stops in [64, 128, 256, 512] {
+        compare_reports(&format!("{stops} stops"), &whole::job(64, 40_001, stops, 20_000, 1_000), 1, &twin);
+    }
+    for posts in [1, 8, 64] {
+        compare_reports(&format!("{posts} posts"), &whole::job(posts, 40_001, 512, 20_000, 1_000), 1, &twin);
+    }
+    for rounds in [0, 10, 100, 1_000] {
+        compare_reports(&format!("{rounds} rounds"), &whole::job(64, 40_001, 512, 20_000, rounds), 1, &twin);
+    }
+}
+
 /// The exhaustive call, `turns` times: place and cost must be the same. The plain walk, last of the twins, is long, and has few repetitions.
 fn compare_walks(name: &str, job: &[u8], turns: usize, twins: &[(&str, fn(&[u8]) -> walk::Spot)]) {
     let proved = |job: &[u8], which| unsafe { trial_exhaustive(job.as_ptr(), job.len(), which) };
@@ -142,4 +178,5 @@ fn main() {
     compare("choice of a cut", &job, 100_000, trial_cut_many, |k| twin::cut_many(&xs, &ys, k));
     reports();
     walks();
+    growth();
 }
