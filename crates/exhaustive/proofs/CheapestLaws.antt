@@ -9,7 +9,7 @@ use lib.Signed.{mag}
 use Rattle.numbers.proofs.Truth.{holds, fails}
 use Rattle.query.specs.Place.{Place}
 use Rattle.pricing.specs.Sites.{Site}
-use Rattle.search.specs.declared.run.Spot.{Spot}
+use Rattle.search.specs.declared.halves.Spot.{Spot}
 use Rattle.search.specs.Run.{spotOf}
 use Rattle.cells.proofs.Keys.{back, fitting}
 use Rattle.exhaustive.specs.Cheapest.{cheaperOf, firstCheapest}

@@ -20,7 +20,7 @@ use Rattle.query.specs.Search.{bestOf}
 use Rattle.query.specs.Exhaustive.{crossings, cheapestCrossing}
 use Rattle.query.proofs.KeyOrder.{not-earlier}
 use Rattle.pricing.specs.Sites.{Site, costOf}
-use Rattle.search.specs.declared.run.Spot.{Spot}
+use Rattle.search.specs.declared.halves.Spot.{Spot}
 use Rattle.search.specs.Run.{siteProblem, pricedOf, spotOf}
 use Rattle.exhaustive.specs.Cheapest.{cheaperOf, firstCheapest, along}
 use Rattle.exhaustive.proofs.CheapestLaws.{cheapest-none, cheapest-more}

@@ -31,7 +31,7 @@ use Rattle.lines.proofs.LineRecordLaws.{record-front}
 use Rattle.lines.proofs.DeckLines.{lines-in-order}
 use Rattle.pricing.proofs.RecordLaws.{paid-range}
 use Rattle.cells.specs.declared.Cell.{Cell}
-use Rattle.search.specs.declared.run.Spot.{Spot}
+use Rattle.search.specs.declared.halves.Spot.{Spot}
 use Rattle.search.specs.Run as Run
 use Rattle.search.specs.Run.{Sited, pricedOf, spotOf, rectIn, Near20000, Ranged, rowsOf, InColumns, Reaching}
 use Rattle.cells.proofs.Keys.{back}

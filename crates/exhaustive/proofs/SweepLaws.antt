@@ -9,7 +9,7 @@ use lib.IntN.{ℤ, pos, natAbs}
 use lib.ListN.{getD, take, drop, length-take, drop-of-length-le}
 use lib.Seq.{drop-cons, getD-take, length-take-le}
 use Rattle.pricing.specs.Sites.{Site, costOf, beforeOf}
-use Rattle.search.specs.declared.run.Spot.{Spot}
+use Rattle.search.specs.declared.halves.Spot.{Spot}
 use Rattle.search.specs.Run.{spotOf, spotAt}
 use Rattle.cells.proofs.Keys.{back}
 use Rattle.exhaustive.specs.Ramps.{heightOf, prefixSum, LinesInRange, RampSums, SitesAdded, Payable, Sweepable}

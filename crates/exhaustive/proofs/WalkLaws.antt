@@ -11,7 +11,7 @@ use lib.Seq.{drop-cons, getD-take, length-take-le}
 use Rattle.query.specs.Range.{costLimit}
 use Rattle.pricing.specs.Sites.{Site, beforeOf}
 use Rattle.pricing.specs.Columns.{Figure}
-use Rattle.search.specs.declared.run.Spot.{Spot}
+use Rattle.search.specs.declared.halves.Spot.{Spot}
 use Rattle.cells.proofs.Keys.{back}
 use Rattle.exhaustive.specs.Ramps.{LinesInRange, RampSums, SiteSums, SitesAdded, Sweepable}
 use Rattle.exhaustive.specs.Cheapest.{firstCheapest, along, Swept}

@@ -14,7 +14,7 @@ use Rattle.pricing.specs.DeckOf.{deckOf}
 use Rattle.pricing.specs.Sites.{Site, sitesOf, costOf, beforeOf}
 use Rattle.pricing.specs.Record.{sitesRecord}
 use Rattle.pricing.specs.declared.Sites.{Sites}
-use Rattle.search.specs.declared.run.Spot.{Spot}
+use Rattle.search.specs.declared.halves.Spot.{Spot}
 use Rattle.search.specs.Run.{spotOf}
 use Rattle.exhaustive.specs.Ramps.{SitesAdded}
 

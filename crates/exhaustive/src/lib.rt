@@ -4,8 +4,9 @@ use job::Deck;
 use numbers::abs_diff;
 use pricing::Sites;
 use pricing::price;
+use search::halves;
+use search::halves::Spot;
 use search::run;
-use search::run::Spot;
 ghost use mathlib.Core.Path.{_≡_};
 ghost use mathlib.Core.List.{flatMap};
 ghost use Prim.Native.Nat.{_+_, _*_, _≤_};
@@ -316,7 +317,7 @@ pub fn cheapest(deck: Deck, sites: Sites) -> Spot
     let mut table = [0u16; 40001];
     number_lines(&h.at, nh, &mut table);
     let before = price::before(&sites.visits, &sites.near, n);
-    let first = run::priced(
+    let first = halves::priced(
         &sites.x,
         &sites.y,
         &sites.visits,

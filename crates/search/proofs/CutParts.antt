@@ -21,8 +21,8 @@ use Rattle.lines.specs.declared.Cut.{Cut}
 use Rattle.lines.proofs.CutRecordLaws.{cutRecord-cut}
 use Rattle.cells.specs.declared.Cell.{Cell}
 use Rattle.cells.specs.declared.Costs.{Costs}
-use Rattle.search.specs.declared.run.Spot.{Spot}
-use Rattle.search.specs.declared.run.Halves.{Halves}
+use Rattle.search.specs.declared.halves.Spot.{Spot}
+use Rattle.search.specs.declared.halves.Halves.{Halves}
 use Rattle.search.specs.Run.{pricedOf, spotOf, cornerCosts, cellFor, Ranged, lowCorner, highCorner, firstRect, secondRect, firstCosts, secondCosts, halvesOf}
 
 -- ---- by axis

@@ -29,8 +29,8 @@ use Rattle.lines.specs.declared.Cut.{Cut}
 use Rattle.lines.proofs.CutRecordLaws.{canCut-lines, cutLine-lines}
 use Rattle.cells.specs.declared.Cell.{Cell}
 use Rattle.cells.specs.declared.Costs.{Costs}
-use Rattle.search.specs.declared.run.Spot.{Spot}
-use Rattle.search.specs.declared.run.Halves.{Halves}
+use Rattle.search.specs.declared.halves.Spot.{Spot}
+use Rattle.search.specs.declared.halves.Halves.{Halves}
 use Rattle.search.specs.declared.run.State.{State}
 use Rattle.cells.specs.Space.{Entry, keyOf, queryCell, entryCell, cellAt, costsAt, entries, entryBefore}
 use Rattle.cells.specs.Steps.{InOrder, Trimmed}

@@ -28,7 +28,7 @@ use Rattle.pricing.proofs.WordLaws.{narrow-fits, narrowed}
 use Rattle.pricing.proofs.TravelLaws.{narrow, narrow-place}
 use Rattle.cells.specs.declared.Cell.{Cell}
 use Rattle.cells.specs.declared.Costs.{Costs}
-use Rattle.search.specs.declared.run.Spot.{Spot}
+use Rattle.search.specs.declared.halves.Spot.{Spot}
 use Rattle.cells.specs.Space.{keyOf}
 use Rattle.search.specs.Run.{pricedOf, spotOf, rectIn, cornerCosts, cellFor, boundOf, Near20000, Ranged, spotAt, CostsInRange, improved, bestCorner, lowCorner, highCorner, CutInRange}
 use Rattle.cells.proofs.Keys.{back, fitting, KeyFits, key-back}

@@ -31,8 +31,8 @@ use Rattle.pricing.specs.declared.Sites.{Sites}
 use Rattle.lines.specs.declared.Cut.{Cut}
 use Rattle.cells.specs.declared.Cell.{Cell}
 use Rattle.cells.specs.declared.Costs.{Costs}
-use Rattle.search.specs.declared.run.Spot.{Spot}
-use Rattle.search.specs.declared.run.Halves.{Halves}
+use Rattle.search.specs.declared.halves.Spot.{Spot}
+use Rattle.search.specs.declared.halves.Halves.{Halves}
 use Rattle.search.specs.declared.run.State.{State}
 use Rattle.search.specs.declared.run.Found.{Found}
 use Rattle.cells.specs.Space.{Entry, queryCell, entryCell, cellAt, entries, entryBefore}

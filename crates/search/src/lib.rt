@@ -1,2 +1,3 @@
 // The search by cells.
+pub mod halves;
 pub mod run;

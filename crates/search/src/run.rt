@@ -1,8 +1,9 @@
 // The search by cells: its start, its rounds and what it answers.
+use crate::halves;
+use crate::halves::Spot;
 use cells::Cell;
 use cells::Costs;
 use job::Deck;
-use lines::Cut;
 use lines::Lines;
 use pricing::Sites;
 use pricing::price;
@@ -10,77 +11,18 @@ ghost use mathlib.Core.Path.{_≡_};
 ghost use mathlib.Core.List.{[]};
 ghost use Prim.Native.Nat.{_-_, _≤_};
 ghost use lib.ListN.{length, take};
-ghost use lib.Signed.{_≤ℤ_};
-ghost use Rattle.numbers.specs.Integer.{dist};
-ghost use Rattle.query.specs.Deck.{plain};
-ghost use Rattle.query.specs.Bound as Bound;
 ghost use Rattle.query.specs.Search as Search;
-ghost use Rattle.query.specs.Range.{costLimit, loadLimit, RectInRange};
+ghost use Rattle.query.specs.Range.{costLimit, RectInRange};
 ghost use Rattle.job.specs.Record.{emptyRect};
 ghost use Rattle.query.specs.Place.{x-axis, y-axis};
 ghost use Rattle.query.specs.Lines.{lines};
 ghost use Rattle.query.specs.Figures as Figures;
 ghost use Rattle.pricing.specs.DeckOf.{deckOf};
-ghost use Rattle.pricing.specs.Sites.{loadOf, flagsOf};
-ghost use Rattle.pricing.specs.Columns.{siteRows, Figure};
-ghost use Rattle.lines.specs.LineRecord.{Edges, onLines, cutRecord, linesRecord};
+ghost use Rattle.pricing.specs.Sites.{flagsOf};
+ghost use Rattle.pricing.specs.Columns.{siteRows};
+ghost use Rattle.lines.specs.LineRecord.{onLines, linesRecord};
 ghost use Rattle.cells.specs.Space.{queryCell, cellsIn, costsIn, Numbered};
-ghost use Rattle.search.specs.Run.{
-  siteProblem,
-  Sited,
-  Lined,
-  pricedOf,
-  spotOf,
-  rectIn,
-  unbounded,
-  cornerCosts,
-  cellFor,
-  Near20000,
-  Ranged,
-  spotAt,
-  CostsInRange,
-  bestCorner,
-  improved,
-  lowCorner,
-  highCorner,
-  firstRect,
-  secondRect,
-  firstCosts,
-  secondCosts,
-  halvesOf,
-  Cutting,
-  CutInRange,
-  Addable,
-  Added,
-  searchOf,
-  Takeable,
-  Holds,
-  Steady,
-  Answerable,
-  rowsOf,
-  InColumns,
-  Reaching,
-  foundOf,
-  Ready,
-  Searched,
-};
-
-// A place with its cost.
-pub struct Spot {
-    pub x: i64,
-    pub y: i64,
-    pub cost: u64,
-}
-
-// What a cut makes of a cell: its two new corners, and its two parts with the costs of their corners.
-pub struct Halves {
-    pub low: Spot,
-    pub high: Spot,
-    pub first: Cell,
-    pub first_costs: Costs,
-    pub second: Cell,
-    pub second_costs: Costs,
-}
+ghost use Rattle.search.specs.Run.{siteProblem, Sited, Lined, pricedOf, rectIn, unbounded, cornerCosts, Ranged, spotAt, CostsInRange, bestCorner, Addable, Added, searchOf, Takeable, Holds, Steady, Answerable, rowsOf, InColumns, Reaching, foundOf, Ready, Searched};
 
 // A search while it runs: where its live cells stand in the order, the best place so far and the cuts made.
 pub struct State {
@@ -100,252 +42,13 @@ pub struct Found {
     pub cuts: u64,
 }
 
-// A place, priced.
-pub fn priced<'a>(
-    xs: &'a [i32; 512],
-    ys: &'a [i32; 512],
-    visits: &'a [u32; 512],
-    near: &'a [u32; 512],
-    n: usize,
-    x: i64,
-    y: i64,
-) -> Spot
-    requires { ⌜ Sited (now xs) (now ys) (now visits) (now near) n × Near20000 x y ⌝ }
-    ensures { λ r. ⌜ r ≡ spotOf (siteRows (now (xs .entry)) (now (ys .entry)) (now (visits .entry)) (now (near .entry)) n) (record { x = x; y = y }) ⌝ }
-{
-    let cost = price::cost(xs, ys, visits, near, n, x as i32, y as i32);
-    Spot { x, y, cost }
-}
-
-// The better of two places.
-fn improve(best: Spot, p: Spot) -> Spot
-    requires { ⌜ (best .cost ≤ costLimit) × (p .cost ≤ costLimit) ⌝ }
-    ensures { λ r. ⌜ r ≡ improved best p ⌝ }
-{
-    if cells::precedes(p.cost as i64, p.x, p.y, best.cost as i64, best.x, best.y) {
-        return p;
-    }
-    best
-}
-
-// How far hi lies above lo.
-fn width(lo: i64, hi: i64) -> u64
-    requires { ⌜ Edges lo hi × (lo ≤ℤ hi) ⌝ }
-    ensures { λ r. ⌜ Figure (dist lo hi) 40000 r ⌝ }
-{
-    (hi - lo) as u64
-}
-
-// The width and the height of a cell, added.
-fn span(c: Cell) -> u64
-    requires { ⌜ Ranged (rectIn c) ⌝ }
-    ensures { λ r. ⌜ Figure (Bound.span plain (rectIn c)) 80000 r ⌝ }
-{
-    width(c.xlo, c.xhi) + width(c.ylo, c.yhi)
-}
-
-// The load of a cell.
-fn load_of<'a>(
-    xs: &'a [i32; 512],
-    ys: &'a [i32; 512],
-    visits: &'a [u32; 512],
-    near: &'a [u32; 512],
-    n: usize,
-    c: Cell,
-) -> u64
-    requires { ⌜ Sited (now xs) (now ys) (now visits) (now near) n × Ranged (rectIn c) ⌝ }
-    ensures { λ r. ⌜ Figure (loadOf (siteRows (now (xs .entry)) (now (ys .entry)) (now (visits .entry)) (now (near .entry)) n) (rectIn c)) loadLimit r ⌝ }
-{
-    price::load(
-        xs,
-        ys,
-        visits,
-        near,
-        n,
-        c.xlo as i32,
-        c.ylo as i32,
-        c.xhi as i32,
-        c.yhi as i32,
-    )
-}
-
-// A cell with its bound, from the costs of its corners.
-fn bounded<'a>(
-    xs: &'a [i32; 512],
-    ys: &'a [i32; 512],
-    visits: &'a [u32; 512],
-    near: &'a [u32; 512],
-    n: usize,
-    c: Cell,
-    k: Costs,
-) -> Cell
-    requires { ⌜ Sited (now xs) (now ys) (now visits) (now near) n × Ranged (rectIn c) × (k ≡ cornerCosts (siteRows (now xs) (now ys) (now visits) (now near) n) (rectIn c)) ⌝ }
-    ensures { λ r. ⌜ r ≡ cellFor (siteRows (now (xs .entry)) (now (ys .entry)) (now (visits .entry)) (now (near .entry)) n) (rectIn c) ⌝ }
-{
-    let load = load_of(xs, ys, visits, near, n, c);
-    let bound = price::bound(k.c00, k.c01, k.c10, k.c11, span(c), load);
-    Cell {
-        xlo: c.xlo,
-        ylo: c.ylo,
-        xhi: c.xhi,
-        yhi: c.yhi,
-        bound,
-    }
-}
-
-// Where a cell is cut.
-fn cut_of(v: &[i64; 514], nv: usize, h: &[i64; 514], nh: usize, c: Cell) -> Cut
-    requires { ⌜ Lined (now v) nv (now h) nh × RectInRange (rectIn c) ⌝ }
-    ensures { λ r. ⌜ r ≡ cutRecord (onLines (take nv (now (v .entry))) (take nh (now (h .entry)))) (rectIn c) ⌝ }
-{
-    lines::find_cut(v, nv, h, nh, c.xlo, c.ylo, c.xhi, c.yhi)
-}
-
-// The new corner that is the low corner of the part behind the cut.
-fn low_corner<'a>(
-    xs: &'a [i32; 512],
-    ys: &'a [i32; 512],
-    visits: &'a [u32; 512],
-    near: &'a [u32; 512],
-    n: usize,
-    c: Cell,
-    cut: Cut,
-) -> Spot
-    requires { ⌜ Sited (now xs) (now ys) (now visits) (now near) n × CutInRange c cut ⌝ }
-    ensures { λ r. ⌜ r ≡ spotOf (siteRows (now (xs .entry)) (now (ys .entry)) (now (visits .entry)) (now (near .entry)) n) (lowCorner (cut .across) (cut .at) (rectIn c)) ⌝ }
-{
-    if cut.across {
-        return priced(xs, ys, visits, near, n, cut.at, c.ylo);
-    }
-    priced(xs, ys, visits, near, n, c.xlo, cut.at)
-}
-
-// The new corner that is the high corner of the part before the cut.
-fn high_corner<'a>(
-    xs: &'a [i32; 512],
-    ys: &'a [i32; 512],
-    visits: &'a [u32; 512],
-    near: &'a [u32; 512],
-    n: usize,
-    c: Cell,
-    cut: Cut,
-) -> Spot
-    requires { ⌜ Sited (now xs) (now ys) (now visits) (now near) n × CutInRange c cut ⌝ }
-    ensures { λ r. ⌜ r ≡ spotOf (siteRows (now (xs .entry)) (now (ys .entry)) (now (visits .entry)) (now (near .entry)) n) (highCorner (cut .across) (cut .at) (rectIn c)) ⌝ }
-{
-    if cut.across {
-        return priced(xs, ys, visits, near, n, cut.at, c.yhi);
-    }
-    priced(xs, ys, visits, near, n, c.xhi, cut.at)
-}
-
-// The costs of the corners of the part before a cut, from those of the cell and of the new corners.
-fn costs_before(across: bool, k: Costs, low: u64, high: u64) -> Costs
-    ensures { λ r. ⌜ r ≡ firstCosts across k low high ⌝ }
-{
-    if across {
-        return Costs {
-            c00: k.c00,
-            c01: k.c01,
-            c10: low,
-            c11: high,
-        };
-    }
-    Costs {
-        c00: k.c00,
-        c01: low,
-        c10: k.c10,
-        c11: high,
-    }
-}
-
-// Those of the part behind it.
-fn costs_behind(across: bool, k: Costs, low: u64, high: u64) -> Costs
-    ensures { λ r. ⌜ r ≡ secondCosts across k low high ⌝ }
-{
-    if across {
-        return Costs {
-            c00: low,
-            c01: high,
-            c10: k.c10,
-            c11: k.c11,
-        };
-    }
-    Costs {
-        c00: low,
-        c01: k.c01,
-        c10: high,
-        c11: k.c11,
-    }
-}
-
-// The part of a cell before a cut, up to the new corner.
-fn cell_before(c: Cell, high: Spot) -> Cell
-    ensures { λ r. ⌜ rectIn r ≡ firstRect (rectIn c) (pricedOf high .at) ⌝ }
-{
-    Cell {
-        xlo: c.xlo,
-        ylo: c.ylo,
-        xhi: high.x,
-        yhi: high.y,
-        bound: 0,
-    }
-}
-
-// The part behind it, from the new corner on.
-fn cell_behind(c: Cell, low: Spot) -> Cell
-    ensures { λ r. ⌜ rectIn r ≡ secondRect (rectIn c) (pricedOf low .at) ⌝ }
-{
-    Cell {
-        xlo: low.x,
-        ylo: low.y,
-        xhi: c.xhi,
-        yhi: c.yhi,
-        bound: 0,
-    }
-}
-
-// What the cut of a cell makes of it.
-fn halve<'a>(
-    xs: &'a [i32; 512],
-    ys: &'a [i32; 512],
-    visits: &'a [u32; 512],
-    near: &'a [u32; 512],
-    n: usize,
-    v: &'a [i64; 514],
-    nv: usize,
-    h: &'a [i64; 514],
-    nh: usize,
-    c: Cell,
-    k: Costs,
-) -> Halves
-    requires { ⌜ Sited (now xs) (now ys) (now visits) (now near) n × Lined (now v) nv (now h) nh × Cutting (siteRows (now xs) (now ys) (now visits) (now near) n) (take nv (now v)) (take nh (now h)) c k ⌝ }
-    ensures { λ r. ⌜ r ≡ halvesOf (siteRows (now (xs .entry)) (now (ys .entry)) (now (visits .entry)) (now (near .entry)) n) (cutRecord (onLines (take nv (now (v .entry))) (take nh (now (h .entry)))) (rectIn c)) (rectIn c) ⌝ }
-{
-    let cut = cut_of(v, nv, h, nh, c);
-    let low = low_corner(xs, ys, visits, near, n, c, cut);
-    let high = high_corner(xs, ys, visits, near, n, c, cut);
-    let first_costs = costs_before(cut.across, k, low.cost, high.cost);
-    let second_costs = costs_behind(cut.across, k, low.cost, high.cost);
-    let first = bounded(xs, ys, visits, near, n, cell_before(c, high), first_costs);
-    let second = bounded(xs, ys, visits, near, n, cell_behind(c, low), second_costs);
-    Halves {
-        low,
-        high,
-        first,
-        first_costs,
-        second,
-        second_costs,
-    }
-}
-
 // Whether a cell is live: it comes before the best place and can be cut.
 fn is_live(v: &[i64; 514], nv: usize, h: &[i64; 514], nh: usize, c: Cell, best: Spot) -> bool
     requires { ⌜ Lined (now v) nv (now h) nh × RectInRange (rectIn c) × (best .cost ≤ costLimit) ⌝ }
     ensures { λ r. ⌜ r ≡ Search.isLive (onLines (take nv (now (v .entry))) (take nh (now (h .entry)))) (pricedOf best) (queryCell c) ⌝ }
 {
     if cells::precedes(c.bound, c.xlo, c.ylo, best.cost as i64, best.x, best.y) {
-        let cut = cut_of(v, nv, h, nh, c);
+        let cut = halves::cut_of(v, nv, h, nh, c);
         return cut.found;
     }
     false
@@ -398,8 +101,8 @@ fn round<'a>(
     let head = st.head;
     let c = cells::cell_at(s, o, head);
     let k = cells::costs_at(t, o, head);
-    let halves = halve(xs, ys, visits, near, n, v, nv, h, nh, c, k);
-    let best = improve(improve(st.best, halves.low), halves.high);
+    let halves = halves::halve(xs, ys, visits, near, n, v, nv, h, nh, c, k);
+    let best = halves::improve(halves::improve(st.best, halves.low), halves.high);
     let first = halves.first;
     let first_k = halves.first_costs;
     let second = halves.second;
@@ -440,10 +143,10 @@ fn corners<'a>(
     requires { ⌜ Sited (now xs) (now ys) (now visits) (now near) n × RectInRange (rectIn c) ⌝ }
     ensures { λ r. ⌜ r ≡ cornerCosts (siteRows (now (xs .entry)) (now (ys .entry)) (now (visits .entry)) (now (near .entry)) n) (rectIn c) ⌝ }
 {
-    let front = priced(xs, ys, visits, near, n, c.xlo, c.ylo);
-    let left = priced(xs, ys, visits, near, n, c.xlo, c.yhi);
-    let right = priced(xs, ys, visits, near, n, c.xhi, c.ylo);
-    let back = priced(xs, ys, visits, near, n, c.xhi, c.yhi);
+    let front = halves::priced(xs, ys, visits, near, n, c.xlo, c.ylo);
+    let left = halves::priced(xs, ys, visits, near, n, c.xlo, c.yhi);
+    let right = halves::priced(xs, ys, visits, near, n, c.xhi, c.ylo);
+    let back = halves::priced(xs, ys, visits, near, n, c.xhi, c.yhi);
     Costs {
         c00: front.cost,
         c01: left.cost,
@@ -468,7 +171,7 @@ fn best_corner(c: Cell, k: Costs) -> Spot
     let left = place(c.xlo, c.yhi, k.c01);
     let right = place(c.xhi, c.ylo, k.c10);
     let back = place(c.xhi, c.yhi, k.c11);
-    improve(improve(improve(front, left), right), back)
+    halves::improve(halves::improve(halves::improve(front, left), right), back)
 }
 
 // The start of a search of an area.
@@ -492,7 +195,7 @@ fn start<'a>(
 {
     let k = corners(xs, ys, visits, near, n, area);
     let best = best_corner(area, k);
-    let c = bounded(xs, ys, visits, near, n, area, k);
+    let c = halves::bounded(xs, ys, visits, near, n, area, k);
     let head = add(v, nv, h, nh, s, t, o, 1001, 1001, c, k, best);
     State {
         head,

@@ -27,7 +27,7 @@ use Rattle.pricing.specs.declared.Sites.{Sites}
 use Rattle.report.specs.declared.Report.{Report}
 use Rattle.report.specs.declared.State.the-variants.{Done}
 use Rattle.search.specs.Run.{pricedOf}
-use Rattle.search.specs.declared.run.Spot.{Spot}
+use Rattle.search.specs.declared.halves.Spot.{Spot}
 use Rattle.exhaustive.specs.Cheapest.{Ready}
 use Rattle.siting.specs.declared.Cheapest.{Cheapest}
 use Rattle.siting.specs.declared.Cheapest.the-variants as Cheapest

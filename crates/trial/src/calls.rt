@@ -3,7 +3,7 @@
 use job::Refusal;
 use report::Report;
 use report::State;
-use search::run::Spot;
+use search::halves::Spot;
 use siting::Answer;
 use siting::Cheapest;
 ghost use mathlib.Core.Path.{_≡_};

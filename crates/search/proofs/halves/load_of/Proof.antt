@@ -1,9 +1,9 @@
--- `search::run::load_of` meets its contract: the cell's edges are in range, so that `load` sees them as they are.
+-- `search::halves::load_of` meets its contract: the cell's edges are in range, so that `load` sees them as they are.
 -- Assumes nothing.
 use Rattle.search.specs.Run.{rectIn}
 use Rattle.search.proofs.StepLaws.{near-narrow, edges-narrow, load-narrow}
-use Rattle.search.proofs.run.load_of.Statement.{statement}
-use Rattle.search.proofs.run.load_of.Tie as tie
+use Rattle.search.proofs.halves.load_of.Statement.{statement}
+use Rattle.search.proofs.halves.load_of.Tie as tie
 
 cast-load : tie.Need-cast-load
 cast-load c = near-narrow (c .before .before .args .c .xlo) (c .before .before .pre .1 .range .low-corner .x-range)

@@ -1,8 +1,8 @@
--- `search::run::width` meets its contract: the difference of two numbers in range and in order.
+-- `search::halves::width` meets its contract: the difference of two numbers in range and in order.
 -- Assumes nothing.
 use Rattle.search.proofs.StepLaws.{width-fits, width-cast, width-figure}
-use Rattle.search.proofs.run.width.Statement.{statement}
-use Rattle.search.proofs.run.width.Tie as tie
+use Rattle.search.proofs.halves.width.Statement.{statement}
+use Rattle.search.proofs.halves.width.Tie as tie
 
 sub-result : tie.Need-sub-result
 sub-result c = width-fits _ _ (c .pre .0) (c .pre .1)

@@ -1,9 +1,9 @@
--- `search::run::span` meets its contract: two sides that are in range.
+-- `search::halves::span` meets its contract: two sides that are in range.
 -- Assumes nothing.
 use native.Mathlib.Omega.{arith}
 use Rattle.search.proofs.StepLaws.{side-x, side-y, span-is}
-use Rattle.search.proofs.run.span.Statement.{statement}
-use Rattle.search.proofs.run.span.Tie as tie
+use Rattle.search.proofs.halves.span.Statement.{statement}
+use Rattle.search.proofs.halves.span.Tie as tie
 
 width-requires : tie.Need-width-requires
 width-requires c κs = side-x _ (c .before .before .pre)

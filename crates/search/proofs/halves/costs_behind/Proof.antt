@@ -1,7 +1,7 @@
--- `search::run::costs_behind` meets its contract: by the axis of the cut.
+-- `search::halves::costs_behind` meets its contract: by the axis of the cut.
 -- Assumes nothing.
-use Rattle.search.proofs.run.costs_behind.Statement.{statement}
-use Rattle.search.proofs.run.costs_behind.Tie as tie
+use Rattle.search.proofs.halves.costs_behind.Statement.{statement}
+use Rattle.search.proofs.halves.costs_behind.Tie as tie
 
 returns : tie.Need-returns
 returns c = rw (c .if1 .taken)

@@ -1,4 +1,4 @@
--- `search::run::halve` meets its contract: the cut lies strictly inside the cell, so that the new corners and both parts are in range.
+-- `search::halves::halve` meets its contract: the cut lies strictly inside the cell, so that the new corners and both parts are in range.
 -- Assumes nothing.
 use mathlib.Core.List.{List}
 use mathlib.Core.Path.{_≡_, sym, ap, subst, _∙_}
@@ -10,8 +10,8 @@ use Rattle.pricing.specs.Sites.{Site}
 use Rattle.lines.specs.declared.Cut.{Cut}
 use Rattle.search.specs.Run.{spotOf, rectIn, cornerCosts, cellFor, Ranged, lowCorner, highCorner, firstRect, secondRect, halvesOf, CutInRange}
 use Rattle.search.proofs.CutParts.{cut-range, first-range, second-range, first-rect-is, second-rect-is, first-costs-is, second-costs-is, halves-are}
-use Rattle.search.proofs.run.halve.Statement.{statement}
-use Rattle.search.proofs.run.halve.Tie as tie
+use Rattle.search.proofs.halves.halve.Statement.{statement}
+use Rattle.search.proofs.halves.halve.Tie as tie
 
 -- the cut is in range
 cut-in-range : (c : tie.After-cut-of) → CutInRange (c .before .args .c) (c .cut-of .result)

@@ -1,8 +1,8 @@
--- `search::run::bounded` meets its contract: the load, the span and the costs of the corners give the bound, which fits.
+-- `search::halves::bounded` meets its contract: the load, the span and the costs of the corners give the bound, which fits.
 -- Assumes nothing.
 use Rattle.search.proofs.StepLaws.{bound-range, bound-is, cell-back}
-use Rattle.search.proofs.run.bounded.Statement.{statement}
-use Rattle.search.proofs.run.bounded.Tie as tie
+use Rattle.search.proofs.halves.bounded.Statement.{statement}
+use Rattle.search.proofs.halves.bounded.Tie as tie
 
 load-of-requires : tie.Need-load-of-requires
 load-of-requires c κs = (c .pre .0, c .pre .1)

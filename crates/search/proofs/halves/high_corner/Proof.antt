@@ -1,8 +1,8 @@
--- `search::run::high_corner` meets its contract: by the axis of the cut.
+-- `search::halves::high_corner` meets its contract: by the axis of the cut.
 -- Assumes nothing.
 use Rattle.search.proofs.StepLaws.{near-places, high-across, high-deep}
-use Rattle.search.proofs.run.high_corner.Statement.{statement}
-use Rattle.search.proofs.run.high_corner.Tie as tie
+use Rattle.search.proofs.halves.high_corner.Statement.{statement}
+use Rattle.search.proofs.halves.high_corner.Tie as tie
 
 priced-requires : tie.Need-priced-requires
 priced-requires c κs = let s = c .before .before .before in (s .pre .0, near-places (s .args .cut .at) (s .args .c .yhi) (s .pre .1 .at-range) (s .pre .1 .ranged .high-corner .y-range))

@@ -1,8 +1,8 @@
--- `search::run::low_corner` meets its contract: by the axis of the cut.
+-- `search::halves::low_corner` meets its contract: by the axis of the cut.
 -- Assumes nothing.
 use Rattle.search.proofs.StepLaws.{near-places, low-across, low-deep}
-use Rattle.search.proofs.run.low_corner.Statement.{statement}
-use Rattle.search.proofs.run.low_corner.Tie as tie
+use Rattle.search.proofs.halves.low_corner.Statement.{statement}
+use Rattle.search.proofs.halves.low_corner.Tie as tie
 
 priced-requires : tie.Need-priced-requires
 priced-requires c κs = let s = c .before .before .before in (s .pre .0, near-places (s .args .cut .at) (s .args .c .ylo) (s .pre .1 .at-range) (s .pre .1 .ranged .low-corner .y-range))

@@ -1,11 +1,11 @@
--- `search::run::cut_of` meets its contract: the cell's edges are in range, so that `find_cut` sees them as they are.
+-- `search::halves::cut_of` meets its contract: the cell's edges are in range, so that `find_cut` sees them as they are.
 -- Assumes nothing.
 use mathlib.Core.Path.{ap, _∙_}
 use Rattle.lines.specs.LineRecord.{cutRecord}
 use Rattle.search.specs.Run.{rectIn}
 use Rattle.search.proofs.StepLaws.{edges-x, edges-y, rect-back}
-use Rattle.search.proofs.run.cut_of.Statement.{statement}
-use Rattle.search.proofs.run.cut_of.Tie as tie
+use Rattle.search.proofs.halves.cut_of.Statement.{statement}
+use Rattle.search.proofs.halves.cut_of.Tie as tie
 
 find-cut-requires : tie.Need-find-cut-requires
 find-cut-requires c κs = let p = c .before .before .before .before .pre in (p .0 .across, (p .0 .deep, (edges-x _ (p .1), edges-y _ (p .1))))

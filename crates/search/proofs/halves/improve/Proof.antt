@@ -1,12 +1,12 @@
--- `search::run::improve` meets its contract: the test on words is the one of document 01.
+-- `search::halves::improve` meets its contract: the test on words is the one of document 01.
 -- Assumes nothing.
 use mathlib.Core.Path.{_≡_}
 use native.Mathlib.Omega.{arith}
 use Rattle.query.specs.Order.{better}
 use Rattle.search.specs.Run.{pricedOf}
 use Rattle.search.proofs.StepLaws.{spot-better, improve-taken, improve-left}
-use Rattle.search.proofs.run.improve.Statement.{statement}
-use Rattle.search.proofs.run.improve.Tie as tie
+use Rattle.search.proofs.halves.improve.Statement.{statement}
+use Rattle.search.proofs.halves.improve.Tie as tie
 
 told : (c : tie.After-precedes) → c .precedes .result ≡ better (pricedOf (c .before .before .before .before .before .before .before .args .p)) (pricedOf (c .before .before .before .before .before .before .before .args .best))
 told c =
