@@ -4,7 +4,7 @@ use mathlib.Core.Path.{_≡_, refl, sym, subst, _∙_}
 use mathlib.Core.Bool.{Bool, true, false, cond, _&&_}
 use mathlib.Core.List.{List, [], _∷_}
 use mathlib.Core.Option.{Option, none, some, bind}
-use Prim.Native.Nat.{ℕ, _+_, _-_, _≤_, _<_, _^_, max}
+use Prim.Native.Nat.{ℕ, _+_, _≤_, _<_, _^_, max}
 use native.Mathlib.Omega.{arith}
 use borrow.Author.Tests.{ltb-true, le-leb, lt-leb}
 use lib.Dec.{T, eqb}

@@ -3,7 +3,7 @@
 use Prim.Native.Nat.{ℕ}
 use Prim.Native.String.{String}
 use mathlib.Core.Bool.{Bool, _&&_}
-use lib.IntN.{ℤ, pos, negsuc, natAbs}
+use lib.IntN.{ℤ, pos, negsuc}
 use Rattle.numbers.specs.Integer.{between}
 use Rattle.query.specs.Place.{Place, Rect}
 use Rattle.text.specs.Ascii.{bytes, comma, newline}

@@ -2,15 +2,13 @@
 -- Assumes nothing.
 use Prim.Native.Nat.{ℕ, _-_}
 use mathlib.Core.List.{List, [], map, _++_}
-use lib.IntN.{ℤ, pos}
+use lib.IntN.{pos}
 use lib.ListN.{length, replicate}
 use Rattle.query.specs.Place.{Place, Rect}
-use Rattle.query.specs.Deck as Query
 use Rattle.query.specs.Deck.{Stop}
 use Rattle.job.specs.Format.{Result, refused, accepted}
 use Rattle.job.specs.declared.Deck.{Deck}
 use Rattle.job.specs.declared.Job.{Job}
-use Rattle.job.specs.declared.Outcome.{Outcome}
 use Rattle.job.specs.declared.Outcome.the-variants.{Accepted, Refused}
 
 -- a list at the front of an array of so many elements, with z behind it

@@ -4,7 +4,7 @@ use Prim.Native.Nat.{ℕ, _≤_}
 use Prim.Native.String.{String}
 use mathlib.Core.Path.{_≡_}
 use mathlib.Core.List.{List, [], _∷_, flatten, flatMap, List·Memᴰ}
-use lib.IntN.{ℤ, pos}
+use lib.IntN.{pos}
 use lib.ListN.{length}
 use Rattle.query.specs.Place.{Place, Rect, NonEmpty}
 use Rattle.query.specs.Deck.{Stop, plain}

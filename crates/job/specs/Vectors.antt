@@ -1,12 +1,11 @@
 -- Document 01, "Turned down" and "Decks to try": the small inputs that concern reading, as rows under one theorem.
 -- Assumes nothing.
 use mathlib.Core.Path.{_≡_}
-use mathlib.Core.List.{List, [], _∷_}
+use mathlib.Core.List.{[]}
 use lib.ListN.{replicate}
-use Prim.Native.Nat.{ℕ}
 use Rattle.query.specs.Marked.{deckA}
 use Rattle.text.specs.Ascii.{bytes}
-use Rattle.job.specs.Format.{Result, refused, accepted, readJob}
+use Rattle.job.specs.Format.{refused, accepted, readJob}
 use Rattle.job.specs.declared.Refusal.the-variants.{TooLong, Malformed, OutOfRange, EmptyArea, NoPosts, NoStops}
 
 pub record Vectors : Type 0 where

@@ -1,7 +1,7 @@
 -- Whole numbers ℤ: what document 01 needs of them beyond the library's `_+ℤ_`, `_-ℤ_`, `natAbs`, `leZ` and `ltZ`.
 -- Assumes nothing.
 use Prim.Native.Nat.{ℕ, suc, _+_, _/_}
-use mathlib.Core.Bool.{Bool, true, false, cond, _&&_}
+use mathlib.Core.Bool.{Bool, false, cond, _&&_}
 use lib.Dec.{eqb}
 use lib.IntN.{ℤ, pos, negsuc, negℤ, natAbs, _-ℤ_}
 use lib.Signed.{leZ, ltZ}

@@ -7,7 +7,6 @@ use native.Mathlib.Omega.{arith}
 use lib.IntN.{ℤ, pos}
 use lib.ListN.{length, getD, take, length-take, length-map}
 use Rattle.query.specs.Place.{Place, Rect}
-use Rattle.query.specs.Deck as Query
 use Rattle.query.specs.Deck.{Stop, plain}
 use Rattle.query.specs.Travel.{closest, near}
 use Rattle.query.specs.Range.{InRange, StopInRange, PlaceInRange}

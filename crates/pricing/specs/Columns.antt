@@ -8,7 +8,7 @@ use lib.IntN.{ℤ, pos, natAbs}
 use lib.Signed.{ltZ, _≤ℤ_}
 use lib.ListN.{length, getD, take}
 use Rattle.numbers.specs.Integer.{dist}
-use Rattle.query.specs.Place.{Place, Rect}
+use Rattle.query.specs.Place.{Rect}
 use Rattle.query.specs.Range.{travelLimit, loadLimit, costLimit}
 use Rattle.pricing.specs.Sites.{Site, beforeOf, flagsOf}
 

@@ -1,10 +1,10 @@
 -- The deck that a record of the code holds.
 -- Assumes nothing.
 use Prim.Native.Nat.{ℕ}
-use mathlib.Core.List.{List, [], _∷_, zipWith}
+use mathlib.Core.List.{List, zipWith}
 use lib.IntN.{ℤ}
 use lib.ListN.{take}
-use Rattle.query.specs.Place.{Place, Rect}
+use Rattle.query.specs.Place.{Place}
 use Rattle.query.specs.Deck as Query
 use Rattle.query.specs.Deck.{Stop, plain}
 use Rattle.job.specs.declared.Deck.{Deck}

@@ -7,7 +7,7 @@ use mathlib.Core.List.{List, map}
 use lib.Dec.{ltb}
 use Rattle.numbers.specs.Lists.{sumOf, keep}
 use Rattle.query.specs.Place.{Place, Rect}
-use Rattle.query.specs.Deck.{Stop, Deck, plain}
+use Rattle.query.specs.Deck.{Deck, plain}
 use Rattle.query.specs.Travel.{travel, near}
 use Rattle.query.specs.Reach.{closestPoint}
 use Rattle.job.specs.Record.{padded}

@@ -1,7 +1,6 @@
 -- The chord inequality: while a place moves along an axis past no stop within reach, its cost is concave.
 -- Assumes nothing.
 use mathlib.Core.Path.{_≡_, refl, ap}
-use mathlib.Core.Bool.{not}
 use mathlib.Core.Logic.{_⊎_, inl, inr, ⊎-elim}
 use mathlib.Core.List.{List·Memᴰ}
 use Prim.Native.Nat.{ℕ, _+_, _*_, _≤_, min}

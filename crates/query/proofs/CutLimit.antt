@@ -1,21 +1,19 @@
 -- The cut limit: each cut takes one from (gaps across × gaps deep − 1) summed over the live cells.
 -- Assumes nothing.
-use mathlib.Core.Path.{_≡_, refl, sym, ap, subst, _∙_}
-use mathlib.Core.List.{List, [], _∷_, _++_, Pairwise, List·Memᴰ, List·Memᴰ·head}
+use mathlib.Core.Path.{_≡_, refl, ap}
+use mathlib.Core.List.{List, [], _∷_, Pairwise}
 use Prim.Native.Nat.{ℕ, zero, suc, _+_, _-_, _*_, _≤_, _<_}
-use native.Mathlib.Nat.{mul-comm, mul-le-mul-left}
+use native.Mathlib.Nat.{mul-comm}
 use native.Mathlib.Omega.{arith}
 use lib.IntN.{ℤ}
 use lib.ListN.{length}
 use lib.Signed.{_<ℤ_}
-use Rattle.numbers.specs.Integer.{strictlyBetween}
-use Rattle.numbers.specs.Lists.{sumOf, keep, insertBy}
+use Rattle.numbers.specs.Lists.{sumOf, insertBy}
 use Rattle.numbers.proofs.Sums.{sumOf-cons, sumOf-nil, sumOf-keep-le, sumOf-insertBy}
-use Rattle.numbers.proofs.Members.{insertBy-length, keep-length}
 use Rattle.numbers.proofs.Increasing.{inside-split}
 use Rattle.query.specs.Place.{Rect, Axis, x-axis, y-axis, low-edge, high-edge}
 use Rattle.query.specs.Problem.{Problem, linesAlong}
-use Rattle.query.specs.Cut.{inside, cutLine, cutBefore, cutAfter}
+use Rattle.query.specs.Cut.{inside}
 use Rattle.query.specs.Order.{Cell, cellBefore}
 use Rattle.query.specs.Search.{Search, isLive, cellOf, startBest, start, cellsAfter, bestAfter, roundOn, round, run}
 use Rattle.query.specs.Laws.{CutLaw, Inside}

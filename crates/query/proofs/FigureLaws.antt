@@ -1,29 +1,28 @@
 -- The figures of a run: low is at most every cost and never falls, high never rises, and a finished search's place is the best of the area.
 -- Assumes nothing.
-use mathlib.Core.Path.{_≡_, refl, sym, ap, subst, _∙_}
+use mathlib.Core.Path.{_≡_, refl, sym, subst}
 use mathlib.Core.Bool.{not}
-use mathlib.Core.Logic.{_⊎_, inl, inr, ⊎-elim}
-use mathlib.Core.List.{List, [], _∷_, map, List·Memᴰ, List·Memᴰ·head, List·Memᴰ·tail, List·Memᴰ·cases-cons, List·Memᴰ·not-nil, Memᴰ·map, Memᴰ·of-map}
-use Prim.Native.Nat.{ℕ, zero, suc, _≤_, _<_}
+use mathlib.Core.Logic.{_⊎_, ⊎-elim}
+use mathlib.Core.List.{List, [], _∷_, map, List·Memᴰ, List·Memᴰ·head, List·Memᴰ·tail, List·Memᴰ·not-nil, Memᴰ·map, Memᴰ·of-map}
+use Prim.Native.Nat.{_≤_}
 use native.Mathlib.Omega.{arith}
 use lib.Dec.{T}
 use lib.IntN.{ℤ, pos}
-use lib.Signed.{ltZ, _≤ℤ_, _<ℤ_}
-use Rattle.numbers.specs.Lists.{keep}
+use lib.Signed.{ltZ, _≤ℤ_}
 use Rattle.numbers.proofs.Integer.{order}
 use Rattle.numbers.proofs.Members.{keep-from, least-member, least-le}
 use Rattle.numbers.proofs.Orders.{ltZ-strict}
-use Rattle.query.specs.Place.{Place, Rect, In, NonEmpty, Axis, low-edge, high-edge}
+use Rattle.query.specs.Place.{Place, Rect, In, NonEmpty}
 use Rattle.query.specs.Problem.{Problem}
-use Rattle.query.specs.Order.{Priced, Cell, Key, precedes, pricedKey, better}
-use Rattle.query.specs.Search.{Search, isLive, pricedAt, cellOf, cellsAfter, bestAfter, roundOn, round, run}
+use Rattle.query.specs.Order.{Priced, Cell, better}
+use Rattle.query.specs.Search.{Search, isLive, pricedAt, cellsAfter, bestAfter, roundOn}
 use Rattle.query.specs.Figures.{high, low}
 use Rattle.query.specs.Laws.{CutLaw, Inside}
 use Rattle.query.proofs.KeyOrder.{better-strict, not-better-cost}
 use Rattle.query.proofs.Split.{PartOf, part-nonEmpty, part-low-in, part-high-in}
 use Rattle.query.proofs.CellsAfter.{axisOf, lineOf, firstOf, secondOf, after-cases}
 use Rattle.query.proofs.Lawful.{Lawful, OnLines}
-use Rattle.query.proofs.Invariant.{NotBetter, Ok, CellOk, taken-cut, is-first-part, is-second-part, best-kept, best-from}
+use Rattle.query.proofs.Invariant.{NotBetter, Ok, taken-cut, is-first-part, is-second-part, best-kept, best-from}
 
 -- ---- low is the least of high and of the live bounds
 pub low-le-high : (s : Search) → low s ≤ℤ pos (high s)

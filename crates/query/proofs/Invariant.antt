@@ -1,28 +1,27 @@
 -- The invariant of the run: every crossing of the area lies in a live cell, or is not better than the best place.
 -- Assumes nothing.
-use mathlib.Core.Path.{_≡_, refl, sym, ap, subst, _∙_}
-use mathlib.Core.Bool.{Bool, true, false, not, _&&_}
+use mathlib.Core.Path.{_≡_, refl, sym, subst}
+use mathlib.Core.Bool.{not}
 use mathlib.Core.Logic.{_⊎_, inl, inr, ⊎-elim}
-use mathlib.Core.List.{List, [], _∷_, List·Memᴰ, List·Memᴰ·head, List·Memᴰ·tail, List·Memᴰ·cases-cons, List·Memᴰ·not-nil}
+use mathlib.Core.List.{List, [], _∷_, List·Memᴰ, List·Memᴰ·head, List·Memᴰ·tail}
 use Prim.Native.Nat.{ℕ, zero, suc}
 use native.Mathlib.Omega.{arith}
 use lib.Dec.{T, T-not}
-use lib.IntN.{ℤ, pos}
+use lib.IntN.{ℤ}
 use lib.Signed.{ltZ, _≤ℤ_, _<ℤ_}
-use Rattle.numbers.specs.Integer.{eqZ}
-use Rattle.numbers.specs.Lists.{keep, insertBy}
+use Rattle.numbers.specs.Lists.{keep}
 use Rattle.numbers.proofs.Truth.{test, and-left, nand-right}
 use Rattle.numbers.proofs.Integer.{order}
-use Rattle.numbers.proofs.Members.{keep-test, keep-from, keep-all, insertBy-cases, insertBy-new, insertBy-old}
-use Rattle.query.specs.Place.{Place, Rect, In, NonEmpty, Axis, x-axis, y-axis, coordinate, low-edge, high-edge, corner, earlier}
+use Rattle.numbers.proofs.Members.{keep-test, keep-from, keep-all}
+use Rattle.query.specs.Place.{Place, Rect, In, NonEmpty, Axis, x-axis, y-axis, coordinate, low-edge, high-edge, corner}
 use Rattle.query.specs.Problem.{Problem, linesAlong}
-use Rattle.query.specs.Cut.{canCut, cutLine, cutBefore, cutAfter, newCorners}
-use Rattle.query.specs.Order.{Priced, Cell, precedes, pricedKey, cellKey, better, cellBefore}
+use Rattle.query.specs.Cut.{canCut, newCorners}
+use Rattle.query.specs.Order.{Priced, Cell, precedes, pricedKey, cellKey, better}
 use Rattle.query.specs.Search.{Search, isLive, pricedAt, cellOf, bestOf, otherCorners, startBest, start, cellsAfter, bestAfter, roundOn, round, run}
 use Rattle.query.specs.Laws.{Inside, CutLaw, CutLineLaw}
 use Rattle.query.proofs.KeyOrder.{precedes-strict, better-strict, point-after-cell}
 use Rattle.query.proofs.Axes.{for-both, Along, along, along-in, edges-in, place-eq, other, cut-or-other}
-use Rattle.query.proofs.Split.{OnEdge, Corner, corner-in, parts, PartOf, first-part, second-part, split-point, part-nonEmpty, part-point, part-edges, OnCut, new-corner-on, part-corner}
+use Rattle.query.proofs.Split.{OnEdge, Corner, corner-in, parts, PartOf, first-part, second-part, part-nonEmpty, part-point, part-edges, OnCut, new-corner-on, part-corner}
 use Rattle.query.proofs.CellsAfter.{axisOf, lineOf, firstOf, secondOf, Within, after-cases, after-within}
 use Rattle.query.proofs.Best.{bestOf-from, bestOf-old, bestOf-new}
 use Rattle.query.proofs.Lawful.{Lawful, OnLines}

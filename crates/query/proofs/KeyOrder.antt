@@ -13,7 +13,7 @@ use Rattle.numbers.proofs.Truth.{not-either}
 use Rattle.numbers.proofs.Integer.{order}
 use Rattle.numbers.proofs.Members.{Strict}
 use Rattle.numbers.proofs.Orders.{ltZ-strict, ltZ-ties, strict-on, ties-on, lex-strict}
-use Rattle.query.specs.Place.{Place, Rect, In, corner, earlier}
+use Rattle.query.specs.Place.{Place, In, corner, earlier}
 use Rattle.query.specs.Order.{Priced, Cell, Key, precedes, pricedKey, cellKey, better, cellBefore}
 
 pub earlier-strict : Strict earlier

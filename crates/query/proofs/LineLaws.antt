@@ -13,7 +13,7 @@ use Rattle.numbers.proofs.Integer.{order}
 use Rattle.numbers.proofs.Ranges.{between-range, range-between}
 use Rattle.numbers.proofs.Members.{keep-test, keep-from, keep-all, insertOnce-cases, insertOnce-new, insertOnce-old, insertOnce-increasing}
 use Rattle.numbers.proofs.Increasing.{inserted-increasing, inserted-from, inserted-all, inside-gaps}
-use Rattle.query.specs.Place.{Rect, NonEmpty, Axis, x-axis, y-axis, coordinate, low-edge, high-edge}
+use Rattle.query.specs.Place.{NonEmpty, Axis, x-axis, y-axis, coordinate, low-edge, high-edge}
 use Rattle.query.specs.Deck.{Stop, Deck}
 use Rattle.query.specs.Reach.{reach}
 use Rattle.query.specs.Lines.{stopCoordinates, lines, gaps}

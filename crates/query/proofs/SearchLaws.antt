@@ -1,19 +1,19 @@
 -- The search keeps the live cells of the partition, in the order in which rounds take them.
 -- Assumes nothing.
 use mathlib.Core.Path.{_≡_, refl, sym, subst}
-use mathlib.Core.Bool.{Bool, true, false, not, _&&_}
-use mathlib.Core.Logic.{_⊎_, inl, inr, ⊎-elim}
-use mathlib.Core.List.{List, [], _∷_, _++_, List·Memᴰ, List·Memᴰ·head, List·Memᴰ·tail, List·Memᴰ·append-cases, Memᴰ·append-left, Memᴰ·append-right, append-nil, Pairwise, Pairwise·nil, Pairwise·cons, rel-of-pairwise-cons, Pairwise·of-cons}
+use mathlib.Core.Bool.{Bool, not}
+use mathlib.Core.Logic.{_⊎_, ⊎-elim}
+use mathlib.Core.List.{List, [], _∷_, _++_, List·Memᴰ, List·Memᴰ·head, List·Memᴰ·tail, List·Memᴰ·append-cases, Memᴰ·append-left, Memᴰ·append-right, append-nil, Pairwise, Pairwise·nil, rel-of-pairwise-cons, Pairwise·of-cons}
 use Prim.Native.Nat.{ℕ, zero, suc}
 use lib.Dec.{T, T-prop}
-use Rattle.numbers.specs.Lists.{keep, insertBy}
-use Rattle.numbers.proofs.Truth.{test, and-left, nand-right, and-fails-left, and-fails-right}
-use Rattle.numbers.proofs.Members.{keep-test, keep-from, keep-all, keep-sorted, insertBy-new, insertBy-old, insertBy-sorted, irrefl}
+use Rattle.numbers.specs.Lists.{keep}
+use Rattle.numbers.proofs.Truth.{test, nand-right, and-fails-left, and-fails-right}
+use Rattle.numbers.proofs.Members.{keep-test, keep-all, keep-sorted, insertBy-sorted, irrefl}
 use Rattle.query.specs.Place.{Place, In}
 use Rattle.query.specs.Problem.{Problem}
 use Rattle.query.specs.Cut.{canCut, cutLine, newCorners}
 use Rattle.query.specs.Order.{Priced, Cell, precedes, pricedKey, cellKey, better, cellBefore}
-use Rattle.query.specs.Search.{Search, isLive, cellOf, bestOf, startBest, start, cellsAfter, bestAfter, roundOn, round, run}
+use Rattle.query.specs.Search.{Search, isLive, cellOf, startBest, start, cellsAfter, bestAfter, roundOn, round, run}
 use Rattle.query.specs.Partition.{cutUp, notLive, dead, partition}
 use Rattle.query.specs.Laws.{TakenLaw, PartitionLaw}
 use Rattle.query.proofs.KeyOrder.{precedes-strict, better-strict, cellBefore-strict}

@@ -1,18 +1,14 @@
 -- Travel: triangle, the closest point of a rectangle, and a rectangle's span through one of its points.
 -- Assumes nothing.
-use mathlib.Core.Path.{_≡_, sym, ap, _∙_}
-use Prim.Native.Nat.{ℕ, _+_, _*_, _≤_}
+use mathlib.Core.Path.{_≡_}
+use Prim.Native.Nat.{_+_, _≤_}
 use native.Mathlib.Nat.{mul-le-mul-left}
 use native.Mathlib.Omega.{arith}
-use lib.IntN.{ℤ}
-use lib.Signed.{_≤ℤ_}
-use Rattle.numbers.specs.Integer.{dist}
-use Rattle.numbers.proofs.Distance.{dist-sym, dist-triangle, dist-split, clamp-low, clamp-high, clamp-closest}
+use Rattle.numbers.proofs.Distance.{dist-sym, dist-triangle, clamp-low, clamp-high, clamp-closest}
 use Rattle.query.specs.Place.{Place, Rect, In, NonEmpty}
 use Rattle.query.specs.Deck.{AxisCosts, Stop, Deck}
 use Rattle.query.specs.Travel.{travel}
 use Rattle.query.specs.Reach.{closestPoint, travelTo}
-use Rattle.query.specs.Bound.{span}
 
 pub travel-sym : (axis : AxisCosts) (p q : Place) → travel axis p q ≡ travel axis q p
 unfolding travel

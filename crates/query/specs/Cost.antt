@@ -3,7 +3,7 @@
 use Prim.Native.Nat.{ℕ, _*_, min}
 use Rattle.numbers.specs.Lists.{sumOf}
 use Rattle.query.specs.Place.{Place}
-use Rattle.query.specs.Deck.{Stop, Deck}
+use Rattle.query.specs.Deck.{Deck}
 use Rattle.query.specs.Travel.{travel, near}
 
 -- 01 "cost": the sum over stops of visits × the smaller of near(stop) and travel(stop, place).

@@ -1,7 +1,7 @@
 -- Document 01, "Lines, cells and bounds": when a cell can be cut, on which axis, at which line, and what that makes of it.
 -- Assumes nothing.
 use Prim.Native.Nat.{ℕ}
-use mathlib.Core.Bool.{Bool, true, false, cond, _&&_, _||_}
+use mathlib.Core.Bool.{Bool, cond, _&&_, _||_}
 use mathlib.Core.List.{List, [], _∷_}
 use lib.Dec.{ltb, eqb}
 use lib.IntN.{ℤ, _+ℤ_}

@@ -5,8 +5,8 @@
 use Prim.Native.Nat.{ℕ, _+_, _*_, _≤_}
 use mathlib.Core.Path.{_≡_}
 use mathlib.Core.Bool.{not}
-use mathlib.Core.Logic.{_⊎_, _↔_}
-use mathlib.Core.List.{List, _∷_, List·Memᴰ, Pairwise}
+use mathlib.Core.Logic.{_↔_}
+use mathlib.Core.List.{List, List·Memᴰ, Pairwise}
 use lib.Dec.{T}
 use lib.IntN.{ℤ}
 use lib.ListN.{length}

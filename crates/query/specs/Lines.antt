@@ -7,7 +7,7 @@ use lib.ListN.{length}
 use Rattle.numbers.specs.Integer.{between}
 use Rattle.numbers.specs.Lists.{keep, insertOnce}
 use Rattle.query.specs.Place.{Axis, coordinate, low-edge, high-edge}
-use Rattle.query.specs.Deck.{Stop, Deck}
+use Rattle.query.specs.Deck.{Deck}
 use Rattle.query.specs.Reach.{reach}
 
 -- the coordinates, along an axis, of the stops within reach of the area that lie in the area's range

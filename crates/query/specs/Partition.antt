@@ -7,7 +7,7 @@ use mathlib.Core.List.{List, [], _∷_, _++_}
 use Rattle.numbers.specs.Lists.{keep}
 use Rattle.query.specs.Problem.{Problem}
 use Rattle.query.specs.Order.{Priced, Cell}
-use Rattle.query.specs.Search.{Search, cellOf, isLive, cellsAfter, run}
+use Rattle.query.specs.Search.{cellOf, isLive, cellsAfter, run}
 
 -- the cells that a round on live cells divides the area into, beside those that were dead before it
 unfoldable pub cutUp : Problem → List Cell → List Cell

@@ -1,6 +1,6 @@
 -- Document 01, "The deck": the ranges of a deck's values, and the limits that they put on its figures.
 -- Assumes nothing.
-use Prim.Native.Nat.{ℕ, _*_, _≤_}
+use Prim.Native.Nat.{ℕ, _≤_}
 use mathlib.Core.List.{List·Memᴰ}
 use lib.IntN.{natAbs}
 use lib.ListN.{length}

@@ -16,7 +16,7 @@ use Rattle.query.specs.Problem.{Problem, problem}
 use Rattle.query.specs.Cut.{canCut}
 use Rattle.query.specs.Order as Query
 use Rattle.query.specs.Order.{Priced, better}
-use Rattle.query.specs.Search.{Search, isLive, round, run}
+use Rattle.query.specs.Search.{Search, isLive, run}
 use Rattle.query.specs.Figures as Figures
 use Rattle.query.specs.Space.{space}
 use Rattle.query.specs.Range.{RectInRange, InRange, costLimit}

@@ -1,26 +1,22 @@
 -- The demands of the call `report`.
 -- Assumes nothing.
-use Prim.Native.Nat.{ℕ, suc, _+_, _-_, _*_, _≤_, _<_}
+use Prim.Native.Nat.{ℕ, _+_, _*_, _≤_, _<_}
 use mathlib.Core.Path.{_≡_, refl, sym, ap, subst, subst₂, _∙_}
-use mathlib.Core.Bool.{Bool, true, false, not, cond}
-use mathlib.Core.Logic.{_↔_, _≢_, ⊎-elim}
-use mathlib.Core.List.{List, _++_}
+use mathlib.Core.Logic.{⊎-elim}
+use mathlib.Core.List.{List}
 use native.Mathlib.Omega.{arith}
-use lib.Dec.{T, ltb, ltb→lt, lt→ltb, nltb→le}
+use lib.Dec.{ltb, ltb→lt, lt→ltb, nltb→le}
 use lib.Arith.{le→nltb}
-use lib.IntN.{ℤ, pos}
-use lib.ListN.{length, drop}
+use lib.IntN.{ℤ}
+use lib.ListN.{length}
 use lib.Signed.{_≤ℤ_}
-use Rattle.numbers.proofs.Truth.{test, cond-ind, cond-true, cond-false}
-use Rattle.query.specs.Place.{NonEmpty}
-use Rattle.query.specs.Figures.{Figures, State, figures, done, stopped}
+use Rattle.numbers.proofs.Truth.{test, cond-true, cond-false}
+use Rattle.query.specs.Figures.{State, figures, done, stopped}
 use Rattle.query.specs.Space.{space}
-use Rattle.query.specs.Demand3.{Demand3}
 use Rattle.query.proofs.Demand3 as Query
 use Rattle.query.proofs.FigureRanges.{figures-in-range}
 use Rattle.job.specs.Format.{Job, Result, refused, accepted, readJob}
 use Rattle.job.specs.Spelling.{spell, Allowed}
-use Rattle.job.specs.Meaning as Meaning
 use Rattle.job.proofs.Meaning.{accepted-law, refused-law, spelling-law, allowed-in-range}
 use Rattle.job.specs.declared.Refusal.{Refusal}
 use Rattle.job.specs.declared.Refusal.the-variants.{TooLong, Malformed, OutOfRange, EmptyArea, NoPosts, NoStops, SmallSpace, ShortOutput}
@@ -29,10 +25,9 @@ use Rattle.report.specs.Limits.{FiguresInRange}
 use Rattle.report.proofs.Fits.{report-fits}
 use Rattle.report.specs.declared.Report.{Report}
 use Rattle.report.specs.declared.State.the-variants.{Done, Stopped}
-use Rattle.siting.specs.declared.Answer.{Answer}
 use Rattle.siting.specs.declared.Answer.the-variants as Answered
 use Rattle.siting.specs.Call.{Left, stateRecord, reportRecord, turnedDown, overwritten, reported, answered, reportCall}
-use Rattle.siting.specs.Demands.{Condition, Demand1, Accepted, Demand2, placeOf, ReportLaw, oneMore, Demand3Report, Demands}
+use Rattle.siting.specs.Demands.{Condition, Demand1, Accepted, Demand2, ReportLaw, oneMore, Demand3Report, Demands}
 
 -- the figures of an allowed job are in range, so that its report fits 128 bytes
 pub job-limits : (job : Job) → Allowed job → FiguresInRange (figures (job .deck) (job .rounds))

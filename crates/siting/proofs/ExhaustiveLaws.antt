@@ -1,11 +1,10 @@
 -- What the call `exhaustive` is held to, over a job's bytes.
 -- Assumes nothing.
-use Prim.Native.Nat.{ℕ, _+_, _*_, _≤_}
+use Prim.Native.Nat.{ℕ}
 use mathlib.Core.Path.{_≡_, refl, sym, ap, subst, _∙_}
 use mathlib.Core.Logic.{_≢_}
 use mathlib.Core.List.{List}
 use native.Mathlib.Omega.{arith}
-use lib.IntN.{ℤ}
 use Rattle.query.specs.Place.{Place, In}
 use Rattle.query.specs.Order.{Priced}
 use Rattle.query.specs.Cost.{cost}
@@ -25,14 +24,11 @@ use Rattle.pricing.specs.Sites.{sitesOf}
 use Rattle.pricing.specs.Record.{sitesRecord}
 use Rattle.pricing.specs.declared.Sites.{Sites}
 use Rattle.report.specs.declared.Report.{Report}
-use Rattle.report.specs.declared.State.the-variants.{Done}
 use Rattle.search.specs.Run.{pricedOf}
 use Rattle.search.specs.declared.halves.Spot.{Spot}
 use Rattle.exhaustive.specs.Cheapest.{Ready}
 use Rattle.siting.specs.declared.Cheapest.{Cheapest}
 use Rattle.siting.specs.declared.Cheapest.the-variants as Cheapest
-use Rattle.siting.specs.declared.Answer.the-variants as Answered
-use Rattle.siting.specs.Call.{reportRecord, reportCall}
 use Rattle.siting.specs.Exhaustive.{spotRecord, cheapestOf, exhaustiveCall, ExhaustiveCallLaw}
 use Rattle.siting.proofs.Demands.{is-done, accepted-report}
 use Rattle.siting.proofs.ReadLaws.{read-accepted, read-refused, read-deckOf, read-full, sites-ask}

@@ -7,13 +7,13 @@ use native.Mathlib.Omega.{arith}
 use mir.Syntax.{w64}
 use mir.Val.{toZ, ofZ}
 use mir.ValLaws.{toZ-ofZ}
-use lib.IntN.{ℤ, pos}
+use lib.IntN.{ℤ}
 use lib.ListN.{length, drop}
 use Rattle.numbers.proofs.Words.{word-fits}
 use Rattle.query.specs.Deck as Deck
 use Rattle.query.specs.Problem.{problem}
 use Rattle.query.specs.Order as Query
-use Rattle.query.specs.Search.{Search, run}
+use Rattle.query.specs.Search.{run}
 use Rattle.query.specs.Cost.{before}
 use Rattle.query.specs.Figures as Figures
 use Rattle.query.specs.Figures.{figures}

@@ -9,7 +9,6 @@ use lib.IntN.{ℤ, pos, negℤ}
 use lib.ListN.{length, drop, replicate}
 use lib.Signed.{_≤ℤ_}
 use Rattle.query.specs.Place.{Place, In, x-axis, y-axis}
-use Rattle.query.specs.Deck.{Deck}
 use Rattle.query.specs.Cost.{cost}
 use Rattle.query.specs.Lines.{gaps}
 use Rattle.query.specs.Problem.{problem}
@@ -28,7 +27,7 @@ use Rattle.report.specs.declared.Report.{Report}
 use Rattle.report.specs.declared.State.the-variants.{Done, Stopped}
 use Rattle.siting.specs.declared.Answer.the-variants as Answered
 use Rattle.siting.specs.Call.{reportCall, reportRecord}
-use Rattle.siting.specs.Entry.{Returned, entry}
+use Rattle.siting.specs.Entry.{entry}
 
 -- ---- demand 1
 -- document 01, "Turned down": the condition of each refusal of the call, in the stated order

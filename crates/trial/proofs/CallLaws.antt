@@ -35,7 +35,7 @@ use Rattle.siting.proofs.Demands.{job-limits, call-accepted, refused-call, smal
 use Rattle.siting.proofs.EntryLaws.{minus-number}
 use Rattle.siting.proofs.ExhaustiveLaws.{exhaustive-call-law}
 use Rattle.trial.specs.Trial.{least}
-use Rattle.trial.specs.Calls.{Called, called, LineCalled, lineCalled, numberFor, numbersOf, SpotInRange, spotNumbers, refusalNumbers}
+use Rattle.trial.specs.Calls.{called, lineCalled, numberFor, numbersOf, SpotInRange, spotNumbers, refusalNumbers}
 
 -- ---- the answer of the call, by its case
 module _ (job : List ℕ) (cells : List ℤ) (out : List ℕ) (answer : Answer) (cells′ : List ℤ) (out′ : List ℕ) (e : record { answer = answer; cells = cells′; out = out′ } ≡ reportCall job cells out) where

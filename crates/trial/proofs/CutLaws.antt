@@ -1,22 +1,21 @@
 -- The lines and the cut that are found for an opened job are those of its deck.
 -- Assumes nothing.
 use mathlib.Core.Path.{_≡_, refl, sym, ap, subst, _∙_}
-use mathlib.Core.Bool.{Bool, true, false, cond, _&&_}
-use mathlib.Core.List.{List, _++_, map}
+use mathlib.Core.Bool.{Bool, true, false, cond}
+use mathlib.Core.List.{List, _++_}
 use Prim.Native.Nat.{ℕ, _≤_, _<_}
 use native.Mathlib.Omega.{arith}
 use lib.IntN.{ℤ, pos}
 use lib.Dec.{ltb}
 use lib.ListN.{length, take, drop}
 use mir.Syntax.{w64}
-use mir.Val.{SFits, toZ}
+use mir.Val.{toZ}
 use mir.ValLaws.{toZ-pos}
 use borrow.Author.Tests.{lt-ltb, le-ltb}
 use Rattle.numbers.proofs.Words as Words
 use Rattle.query.specs.Place.{Rect, NonEmpty, Axis, x-axis, y-axis, low-edge, high-edge}
 use Rattle.query.specs.Deck as Query
 use Rattle.query.specs.Range.{RectInRange}
-use Rattle.query.specs.Reach.{reach}
 use Rattle.query.specs.Lines.{lines}
 use Rattle.query.specs.Problem.{problem}
 use Rattle.query.specs.Cut.{canCut, cutLine}
@@ -24,7 +23,6 @@ use Rattle.job.specs.Format.{Result, refused, accepted, readJob}
 use Rattle.job.specs.Record.{padded, deckRecord}
 use Rattle.job.proofs.RangeTests.{held, held-is}
 use Rattle.pricing.specs.DeckOf.{deckOf}
-use Rattle.pricing.specs.Sites.{sitesOf, flagsOf}
 use Rattle.pricing.specs.Columns.{FlagsAre}
 use Rattle.lines.specs.LineRecord.{rectOf, Rows, marked, linesBetween, linesRecord, InOrder, onLines, cutAt, isX, cutRecord}
 use Rattle.lines.specs.declared.Lines.{Lines}
@@ -32,9 +30,9 @@ use Rattle.lines.specs.declared.Cut.{Cut}
 use Rattle.pricing.proofs.SiteLaws.{flags-law}
 use Rattle.lines.proofs.DeckLines.{coordinates, reached, lines-marked, lines-in-order, padded-coordinates, padded-reached, padded-rows, deck-cut}
 use Rattle.lines.proofs.LineRecordLaws.{record-front}
-use Rattle.lines.proofs.CutRecordLaws.{cutRecord-found, cutRecord-cut, isX-true, isX-false}
+use Rattle.lines.proofs.CutRecordLaws.{cutRecord-found, cutRecord-cut}
 use Rattle.trial.specs.Opened.{openedRecord, rectAllowed, Open}
-use Rattle.trial.specs.Trial.{minusOne, least, axisOf, axisNumber, Written, cutAxisFigure, cutLineFigure, linesWritten}
+use Rattle.trial.specs.Trial.{minusOne, least, axisOf, axisNumber, cutAxisFigure, cutLineFigure, linesWritten}
 use Rattle.trial.specs.declared.Opened.{Opened}
 use Rattle.siting.proofs.ReadLaws.{Spelt}
 use Rattle.trial.proofs.OpenLaws.{open-is, on-job, inside}

@@ -2,7 +2,7 @@
 -- Assumes nothing.
 use mathlib.Core.Path.{_≡_, refl, sym, ap, subst, _∙_}
 use mathlib.Core.Bool.{true, cond}
-use mathlib.Core.List.{List, [], _∷_, _++_, map, map-map}
+use mathlib.Core.List.{List, map, map-map}
 use Prim.Native.Nat.{ℕ, _+_, _*_, _≤_, _<_, max}
 use native.Mathlib.Omega.{arith}
 use lib.Dec.{ltb}
@@ -26,7 +26,7 @@ use Rattle.job.specs.Format.{readJob}
 use Rattle.job.specs.Record.{padded, deckRecord}
 use Rattle.job.proofs.RangeTests.{held}
 use Rattle.pricing.specs.DeckOf.{deckOf}
-use Rattle.pricing.specs.Sites.{Site, sitesOf, costOf, beforeOf, loadOf}
+use Rattle.pricing.specs.Sites.{sitesOf, costOf, loadOf}
 use Rattle.pricing.specs.Columns.{Figure, BeforeIs}
 use Rattle.lines.specs.LineRecord.{rectOf}
 use Rattle.pricing.specs.Record.{sitesRecord}

@@ -1,23 +1,23 @@
 -- Sums over turns, and the places and rectangles of the turns.
 -- Assumes nothing.
 use mathlib.Core.Path.{_≡_, refl, sym, ap, subst, _∙_}
-use mathlib.Core.Bool.{Bool, true, false, cond, _&&_}
+use mathlib.Core.Bool.{Bool, cond, _&&_}
 use mathlib.Core.List.{List}
-use Prim.Native.Nat.{ℕ, zero, suc, _+_, _*_, _%_, _^_, _≤_, _<_}
+use Prim.Native.Nat.{ℕ, zero, suc, _+_, _*_, _%_, _≤_, _<_}
 use native.Mathlib.Nat.{mul-le-mul}
 use native.Mathlib.Numerals.{add-one}
 use native.Mathlib.Omega.{arith}
 use borrow.Author.Tests.{lt-ltb, le-ltb}
 use lib.Dec.{T, ltb}
 use lib.IntN.{ℤ, pos, natAbs, _-ℤ_}
-use lib.Signed.{leZ, ltZ, _≤ℤ_}
+use lib.Signed.{leZ, _≤ℤ_}
 use mir.Syntax.{w64}
 use mir.Val.{SFits, toZ, ofZ}
 use mir.ValLaws.{toZ-ofZ, toZ-pos}
 use Rattle.numbers.proofs.Truth.{and-intro}
 use Rattle.numbers.proofs.Words as Words
 use Rattle.numbers.proofs.Integer.{order, abs-range, sub-nat}
-use Rattle.query.specs.Place.{Place, Rect}
+use Rattle.query.specs.Place.{Place}
 use Rattle.query.specs.Range.{PlaceInRange, costLimit}
 use Rattle.job.specs.Lines.{placeInRange}
 use Rattle.job.specs.Format.{Job, readJob}
@@ -28,10 +28,9 @@ use Rattle.lines.specs.LineRecord.{rectOf, Edges}
 use Rattle.pricing.proofs.WordLaws.{difference, difference-fits}
 use Rattle.trial.specs.Opened.{rectAllowed}
 use Rattle.trial.specs.Trial.{minusOne}
-use Rattle.trial.specs.Many.{sumTo, side, spread, Spread, placeAt, rectAt, positive, manyFigure}
+use Rattle.trial.specs.Many.{sumTo, side, spread, Spread, placeAt, rectAt, manyFigure}
 use Rattle.siting.proofs.ReadLaws.{Spelt}
 use Rattle.trial.proofs.OpenLaws.{on-job}
-use Rattle.trial.proofs.RectLaws.{RectIs}
 
 -- ---- sums
 pub record Summed (f : ℕ → ℕ) (limit k sum t : ℕ) : Type 0 where

@@ -1,20 +1,20 @@
 -- A rectangle that is allowed, and its numbers as machine words.
 -- Assumes nothing.
-use mathlib.Core.Path.{_≡_, refl, sym, ap, _∙_}
+use mathlib.Core.Path.{_≡_, sym, ap, _∙_}
 use mathlib.Core.Bool.{Bool, true, false, _&&_}
-use Prim.Native.Nat.{ℕ, _≤_}
+use Prim.Native.Nat.{_≤_}
 use native.Mathlib.Omega.{arith}
 use lib.Dec.{T}
-use lib.IntN.{ℤ, pos, natAbs}
+use lib.IntN.{ℤ, natAbs}
 use lib.Signed.{leZ, _≤ℤ_}
 use mir.Syntax.{w32, w64}
 use mir.Val.{SFits, toZ, ofZ}
 use Rattle.numbers.proofs.Truth.{and-left, and-right}
-use Rattle.query.specs.Place.{Place, Rect, corner}
+use Rattle.query.specs.Place.{Place}
 use Rattle.query.specs.Range.{PlaceInRange}
 use Rattle.job.specs.Lines.{placeInRange}
 use Rattle.job.proofs.RangeLaws.{place-range}
-use Rattle.job.proofs.RangeTests.{held, held-is, and-on, and-off}
+use Rattle.job.proofs.RangeTests.{held, held-is}
 use Rattle.pricing.specs.Columns.{Near180000, EdgesInRange}
 use Rattle.lines.specs.LineRecord.{rectOf, Edges}
 use Rattle.pricing.proofs.WordLaws.{narrowed, narrow-fits}

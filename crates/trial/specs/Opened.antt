@@ -4,7 +4,7 @@ use mathlib.Core.Path.{_≡_}
 use mathlib.Core.Bool.{Bool, true, false, _&&_}
 use mathlib.Core.List.{[]}
 use lib.Signed.{leZ}
-use Rattle.query.specs.Place.{Place, Rect, NonEmpty, corner}
+use Rattle.query.specs.Place.{Rect, NonEmpty, corner}
 use Rattle.query.specs.Deck as Query
 use Rattle.query.specs.Deck.{plain}
 use Rattle.query.specs.Range.{InRange}

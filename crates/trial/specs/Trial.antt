@@ -8,7 +8,6 @@ use lib.IntN.{ℤ, pos, negsuc, _-ℤ_}
 use lib.ListN.{length, getD, drop}
 use Rattle.numbers.specs.Integer.{dist, halfUp}
 use Rattle.query.specs.Place.{Place, Rect, Axis, x-axis, y-axis}
-use Rattle.query.specs.Deck.{Stop, Deck}
 use Rattle.query.specs.Travel.{near}
 use Rattle.query.specs.Cost.{cost, before}
 use Rattle.query.specs.Reach.{load}
@@ -18,7 +17,7 @@ use Rattle.query.specs.Problem.{problem}
 use Rattle.query.specs.Cut.{canCut, cutLine}
 use Rattle.job.specs.Refusal.{numberOf, lineOf}
 use Rattle.job.specs.Lines.{placeInRange}
-use Rattle.job.specs.Format.{Job, Result, refused, accepted, readJob}
+use Rattle.job.specs.Format.{Job, Result, refused, accepted}
 use Rattle.pricing.specs.Sites.{Site, costOf, loadOf}
 use Rattle.trial.specs.Opened.{rectAllowed}
 

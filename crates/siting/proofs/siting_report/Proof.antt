@@ -1,7 +1,6 @@
 -- `siting::siting_report` meets its contract.
 -- Assumes nothing.
 use Rattle.siting.proofs.EntryLaws.{number-fits, minus-fits, entry-report, entry-refused}
-use native.Mathlib.Omega.{arith}
 use borrow.Author.Needs.{needs}
 use Rattle.siting.proofs.siting_report.Statement.{statement}
 use Rattle.siting.proofs.siting_report.Tie as tie

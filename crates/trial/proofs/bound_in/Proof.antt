@@ -1,6 +1,6 @@
 -- `trial::bound_in` meets its contract: the figures of the corners stay within their limits.
 -- Assumes nothing.
-use mathlib.Core.Path.{_≡_, ap, subst, sym, _∙_}
+use mathlib.Core.Path.{_≡_, subst, sym, _∙_}
 use Prim.Native.Nat.{_+_, _≤_}
 use lib.Dec.{T}
 use mir.Syntax.{w64}

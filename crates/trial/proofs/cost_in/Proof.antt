@@ -1,6 +1,5 @@
 -- `trial::cost_in` meets its contract: the coordinates fit 32 bits.
 -- Assumes nothing.
-use mathlib.Core.Path.{_≡_, ap, _∙_}
 use Rattle.trial.proofs.RectLaws.{word-is, word-fits, place-words}
 use Rattle.trial.proofs.cost_in.Statement.{statement}
 use Rattle.trial.proofs.cost_in.Tie as tie

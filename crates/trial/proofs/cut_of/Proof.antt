@@ -1,9 +1,8 @@
 -- `trial::cut_of` meets its contract: the lines found are in order, and the cut found on them is that of the deck.
 -- Assumes nothing.
-use mathlib.Core.Path.{_≡_, subst, sym, _∙_, ap}
-use Rattle.query.specs.Place.{Rect, x-axis, y-axis}
-use Rattle.job.proofs.RangeTests.{held, held-is}
-use Rattle.lines.specs.LineRecord.{Edges, rectOf}
+use mathlib.Core.Path.{_∙_}
+use Rattle.query.specs.Place.{x-axis, y-axis}
+use Rattle.job.proofs.RangeTests.{held-is}
 use Rattle.trial.proofs.RectLaws.{Fits4, RectIs, allowed-is, x-edges, y-edges}
 use Rattle.trial.proofs.CutLaws.{found-in-order, found-cut}
 use Rattle.trial.proofs.cut_of.Statement.{statement}

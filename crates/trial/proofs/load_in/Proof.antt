@@ -1,7 +1,6 @@
 -- `trial::load_in` meets its contract: the coordinates fit 32 bits.
 -- Assumes nothing.
-use Rattle.lines.specs.LineRecord.{rectOf}
-use Rattle.trial.proofs.RectLaws.{word, word-is, word-fits, allowed-is, edge-words, rect-words}
+use Rattle.trial.proofs.RectLaws.{word-is, word-fits, allowed-is, edge-words}
 use Rattle.trial.proofs.load_in.Statement.{statement}
 use Rattle.trial.proofs.load_in.Tie as tie
 

@@ -1,7 +1,7 @@
 -- `trial::trial_cost` meets its contract.
 -- Assumes nothing.
 use mathlib.Core.Path.{_≡_, subst, sym}
-use mathlib.Core.Bool.{true, false}
+use mathlib.Core.Bool.{true}
 use borrow.Author.Tests.{not-true, not-false}
 use denote.Ref.{now}
 use Rattle.numbers.proofs.Words.{is-true}

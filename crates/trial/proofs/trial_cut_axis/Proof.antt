@@ -1,7 +1,7 @@
 -- `trial::trial_cut_axis` meets its contract.
 -- Assumes nothing.
 use Rattle.job.specs.Format.{readJob}
-use mathlib.Core.Path.{_≡_, subst, sym, _∙_}
+use mathlib.Core.Path.{_≡_, subst, sym}
 use mathlib.Core.Bool.{true, false}
 use lib.Dec.{T}
 use borrow.Author.Tests.{not-true, not-false}

@@ -11,7 +11,7 @@ use Rattle.query.specs.Place.{Rect}
 use Rattle.lines.specs.LineRecord.{rectOf}
 use Rattle.trial.specs.Opened.{rectAllowed, Open}
 use Rattle.siting.proofs.ReadLaws.{Spelt}
-use Rattle.trial.proofs.OpenLaws.{open-accepted, open-is, open-refused, outside}
+use Rattle.trial.proofs.OpenLaws.{open-accepted, open-is, open-refused}
 use Rattle.trial.proofs.RectLaws.{Fits4, rect-held, tested-rect}
 use mir.Syntax.{w64}
 use mir.ValLaws.{toZ-ofZ}

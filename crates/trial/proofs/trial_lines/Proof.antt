@@ -1,12 +1,10 @@
 -- `trial::trial_lines` meets its contract: the lines are put in front where there is room for them.
 -- Assumes nothing.
-use mathlib.Core.Path.{_≡_}
 use borrow.Author.Tests.{not-true, not-false}
 use denote.Ref.{now}
 use Rattle.trial.specs.Opened.{Open}
 use Rattle.siting.proofs.ReadLaws.{Spelt}
 use Rattle.trial.proofs.OpenLaws.{open-accepted, open-is, open-refused}
-use Rattle.trial.proofs.FigureLaws.{deckOf-same}
 use Rattle.trial.proofs.CutLaws.{found-in-order, written-none, written-lines}
 use borrow.Author.Needs.{needs}
 use Rattle.trial.proofs.trial_lines.Statement.{statement}

@@ -1,6 +1,5 @@
 -- `trial::trial_near` meets its contract.
 -- Assumes nothing.
-use mathlib.Core.Path.{_≡_}
 use borrow.Author.Tests.{not-true, not-false}
 use denote.Ref.{now}
 use Rattle.trial.specs.Opened.{Open}

@@ -2,7 +2,7 @@
 -- Assumes nothing.
 use native.Mathlib.Omega.{arith}
 use borrow.Author.Needs.{needs}
-use mathlib.Core.Path.{_≡_, sym, ap, _∙_}
+use mathlib.Core.Path.{sym, ap, _∙_}
 use mir.Syntax.{w64}
 use mir.ValLaws.{toZ-pos}
 use Rattle.trial.specs.Trial.{roundsOf}

@@ -1,7 +1,7 @@
 -- `trial::many::bounds` meets its contract: after t turns the sum is that of the first t rectangles.
 -- Assumes nothing.
-use mathlib.Core.Path.{_≡_, ap, _∙_}
-use Prim.Native.Nat.{_-_, _≤_}
+use mathlib.Core.Path.{ap, _∙_}
+use Prim.Native.Nat.{_-_}
 use mir.Syntax.{w64}
 use mir.ValLaws.{toZ-ofZ}
 use Rattle.pricing.specs.Columns.{siteRows}

@@ -1,11 +1,10 @@
 -- `trial::many::cuts` meets its contract: after t turns the sum is that of the first t rectangles.
 -- Assumes nothing.
-use mathlib.Core.Path.{_≡_, ap, _∙_}
-use Prim.Native.Nat.{_-_, _≤_}
+use mathlib.Core.Path.{ap, _∙_}
+use Prim.Native.Nat.{_-_}
 use lib.ListN.{take}
 use mir.Syntax.{w64}
 use mir.ValLaws.{toZ-ofZ}
-use Rattle.query.specs.Place.{Rect}
 use Rattle.lines.specs.LineRecord.{onLines, cutRecord}
 use Rattle.lines.specs.declared.Cut.{Cut}
 use Rattle.trial.specs.Many.{rectAt, positive}

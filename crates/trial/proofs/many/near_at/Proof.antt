@@ -1,7 +1,7 @@
 -- `trial::many::near_at` meets its contract.
 -- Assumes nothing.
-use mathlib.Core.Path.{_≡_, ap, subst, sym}
-use Prim.Native.Nat.{ℕ, _%_, _≤_}
+use mathlib.Core.Path.{ap, subst, sym}
+use Prim.Native.Nat.{_%_}
 use lib.ListN.{getD}
 use Rattle.pricing.specs.declared.Sites.{Sites}
 use Rattle.pricing.proofs.RecordLaws.{sites-range, InColumns}

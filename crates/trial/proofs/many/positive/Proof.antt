@@ -1,6 +1,6 @@
 -- `trial::many::positive` meets its contract.
 -- Assumes nothing.
-use mathlib.Core.Path.{sym, ap, _∙_}
+use mathlib.Core.Path.{sym, ap}
 use mathlib.Core.Bool.{Bool, cond}
 use Rattle.job.proofs.RangeTests.{held-is}
 use native.Mathlib.Omega.{arith}
