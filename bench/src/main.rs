@@ -102,7 +102,7 @@ fn compare_reading(name: &str, job: &[u8]) {
     for _ in 0..4 * REPETITIONS {
         let (t, refused) = timed(|| (0..turns).map(|_| unsafe { trial_refusal(black_box(job).as_ptr(), job.len()) } as i64).sum());
         ours = ours.min(t);
-        let (t, accepted) = timed(|| (0..turns).filter(|_| black_box(whole::read(black_box(job))).is_ok()).count() as i64);
+        let (t, accepted) = timed(|| (0..turns).filter(|_| black_box(whole::parse(black_box(job))).is_ok()).count() as i64);
         theirs = theirs.min(t);
         assert!(refused == 0 && accepted == turns, "{name}: refused");
     }

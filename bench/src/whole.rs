@@ -78,7 +78,22 @@ pub struct Rect {
     pub yhi: i32,
 }
 
+/// The deck with its near.
 pub fn read(job: &[u8]) -> Result<Deck, Refused> {
+    let (mut deck, px, py) = parse(job)?;
+    // post by post over the column of stops: no reduction inside the loop
+    let mut near = vec![i32::MAX; deck.xs.len()];
+    for (&u, &v) in px.iter().zip(&py) {
+        for ((m, &x), &y) in near.iter_mut().zip(&deck.xs).zip(&deck.ys) {
+            *m = (*m).min((x - u).abs() + (y - v).abs());
+        }
+    }
+    deck.near = near;
+    Ok(deck)
+}
+
+/// The deck as the job spells it, near still empty, and the posts.
+pub fn parse(job: &[u8]) -> Result<(Deck, Vec<i32>, Vec<i32>), Refused> {
     if job.len() > 16_384 {
         return Err((1, 0));
     }
@@ -112,14 +127,7 @@ pub fn read(job: &[u8]) -> Result<Deck, Refused> {
     if n == 0 {
         return Err((6, 0));
     }
-    // post by post over the column of stops: no reduction inside the loop
-    let mut near = vec![i32::MAX; n];
-    for (&u, &v) in px.iter().zip(&py) {
-        for ((m, &x), &y) in near.iter_mut().zip(&xs).zip(&ys) {
-            *m = (*m).min((x - u).abs() + (y - v).abs());
-        }
-    }
-    Ok(Deck { area: Rect { xlo, ylo, xhi, yhi }, xs, ys, visits, near, rounds })
+    Ok((Deck { area: Rect { xlo, ylo, xhi, yhi }, xs, ys, visits, near: Vec::new(), rounds }, px, py))
 }
 
 // ---- pricing
