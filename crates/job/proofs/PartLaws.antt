@@ -1,14 +1,13 @@
 -- Lines that repeat: the array that they fill, and the reading that is left.
 -- Assumes nothing.
 use mathlib.Core.Path.{_≡_, refl, sym, ap, subst, _∙_}
-use mathlib.Core.List.{List, [], _∷_, _++_, map, map-append}
+use mathlib.Core.List.{List, [], _∷_, _++_, map}
 use mathlib.Core.Bool.{Bool}
 use Prim.Native.String.{String}
 use Prim.Native.Nat.{ℕ, suc, _+_, _-_, _≤_, _<_}
 use native.Mathlib.Nat.{add-zero, sub-zero}
 use native.Mathlib.Omega.{arith}
-use lib.ListN.{length, drop, set, replicate, length-append, length-map, drop-of-length-le}
-use lib.Seq.{set-append-seam, append-snoc}
+use lib.ListN.{length, drop, set, replicate, length-append, drop-of-length-le}
 use lib.IntN.{ℤ, pos, natAbs}
 use mir.Syntax.{w64}
 use mir.Val.{SFits}
@@ -17,7 +16,8 @@ use Rattle.text.specs.Ascii.{bytes}
 use Rattle.text.proofs.KeyLaws.{drop-next}
 use Rattle.job.specs.Lines.{StopLine, countLine, postLine, stopLine, placeInRange, stopInRange, upTo}
 use Rattle.job.specs.Reader.{fault, got, Reader, andThen, lineResult, line, repeated, end}
-use Rattle.job.specs.Record.{padded}
+use Rattle.numbers.specs.Padded.{padded}
+use Rattle.numbers.proofs.Padded.{padded-map}
 use Rattle.job.specs.Reading.{countForm, countIn, CountAt, PostAt, StopAt}
 use Rattle.job.specs.Parts.{postLines, stopLines, allPosts, allStops, lastLine, PostsAt, StopsAt, LastAt}
 use Rattle.job.specs.declared.Refusal.{Refusal}
@@ -32,18 +32,6 @@ use Rattle.job.specs.declared.StopLine as Answer
 use Rattle.job.specs.declared.StopLine.the-variants as S
 use Rattle.job.specs.declared.Next.the-variants.{At, Refused}
 use Rattle.job.proofs.RangeTests.{held, held-is}
-
--- ---- an array with a list at its front
-module _ {A : Type 0} (size : ℕ) (z : A) where
-  padded-more : (xs : List A) (v : A) → length xs < size → set (padded size z xs) (length xs) v ≡ padded size z (xs ++ (v ∷ []))
-  unfolding padded
-  padded-more xs v h = rw (one-more, set-append-seam, ← append-snoc, length-append)
-    where
-      one-more : size - length xs ≡ suc (size - (length xs + 1))
-      one-more = omega arith
-
-  pub padded-map : {B : Type 0} (f : B → A) (bs : List B) (b : B) {i : ℕ} {l : List A} → i ≡ length bs → i < size → l ≡ padded size z (map f bs) → set l i (f b) ≡ padded size z (map f (bs ++ (b ∷ [])))
-  padded-map f bs b e h l = rw (l, e, ← length-map bs f, padded-more (map f bs) (f b) (rw (length-map bs f, ← e) h), map-append)
 
 -- ---- the reading that is left
 module _ {A : Type 0} (one : Reader A) where

@@ -17,7 +17,8 @@ use Rattle.job.specs.Lines.{StopLine, areaLine, countLine, areaInRange, 
 use Rattle.job.specs.Reader.{Reading, fault, got, Reader, andThen, line, end}
 use Rattle.job.specs.Format as Format
 use Rattle.job.specs.Format.{refused, accepted, jobOf, stopOf, emptyArea, checked, jobLines, resultOf, readJob}
-use Rattle.job.specs.Record.{padded, jobRecord}
+use Rattle.job.specs.Record.{jobRecord}
+use Rattle.numbers.specs.Padded.{padded}
 use Rattle.job.specs.Reading.{areaOf, countIn, AreaAt}
 use Rattle.job.specs.Parts.{postLines, stopLines, allPosts, allStops, lastLine, nextIn, PostsHold, StopsHold, PostsAt, StopsAt, LastAt, CheckedAt}
 use Rattle.job.specs.declared.Area.{Area}

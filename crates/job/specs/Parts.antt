@@ -11,7 +11,8 @@ use Rattle.job.specs.Lines.{countLine, postLine, stopLine, placeInRange,
 use Rattle.job.specs.Reader.{Reading, fault, got, Reader, _>>=_, _>>_, return, line, repeated, end}
 use Rattle.job.specs.Reading.{areaOf, countIn, CountWithin}
 use Rattle.job.specs.Format.{jobOf, checked}
-use Rattle.job.specs.Record.{padded, jobRecord}
+use Rattle.job.specs.Record.{jobRecord}
+use Rattle.numbers.specs.Padded.{padded}
 use Rattle.job.specs.declared.Area.{Area}
 use Rattle.job.specs.declared.Job.{Job}
 use Rattle.job.specs.declared.CountLine.{CountLine}

@@ -1,19 +1,15 @@
 -- The deck and the job as the code holds them.
 -- Assumes nothing.
-use Prim.Native.Nat.{ℕ, _-_}
-use mathlib.Core.List.{List, [], map, _++_}
+use mathlib.Core.List.{List, [], map}
 use lib.IntN.{pos}
-use lib.ListN.{length, replicate}
-use Rattle.query.specs.Place.{Place, Rect}
+use lib.ListN.{length}
+use Rattle.numbers.specs.Padded.{padded}
+use Rattle.query.specs.Place.{Place, Rect, emptyRect}
 use Rattle.query.specs.Deck.{Stop}
 use Rattle.job.specs.Format.{Result, refused, accepted}
 use Rattle.job.specs.declared.Deck.{Deck}
 use Rattle.job.specs.declared.Job.{Job}
 use Rattle.job.specs.declared.Outcome.the-variants.{Accepted, Refused}
-
--- a list at the front of an array of so many elements, with z behind it
-unfoldable pub padded : {A : Type 0} → ℕ → A → List A → List A
-padded size z xs = xs ++ replicate (size - length xs) z
 
 -- the record of an area, posts and stops
 unfoldable pub deckRecord : Rect → List Place → List Stop → Deck
@@ -31,9 +27,6 @@ deckRecord area posts stops = record {
   «stop_y» = padded 512 (pos 0) (map (λ s. s .at .y) stops);
   visits = padded 512 0 (map (λ s. s .visits) stops);
 }
-
-abbrev pub emptyRect : Rect
-emptyRect = record { xlo = pos 0; ylo = pos 0; xhi = pos 0; yhi = pos 0 }
 
 -- what `read` answers: the record of the deck that the bytes spell, or a refusal with an empty one
 unfoldable pub jobRecord : Result → Job

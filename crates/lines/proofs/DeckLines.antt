@@ -16,9 +16,10 @@ use Rattle.query.specs.Reach.{reach}
 use Rattle.query.specs.Lines.{stopCoordinates, lines, gaps}
 use Rattle.query.specs.Problem.{problem}
 use Rattle.query.proofs.LineLaws.{lines-law}
-use Rattle.job.specs.Record.{padded}
+use Rattle.numbers.specs.Padded.{padded}
 use Rattle.lines.specs.LineRecord.{InOrder, Rows, flagged, marked, linesBetween, linesRecord, onLines, cutRecord}
-use Rattle.lines.proofs.LineRecordLaws.{padded-length, padded-front, linesBetween-length, record-front, record-in-order}
+use Rattle.lines.proofs.LineRecordLaws.{linesBetween-length, record-front, record-in-order}
+use Rattle.numbers.proofs.Padded.{padded-length, padded-front}
 use Rattle.lines.proofs.CutRecordLaws.{cutRecord-lines}
 
 -- ---- the lines of a deck

@@ -9,3 +9,4 @@ pub mod Sums
 pub mod Joined
 pub mod Rows
 pub mod Words
+pub mod Padded

@@ -16,7 +16,7 @@ use mir.Val.{toZ, ofZ}
 use mir.ValLaws.{toZ-pos}
 use Rattle.numbers.specs.Lists.{leastBy}
 use Rattle.numbers.proofs.Truth.{cond-ind}
-use Rattle.job.specs.Record.{padded}
+use Rattle.numbers.specs.Padded.{padded}
 use Rattle.query.specs.Place.{Place}
 use Rattle.query.specs.Deck.{AxisCosts, plain}
 use Rattle.query.specs.Travel.{travel, closest}
@@ -24,8 +24,7 @@ use Rattle.pricing.specs.DeckOf.{places}
 use Rattle.pricing.specs.Columns.{CoordinatesInRange, Near180000}
 use Rattle.pricing.proofs.WordLaws.{coordinate, narrowed}
 use Rattle.pricing.proofs.TravelLaws.{far, travel-plain, narrow, narrow-place}
-use Rattle.pricing.proofs.PaddedLaws.{padded-length, Filled, fill-more}
-use Rattle.lines.proofs.LineRecordLaws.{padded-front}
+use Rattle.numbers.proofs.Padded.{padded-length, Filled, fill-more, padded-front}
 
 -- ---- two lists side by side
 module _ {A B C : Type 0} (f : A → B → C) where

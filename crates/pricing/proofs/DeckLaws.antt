@@ -10,7 +10,8 @@ use Rattle.query.specs.Place.{Place, Rect}
 use Rattle.query.specs.Deck.{Stop, plain}
 use Rattle.query.specs.Travel.{closest, near}
 use Rattle.query.specs.Range.{InRange, StopInRange, PlaceInRange}
-use Rattle.job.specs.Record.{padded, deckRecord}
+use Rattle.job.specs.Record.{deckRecord}
+use Rattle.numbers.specs.Padded.{padded}
 use Rattle.job.specs.declared.Deck.{Deck}
 use Rattle.pricing.specs.DeckOf.{places, stopsOf, deckOf}
 use Rattle.pricing.specs.Sites.{Site, sitesOf}

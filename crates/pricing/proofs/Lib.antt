@@ -3,7 +3,6 @@ pub mod ColumnLaws
 pub mod SiteLaws
 pub mod TurnLaws
 pub mod ExcessLaws
-pub mod PaddedLaws
 pub mod TravelLaws
 pub mod ClosestLaws
 pub mod DeckLaws

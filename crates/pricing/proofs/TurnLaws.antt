@@ -15,14 +15,14 @@ use Rattle.numbers.specs.Integer.{dist}
 use Rattle.numbers.proofs.Truth.{cond-ind}
 use Rattle.query.specs.Place.{Place, Rect}
 use Rattle.query.specs.Reach.{closestPoint}
-use Rattle.job.specs.Record.{padded}
+use Rattle.numbers.specs.Padded.{padded}
 use Rattle.pricing.specs.Sites.{Site, reaches}
 use Rattle.pricing.specs.Columns.{siteRows, ColumnsInRange, PaidInRange, ReachInRange, Near180000, EdgesInRange, BeforeIs, FlagsAre}
 use Rattle.pricing.proofs.WordLaws.{coordinate}
 use Rattle.pricing.proofs.TravelLaws.{travel-plain, place-word}
 use Rattle.pricing.proofs.ExcessLaws.{away}
 use Rattle.pricing.proofs.SiteLaws.{paidBy, paidNow, borneBy, flagBy, beforeOf-sum, flagsOf-map}
-use Rattle.pricing.proofs.PaddedLaws.{padded-none, padded-more}
+use Rattle.numbers.proofs.Padded.{padded-none, padded-more}
 use Rattle.pricing.proofs.ColumnLaws.{siteAt, siteRows-none, siteRows-more, siteRows-length, Passed, passed-none, passed-more, passed-all, has-row}
 
 reaches-away : (r : Rect) (s : Site) → reaches r s ≡ ltb (away (s .at .x) (s .at .y) (r .xlo) (r .ylo) (r .xhi) (r .yhi)) (s .near)

@@ -3,7 +3,7 @@
 use mathlib.Core.List.{List, map}
 use lib.IntN.{pos}
 use lib.ListN.{length}
-use Rattle.job.specs.Record.{padded}
+use Rattle.numbers.specs.Padded.{padded}
 use Rattle.pricing.specs.Sites.{Site}
 use Rattle.pricing.specs.declared.Sites.{Sites}
 

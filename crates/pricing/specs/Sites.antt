@@ -10,7 +10,7 @@ use Rattle.query.specs.Place.{Place, Rect}
 use Rattle.query.specs.Deck.{Deck, plain}
 use Rattle.query.specs.Travel.{travel, near}
 use Rattle.query.specs.Reach.{closestPoint}
-use Rattle.job.specs.Record.{padded}
+use Rattle.numbers.specs.Padded.{padded}
 
 pub record Site : Type 0 where
   pub at : Place

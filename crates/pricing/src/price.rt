@@ -15,7 +15,7 @@ ghost use Rattle.query.specs.Place.{Place, Rect};
 ghost use Rattle.query.specs.Deck.{plain};
 ghost use Rattle.query.specs.Travel.{closest};
 ghost use Rattle.query.specs.Range.{InRange, loadLimit, costLimit};
-ghost use Rattle.job.specs.Record.{padded};
+ghost use Rattle.numbers.specs.Padded.{padded};
 ghost use Rattle.pricing.specs.DeckOf.{places, deckOf};
 ghost use Rattle.pricing.specs.Record.{sitesRecord};
 ghost use Rattle.pricing.specs.Sites.{sitesOf, costOf, loadOf};

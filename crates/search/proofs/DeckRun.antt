@@ -26,7 +26,7 @@ use Rattle.query.proofs.CutLaws.{cut-law}
 use Rattle.query.proofs.Invariant.{run-ok}
 use Rattle.query.proofs.Demand3.{lawful}
 use Rattle.query.proofs.FigureRanges.{figures-in-range}
-use Rattle.job.specs.Record.{padded}
+use Rattle.numbers.specs.Padded.{padded}
 use Rattle.job.specs.declared.Deck.{Deck}
 use Rattle.pricing.specs.DeckOf.{places, stopsOf, deckOf}
 use Rattle.pricing.specs.Sites.{sitesOf, costOf, loadOf, flagsOf}

@@ -13,7 +13,7 @@ use lib.IntN.{ℤ, pos}
 use Rattle.numbers.specs.Lists.{keep, leastBy, insertBy}
 use Rattle.numbers.proofs.Truth.{test, holds, fails}
 use Rattle.numbers.proofs.Members.{insertBy-sorted, insertBy-cases, keep-from}
-use Rattle.query.specs.Place.{Place, Rect, corner}
+use Rattle.query.specs.Place.{Place, Rect, corner, emptyRect}
 use Rattle.query.specs.Problem.{Problem}
 use Rattle.query.specs.Cut.{Line, canCut, cutLine, cutBefore, cutAfter, newCorners}
 use Rattle.query.specs.Order as Query
@@ -22,7 +22,6 @@ use Rattle.query.specs.Range.{RectInRange, costLimit}
 use Rattle.query.specs.Search.{Search, isLive, pricedAt, cellOf, bestOf, otherCorners, startBest, start, cellsAfter, bestAfter, roundOn, round}
 use Rattle.query.proofs.KeyOrder.{cellBefore-strict}
 use Rattle.query.proofs.CellsAfter.{after-is}
-use Rattle.job.specs.Record.{emptyRect}
 use Rattle.pricing.specs.Sites.{Site, costOf}
 use Rattle.lines.specs.LineRecord.{onLines, isX, cutAt, cutRecord}
 use Rattle.lines.specs.declared.Cut.{Cut}

@@ -16,7 +16,7 @@ use lib.Signed.{mag, ltZ, _≤ℤ_}
 use Rattle.numbers.specs.Lists.{leastBy}
 use Rattle.numbers.proofs.Truth.{and-left, nor-left, fails, holds, test, cond-ind}
 use Rattle.numbers.proofs.Integer.{order}
-use Rattle.query.specs.Place.{Rect}
+use Rattle.query.specs.Place.{Rect, emptyRect}
 use Rattle.query.specs.Problem.{Problem}
 use Rattle.query.specs.Cut.{canCut}
 use Rattle.query.specs.Order as Query
@@ -25,7 +25,6 @@ use Rattle.query.specs.Search.{Search, isLive, start, roundOn, round, run}
 use Rattle.query.specs.Figures as Figures
 use Rattle.query.proofs.SearchLaws.{run-in-order, partition-law}
 use Rattle.query.proofs.Counts.{cuts-most, live-count}
-use Rattle.job.specs.Record.{emptyRect}
 use Rattle.pricing.specs.Sites.{Site}
 use Rattle.cells.specs.declared.Cell.{Cell}
 use Rattle.search.specs.declared.run.State.{State}

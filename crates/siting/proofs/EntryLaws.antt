@@ -14,7 +14,7 @@ use lib.IntN.{ℤ, pos, negℤ, natAbs, _-ℤ_}
 use lib.Signed.{nonNeg}
 use lib.ListN.{length, drop, replicate, length-replicate}
 use Rattle.numbers.proofs.Truth.{test}
-use Rattle.job.specs.Record.{padded}
+use Rattle.numbers.specs.Padded.{padded}
 use Rattle.query.specs.Figures.{Figures, figures}
 use Rattle.job.specs.Refusal.{numberOf}
 use Rattle.job.specs.Format.{Job, Result, refused, accepted, readJob}
@@ -25,7 +25,7 @@ use Rattle.report.specs.Report.{figuresOf}
 use Rattle.report.specs.Text.{reportText, refusalText}
 use Rattle.report.specs.Output.{Filled}
 use Rattle.report.proofs.Fits.{report-fits}
-use Rattle.lines.proofs.LineRecordLaws.{drop-replicate}
+use Rattle.numbers.proofs.Padded.{padded-none, padded-over}
 use Rattle.report.specs.declared.Report.{Report}
 use Rattle.siting.specs.declared.Answer.{Answer}
 use Rattle.siting.specs.declared.Answer.the-variants as Answered
@@ -94,8 +94,7 @@ module _ (job out : List ℕ) (cells : List ℤ) (out′ : List ℕ) (r : Respon
 
 -- ---- the program's text
 padded-is : (text : List ℕ) → length text ≤ 128 → text ++ drop (length text) (replicate 128 0) ≡ padded 128 0 text
-unfolding padded
-padded-is text h = ap (λ (l : List ℕ). text ++ l) (drop-replicate 128 0 (length text) 128 h)
+padded-is text h = rw (padded-none {A = ℕ} 128 0) at (padded-over {A = ℕ} 128 0 [] text (omega arith) h)
 
 -- a text written over zeros
 held : {out : List ℕ} {n : ℕ} (text : List ℕ) → Filled (replicate 128 0) text out n → length text ≤ 128 → record { length = n; bytes = out } ≡ textRecord text

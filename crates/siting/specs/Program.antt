@@ -4,7 +4,7 @@ use Prim.Native.Nat.{ℕ}
 use mathlib.Core.List.{List}
 use lib.IntN.{pos}
 use lib.ListN.{length, replicate}
-use Rattle.job.specs.Record.{padded}
+use Rattle.numbers.specs.Padded.{padded}
 use Rattle.report.specs.Report.{figuresOf}
 use Rattle.report.specs.Text.{reportText, refusalText}
 use Rattle.siting.specs.declared.Answer.{Answer}

@@ -20,7 +20,8 @@ use Rattle.query.specs.Lines.{lines}
 use Rattle.query.specs.Problem.{problem}
 use Rattle.query.specs.Cut.{canCut, cutLine}
 use Rattle.job.specs.Format.{Result, refused, accepted, readJob}
-use Rattle.job.specs.Record.{padded, deckRecord}
+use Rattle.job.specs.Record.{deckRecord}
+use Rattle.numbers.specs.Padded.{padded}
 use Rattle.job.proofs.RangeTests.{held, held-is}
 use Rattle.pricing.specs.DeckOf.{deckOf}
 use Rattle.pricing.specs.Columns.{FlagsAre}

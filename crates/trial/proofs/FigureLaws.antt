@@ -23,7 +23,8 @@ use Rattle.query.specs.Bound.{span, cornerSum, bound}
 use Rattle.query.specs.Range.{costLimit, loadLimit, InRange}
 use Rattle.job.specs.Lines.{placeInRange}
 use Rattle.job.specs.Format.{readJob}
-use Rattle.job.specs.Record.{padded, deckRecord}
+use Rattle.job.specs.Record.{deckRecord}
+use Rattle.numbers.specs.Padded.{padded}
 use Rattle.job.proofs.RangeTests.{held}
 use Rattle.pricing.specs.DeckOf.{deckOf}
 use Rattle.pricing.specs.Sites.{sitesOf, costOf, loadOf}

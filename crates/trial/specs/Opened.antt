@@ -4,13 +4,13 @@ use mathlib.Core.Path.{_≡_}
 use mathlib.Core.Bool.{Bool, true, false, _&&_}
 use mathlib.Core.List.{[]}
 use lib.Signed.{leZ}
-use Rattle.query.specs.Place.{Rect, NonEmpty, corner}
+use Rattle.query.specs.Place.{Rect, NonEmpty, corner, emptyRect}
 use Rattle.query.specs.Deck as Query
 use Rattle.query.specs.Deck.{plain}
 use Rattle.query.specs.Range.{InRange}
 use Rattle.job.specs.Lines.{placeInRange}
 use Rattle.job.specs.Format.{Result, refused, accepted}
-use Rattle.job.specs.Record.{deckRecord, emptyRect}
+use Rattle.job.specs.Record.{deckRecord}
 use Rattle.pricing.specs.Sites.{sitesOf}
 use Rattle.pricing.specs.Record.{sitesRecord}
 use Rattle.trial.specs.declared.Opened.{Opened}

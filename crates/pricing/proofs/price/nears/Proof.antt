@@ -10,7 +10,7 @@ use Rattle.query.specs.Deck.{plain}
 use Rattle.query.specs.Travel.{closest}
 use Rattle.pricing.specs.DeckOf.{places}
 use Rattle.pricing.proofs.WordLaws.{narrow-fits}
-use Rattle.pricing.proofs.PaddedLaws.{Filled, fill-none, fill-all}
+use Rattle.numbers.proofs.Padded.{Filled, fill-none, fill-all}
 use Rattle.pricing.proofs.ClosestLaws.{places-front, copied-front, copied-range, narrow-row, figures-more}
 use Rattle.pricing.proofs.price.nears.Statement.{statement}
 use Rattle.pricing.proofs.price.nears.Tie as tie

@@ -5,7 +5,7 @@ use native.Mathlib.Omega.{arith}
 use lib.IntN.{pos}
 use lib.ListN.{getD}
 use Rattle.pricing.proofs.WordLaws.{narrow-fits, narrowed}
-use Rattle.pricing.proofs.PaddedLaws.{Filled, fill-none, fill-more, fill-all}
+use Rattle.numbers.proofs.Padded.{Filled, fill-none, fill-more, fill-all}
 use Rattle.pricing.proofs.price.post_coordinates.Statement.{statement}
 use Rattle.pricing.proofs.price.post_coordinates.Tie as tie
 

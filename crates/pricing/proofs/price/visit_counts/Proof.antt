@@ -3,7 +3,7 @@
 use Prim.Native.Nat.{_-_}
 use mathlib.Core.Path.{refl}
 use native.Mathlib.Omega.{arith}
-use Rattle.pricing.proofs.PaddedLaws.{Filled, fill-none, fill-more, fill-all}
+use Rattle.numbers.proofs.Padded.{Filled, fill-none, fill-more, fill-all}
 use Rattle.pricing.proofs.price.visit_counts.Statement.{statement}
 use Rattle.pricing.proofs.price.visit_counts.Tie as tie
 

@@ -5,7 +5,7 @@ use native.Mathlib.Omega.{arith}
 use denote.Ref.{now}
 use lib.ListN.{take}
 use Rattle.query.specs.Search.{run}
-use Rattle.job.specs.Record.{emptyRect}
+use Rattle.query.specs.Place.{emptyRect}
 use Rattle.pricing.specs.Columns.{siteRows}
 use Rattle.cells.specs.Space.{cellsIn, costsIn, Numbered}
 use Rattle.search.specs.Run.{siteProblem, rectIn, searchOf, Holds}

@@ -1,13 +1,13 @@
--- A list at the front of an array: one element more, and an element of it.
+-- A list at the front of an array: how long the array is, one element more, other elements over them, and an element of it.
 -- Assumes nothing.
-use mathlib.Core.Path.{_≡_, refl, sym, _∙_}
-use mathlib.Core.List.{List, [], _∷_, _++_, List·Memᴰ, List·Memᴰ·head, List·Memᴰ·tail}
+use mathlib.Core.Path.{_≡_, refl, sym, ap, _∙_}
+use mathlib.Core.List.{List, [], _∷_, map, map-append, _++_, List·Memᴰ, List·Memᴰ·head, List·Memᴰ·tail}
 use Prim.Native.Nat.{ℕ, zero, suc, _+_, _-_, _≤_, _<_}
 use native.Mathlib.Numerals.{add-one}
 use native.Mathlib.Omega.{arith}
-use lib.ListN.{length, getD, take, set, replicate, length-append, length-replicate}
-use lib.Seq.{set-at, append-snoc, length-take-le, take-suc}
-use Rattle.job.specs.Record.{padded}
+use lib.ListN.{length, getD, take, drop, set, replicate, length-append, length-map, length-replicate, replicate-append-replicate, List·getD-append}
+use lib.Seq.{set-at, take-at, drop-at, drop-append-add, append-snoc, length-take-le, take-suc}
+use Rattle.numbers.specs.Padded.{padded}
 
 module _ {A : Type 0} (size : ℕ) (z : A) where
   pub padded-none : padded size z [] ≡ replicate size z
@@ -30,6 +30,34 @@ module _ {A : Type 0} (size : ℕ) (z : A) where
 
       joined : length (xs ++ a ∷ []) ≡ suc (length xs)
       joined = rw (length-append xs (a ∷ [])) (omega arith)
+
+  pub padded-map : {B : Type 0} (f : B → A) (bs : List B) (b : B) {i : ℕ} {l : List A} → i ≡ length bs → i < size → l ≡ padded size z (map f bs) → set l i (f b) ≡ padded size z (map f (bs ++ (b ∷ [])))
+  padded-map f bs b {i} e h l = rw (l, padded-more (map f bs) i (f b) (length-map bs f ∙ sym e) h, map-append)
+
+  pub padded-front : (xs : List A) → take (length xs) (padded size z xs) ≡ xs
+  unfolding padded
+  padded-front xs = take-at xs _ (length xs) refl
+
+  pub padded-at : (xs : List A) (i : ℕ) → i < length xs → getD (padded size z xs) i z ≡ getD xs i z
+  unfolding padded
+  padded-at xs i h = List·getD-append xs _ z i h
+
+  drop-replicate : (m n : ℕ) → m ≤ n → drop m (replicate n z) ≡ replicate (n - m) z
+  drop-replicate m n h =
+      let e : n ≡ m + (n - m) = omega arith in
+      ap (λ (k : ℕ). drop m (replicate k z)) e ∙ rw (← replicate-append-replicate m (n - m) z) (drop-at (replicate m z) (replicate (n - m) z) m (length-replicate m z))
+
+  -- a list that is as long or longer, written over the array from its first element on
+  pub padded-over : (xs ys : List A) → length xs ≤ length ys → length ys ≤ size → ys ++ drop (length ys) (padded size z xs) ≡ padded size z ys
+  unfolding padded
+  padded-over xs ys h k =
+      let e : length ys ≡ length xs + (length ys - length xs) = omega arith in
+      let f : size - length xs - (length ys - length xs) ≡ size - length ys = omega arith in
+      ap (λ (l : List A). ys ++ l)
+      (ap (λ (m : ℕ). drop m (xs ++ replicate (size - length xs) z)) e
+      ∙ drop-append-add xs (replicate (size - length xs) z) (length ys - length xs)
+      ∙ drop-replicate (length ys - length xs) (size - length xs) (omega arith)
+      ∙ ap (λ (m : ℕ). replicate m z) f)
 
 -- an array that is filled from a list, i of whose first n elements it holds
 module _ {A : Type 0} (size : ℕ) (z : A) (source : List A) (n : ℕ) where
