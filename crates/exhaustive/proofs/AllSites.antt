@@ -10,10 +10,10 @@ use mir.Syntax.{w32, w64}
 use mir.Val.{SFits, toZ, ofZ}
 use Rattle.numbers.proofs.Words.{word-fits}
 use Rattle.query.specs.Place.{Place}
-use Rattle.pricing.specs.Sites.{costOf, beforeOf}
+use Rattle.pricing.specs.Figures.{costOf, beforeOf}
 use Rattle.pricing.specs.Columns.{siteRows, SiteInRange, ColumnsInRange}
-use Rattle.pricing.proofs.WordLaws.{coordinate}
-use Rattle.pricing.proofs.TravelLaws.{far, travel-plain}
+use Rattle.sites.proofs.WordLaws.{coordinate}
+use Rattle.sites.proofs.TravelLaws.{far, travel-plain}
 use Rattle.pricing.proofs.SiteLaws.{paidBy, paidNow, costOf-sum, beforeOf-sum}
 use Rattle.pricing.proofs.ColumnLaws.{siteAt, sum-none, sum-more, has-row, row-range}
 use Rattle.cells.proofs.Keys.{back}

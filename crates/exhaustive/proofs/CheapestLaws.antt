@@ -8,7 +8,7 @@ use lib.Dec.{T, ltb}
 use lib.Signed.{mag}
 use Rattle.numbers.proofs.Truth.{holds, fails}
 use Rattle.query.specs.Place.{Place}
-use Rattle.pricing.specs.Sites.{Site}
+use Rattle.sites.specs.Sites.{Site}
 use Rattle.search.specs.declared.halves.Spot.{Spot}
 use Rattle.search.specs.Run.{spotOf}
 use Rattle.cells.proofs.Keys.{back, fitting}

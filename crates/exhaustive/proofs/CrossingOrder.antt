@@ -19,7 +19,8 @@ use Rattle.query.specs.Order.{Priced, precedes, better}
 use Rattle.query.specs.Search.{bestOf}
 use Rattle.query.specs.Exhaustive.{crossings, cheapestCrossing}
 use Rattle.query.proofs.KeyOrder.{not-earlier}
-use Rattle.pricing.specs.Sites.{Site, costOf}
+use Rattle.sites.specs.Sites.{Site}
+use Rattle.pricing.specs.Figures.{costOf}
 use Rattle.search.specs.declared.halves.Spot.{Spot}
 use Rattle.search.specs.Run.{siteProblem, pricedOf, spotOf}
 use Rattle.exhaustive.specs.Cheapest.{cheaperOf, firstCheapest, along}

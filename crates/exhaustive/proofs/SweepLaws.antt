@@ -8,7 +8,8 @@ use native.Mathlib.Omega.{arith}
 use lib.IntN.{ℤ, pos, natAbs}
 use lib.ListN.{getD, take, drop, length-take, drop-of-length-le}
 use lib.Seq.{drop-cons, getD-take, length-take-le}
-use Rattle.pricing.specs.Sites.{Site, costOf, beforeOf}
+use Rattle.sites.specs.Sites.{Site}
+use Rattle.pricing.specs.Figures.{costOf, beforeOf}
 use Rattle.search.specs.declared.halves.Spot.{Spot}
 use Rattle.search.specs.Run.{spotOf, spotAt}
 use Rattle.cells.proofs.Keys.{back}

@@ -9,7 +9,8 @@ use lib.IntN.{ℤ, pos}
 use lib.ListN.{getD, take, drop, replicate, length-replicate, length-take, drop-of-length-le}
 use lib.Seq.{drop-cons, getD-take, length-take-le}
 use Rattle.query.specs.Range.{costLimit}
-use Rattle.pricing.specs.Sites.{Site, beforeOf}
+use Rattle.sites.specs.Sites.{Site}
+use Rattle.pricing.specs.Figures.{beforeOf}
 use Rattle.pricing.specs.Columns.{Figure}
 use Rattle.search.specs.declared.halves.Spot.{Spot}
 use Rattle.cells.proofs.Keys.{back}

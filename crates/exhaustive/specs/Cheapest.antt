@@ -10,10 +10,11 @@ use lib.ListN.{take}
 use Rattle.query.specs.Place.{Place, NonEmpty}
 use Rattle.query.specs.Range.{InRange}
 use Rattle.job.specs.declared.Deck.{Deck}
-use Rattle.pricing.specs.DeckOf.{deckOf}
-use Rattle.pricing.specs.Sites.{Site, sitesOf, costOf, beforeOf}
-use Rattle.pricing.specs.Record.{sitesRecord}
-use Rattle.pricing.specs.declared.Sites.{Sites}
+use Rattle.sites.specs.DeckOf.{deckOf}
+use Rattle.sites.specs.Sites.{Site, sitesOf}
+use Rattle.pricing.specs.Figures.{costOf, beforeOf}
+use Rattle.sites.specs.Record.{sitesRecord}
+use Rattle.sites.specs.declared.Sites.{Sites}
 use Rattle.search.specs.declared.halves.Spot.{Spot}
 use Rattle.search.specs.Run.{spotOf}
 use Rattle.exhaustive.specs.Ramps.{SitesAdded}

@@ -2,11 +2,10 @@
 // so that the costs of all its crossings follow from prefix sums, with no pass over the sites for each.
 use job::Deck;
 use numbers::abs_diff;
-use pricing::Sites;
-use pricing::price;
 use search::halves;
 use search::halves::Spot;
 use search::run;
+use sites::Sites;
 ghost use mathlib.Core.Path.{_≡_};
 ghost use mathlib.Core.List.{flatMap};
 ghost use Prim.Native.Nat.{_+_, _*_, _≤_};
@@ -14,8 +13,8 @@ ghost use lib.IntN.{natAbs};
 ghost use lib.ListN.{length, take};
 ghost use Rattle.query.specs.Range.{costLimit};
 ghost use Rattle.query.specs.Exhaustive.{exhaustive};
-ghost use Rattle.pricing.specs.DeckOf.{deckOf};
-ghost use Rattle.pricing.specs.Sites.{beforeOf};
+ghost use Rattle.sites.specs.DeckOf.{deckOf};
+ghost use Rattle.pricing.specs.Figures.{beforeOf};
 ghost use Rattle.pricing.specs.Columns.{siteRows, SiteInRange, Figure};
 ghost use Rattle.lines.specs.LineRecord.{FirstAtLeast};
 ghost use Rattle.search.specs.Run.{Sited, pricedOf};
@@ -316,7 +315,7 @@ pub fn cheapest(deck: Deck, sites: Sites) -> Spot
     let nh = h.count;
     let mut table = [0u16; 40001];
     number_lines(&h.at, nh, &mut table);
-    let before = price::before(&sites.visits, &sites.near, n);
+    let before = pricing::before(&sites.visits, &sites.near, n);
     let first = halves::priced(
         &sites.x,
         &sites.y,

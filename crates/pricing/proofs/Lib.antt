@@ -1,9 +1,5 @@
-pub mod WordLaws
 pub mod ColumnLaws
 pub mod SiteLaws
 pub mod TurnLaws
 pub mod ExcessLaws
-pub mod TravelLaws
-pub mod ClosestLaws
-pub mod DeckLaws
 pub mod RecordLaws

@@ -14,10 +14,11 @@ use Rattle.query.specs.Reach.{reach, load}
 use Rattle.query.specs.Range.{InRange}
 use Rattle.query.proofs.Ranges.{figure-limits}
 use Rattle.numbers.specs.Padded.{padded}
-use Rattle.pricing.specs.Sites.{Site, sitesOf, costOf, beforeOf, loadOf, flagsOf}
+use Rattle.sites.specs.Sites.{Site, sitesOf}
+use Rattle.pricing.specs.Figures.{costOf, beforeOf, loadOf, flagsOf}
 use Rattle.pricing.specs.Columns.{rows, siteRows, SiteInRange, ColumnsInRange, PaidInRange, ReachInRange}
-use Rattle.pricing.specs.Record.{sitesRecord}
-use Rattle.pricing.specs.declared.Sites.{Sites}
+use Rattle.sites.specs.Record.{sitesRecord}
+use Rattle.sites.specs.declared.Sites.{Sites}
 use Rattle.numbers.proofs.Padded.{padded-length, padded-each}
 use Rattle.pricing.proofs.SiteLaws.{siteOf, sitesOf-map, cost-law, before-law, load-law, flags-law}
 

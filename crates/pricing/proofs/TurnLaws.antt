@@ -16,10 +16,12 @@ use Rattle.numbers.proofs.Truth.{cond-ind}
 use Rattle.query.specs.Place.{Place, Rect}
 use Rattle.query.specs.Reach.{closestPoint}
 use Rattle.numbers.specs.Padded.{padded}
-use Rattle.pricing.specs.Sites.{Site, reaches}
-use Rattle.pricing.specs.Columns.{siteRows, ColumnsInRange, PaidInRange, ReachInRange, Near180000, EdgesInRange, BeforeIs, FlagsAre}
-use Rattle.pricing.proofs.WordLaws.{coordinate}
-use Rattle.pricing.proofs.TravelLaws.{travel-plain, place-word}
+use Rattle.sites.specs.Sites.{Site}
+use Rattle.pricing.specs.Figures.{reaches}
+use Rattle.pricing.specs.Columns.{siteRows, ColumnsInRange, PaidInRange, ReachInRange, EdgesInRange, BeforeIs, FlagsAre}
+use Rattle.sites.specs.Ranges.{Near180000}
+use Rattle.sites.proofs.WordLaws.{coordinate}
+use Rattle.sites.proofs.TravelLaws.{travel-plain, place-word}
 use Rattle.pricing.proofs.ExcessLaws.{away}
 use Rattle.pricing.proofs.SiteLaws.{paidBy, paidNow, borneBy, flagBy, beforeOf-sum, flagsOf-map}
 use Rattle.numbers.proofs.Padded.{padded-none, padded-more}

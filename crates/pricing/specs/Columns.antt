@@ -10,7 +10,9 @@ use lib.ListN.{length, getD, take}
 use Rattle.numbers.specs.Integer.{dist}
 use Rattle.query.specs.Place.{Rect}
 use Rattle.query.specs.Range.{travelLimit, loadLimit, costLimit}
-use Rattle.pricing.specs.Sites.{Site, beforeOf, flagsOf}
+use Rattle.sites.specs.Sites.{Site}
+use Rattle.sites.specs.Ranges.{Near180000}
+use Rattle.pricing.specs.Figures.{beforeOf, flagsOf}
 
 unfoldable pub rows : List ℤ → List ℤ → List ℕ → List ℕ → List Site
 rows [] ys vs ns = []
@@ -35,10 +37,6 @@ pub record ColumnsInRange (xs ys : List ℤ) (vs ns : List ℕ) : Type 0 where
   pub visits-range : (i : ℕ) → getD vs i 0 ≤ 65535
   pub near-range : (i : ℕ) → getD ns i 0 ≤ 720000
 
-pub record Near180000 (x y : ℤ) : Type 0 where
-  pub x-range : natAbs x ≤ 180000
-  pub y-range : natAbs y ≤ 180000
-
 -- the two columns that `before` reads
 pub record PaidInRange (vs ns : List ℕ) : Type 0 where
   pub visits-long : length vs ≡ 512
@@ -54,17 +52,6 @@ pub record ReachInRange (xs ys : List ℤ) (ns : List ℕ) : Type 0 where
   pub x-range : (i : ℕ) → natAbs (getD xs i (pos 0)) ≤ 180000
   pub y-range : (i : ℕ) → natAbs (getD ys i (pos 0)) ≤ 180000
   pub near-range : (i : ℕ) → getD ns i 0 ≤ 720000
-
--- a column of so many coordinates, and a column of visits, of which the first n count
-pub record CoordinatesInRange (size : ℕ) (xs : List ℤ) (n : ℕ) : Type 0 where
-  pub count : n ≤ size
-  pub long : length xs ≡ size
-  pub range : (i : ℕ) → i < n → natAbs (getD xs i (pos 0)) ≤ 180000
-
-pub record VisitsInRange (vs : List ℕ) (n : ℕ) : Type 0 where
-  pub count : n ≤ 512
-  pub long : length vs ≡ 512
-  pub range : (i : ℕ) → i < n → getD vs i 0 ≤ 65535
 
 -- the edges of a rectangle: in the same range, and in order
 pub record EdgesInRange (xlo ylo xhi yhi : ℤ) : Type 0 where

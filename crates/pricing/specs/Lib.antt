@@ -1,4 +1,2 @@
-pub mod DeckOf
-pub mod Sites
+pub mod Figures
 pub mod Columns
-pub mod Record

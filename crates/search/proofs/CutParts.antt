@@ -15,7 +15,8 @@ use Rattle.query.specs.Problem.{Problem}
 use Rattle.query.specs.Cut.{canCut, cutLine, cutBefore, cutAfter, newCorners}
 use Rattle.query.specs.Range.{RectInRange}
 use Rattle.query.proofs.CutLaws.{cut-law}
-use Rattle.pricing.specs.Sites.{Site, costOf}
+use Rattle.sites.specs.Sites.{Site}
+use Rattle.pricing.specs.Figures.{costOf}
 use Rattle.lines.specs.LineRecord.{isX, cutAt, cutRecord}
 use Rattle.lines.specs.declared.Cut.{Cut}
 use Rattle.lines.proofs.CutRecordLaws.{cutRecord-cut}

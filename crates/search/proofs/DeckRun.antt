@@ -28,19 +28,20 @@ use Rattle.query.proofs.Demand3.{lawful}
 use Rattle.query.proofs.FigureRanges.{figures-in-range}
 use Rattle.numbers.specs.Padded.{padded}
 use Rattle.job.specs.declared.Deck.{Deck}
-use Rattle.pricing.specs.DeckOf.{places, stopsOf, deckOf}
-use Rattle.pricing.specs.Sites.{sitesOf, costOf, loadOf, flagsOf}
-use Rattle.pricing.specs.Record.{sitesRecord}
+use Rattle.sites.specs.DeckOf.{places, stopsOf, deckOf}
+use Rattle.sites.specs.Sites.{sitesOf}
+use Rattle.pricing.specs.Figures.{costOf, loadOf, flagsOf}
+use Rattle.sites.specs.Record.{sitesRecord}
 use Rattle.pricing.specs.Columns.{FlagsAre}
 use Rattle.lines.specs.LineRecord.{Rows, marked, linesBetween, linesRecord}
-use Rattle.pricing.specs.declared.Sites.{Sites}
+use Rattle.sites.specs.declared.Sites.{Sites}
 use Rattle.lines.specs.declared.Lines.{Lines}
 use Rattle.pricing.proofs.SiteLaws.{siteOf, sitesOf-map, cost-law, load-law, flags-law}
 use Rattle.pricing.proofs.RecordLaws.{record-rows, sites-range}
-use Rattle.pricing.proofs.DeckLaws.{DeckColumns}
+use Rattle.sites.proofs.DeckLaws.{DeckColumns}
 use Rattle.lines.proofs.LineRecordLaws.{record-front}
 use Rattle.lines.proofs.DeckLines.{coordinates, reached, lines-marked, lines-in-order, padded-reached}
-use Rattle.pricing.proofs.TravelLaws.{narrow}
+use Rattle.sites.proofs.TravelLaws.{narrow}
 use Rattle.cells.specs.declared.Cell.{Cell}
 use Rattle.search.specs.declared.run.State.{State}
 use Rattle.search.specs.declared.run.Found.{Found}

@@ -22,7 +22,8 @@ use Rattle.query.specs.Range.{RectInRange, costLimit}
 use Rattle.query.specs.Search.{Search, isLive, pricedAt, cellOf, bestOf, otherCorners, startBest, start, cellsAfter, bestAfter, roundOn, round}
 use Rattle.query.proofs.KeyOrder.{cellBefore-strict}
 use Rattle.query.proofs.CellsAfter.{after-is}
-use Rattle.pricing.specs.Sites.{Site, costOf}
+use Rattle.sites.specs.Sites.{Site}
+use Rattle.pricing.specs.Figures.{costOf}
 use Rattle.lines.specs.LineRecord.{onLines, isX, cutAt, cutRecord}
 use Rattle.lines.specs.declared.Cut.{Cut}
 use Rattle.lines.proofs.CutRecordLaws.{canCut-lines, cutLine-lines}

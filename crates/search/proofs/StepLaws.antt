@@ -20,12 +20,14 @@ use Rattle.query.specs.Deck.{plain}
 use Rattle.query.specs.Bound.{span}
 use Rattle.query.specs.Range.{RectInRange, costLimit, loadLimit}
 use Rattle.query.specs.Order.{precedes, better}
-use Rattle.pricing.specs.Sites.{Site, costOf, loadOf}
-use Rattle.pricing.specs.Columns.{Near180000, EdgesInRange, BoundInRange, Figure}
+use Rattle.sites.specs.Sites.{Site}
+use Rattle.pricing.specs.Figures.{costOf, loadOf}
+use Rattle.pricing.specs.Columns.{EdgesInRange, BoundInRange, Figure}
+use Rattle.sites.specs.Ranges.{Near180000}
 use Rattle.lines.specs.LineRecord.{Edges}
 use Rattle.lines.specs.declared.Cut.{Cut}
-use Rattle.pricing.proofs.WordLaws.{narrow-fits, narrowed}
-use Rattle.pricing.proofs.TravelLaws.{narrow, narrow-place}
+use Rattle.sites.proofs.WordLaws.{narrow-fits, narrowed}
+use Rattle.sites.proofs.TravelLaws.{narrow, narrow-place}
 use Rattle.cells.specs.declared.Cell.{Cell}
 use Rattle.cells.specs.declared.Costs.{Costs}
 use Rattle.search.specs.declared.halves.Spot.{Spot}

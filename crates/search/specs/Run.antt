@@ -21,13 +21,14 @@ use Rattle.query.specs.Figures as Figures
 use Rattle.query.specs.Space.{space}
 use Rattle.query.specs.Range.{RectInRange, InRange, costLimit}
 use Rattle.job.specs.declared.Deck.{Deck}
-use Rattle.pricing.specs.DeckOf.{deckOf}
-use Rattle.pricing.specs.Sites.{Site, sitesOf, costOf, loadOf, flagsOf}
-use Rattle.pricing.specs.Record.{sitesRecord}
+use Rattle.sites.specs.DeckOf.{deckOf}
+use Rattle.sites.specs.Sites.{Site, sitesOf}
+use Rattle.pricing.specs.Figures.{costOf, loadOf, flagsOf}
+use Rattle.sites.specs.Record.{sitesRecord}
 use Rattle.pricing.specs.Columns.{siteRows, ColumnsInRange}
 use Rattle.lines.specs.LineRecord as Lines
 use Rattle.lines.specs.LineRecord.{onLines}
-use Rattle.pricing.specs.declared.Sites.{Sites}
+use Rattle.sites.specs.declared.Sites.{Sites}
 use Rattle.lines.specs.declared.Cut.{Cut}
 use Rattle.cells.specs.declared.Cell.{Cell}
 use Rattle.cells.specs.declared.Costs.{Costs}

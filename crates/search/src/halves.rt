@@ -2,7 +2,6 @@
 use cells::Cell;
 use cells::Costs;
 use lines::Cut;
-use pricing::price;
 ghost use mathlib.Core.Path.{_≡_};
 ghost use Prim.Native.Nat.{_-_, _≤_};
 ghost use lib.ListN.{take};
@@ -12,7 +11,7 @@ ghost use Rattle.query.specs.Deck.{plain};
 ghost use Rattle.query.specs.Bound as Bound;
 ghost use Rattle.query.specs.Range.{costLimit, loadLimit, RectInRange};
 ghost use Rattle.query.specs.Lines.{lines};
-ghost use Rattle.pricing.specs.Sites.{loadOf};
+ghost use Rattle.pricing.specs.Figures.{loadOf};
 ghost use Rattle.pricing.specs.Columns.{siteRows, Figure};
 ghost use Rattle.lines.specs.LineRecord.{Edges, onLines, cutRecord};
 ghost use Rattle.search.specs.Run.{Sited, Lined, pricedOf, spotOf, rectIn, cornerCosts, cellFor, Near20000, Ranged, improved, lowCorner, highCorner, firstRect, secondRect, firstCosts, secondCosts, halvesOf, Cutting, CutInRange};
@@ -47,7 +46,7 @@ pub fn priced<'a>(
     requires { ⌜ Sited (now xs) (now ys) (now visits) (now near) n × Near20000 x y ⌝ }
     ensures { λ r. ⌜ r ≡ spotOf (siteRows (now (xs .entry)) (now (ys .entry)) (now (visits .entry)) (now (near .entry)) n) (record { x = x; y = y }) ⌝ }
 {
-    let cost = price::cost(xs, ys, visits, near, n, x as i32, y as i32);
+    let cost = pricing::cost(xs, ys, visits, near, n, x as i32, y as i32);
     Spot { x, y, cost }
 }
 
@@ -90,7 +89,7 @@ fn load_of<'a>(
     requires { ⌜ Sited (now xs) (now ys) (now visits) (now near) n × Ranged (rectIn c) ⌝ }
     ensures { λ r. ⌜ Figure (loadOf (siteRows (now (xs .entry)) (now (ys .entry)) (now (visits .entry)) (now (near .entry)) n) (rectIn c)) loadLimit r ⌝ }
 {
-    price::load(
+    pricing::load(
         xs,
         ys,
         visits,
@@ -117,7 +116,7 @@ pub(crate) fn bounded<'a>(
     ensures { λ r. ⌜ r ≡ cellFor (siteRows (now (xs .entry)) (now (ys .entry)) (now (visits .entry)) (now (near .entry)) n) (rectIn c) ⌝ }
 {
     let load = load_of(xs, ys, visits, near, n, c);
-    let bound = price::bound(k.c00, k.c01, k.c10, k.c11, span(c), load);
+    let bound = pricing::bound(k.c00, k.c01, k.c10, k.c11, span(c), load);
     Cell {
         xlo: c.xlo,
         ylo: c.ylo,

@@ -5,8 +5,7 @@ use cells::Cell;
 use cells::Costs;
 use job::Deck;
 use lines::Lines;
-use pricing::Sites;
-use pricing::price;
+use sites::Sites;
 ghost use mathlib.Core.Path.{_≡_};
 ghost use mathlib.Core.List.{[]};
 ghost use Prim.Native.Nat.{_-_, _≤_};
@@ -16,8 +15,8 @@ ghost use Rattle.query.specs.Range.{costLimit, RectInRange};
 ghost use Rattle.query.specs.Place.{x-axis, y-axis, emptyRect};
 ghost use Rattle.query.specs.Lines.{lines};
 ghost use Rattle.query.specs.Figures as Figures;
-ghost use Rattle.pricing.specs.DeckOf.{deckOf};
-ghost use Rattle.pricing.specs.Sites.{flagsOf};
+ghost use Rattle.sites.specs.DeckOf.{deckOf};
+ghost use Rattle.pricing.specs.Figures.{flagsOf};
 ghost use Rattle.pricing.specs.Columns.{siteRows};
 ghost use Rattle.lines.specs.LineRecord.{onLines, linesRecord};
 ghost use Rattle.cells.specs.Space.{queryCell, cellsIn, costsIn, Numbered};
@@ -290,7 +289,7 @@ pub fn flags_of(area: Cell, sites: Sites) -> [u8; 512]
     ensures { λ r. ⌜ r ≡ flagsOf (rowsOf sites) (rectIn area) ⌝ }
 {
     let n = sites.count;
-    price::reach_flags(
+    pricing::reach_flags(
         &sites.x,
         &sites.y,
         &sites.near,

@@ -19,10 +19,10 @@ use Rattle.job.specs.Record.{jobRecord}
 use Rattle.job.specs.declared.Job as Held
 use Rattle.job.specs.declared.Outcome.the-variants.{Accepted, Refused}
 use Rattle.job.specs.declared.Refusal.{Refusal}
-use Rattle.pricing.specs.DeckOf.{deckOf}
-use Rattle.pricing.specs.Sites.{sitesOf}
-use Rattle.pricing.specs.Record.{sitesRecord}
-use Rattle.pricing.specs.declared.Sites.{Sites}
+use Rattle.sites.specs.DeckOf.{deckOf}
+use Rattle.sites.specs.Sites.{sitesOf}
+use Rattle.sites.specs.Record.{sitesRecord}
+use Rattle.sites.specs.declared.Sites.{Sites}
 use Rattle.report.specs.declared.Report.{Report}
 use Rattle.search.specs.Run.{pricedOf}
 use Rattle.search.specs.declared.halves.Spot.{Spot}

@@ -17,8 +17,8 @@ use Rattle.job.specs.declared.Refusal.{Refusal}
 use Rattle.job.specs.declared.Outcome.{Outcome}
 use Rattle.job.specs.declared.Outcome.the-variants.{Accepted, Refused}
 use Rattle.job.proofs.Meaning.{accepted-law, allowed-in-range}
-use Rattle.pricing.specs.DeckOf.{deckOf}
-use Rattle.pricing.proofs.DeckLaws.{deck-record}
+use Rattle.sites.specs.DeckOf.{deckOf}
+use Rattle.sites.proofs.DeckLaws.{deck-record}
 
 -- a test's two outcomes differ
 pub differ : {P : Type 0} → true ≡ false → P

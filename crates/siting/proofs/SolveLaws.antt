@@ -26,11 +26,11 @@ use Rattle.job.specs.declared.Job as Held
 use Rattle.job.specs.declared.Deck.{Deck}
 use Rattle.job.specs.declared.Outcome.the-variants.{Accepted}
 use Rattle.job.specs.declared.Refusal.{Refusal}
-use Rattle.pricing.specs.DeckOf.{deckOf}
-use Rattle.pricing.specs.Sites.{sitesOf}
-use Rattle.pricing.specs.Record.{sitesRecord}
+use Rattle.sites.specs.DeckOf.{deckOf}
+use Rattle.sites.specs.Sites.{sitesOf}
+use Rattle.sites.specs.Record.{sitesRecord}
 use Rattle.pricing.specs.Columns.{BeforeIs}
-use Rattle.pricing.specs.declared.Sites.{Sites}
+use Rattle.sites.specs.declared.Sites.{Sites}
 use Rattle.pricing.proofs.RecordLaws.{made-range, made-before}
 use Rattle.report.specs.Report.{stateOf, figuresOf}
 use Rattle.report.specs.Text.{reportText}

@@ -2,7 +2,6 @@
 use job::Deck;
 use job::Outcome;
 use job::Refusal;
-use pricing::price;
 use report::Report;
 use report::State;
 use search::halves::Spot;
@@ -51,9 +50,9 @@ fn solve(deck: Deck, rounds: u64, cells: &mut [i64]) -> Report
     requires { ⌜ Solvable deck rounds (length (now cells)) ⌝ }
     ensures { λ r. ⌜ Solved deck rounds (now (cells .entry)) (now (cells .exit)) r ⌝ }
 {
-    let sites = price::sites(deck);
+    let sites = sites::of_deck(deck);
     let n = sites.count;
-    let before = price::before(&sites.visits, &sites.near, n);
+    let before = pricing::before(&sites.visits, &sites.near, n);
     let found = run::search(deck, sites, rounds, cells);
     let state = state_of(found.done);
     Report {
@@ -132,7 +131,7 @@ pub fn exhaustive(job: &[u8]) -> Cheapest
     let deck = j.deck;
     match outcome {
         Outcome::Accepted(_) => {
-            let sites = price::sites(deck);
+            let sites = sites::of_deck(deck);
             Cheapest::At(exhaustive::cheapest(deck, sites))
         }
         Outcome::Refused(why) => Cheapest::Refused(why),

@@ -23,7 +23,7 @@ use Rattle.job.specs.Format.{Result, refused, accepted, readJob}
 use Rattle.job.specs.Record.{deckRecord}
 use Rattle.numbers.specs.Padded.{padded}
 use Rattle.job.proofs.RangeTests.{held, held-is}
-use Rattle.pricing.specs.DeckOf.{deckOf}
+use Rattle.sites.specs.DeckOf.{deckOf}
 use Rattle.pricing.specs.Columns.{FlagsAre}
 use Rattle.lines.specs.LineRecord.{rectOf, Rows, marked, linesBetween, linesRecord, InOrder, onLines, cutAt, isX, cutRecord}
 use Rattle.lines.specs.declared.Lines.{Lines}

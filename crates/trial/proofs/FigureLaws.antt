@@ -26,12 +26,13 @@ use Rattle.job.specs.Format.{readJob}
 use Rattle.job.specs.Record.{deckRecord}
 use Rattle.numbers.specs.Padded.{padded}
 use Rattle.job.proofs.RangeTests.{held}
-use Rattle.pricing.specs.DeckOf.{deckOf}
-use Rattle.pricing.specs.Sites.{sitesOf, costOf, loadOf}
+use Rattle.sites.specs.DeckOf.{deckOf}
+use Rattle.sites.specs.Sites.{sitesOf}
+use Rattle.pricing.specs.Figures.{costOf, loadOf}
 use Rattle.pricing.specs.Columns.{Figure, BeforeIs}
 use Rattle.lines.specs.LineRecord.{rectOf}
-use Rattle.pricing.specs.Record.{sitesRecord}
-use Rattle.pricing.specs.declared.Sites.{Sites}
+use Rattle.sites.specs.Record.{sitesRecord}
+use Rattle.sites.specs.declared.Sites.{Sites}
 use Rattle.pricing.proofs.RecordLaws.{rowsOf, record-rows, InColumns, sites-range}
 use Rattle.pricing.proofs.SiteLaws.{siteOf, sitesOf-map, cost-law, load-law, before-law}
 use Rattle.trial.specs.Opened.{openedDeck, openedRecord, rectAllowed, Open}

@@ -25,7 +25,7 @@ use Rattle.job.proofs.RangeLaws.{place-range}
 use Rattle.job.proofs.RangeTests.{held, held-is}
 use Rattle.pricing.specs.Columns.{Figure}
 use Rattle.lines.specs.LineRecord.{rectOf, Edges}
-use Rattle.pricing.proofs.WordLaws.{difference, difference-fits}
+use Rattle.sites.proofs.WordLaws.{difference, difference-fits}
 use Rattle.trial.specs.Opened.{rectAllowed}
 use Rattle.trial.specs.Trial.{minusOne}
 use Rattle.trial.specs.Many.{sumTo, side, spread, Spread, placeAt, rectAt, manyFigure}

@@ -12,10 +12,10 @@ use Rattle.job.specs.declared.Job as Held
 use Rattle.job.specs.declared.Refusal.{Refusal}
 use Rattle.job.specs.declared.Outcome.the-variants.{Accepted}
 use Rattle.job.proofs.Meaning.{accepted-law}
-use Rattle.pricing.specs.DeckOf.{deckOf}
-use Rattle.pricing.specs.Sites.{sitesOf}
-use Rattle.pricing.specs.Record.{sitesRecord}
-use Rattle.pricing.specs.declared.Sites.{Sites}
+use Rattle.sites.specs.DeckOf.{deckOf}
+use Rattle.sites.specs.Sites.{sitesOf}
+use Rattle.sites.specs.Record.{sitesRecord}
+use Rattle.sites.specs.declared.Sites.{Sites}
 use Rattle.siting.proofs.ReadLaws.{differ, Spelt, read-accepted, read-deck, read-rounds, spelt-range, read-deckOf}
 use Rattle.trial.specs.Opened.{openedDeck, openedRecord, Open}
 use Rattle.trial.specs.Trial.{onJob, roundsOf}

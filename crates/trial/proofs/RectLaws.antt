@@ -15,9 +15,10 @@ use Rattle.query.specs.Range.{PlaceInRange}
 use Rattle.job.specs.Lines.{placeInRange}
 use Rattle.job.proofs.RangeLaws.{place-range}
 use Rattle.job.proofs.RangeTests.{held, held-is}
-use Rattle.pricing.specs.Columns.{Near180000, EdgesInRange}
+use Rattle.pricing.specs.Columns.{EdgesInRange}
+use Rattle.sites.specs.Ranges.{Near180000}
 use Rattle.lines.specs.LineRecord.{rectOf, Edges}
-use Rattle.pricing.proofs.WordLaws.{narrowed, narrow-fits}
+use Rattle.sites.proofs.WordLaws.{narrowed, narrow-fits}
 use Rattle.trial.specs.Opened.{rectAllowed}
 
 pub record RectIs (xlo ylo xhi yhi : ℤ) : Type 0 where

@@ -13,8 +13,8 @@ use Rattle.query.specs.Reach.{load}
 use Rattle.query.specs.Bound.{bound}
 use Rattle.query.specs.Problem.{problem}
 use Rattle.job.specs.Format.{Job, Result}
-use Rattle.pricing.specs.Sites.{sitesOf}
-use Rattle.pricing.specs.Record.{sitesRecord}
+use Rattle.sites.specs.Sites.{sitesOf}
+use Rattle.sites.specs.Record.{sitesRecord}
 use Rattle.lines.specs.LineRecord.{cutRecord}
 use Rattle.trial.specs.Trial.{onJob, minusOne}
 

@@ -11,8 +11,8 @@ use Rattle.query.specs.Range.{InRange}
 use Rattle.job.specs.Lines.{placeInRange}
 use Rattle.job.specs.Format.{Result, refused, accepted}
 use Rattle.job.specs.Record.{deckRecord}
-use Rattle.pricing.specs.Sites.{sitesOf}
-use Rattle.pricing.specs.Record.{sitesRecord}
+use Rattle.sites.specs.Sites.{sitesOf}
+use Rattle.sites.specs.Record.{sitesRecord}
 use Rattle.trial.specs.declared.Opened.{Opened}
 
 unfoldable pub openedDeck : Query.Deck → Opened

@@ -18,7 +18,8 @@ use Rattle.query.specs.Cut.{canCut, cutLine}
 use Rattle.job.specs.Refusal.{numberOf, lineOf}
 use Rattle.job.specs.Lines.{placeInRange}
 use Rattle.job.specs.Format.{Job, Result, refused, accepted}
-use Rattle.pricing.specs.Sites.{Site, costOf, loadOf}
+use Rattle.sites.specs.Sites.{Site}
+use Rattle.pricing.specs.Figures.{costOf, loadOf}
 use Rattle.trial.specs.Opened.{rectAllowed}
 
 -- a figure of an accepted job, and none where the job is refused

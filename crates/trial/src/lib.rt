@@ -7,8 +7,7 @@ use job::Outcome;
 use lines::Cut;
 use lines::Lines;
 use numbers::abs_diff;
-use pricing::Sites;
-use pricing::price;
+use sites::Sites;
 ghost use mathlib.Core.Path.{_≡_};
 ghost use mathlib.Core.Bool.{cond};
 ghost use Prim.Native.Nat.{_≤_};
@@ -21,10 +20,10 @@ ghost use Rattle.query.specs.Problem.{problem};
 ghost use Rattle.query.specs.Range.{PlaceInRange, costLimit, loadLimit};
 ghost use Rattle.job.specs.Lines.{coordinateInRange, placeInRange};
 ghost use Rattle.job.specs.Format.{readJob};
-ghost use Rattle.pricing.specs.DeckOf.{deckOf};
+ghost use Rattle.sites.specs.DeckOf.{deckOf};
 ghost use Rattle.lines.specs.LineRecord.{rectOf, linesRecord, cutRecord};
 ghost use Rattle.pricing.specs.Columns.{siteRows, ColumnsInRange, Figure};
-ghost use Rattle.pricing.specs.Sites.{costOf, loadOf};
+ghost use Rattle.pricing.specs.Figures.{costOf, loadOf};
 ghost use Rattle.trial.specs.Opened.{openedRecord, rectAllowed, Open};
 ghost use Rattle.trial.specs.Trial.{boundOf, axisOf, refusalNumber, refusalLine, roundsOf, beforeFigure, nearFigure, costFigure, loadFigure, boundFigure, cutAxisFigure, cutLineFigure, linesWritten};
 
@@ -43,7 +42,7 @@ fn open_job(bytes: &[u8]) -> Opened
     let deck = j.deck;
     match outcome {
         Outcome::Accepted(_) => {
-            let sites = price::sites(deck);
+            let sites = sites::of_deck(deck);
             Opened {
                 accepted: true,
                 deck,
@@ -153,7 +152,7 @@ fn cost_in<'a>(
     requires { ⌜ (n ≤ 512) × ColumnsInRange (now xs) (now ys) (now visits) (now near) × PlaceInRange (record { x = x; y = y }) ⌝ }
     ensures { λ r. ⌜ Figure (costOf (siteRows (now (xs .entry)) (now (ys .entry)) (now (visits .entry)) (now (near .entry)) n) (record { x = x; y = y })) costLimit r ⌝ }
 {
-    price::cost(xs, ys, visits, near, n, x as i32, y as i32)
+    pricing::cost(xs, ys, visits, near, n, x as i32, y as i32)
 }
 
 fn load_in<'a>(
@@ -170,7 +169,7 @@ fn load_in<'a>(
     requires { ⌜ (n ≤ 512) × ColumnsInRange (now xs) (now ys) (now visits) (now near) × T (rectAllowed (rectOf xlo ylo xhi yhi)) ⌝ }
     ensures { λ r. ⌜ Figure (loadOf (siteRows (now (xs .entry)) (now (ys .entry)) (now (visits .entry)) (now (near .entry)) n) (rectOf xlo ylo xhi yhi)) loadLimit r ⌝ }
 {
-    price::load(
+    pricing::load(
         xs,
         ys,
         visits,
@@ -202,7 +201,7 @@ fn bound_in<'a>(
     let c10 = cost_in(xs, ys, visits, near, n, xhi, ylo);
     let c11 = cost_in(xs, ys, visits, near, n, xhi, yhi);
     let load = load_in(xs, ys, visits, near, n, xlo, ylo, xhi, yhi);
-    price::bound(
+    pricing::bound(
         c00,
         c01,
         c10,
@@ -224,7 +223,7 @@ fn lines_of(o: Opened, across: bool) -> Lines
     let ylo = d.ylo;
     let xhi = d.xhi;
     let yhi = d.yhi;
-    let flags = price::reach_flags(
+    let flags = pricing::reach_flags(
         &s.x,
         &s.y,
         &s.near,
@@ -265,7 +264,7 @@ pub extern "C" fn trial_before(job: &[u8]) -> i64
     }
     let s = o.sites;
     let n = s.count;
-    price::before(&s.visits, &s.near, n) as i64
+    pricing::before(&s.visits, &s.near, n) as i64
 }
 
 // The near of stop `i`, counted from 0; -1 where there is none.

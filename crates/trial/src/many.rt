@@ -2,16 +2,16 @@
 use crate::Opened;
 use job::Deck;
 use lines::Cut;
-use pricing::price;
 ghost use mathlib.Core.Path.{_≡_};
 ghost use Prim.Native.Nat.{ℕ, _*_, _%_, _≤_};
 ghost use lib.ListN.{getD, take};
 ghost use Rattle.query.specs.Range.{InRange, costLimit, loadLimit};
 ghost use Rattle.job.specs.Format.{readJob};
 ghost use Rattle.pricing.specs.Columns.{siteRows, ColumnsInRange, Figure};
-ghost use Rattle.pricing.specs.DeckOf.{deckOf};
-ghost use Rattle.pricing.specs.Record.{sitesRecord};
-ghost use Rattle.pricing.specs.Sites.{sitesOf, costOf, loadOf};
+ghost use Rattle.sites.specs.DeckOf.{deckOf};
+ghost use Rattle.sites.specs.Record.{sitesRecord};
+ghost use Rattle.sites.specs.Sites.{sitesOf};
+ghost use Rattle.pricing.specs.Figures.{costOf, loadOf};
 ghost use Rattle.lines.specs.LineRecord.{InOrder, onLines, cutRecord};
 ghost use Rattle.trial.specs.Trial.{boundOf};
 ghost use Rattle.trial.specs.Many.{sumTo, Spread, placeAt, rectAt, positive, manyFigure, costTurn, loadTurn, boundTurn, cutTurn, nearTurn};
@@ -124,7 +124,7 @@ fn near_at(deck: Deck, t: u64) -> u64
     requires { ⌜ InRange (deckOf deck) × (deck .posts ≤ 64) × (deck .stops ≤ 512) ⌝ }
     ensures { λ r. ⌜ Figure (getD (sitesRecord (sitesOf (deckOf deck)) .near) (t % 512) 0) 720000 r ⌝ }
 {
-    let s = price::sites(deck);
+    let s = sites::of_deck(deck);
     let near = s.near;
     let i = (t % 512) as usize;
     near[i] as u64

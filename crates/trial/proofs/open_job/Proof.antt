@@ -3,7 +3,7 @@
 use borrow.Author.Needs.{needs}
 use Rattle.siting.proofs.ReadLaws.{read-accepted, read-refused, sites-ask}
 use Rattle.trial.proofs.OpenLaws.{opened-accepted, opened-refused}
-use Rattle.pricing.specs.Record.{sitesRecord}
+use Rattle.sites.specs.Record.{sitesRecord}
 use Rattle.trial.proofs.open_job.Statement.{statement}
 use Rattle.trial.proofs.open_job.Tie as tie
 

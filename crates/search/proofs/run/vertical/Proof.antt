@@ -3,7 +3,7 @@
 use mathlib.Core.Path.{_≡_, _∙_}
 use borrow.Author.Needs.{needs}
 use lib.ListN.{length}
-use Rattle.pricing.proofs.DeckLaws.{DeckColumns}
+use Rattle.sites.proofs.DeckLaws.{DeckColumns}
 use Rattle.search.proofs.DeckRun.{vertical-is, rows-full}
 use Rattle.search.proofs.run.vertical.Statement.{statement}
 use Rattle.search.proofs.run.vertical.Tie as tie

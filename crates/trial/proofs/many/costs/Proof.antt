@@ -4,7 +4,7 @@ use mathlib.Core.Path.{ap, _∙_}
 use Prim.Native.Nat.{_-_}
 use Rattle.query.specs.Range.{costLimit}
 use Rattle.pricing.specs.Columns.{siteRows}
-use Rattle.pricing.specs.Sites.{costOf}
+use Rattle.pricing.specs.Figures.{costOf}
 use Rattle.trial.specs.Many.{placeAt}
 use Rattle.trial.proofs.ManyLaws.{Summed, summed-none, summed-more, summed-all, place-turn, place-ok}
 use native.Mathlib.Omega.{arith}

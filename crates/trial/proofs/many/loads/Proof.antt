@@ -4,7 +4,7 @@ use mathlib.Core.Path.{ap, _∙_}
 use Prim.Native.Nat.{_-_}
 use Rattle.query.specs.Range.{loadLimit}
 use Rattle.pricing.specs.Columns.{siteRows}
-use Rattle.pricing.specs.Sites.{loadOf}
+use Rattle.pricing.specs.Figures.{loadOf}
 use Rattle.trial.specs.Many.{rectAt}
 use Rattle.trial.proofs.ManyLaws.{Summed, summed-none, summed-more, summed-all, rect-turn, rect-ok}
 use native.Mathlib.Omega.{arith}

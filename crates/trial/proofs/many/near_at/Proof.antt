@@ -3,7 +3,7 @@
 use mathlib.Core.Path.{ap, subst, sym}
 use Prim.Native.Nat.{_%_}
 use lib.ListN.{getD}
-use Rattle.pricing.specs.declared.Sites.{Sites}
+use Rattle.sites.specs.declared.Sites.{Sites}
 use Rattle.pricing.proofs.RecordLaws.{sites-range, InColumns}
 use borrow.Author.Needs.{needs}
 use Rattle.trial.proofs.many.near_at.Statement.{statement}

@@ -2,9 +2,9 @@
 -- Assumes nothing.
 use Prim.Native.Nat.{_-_, _%_}
 use lib.ListN.{getD}
-use Rattle.pricing.specs.DeckOf.{deckOf}
-use Rattle.pricing.specs.Record.{sitesRecord}
-use Rattle.pricing.specs.Sites.{sitesOf}
+use Rattle.sites.specs.DeckOf.{deckOf}
+use Rattle.sites.specs.Record.{sitesRecord}
+use Rattle.sites.specs.Sites.{sitesOf}
 use Rattle.trial.proofs.ManyLaws.{Summed, summed-none, summed-more, summed-all}
 use native.Mathlib.Omega.{arith}
 use Rattle.trial.proofs.many.nears.Statement.{statement}

@@ -1,0 +1,32 @@
+-- `pricing::reached` meets its contract.
+-- Assumes nothing.
+use native.Mathlib.Omega.{arith}
+use borrow.Author.Needs.{needs}
+use mir.Syntax.{w32}
+use Rattle.numbers.proofs.Words.{natural-fits}
+use Rattle.sites.proofs.WordLaws.{test-is}
+use Rattle.pricing.proofs.ExcessLaws.{away-small, away-sum}
+use Rattle.pricing.proofs.reached.Statement.{statement}
+use Rattle.pricing.proofs.reached.Tie as tie
+
+cast-n : tie.Need-cast-n
+cast-n c = search needs
+
+outside-requires : tie.Need-outside-requires
+outside-requires c κs = search needs
+
+outside-requires-2 : tie.Need-outside-requires-2
+outside-requires-2 c κs = search needs
+
+add-result : tie.Need-add-result
+add-result c =
+    let p = c .before .before .pre in
+    natural-fits w32 _ _ (away-sum _ _ _ _ _ _ (p .0) (p .2) _ _ (c .before .outside .ensures) (c .outside2 .ensures)) (away-small _ _ _ _ _ _ (p .0) (p .2))
+
+returns : tie.Need-returns
+returns c =
+    let p = c .before .before .pre in
+    test-is _ _ _ (away-sum _ _ _ _ _ _ (p .0) (p .2) _ _ (c .before .outside .ensures) (c .outside2 .ensures)) (away-small _ _ _ _ _ _ (p .0) (p .2)) (omega arith)
+
+pub reached-spec : {M : Type 1} → statement M
+reached-spec = tie.close (tie.spec cast-n outside-requires outside-requires-2 add-result returns)

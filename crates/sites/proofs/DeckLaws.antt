@@ -1,0 +1,171 @@
+-- The deck that a record holds, column by column: its stops and posts in range, and the columns of its sites.
+-- Assumes nothing.
+use mathlib.Core.Path.{_≡_, refl, ap, _∙_}
+use mathlib.Core.List.{List, [], _∷_, _++_, map, zipWith, map-map, map-id, List·Memᴰ, List·Memᴰ·head, List·Memᴰ·tail}
+use Prim.Native.Nat.{ℕ, zero, suc, _≤_, _<_}
+use native.Mathlib.Omega.{arith}
+use lib.IntN.{ℤ, pos}
+use lib.ListN.{length, getD, take, length-take, length-map}
+use Rattle.query.specs.Place.{Place, Rect}
+use Rattle.query.specs.Deck.{Stop, plain}
+use Rattle.query.specs.Travel.{closest, near}
+use Rattle.query.specs.Range.{InRange, StopInRange, PlaceInRange}
+use Rattle.job.specs.Record.{deckRecord}
+use Rattle.numbers.specs.Padded.{padded}
+use Rattle.job.specs.declared.Deck.{Deck}
+use Rattle.sites.specs.DeckOf.{places, stopsOf, deckOf}
+use Rattle.sites.specs.Sites.{Site, sitesOf}
+use Rattle.sites.specs.Ranges.{CoordinatesInRange, VisitsInRange}
+use Rattle.sites.specs.Record.{sitesRecord}
+use Rattle.sites.specs.declared.Sites.{Sites}
+use Rattle.sites.proofs.ClosestLaws.{zip-length, zip-at, placeAt, places-length, places-at}
+
+-- ---- lists
+take-member : {A : Type 0} (d : A) (l : List A) (n i : ℕ) → i < n → i < length l → List·Memᴰ (getD l i d) (take n l)
+take-member d [] n i g h = absurd (omega arith)
+take-member d (x ∷ xs) zero i g h = absurd (omega arith)
+take-member d (x ∷ xs) (suc n) zero g h = List·Memᴰ·head refl
+take-member d (x ∷ xs) (suc n) (suc i) g h = List·Memᴰ·tail (take-member d xs n i (omega arith) (omega arith))
+
+pub map-take : {A B : Type 0} (f : A → B) (n : ℕ) (l : List A) → map f (take n l) ≡ take n (map f l)
+map-take f zero l = refl
+map-take f (suc n) [] = refl
+map-take f (suc n) (x ∷ xs) = ap (λ r. f x ∷ r) (map-take f n xs)
+
+-- a map that looks at the first, or the second, of two lists side by side
+module _ {A B C D : Type 0} (f : A → B → C) (g : C → D) where
+  zip-first : (h : A → D) → ((a : A) (b : B) → g (f a b) ≡ h a) → (xs : List A) (ys : List B) → length xs ≡ length ys → map g (zipWith f xs ys) ≡ map h xs
+  unfolding zipWith
+  zip-first h e [] ys k = refl
+  zip-first h e (x ∷ xs) [] k = absurd (omega arith)
+  zip-first h e (x ∷ xs) (y ∷ ys) k = rw (e x y, zip-first h e xs ys (omega arith))
+
+  zip-second : (h : B → D) → ((a : A) (b : B) → g (f a b) ≡ h b) → (xs : List A) (ys : List B) → length xs ≡ length ys → map g (zipWith f xs ys) ≡ map h ys
+  unfolding zipWith
+  zip-second h e [] [] k = refl
+  zip-second h e [] (y ∷ ys) k = absurd (omega arith)
+  zip-second h e (x ∷ xs) [] k = absurd (omega arith)
+  zip-second h e (x ∷ xs) (y ∷ ys) k = rw (e x y, zip-second h e xs ys (omega arith))
+
+abbrev placeOf : ℤ → ℤ → Place
+placeOf x y = record { x = x; y = y }
+
+abbrev stopOf : Place → ℕ → Stop
+stopOf p v = record { at = p; visits = v }
+
+places-x : (xs ys : List ℤ) → length xs ≡ length ys → map (λ (p : Place). p .x) (places xs ys) ≡ xs
+unfolding places
+places-x xs ys e = zip-first placeOf (λ (p : Place). p .x) (λ x. x) (λ x y. refl) xs ys e ∙ map-id xs
+
+places-y : (xs ys : List ℤ) → length xs ≡ length ys → map (λ (p : Place). p .y) (places xs ys) ≡ ys
+unfolding places
+places-y xs ys e = zip-second placeOf (λ (p : Place). p .y) (λ y. y) (λ x y. refl) xs ys e ∙ map-id ys
+
+-- ---- the columns of a deck's record
+pub record DeckColumns (deck : Deck) : Type 0 where
+  pub posts : deck .posts ≤ 64
+  pub post-x : length (deck .«post_x») ≡ 64
+  pub post-y : length (deck .«post_y») ≡ 64
+  pub stops : deck .stops ≤ 512
+  pub stop-x : length (deck .«stop_x») ≡ 512
+  pub stop-y : length (deck .«stop_y») ≡ 512
+  pub visits : length (deck .visits) ≡ 512
+
+abbrev stopAt : Deck → ℕ → Stop
+stopAt deck i = record { at = placeAt (deck .«stop_x») (deck .«stop_y») i; visits = getD (deck .visits) i 0 }
+
+abbrev allStops : Deck → List Stop
+allStops deck = stopsOf (places (deck .«stop_x») (deck .«stop_y»)) (deck .visits)
+
+module _ (deck : Deck) (columns : DeckColumns deck) where
+  places-long : length (places (deck .«stop_x») (deck .«stop_y»)) ≡ 512
+  places-long = places-length 512 (deck .«stop_x») (deck .«stop_y») (columns .stop-x) (columns .stop-y)
+
+  stops-long : length (allStops deck) ≡ 512
+  unfolding stopsOf
+  stops-long = zip-length _ 512 (places (deck .«stop_x») (deck .«stop_y»)) (deck .visits) places-long (columns .visits)
+
+  stops-at : (i : ℕ) (d : Stop) → i < 512 → getD (allStops deck) i d ≡ stopAt deck i
+  unfolding stopsOf
+  stops-at i d h = zip-at _ (placeAt [] [] 0) 0 d (places (deck .«stop_x») (deck .«stop_y»)) (deck .visits) i (omega (arith, places-long)) (omega (arith, columns .visits)) ∙ rw (places-at (deck .«stop_x») (deck .«stop_y») i (placeAt [] [] 0) (omega (arith, columns .stop-x)) (omega (arith, columns .stop-y)))
+
+  module _ (range : InRange (deckOf deck)) where
+    stop-range : (i : ℕ) → i < deck .stops → StopInRange (stopAt deck i)
+    unfolding deckOf
+    stop-range i h = range .stops (stopAt deck i) (rw (stops-at i (stopAt deck 0) (omega (arith, columns .stops))) at (take-member (stopAt deck 0) (allStops deck) (deck .stops) i h (omega (arith, columns .stops, stops-long))))
+
+    post-in-range : (i : ℕ) → i < deck .posts → PlaceInRange (placeAt (deck .«post_x») (deck .«post_y») i)
+    unfolding deckOf
+    post-in-range i h = range .posts (placeAt (deck .«post_x») (deck .«post_y») i) (rw (places-at (deck .«post_x») (deck .«post_y») i (placeAt [] [] 0) (omega (arith, columns .posts, columns .post-x)) (omega (arith, columns .posts, columns .post-y))) at (take-member (placeAt [] [] 0) (places (deck .«post_x») (deck .«post_y»)) (deck .posts) i h (omega (arith, columns .posts, places-length 64 (deck .«post_x») (deck .«post_y») (columns .post-x) (columns .post-y)))))
+
+    pub some-post : 1 ≤ deck .posts
+    unfolding deckOf
+    some-post = omega (arith, range .some-posts, length-take (deck .posts) (places (deck .«post_x») (deck .«post_y»)))
+
+    pub stop-x-range : CoordinatesInRange 512 (deck .«stop_x») (deck .stops)
+    stop-x-range = record { count = columns .stops; long = columns .stop-x; range = λ i h. let r = stop-range i h .place .x-range in omega arith }
+
+    pub stop-y-range : CoordinatesInRange 512 (deck .«stop_y») (deck .stops)
+    stop-y-range = record { count = columns .stops; long = columns .stop-y; range = λ i h. let r = stop-range i h .place .y-range in omega arith }
+
+    pub visits-in-range : VisitsInRange (deck .visits) (deck .stops)
+    visits-in-range = record { count = columns .stops; long = columns .visits; range = λ i h. stop-range i h .most-visits }
+
+    pub post-x-range : CoordinatesInRange 64 (deck .«post_x») (deck .posts)
+    post-x-range = record { count = columns .posts; long = columns .post-x; range = λ i h. let r = post-in-range i h .x-range in omega arith }
+
+    pub post-y-range : CoordinatesInRange 64 (deck .«post_y») (deck .posts)
+    post-y-range = record { count = columns .posts; long = columns .post-y; range = λ i h. let r = post-in-range i h .y-range in omega arith }
+
+  -- ---- the record of the deck's sites
+  pub sites-length : length (sitesOf (deckOf deck)) ≡ deck .stops
+  unfolding sitesOf deckOf
+  sites-length = rw length-map (omega (arith, length-take (deck .stops) (allStops deck), stops-long, columns .stops))
+
+  column : {D : Type 0} (g : Site → D) → map g (sitesOf (deckOf deck)) ≡ take (deck .stops) (map (λ stop. g (record { at = stop .at; visits = stop .visits; near = near (deckOf deck) stop })) (allStops deck))
+  unfolding sitesOf deckOf
+  column g = rw (map-map, map-take)
+
+  by-place : {D : Type 0} (g : Stop → D) (h : Place → D) → ((p : Place) (v : ℕ) → g (stopOf p v) ≡ h p) → map g (allStops deck) ≡ map h (places (deck .«stop_x») (deck .«stop_y»))
+  unfolding stopsOf
+  by-place g h e = zip-first stopOf g h e (places (deck .«stop_x») (deck .«stop_y»)) (deck .visits) (omega (arith, places-long, columns .visits))
+
+  x-column : map (λ (s : Site). s .at .x) (sitesOf (deckOf deck)) ≡ take (deck .stops) (deck .«stop_x»)
+  x-column = rw (column (λ (s : Site). s .at .x), by-place (λ (s : Stop). s .at .x) (λ (p : Place). p .x) (λ p v. refl), places-x (deck .«stop_x») (deck .«stop_y») (omega (arith, columns .stop-x, columns .stop-y)))
+
+  y-column : map (λ (s : Site). s .at .y) (sitesOf (deckOf deck)) ≡ take (deck .stops) (deck .«stop_y»)
+  y-column = rw (column (λ (s : Site). s .at .y), by-place (λ (s : Stop). s .at .y) (λ (p : Place). p .y) (λ p v. refl), places-y (deck .«stop_x») (deck .«stop_y») (omega (arith, columns .stop-x, columns .stop-y)))
+
+  visits-column : map (λ (s : Site). s .visits) (sitesOf (deckOf deck)) ≡ take (deck .stops) (deck .visits)
+  unfolding stopsOf
+  visits-column = rw (column (λ (s : Site). s .visits), zip-second stopOf (λ (s : Stop). s .visits) (λ v. v) (λ p v. refl) (places (deck .«stop_x») (deck .«stop_y»)) (deck .visits) (omega (arith, places-long, columns .visits)), map-id)
+
+  near-is : (p : Place) (v : ℕ) → near (deckOf deck) (stopOf p v) ≡ closest plain p (take (deck .posts) (places (deck .«post_x») (deck .«post_y»)))
+  unfolding near deckOf
+  near-is p v = refl
+
+  near-column : map (λ (s : Site). s .near) (sitesOf (deckOf deck)) ≡ take (deck .stops) (map (λ p. closest plain p (take (deck .posts) (places (deck .«post_x») (deck .«post_y»)))) (places (deck .«stop_x») (deck .«stop_y»)))
+  near-column = rw (column (λ (s : Site). s .near), by-place (near (deckOf deck)) (λ (p : Place). closest plain p (take (deck .posts) (places (deck .«post_x») (deck .«post_y»)))) near-is)
+
+  pub record-is : (x y : List ℤ) (visits nears : List ℕ) → x ≡ padded 512 (pos 0) (take (deck .stops) (deck .«stop_x»)) → y ≡ padded 512 (pos 0) (take (deck .stops) (deck .«stop_y»)) → visits ≡ padded 512 0 (take (deck .stops) (deck .visits)) → nears ≡ padded 512 0 (take (deck .stops) (map (λ p. closest plain p (take (deck .posts) (places (deck .«post_x») (deck .«post_y»)))) (places (deck .«stop_x») (deck .«stop_y»)))) → _≡_ {A = Sites} (record { count = deck .stops; x = x; y = y; visits = visits; near = nears }) (sitesRecord (sitesOf (deckOf deck)))
+  unfolding sitesRecord
+  record-is x y visits nears a b c d = rw (a, b, c, d, sites-length, x-column, y-column, visits-column, near-column)
+
+-- ---- the deck that the record of an area, posts and stops holds
+front-places : (ps : List Place) (xs ys : List ℤ) → take (length ps) (places (map (λ p. p .x) ps ++ xs) (map (λ p. p .y) ps ++ ys)) ≡ ps
+unfolding places
+front-places [] xs ys = refl
+front-places (p ∷ ps) xs ys = ap (λ (l : List Place). p ∷ l) (front-places ps xs ys)
+
+front-stops : (ss : List Stop) (xs ys : List ℤ) (vs : List ℕ) → take (length ss) (stopsOf (places (map (λ s. s .at .x) ss ++ xs) (map (λ s. s .at .y) ss ++ ys)) (map (λ s. s .visits) ss ++ vs)) ≡ ss
+unfolding places stopsOf
+front-stops [] xs ys vs = refl
+front-stops (s ∷ ss) xs ys vs = ap (λ (l : List Stop). s ∷ l) (front-stops ss xs ys vs)
+
+pub deck-record : (area : Rect) (posts : List Place) (stops : List Stop) → deckOf (deckRecord area posts stops) ≡ record { axis = plain; area = area; posts = posts; stops = stops }
+unfolding deckOf deckRecord padded
+deck-record area posts stops = rw (front-places, front-stops)
+
+pub deckOf-plain : (deck : Deck) → deckOf deck .axis ≡ plain
+unfolding deckOf
+deckOf-plain deck = refl

@@ -1,0 +1,4 @@
+pub mod WordLaws
+pub mod TravelLaws
+pub mod ClosestLaws
+pub mod DeckLaws

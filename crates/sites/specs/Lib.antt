@@ -1,0 +1,4 @@
+pub mod DeckOf
+pub mod Sites
+pub mod Record
+pub mod Ranges

@@ -1,0 +1,16 @@
+-- Stops with their near, which is all that pricing needs of a deck besides the place or rectangle priced.
+-- Assumes nothing.
+use Prim.Native.Nat.{ℕ}
+use mathlib.Core.List.{List, map}
+use Rattle.query.specs.Place.{Place}
+use Rattle.query.specs.Deck.{Deck}
+use Rattle.query.specs.Travel.{near}
+
+pub record Site : Type 0 where
+  pub at : Place
+  pub visits : ℕ
+  pub near : ℕ
+
+unfoldable pub sitesOf : Deck → List Site
+unfolding near
+sitesOf deck = map (λ stop. record { at = stop .at; visits = stop .visits; near = near deck stop }) (deck .stops)
