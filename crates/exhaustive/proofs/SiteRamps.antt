@@ -10,10 +10,9 @@ use mir.Syntax.{w64}
 use mir.Val.{SFits, toZ}
 use mir.ValLaws.{toZ-ofZ, toZ-pos}
 use Rattle.numbers.specs.Integer.{dist}
-use Rattle.numbers.proofs.Integer.{add-nat, sub-nat}
+use Rattle.numbers.proofs.Integer.{add-nat, sub-nat, sum-abs, sub-abs}
 use Rattle.numbers.proofs.Words.{word-fits}
 use Rattle.pricing.specs.Columns.{SiteInRange}
-use Rattle.lines.proofs.Machine.{sum-abs, sub-abs}
 use Rattle.cells.proofs.Keys.{back}
 use Rattle.exhaustive.specs.Ramps.{heightOf, LinesInRange, RampSums, RampInRange, RampAdded, SiteAdded}
 use Rattle.exhaustive.proofs.Heights.{height-nat, height-least, height-dist}

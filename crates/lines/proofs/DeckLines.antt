@@ -1,6 +1,6 @@
 -- The lines that `find_lines` finds for a deck's stops are the deck's, and stand in order.
 -- Assumes nothing.
-use mathlib.Core.Path.{_≡_, refl, sym, ap, _∙_}
+use mathlib.Core.Path.{_≡_, refl, ap}
 use mathlib.Core.Bool.{Bool, true, false, cond}
 use mathlib.Core.List.{List, [], _∷_, map}
 use Prim.Native.Nat.{ℕ, _+_, _-_, max, _≤_}
@@ -10,24 +10,23 @@ use lib.IntN.{ℤ, pos}
 use lib.ListN.{length, take, length-map}
 use Rattle.numbers.specs.Lists.{keep}
 use Rattle.numbers.proofs.Members.{keep-length}
-use Rattle.query.specs.Place.{Rect, Axis, x-axis, y-axis, coordinate, low-edge, high-edge}
+use Rattle.query.specs.Place.{Axis, x-axis, y-axis, coordinate, low-edge, high-edge}
 use Rattle.query.specs.Deck.{Stop, Deck}
 use Rattle.query.specs.Reach.{reach}
 use Rattle.query.specs.Lines.{stopCoordinates, lines, gaps}
 use Rattle.query.specs.Problem.{problem}
 use Rattle.query.proofs.LineLaws.{lines-law}
 use Rattle.numbers.specs.Padded.{padded}
-use Rattle.lines.specs.LineRecord.{InOrder, Rows, flagged, marked, linesBetween, linesRecord, onLines, cutRecord}
-use Rattle.lines.proofs.LineRecordLaws.{linesBetween-length, record-front, record-in-order}
+use Rattle.lines.specs.LineRecord.{InOrder, Rows, flagged, marked, linesBetween, linesRecord}
+use Rattle.lines.proofs.LineRecordLaws.{linesBetween-length, record-in-order}
 use Rattle.numbers.proofs.Padded.{padded-length, padded-front}
-use Rattle.lines.proofs.CutRecordLaws.{cutRecord-lines}
 
 -- ---- the lines of a deck
-problem-vertical : (deck : Deck) → problem deck .vertical ≡ lines deck x-axis
+pub problem-vertical : (deck : Deck) → problem deck .vertical ≡ lines deck x-axis
 unfolding problem
 problem-vertical deck = refl
 
-problem-horizontal : (deck : Deck) → problem deck .horizontal ≡ lines deck y-axis
+pub problem-horizontal : (deck : Deck) → problem deck .horizontal ≡ lines deck y-axis
 unfolding problem
 problem-horizontal deck = refl
 
@@ -92,7 +91,3 @@ module _ (deck : Deck) (axis : Axis) where
   pub count-gaps : max 1 (linesRecord (lines deck axis) .count - 1) ≡ gaps deck axis
   unfolding gaps linesRecord
   count-gaps = refl
-
--- what `find_cut` chooses on the deck's lines is the search's cut
-pub deck-cut : (deck : Deck) (r : Rect) → cutRecord (onLines (take (linesRecord (lines deck x-axis) .count) (linesRecord (lines deck x-axis) .at)) (take (linesRecord (lines deck y-axis) .count) (linesRecord (lines deck y-axis) .at))) r ≡ cutRecord (problem deck) r
-deck-cut deck r = rw (record-front (lines deck x-axis), record-front (lines deck y-axis)) (sym (cutRecord-lines (problem deck) r ∙ rw (problem-vertical, problem-horizontal)))

@@ -1,10 +1,6 @@
-pub mod CutRecordLaws
 pub mod Indexed
 pub mod InsertLaws
 pub mod LineRecordLaws
-pub mod Machine
-pub mod MiddleLaws
-pub mod NextLaws
 pub mod Shifted
 pub mod StopLaws
 pub mod DeckLines

@@ -9,7 +9,7 @@ use Prim.Native.Nat.{ℕ, zero, suc, _+_, _-_, _*_, _/_, _≤_, _<_}
 use native.Mathlib.Omega.{arith}
 use lib.Dec.{T, T-prop, ltb, leb→le, le→leb, ltb→lt, lt→ltb, nleb→lt, nltb→le, eqb→eq, eqb-refl, not-T}
 use lib.IntN.{ℤ, pos, negsuc, negℤ, natAbs, subℕ, _+ℤ_, _-ℤ_}
-use lib.Signed.{leZ, ltZ, _≤ℤ_, _<ℤ_}
+use lib.Signed.{leZ, ltZ, shrZ, _≤ℤ_, _<ℤ_}
 use Rattle.numbers.specs.Integer.{eqZ, dist, halfUp}
 use Rattle.numbers.proofs.Truth.{cond-ind}
 
@@ -131,6 +131,12 @@ abs-nat (negsuc z) m n h = omega arith
 pub abs-range : (z : ℤ) (k : ℕ) → (natAbs z ≤ k) ↔ ((pp z ≤ nn z + k) × (nn z ≤ pp z + k))
 abs-range z k = omega (arith, abs-nat z (pp z) (nn z) (omega arith))
 
+pub sum-abs : (a b : ℤ) (j k : ℕ) → natAbs a ≤ j → natAbs b ≤ k → natAbs (a +ℤ b) ≤ j + k
+sum-abs a b j k h l = abs-range (a +ℤ b) (j + k) .1 (omega (arith, add-nat a b, abs-range a j .0 h, abs-range b k .0 l))
+
+pub sub-abs : (a b : ℤ) (j k : ℕ) → natAbs a ≤ j → natAbs b ≤ k → natAbs (a -ℤ b) ≤ j + k
+sub-abs a b j k h l = abs-range (a -ℤ b) (j + k) .1 (omega (arith, sub-nat a b, abs-range a j .0 h, abs-range b k .0 l))
+
 pub dist-nat : (u v : ℤ) → dist u v ≡ (pp u + nn v - (pp v + nn u)) + (pp v + nn u - (pp u + nn v))
 unfolding dist
 dist-nat u v = abs-nat (u -ℤ v) (pp u + nn v) (pp v + nn u) (omega (arith, sub-nat u v))
@@ -148,6 +154,18 @@ half-nat (negsuc n) = negative (suc n / 2) (omega arith) (omega arith)
     negative : (h : ℕ) → 2 * h ≤ suc n → suc n ≤ 2 * h + 1 → Half (negsuc n) (negℤ (pos h))
     negative zero p q = record { enough = omega arith; least = omega arith }
     negative (suc h) p q = record { enough = omega arith; least = omega arith }
+
+-- a shift by one place halves downwards
+record Floor (z f : ℤ) : Type 0 where
+  low : 2 * pp f + nn z ≤ pp z + 2 * nn f
+  high : pp z + 2 * nn f ≤ 2 * pp f + nn z + 1
+
+shift-floor : (z : ℤ) → Floor z (shrZ z 2)
+shift-floor (pos n) = record { low = omega arith; high = omega arith }
+shift-floor (negsuc n) = record { low = omega arith; high = omega arith }
+
+pub half-shift : (z : ℤ) → shrZ (z +ℤ pos 1) 2 ≡ halfUp z
+half-shift z = omega (arith, order, shift-floor (z +ℤ pos 1), add-nat z (pos 1), half-nat z)
 
 pub half-mono : (y z : ℤ) → y ≤ℤ z → halfUp y ≤ℤ halfUp z
 half-mono y z h = omega (arith, order, half-nat y, half-nat z)

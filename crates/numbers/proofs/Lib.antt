@@ -10,3 +10,4 @@ pub mod Joined
 pub mod Rows
 pub mod Words
 pub mod Padded
+pub mod WordTests

@@ -7,7 +7,7 @@ use native.Mathlib.Omega.{arith}
 use lib.Dec.{T}
 use lib.IntN.{ℤ, pos, negsuc, negℤ, natAbs, _-ℤ_}
 use lib.Signed.{mag, ltZ, nonNeg, quotZ}
-use mir.Syntax.{Width}
+use mir.Syntax.{Width, w64}
 use mir.Val.{hbits, SFits, Fits, toZ, ofZ}
 use mir.ValLaws.{toZ-ofZ, toZ-pos, half-full}
 use Rattle.numbers.specs.Integer.{dist, halfUp}
@@ -90,3 +90,12 @@ module _ (w : Width) (y z : ℤ) (e : y ≡ z) (f : SFits w z) where
 
   pub result-is : toZ w (ofZ w y) ≡ z
   result-is = rw e (toZ-ofZ w z f)
+
+-- ---- a difference of natural numbers
+module _ (m s : ℕ) (g : m < 2 ^ 62) (h : s < 2 ^ 62) where
+  pub difference : toZ w64 m -ℤ toZ w64 s ≡ pos m -ℤ pos s
+  difference = rw (toZ-pos w64 m (omega arith), toZ-pos w64 s (omega arith))
+
+  pub difference-fits : SFits w64 (toZ w64 m -ℤ toZ w64 s)
+  unfolding dist
+  difference-fits = rw difference (word-fits w64 (pos m -ℤ pos s) (omega (arith, dist-nat (pos m) (pos s))))

@@ -17,9 +17,9 @@ use Rattle.query.specs.Range.{RectInRange}
 use Rattle.query.proofs.CutLaws.{cut-law}
 use Rattle.sites.specs.Sites.{Site}
 use Rattle.pricing.specs.Figures.{costOf}
-use Rattle.lines.specs.LineRecord.{isX, cutAt, cutRecord}
-use Rattle.lines.specs.declared.Cut.{Cut}
-use Rattle.lines.proofs.CutRecordLaws.{cutRecord-cut}
+use Rattle.cuts.specs.CutRecord.{isX, cutAt, cutRecord}
+use Rattle.cuts.specs.declared.Cut.{Cut}
+use Rattle.cuts.proofs.CutRecordLaws.{cutRecord-cut}
 use Rattle.cells.specs.declared.Cell.{Cell}
 use Rattle.cells.specs.declared.Costs.{Costs}
 use Rattle.search.specs.declared.halves.Spot.{Spot}

@@ -24,9 +24,9 @@ use Rattle.query.proofs.KeyOrder.{cellBefore-strict}
 use Rattle.query.proofs.CellsAfter.{after-is}
 use Rattle.sites.specs.Sites.{Site}
 use Rattle.pricing.specs.Figures.{costOf}
-use Rattle.lines.specs.LineRecord.{onLines, isX, cutAt, cutRecord}
-use Rattle.lines.specs.declared.Cut.{Cut}
-use Rattle.lines.proofs.CutRecordLaws.{canCut-lines, cutLine-lines}
+use Rattle.cuts.specs.CutRecord.{onLines, isX, cutAt, cutRecord}
+use Rattle.cuts.specs.declared.Cut.{Cut}
+use Rattle.cuts.proofs.CutRecordLaws.{canCut-lines, cutLine-lines}
 use Rattle.cells.specs.declared.Cell.{Cell}
 use Rattle.cells.specs.declared.Costs.{Costs}
 use Rattle.search.specs.declared.halves.Spot.{Spot}

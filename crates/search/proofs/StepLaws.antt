@@ -24,8 +24,8 @@ use Rattle.sites.specs.Sites.{Site}
 use Rattle.pricing.specs.Figures.{costOf, loadOf}
 use Rattle.pricing.specs.Columns.{EdgesInRange, BoundInRange, Figure}
 use Rattle.sites.specs.Ranges.{Near180000}
-use Rattle.lines.specs.LineRecord.{Edges}
-use Rattle.lines.specs.declared.Cut.{Cut}
+use Rattle.cuts.specs.CutRecord.{Edges}
+use Rattle.cuts.specs.declared.Cut.{Cut}
 use Rattle.sites.proofs.WordLaws.{narrow-fits, narrowed}
 use Rattle.sites.proofs.TravelLaws.{narrow, narrow-place}
 use Rattle.cells.specs.declared.Cell.{Cell}

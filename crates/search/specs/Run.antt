@@ -27,9 +27,9 @@ use Rattle.pricing.specs.Figures.{costOf, loadOf, flagsOf}
 use Rattle.sites.specs.Record.{sitesRecord}
 use Rattle.pricing.specs.Columns.{siteRows, ColumnsInRange}
 use Rattle.lines.specs.LineRecord as Lines
-use Rattle.lines.specs.LineRecord.{onLines}
+use Rattle.cuts.specs.CutRecord.{onLines}
 use Rattle.sites.specs.declared.Sites.{Sites}
-use Rattle.lines.specs.declared.Cut.{Cut}
+use Rattle.cuts.specs.declared.Cut.{Cut}
 use Rattle.cells.specs.declared.Cell.{Cell}
 use Rattle.cells.specs.declared.Costs.{Costs}
 use Rattle.search.specs.declared.halves.Spot.{Spot}

@@ -1,7 +1,7 @@
 // Priced places, cells with their bounds, and the two halves that a cut makes of a cell.
 use cells::Cell;
 use cells::Costs;
-use lines::Cut;
+use cuts::Cut;
 ghost use mathlib.Core.Path.{_≡_};
 ghost use Prim.Native.Nat.{_-_, _≤_};
 ghost use lib.ListN.{take};
@@ -13,7 +13,7 @@ ghost use Rattle.query.specs.Range.{costLimit, loadLimit, RectInRange};
 ghost use Rattle.query.specs.Lines.{lines};
 ghost use Rattle.pricing.specs.Figures.{loadOf};
 ghost use Rattle.pricing.specs.Columns.{siteRows, Figure};
-ghost use Rattle.lines.specs.LineRecord.{Edges, onLines, cutRecord};
+ghost use Rattle.cuts.specs.CutRecord.{Edges, onLines, cutRecord};
 ghost use Rattle.search.specs.Run.{Sited, Lined, pricedOf, spotOf, rectIn, cornerCosts, cellFor, Near20000, Ranged, improved, lowCorner, highCorner, firstRect, secondRect, firstCosts, secondCosts, halvesOf, Cutting, CutInRange};
 
 // A place with its cost.
@@ -131,7 +131,7 @@ pub(crate) fn cut_of(v: &[i64; 514], nv: usize, h: &[i64; 514], nh: usize, c: Ce
     requires { ⌜ Lined (now v) nv (now h) nh × RectInRange (rectIn c) ⌝ }
     ensures { λ r. ⌜ r ≡ cutRecord (onLines (take nv (now (v .entry))) (take nh (now (h .entry)))) (rectIn c) ⌝ }
 {
-    lines::find_cut(v, nv, h, nh, c.xlo, c.ylo, c.xhi, c.yhi)
+    cuts::find_cut(v, nv, h, nh, c.xlo, c.ylo, c.xhi, c.yhi)
 }
 
 // The new corner that is the low corner of the part behind the cut.

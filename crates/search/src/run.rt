@@ -18,7 +18,8 @@ ghost use Rattle.query.specs.Figures as Figures;
 ghost use Rattle.sites.specs.DeckOf.{deckOf};
 ghost use Rattle.pricing.specs.Figures.{flagsOf};
 ghost use Rattle.pricing.specs.Columns.{siteRows};
-ghost use Rattle.lines.specs.LineRecord.{onLines, linesRecord};
+ghost use Rattle.lines.specs.LineRecord.{linesRecord};
+ghost use Rattle.cuts.specs.CutRecord.{onLines};
 ghost use Rattle.cells.specs.Space.{queryCell, cellsIn, costsIn, Numbered};
 ghost use Rattle.search.specs.Run.{siteProblem, Sited, Lined, pricedOf, rectIn, unbounded, cornerCosts, Ranged, spotAt, CostsInRange, bestCorner, Addable, Added, searchOf, Takeable, Holds, Steady, Answerable, rowsOf, InColumns, Reaching, foundOf, Ready, Searched};
 

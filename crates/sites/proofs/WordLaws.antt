@@ -1,4 +1,4 @@
--- Natural numbers in signed 32-bit words, as the passes of `price` compute with them.
+-- Natural numbers in signed 32-bit words, as the passes over sites compute with them.
 -- Assumes nothing.
 use mathlib.Core.Path.{_≡_}
 use mathlib.Core.Bool.{true, false}
@@ -6,13 +6,11 @@ use Prim.Native.Nat.{ℕ, _+_, _^_, _≤_, _<_, min}
 use native.Mathlib.Omega.{arith}
 use borrow.Author.Tests.{ltb-true, ltb-false}
 use lib.Dec.{ltb}
-use lib.IntN.{ℤ, pos, natAbs, _+ℤ_, _-ℤ_}
+use lib.IntN.{ℤ, pos, natAbs, _+ℤ_}
 use lib.Signed.{ltZ}
 use mir.Syntax.{w32, w64}
 use mir.Val.{SFits, toZ, ofZ}
 use mir.ValLaws.{toZ-ofZ, toZ-pos}
-use Rattle.numbers.specs.Integer.{dist}
-use Rattle.numbers.proofs.Integer.{dist-nat}
 use Rattle.numbers.proofs.Words.{word-fits}
 
 -- the sum of two natural numbers
@@ -44,12 +42,3 @@ module _ (z : ℤ) (h : natAbs z ≤ 180000) where
 
   pub narrowed : toZ w32 (ofZ w32 (toZ w64 (ofZ w64 z))) ≡ z
   narrowed = rw (wide, coordinate z h)
-
--- ---- 64-bit words: a difference of natural numbers
-module _ (m s : ℕ) (g : m < 2 ^ 62) (h : s < 2 ^ 62) where
-  pub difference : toZ w64 m -ℤ toZ w64 s ≡ pos m -ℤ pos s
-  difference = rw (toZ-pos w64 m (omega arith), toZ-pos w64 s (omega arith))
-
-  pub difference-fits : SFits w64 (toZ w64 m -ℤ toZ w64 s)
-  unfolding dist
-  difference-fits = rw difference (word-fits w64 (pos m -ℤ pos s) (omega (arith, dist-nat (pos m) (pos s))))

@@ -25,13 +25,15 @@ use Rattle.numbers.specs.Padded.{padded}
 use Rattle.job.proofs.RangeTests.{held, held-is}
 use Rattle.sites.specs.DeckOf.{deckOf}
 use Rattle.pricing.specs.Columns.{FlagsAre}
-use Rattle.lines.specs.LineRecord.{rectOf, Rows, marked, linesBetween, linesRecord, InOrder, onLines, cutAt, isX, cutRecord}
+use Rattle.lines.specs.LineRecord.{Rows, marked, linesBetween, linesRecord, InOrder}
+use Rattle.cuts.specs.CutRecord.{rectOf, onLines, cutAt, isX, cutRecord}
 use Rattle.lines.specs.declared.Lines.{Lines}
-use Rattle.lines.specs.declared.Cut.{Cut}
+use Rattle.cuts.specs.declared.Cut.{Cut}
 use Rattle.pricing.proofs.SiteLaws.{flags-law}
-use Rattle.lines.proofs.DeckLines.{coordinates, reached, lines-marked, lines-in-order, padded-coordinates, padded-reached, padded-rows, deck-cut}
+use Rattle.lines.proofs.DeckLines.{coordinates, reached, lines-marked, lines-in-order, padded-coordinates, padded-reached, padded-rows}
+use Rattle.cuts.proofs.DeckCut.{deck-cut}
 use Rattle.lines.proofs.LineRecordLaws.{record-front}
-use Rattle.lines.proofs.CutRecordLaws.{cutRecord-found, cutRecord-cut}
+use Rattle.cuts.proofs.CutRecordLaws.{cutRecord-found, cutRecord-cut}
 use Rattle.trial.specs.Opened.{openedRecord, rectAllowed, Open}
 use Rattle.trial.specs.Trial.{minusOne, least, axisOf, axisNumber, cutAxisFigure, cutLineFigure, linesWritten}
 use Rattle.trial.specs.declared.Opened.{Opened}

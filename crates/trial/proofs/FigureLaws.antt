@@ -30,7 +30,7 @@ use Rattle.sites.specs.DeckOf.{deckOf}
 use Rattle.sites.specs.Sites.{sitesOf}
 use Rattle.pricing.specs.Figures.{costOf, loadOf}
 use Rattle.pricing.specs.Columns.{Figure, BeforeIs}
-use Rattle.lines.specs.LineRecord.{rectOf}
+use Rattle.cuts.specs.CutRecord.{rectOf}
 use Rattle.sites.specs.Record.{sitesRecord}
 use Rattle.sites.specs.declared.Sites.{Sites}
 use Rattle.pricing.proofs.RecordLaws.{rowsOf, record-rows, InColumns, sites-range}

@@ -24,8 +24,8 @@ use Rattle.job.specs.Format.{Job, readJob}
 use Rattle.job.proofs.RangeLaws.{place-range}
 use Rattle.job.proofs.RangeTests.{held, held-is}
 use Rattle.pricing.specs.Columns.{Figure}
-use Rattle.lines.specs.LineRecord.{rectOf, Edges}
-use Rattle.sites.proofs.WordLaws.{difference, difference-fits}
+use Rattle.cuts.specs.CutRecord.{rectOf, Edges}
+use Rattle.numbers.proofs.Words.{difference, difference-fits}
 use Rattle.trial.specs.Opened.{rectAllowed}
 use Rattle.trial.specs.Trial.{minusOne}
 use Rattle.trial.specs.Many.{sumTo, side, spread, Spread, placeAt, rectAt, manyFigure}

@@ -17,7 +17,7 @@ use Rattle.job.proofs.RangeLaws.{place-range}
 use Rattle.job.proofs.RangeTests.{held, held-is}
 use Rattle.pricing.specs.Columns.{EdgesInRange}
 use Rattle.sites.specs.Ranges.{Near180000}
-use Rattle.lines.specs.LineRecord.{rectOf, Edges}
+use Rattle.cuts.specs.CutRecord.{rectOf, Edges}
 use Rattle.sites.proofs.WordLaws.{narrowed, narrow-fits}
 use Rattle.trial.specs.Opened.{rectAllowed}
 

@@ -15,7 +15,7 @@ use Rattle.query.specs.Problem.{problem}
 use Rattle.job.specs.Format.{Job, Result}
 use Rattle.sites.specs.Sites.{sitesOf}
 use Rattle.sites.specs.Record.{sitesRecord}
-use Rattle.lines.specs.LineRecord.{cutRecord}
+use Rattle.cuts.specs.CutRecord.{cutRecord}
 use Rattle.trial.specs.Trial.{onJob, minusOne}
 
 -- f 0 + .. + f (k - 1)

@@ -2,9 +2,9 @@
 pub mod calls;
 pub mod many;
 
+use cuts::Cut;
 use job::Deck;
 use job::Outcome;
-use lines::Cut;
 use lines::Lines;
 use numbers::abs_diff;
 use sites::Sites;
@@ -21,7 +21,8 @@ ghost use Rattle.query.specs.Range.{PlaceInRange, costLimit, loadLimit};
 ghost use Rattle.job.specs.Lines.{coordinateInRange, placeInRange};
 ghost use Rattle.job.specs.Format.{readJob};
 ghost use Rattle.sites.specs.DeckOf.{deckOf};
-ghost use Rattle.lines.specs.LineRecord.{rectOf, linesRecord, cutRecord};
+ghost use Rattle.lines.specs.LineRecord.{linesRecord};
+ghost use Rattle.cuts.specs.CutRecord.{rectOf, cutRecord};
 ghost use Rattle.pricing.specs.Columns.{siteRows, ColumnsInRange, Figure};
 ghost use Rattle.pricing.specs.Figures.{costOf, loadOf};
 ghost use Rattle.trial.specs.Opened.{openedRecord, rectAllowed, Open};
@@ -248,7 +249,7 @@ fn cut_of(o: Opened, xlo: i64, ylo: i64, xhi: i64, yhi: i64) -> Cut
     let h = lines_of(o, false);
     let nx = v.count;
     let ny = h.count;
-    lines::find_cut(&v.at, nx, &h.at, ny, xlo, ylo, xhi, yhi)
+    cuts::find_cut(&v.at, nx, &h.at, ny, xlo, ylo, xhi, yhi)
 }
 
 // ---- figures of a job's deck

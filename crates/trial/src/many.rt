@@ -1,7 +1,7 @@
 // The kernels of pricing over many places and rectangles, for the benchmarks: the job is read once and the loop runs here.
 use crate::Opened;
+use cuts::Cut;
 use job::Deck;
-use lines::Cut;
 ghost use mathlib.Core.Path.{_≡_};
 ghost use Prim.Native.Nat.{ℕ, _*_, _%_, _≤_};
 ghost use lib.ListN.{getD, take};
@@ -12,7 +12,8 @@ ghost use Rattle.sites.specs.DeckOf.{deckOf};
 ghost use Rattle.sites.specs.Record.{sitesRecord};
 ghost use Rattle.sites.specs.Sites.{sitesOf};
 ghost use Rattle.pricing.specs.Figures.{costOf, loadOf};
-ghost use Rattle.lines.specs.LineRecord.{InOrder, onLines, cutRecord};
+ghost use Rattle.lines.specs.LineRecord.{InOrder};
+ghost use Rattle.cuts.specs.CutRecord.{onLines, cutRecord};
 ghost use Rattle.trial.specs.Trial.{boundOf};
 ghost use Rattle.trial.specs.Many.{sumTo, Spread, placeAt, rectAt, positive, manyFigure, costTurn, loadTurn, boundTurn, cutTurn, nearTurn};
 
@@ -112,7 +113,7 @@ fn cuts(xs: &[i64; 514], nx: usize, ys: &[i64; 514], ny: usize, k: u64) -> u64
         let ylo = spread(t, 6007, 20000);
         let xhi = spread(t, 4409, 0);
         let yhi = spread(t, 3001, 0);
-        let c = lines::find_cut(xs, nx, ys, ny, xlo, ylo, xhi, yhi);
+        let c = cuts::find_cut(xs, nx, ys, ny, xlo, ylo, xhi, yhi);
         sum = sum + positive(c.at);
         t = t + 1;
     }

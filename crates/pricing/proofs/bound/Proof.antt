@@ -8,7 +8,7 @@ use native.Mathlib.Omega.{arith}
 use borrow.Author.Needs.{needs}
 use mir.Syntax.{w64}
 use mir.ValLaws.{toZ-ofZ}
-use Rattle.sites.proofs.WordLaws.{difference, difference-fits}
+use Rattle.numbers.proofs.Words.{difference, difference-fits}
 use Rattle.pricing.proofs.bound.Statement.{statement}
 use Rattle.pricing.proofs.bound.Tie as tie
 

@@ -8,7 +8,7 @@ use borrow.Author.Tests.{not-true, not-false}
 use denote.Ref.{now}
 use Rattle.numbers.proofs.Words.{is-true}
 use Rattle.query.specs.Place.{Rect}
-use Rattle.lines.specs.LineRecord.{rectOf}
+use Rattle.cuts.specs.CutRecord.{rectOf}
 use Rattle.trial.specs.Opened.{rectAllowed, Open}
 use Rattle.siting.proofs.ReadLaws.{Spelt}
 use Rattle.trial.proofs.OpenLaws.{open-accepted, open-is, open-refused, outside}

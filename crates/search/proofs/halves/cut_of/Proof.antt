@@ -1,7 +1,7 @@
 -- `search::halves::cut_of` meets its contract: the cell's edges are in range, so that `find_cut` sees them as they are.
 -- Assumes nothing.
 use mathlib.Core.Path.{ap, _∙_}
-use Rattle.lines.specs.LineRecord.{cutRecord}
+use Rattle.cuts.specs.CutRecord.{cutRecord}
 use Rattle.search.specs.Run.{rectIn}
 use Rattle.search.proofs.StepLaws.{edges-x, edges-y, rect-back}
 use Rattle.search.proofs.halves.cut_of.Statement.{statement}

@@ -4,8 +4,8 @@ use mathlib.Core.Path.{_≡_, ap, _∙_}
 use native.Mathlib.Omega.{arith}
 use lib.IntN.{pos}
 use Rattle.query.specs.Order.{precedes, cellKey, pricedKey}
-use Rattle.lines.proofs.CutRecordLaws.{cutRecord-found}
-use Rattle.lines.specs.declared.Cut.{Cut}
+use Rattle.cuts.proofs.CutRecordLaws.{cutRecord-found}
+use Rattle.cuts.specs.declared.Cut.{Cut}
 use Rattle.search.specs.Run.{pricedOf}
 use Rattle.cells.specs.Space.{queryCell}
 use Rattle.cells.proofs.Keys.{cell-precedes}

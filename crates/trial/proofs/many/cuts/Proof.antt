@@ -5,8 +5,8 @@ use Prim.Native.Nat.{_-_}
 use lib.ListN.{take}
 use mir.Syntax.{w64}
 use mir.ValLaws.{toZ-ofZ}
-use Rattle.lines.specs.LineRecord.{onLines, cutRecord}
-use Rattle.lines.specs.declared.Cut.{Cut}
+use Rattle.cuts.specs.CutRecord.{onLines, cutRecord}
+use Rattle.cuts.specs.declared.Cut.{Cut}
 use Rattle.trial.specs.Many.{rectAt, positive}
 use Rattle.trial.proofs.ManyLaws.{Summed, summed-none, summed-more, summed-all, rect-turn, x-ok, y-ok}
 use borrow.Author.Needs.{needs}

@@ -1,4 +1,4 @@
--- `lines::middle` meets its contract: a shift halves one more than the sum downwards.
+-- `cuts::middle` meets its contract: a shift halves one more than the sum downwards.
 -- Assumes nothing.
 use native.Mathlib.Omega.{arith}
 use mathlib.Core.Path.{_≡_}
@@ -8,10 +8,10 @@ use mir.Syntax.{w64}
 use mir.Val.{ofZ, toZ}
 use mir.ValLaws.{toZ-ofZ}
 use Rattle.numbers.specs.Integer.{halfUp}
-use Rattle.numbers.proofs.Integer.{abs-range, half-nat}
-use Rattle.lines.proofs.Machine.{abs-fits, sum-abs, half-shift}
-use Rattle.lines.proofs.middle.Statement.{statement}
-use Rattle.lines.proofs.middle.Tie as tie
+use Rattle.numbers.proofs.Integer.{abs-range, half-nat, sum-abs, half-shift}
+use Rattle.numbers.proofs.Words.{word-fits}
+use Rattle.cuts.proofs.middle.Statement.{statement}
+use Rattle.cuts.proofs.middle.Tie as tie
 
 module _ (c : tie.Start) where
   abbrev total : ℤ
@@ -28,20 +28,20 @@ module _ (c : tie.Start) where
   sum = rw (toZ-ofZ w64 (c .args .lo) (c .fits .lo), toZ-ofZ w64 (c .args .hi) (c .fits .hi))
 
   sum-read : toZ w64 (ofZ w64 (toZ w64 (ofZ w64 (c .args .lo)) +ℤ toZ w64 (ofZ w64 (c .args .hi)))) ≡ total
-  sum-read = rw sum (toZ-ofZ w64 total (abs-fits total (omega (arith, small))))
+  sum-read = rw sum (toZ-ofZ w64 total (word-fits w64 total (omega (arith, small))))
 
 add-result : tie.Need-add-result
-add-result c = rw (sum c) (abs-fits (total c) (omega (arith, small c)))
+add-result c = rw (sum c) (word-fits w64 (total c) (omega (arith, small c)))
 
 add-result-2 : tie.Need-add-result-2
-add-result-2 c = rw (sum-read c) (abs-fits (total c +ℤ pos 1) (omega (arith, more c)))
+add-result-2 c = rw (sum-read c) (word-fits w64 (total c +ℤ pos 1) (omega (arith, more c)))
 
 returns : tie.Need-returns
 returns c =
     let m = total c +ℤ pos 1 in
     let h = halfUp (total c) in
-    rw (sum-read c, toZ-ofZ w64 m (abs-fits m (omega (arith, more c))), half-shift (total c))
-    (toZ-ofZ w64 h (abs-fits h (abs-range h 100000 .1 (omega (arith, half-nat (total c), abs-range (total c) 40000 .0 (small c))))))
+    let h-range : natAbs h ≤ 100000 = abs-range h 100000 .1 (omega (arith, half-nat (total c), abs-range (total c) 40000 .0 (small c))) in
+    rw (sum-read c, toZ-ofZ w64 m (word-fits w64 m (omega (arith, more c))), half-shift (total c)) (toZ-ofZ w64 h (word-fits w64 h (omega arith)))
 
 pub middle-spec : {M : Type 1} → statement M
 middle-spec = tie.close (tie.spec add-result add-result-2 returns)

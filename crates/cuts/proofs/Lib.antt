@@ -1,0 +1,4 @@
+pub mod MiddleLaws
+pub mod NextLaws
+pub mod CutRecordLaws
+pub mod DeckCut

@@ -1,0 +1,116 @@
+// The choice of a cut.
+use lines::first_at_least;
+ghost use mathlib.Core.Path.{_≡_};
+ghost use Prim.Native.Nat.{_≤_};
+ghost use lib.ListN.{take};
+ghost use lib.IntN.{_+ℤ_};
+ghost use Rattle.numbers.specs.Integer.{halfUp, strictlyBetween};
+ghost use Rattle.numbers.specs.Lists.{keep};
+ghost use Rattle.query.specs.Cut.{middleLine};
+ghost use Rattle.lines.specs.LineRecord.{InOrder};
+ghost use Rattle.cuts.specs.CutRecord.{Edges, LineBefore, LineFrom, onLines, rectOf, cutAt, cutRecord};
+
+// Whether a cell can be cut, and at which line: at an x where `across` is true, else at a y. Where it cannot the others are false and 0.
+pub struct Cut {
+    pub found: bool,
+    pub across: bool,
+    pub at: i64,
+}
+
+// The middle of `lo` and `hi`, rounded up.
+fn middle(lo: i64, hi: i64) -> i64
+    requires { ⌜ Edges lo hi ⌝ }
+    ensures { λ r. ⌜ r ≡ halfUp (lo +ℤ hi) ⌝ }
+{
+    (lo + hi + 1) >> 1
+}
+
+// The line before index `at`, or `lo` where that is greater or there is none.
+fn line_before(ls: &[i64; 514], at: usize, lo: i64) -> i64
+    requires { ⌜ at ≤ 514 ⌝ }
+    ensures { λ r. ⌜ LineBefore (now (ls .entry)) at lo r ⌝ }
+{
+    if at == 0 {
+        return lo;
+    }
+    let v = ls[at - 1];
+    if v < lo { lo } else { v }
+}
+
+// The line at index `at`, one of the first `n`, or `hi` where that is smaller or there is none.
+fn line_from(ls: &[i64; 514], n: usize, at: usize, hi: i64) -> i64
+    requires { ⌜ n ≤ 514 ⌝ }
+    ensures { λ r. ⌜ LineFrom (now (ls .entry)) n at hi r ⌝ }
+{
+    if n <= at {
+        return hi;
+    }
+    let v = ls[at];
+    if hi < v { hi } else { v }
+}
+
+// The line strictly between `lo` and `hi` that is closest to their middle, the smaller one on a tie; `lo` where there is none.
+// It is the last before the middle or the first from it on, where an edge stands for one that is not between.
+fn middle_line(ls: &[i64; 514], n: usize, lo: i64, hi: i64) -> i64
+    requires { ⌜ InOrder (now ls) n ⌝ }
+    requires { ⌜ Edges lo hi ⌝ }
+    ensures { λ r. ⌜ r ≡ middleLine lo hi (keep (strictlyBetween lo hi) (take n (now (ls .entry)))) ⌝ }
+{
+    let at = first_at_least(ls, n, middle(lo, hi));
+    let below = line_before(ls, at, lo);
+    let above = line_from(ls, n, at, hi);
+    if lo + hi <= below + above {
+        below
+    } else {
+        above
+    }
+}
+
+// A cut at a line.
+fn cut_at(across: bool, at: i64) -> Cut
+    ensures { λ r. ⌜ r ≡ cutAt across at ⌝ }
+{
+    Cut {
+        found: true,
+        across,
+        at,
+    }
+}
+
+// The choice of a cut of the cell from (`xlo`, `ylo`) to (`xhi`, `yhi`): of the axes that have lines inside the one with the longer side,
+// x on equal sides, and on it the line closest to the middle.
+pub fn find_cut(
+    xs: &[i64; 514],
+    nx: usize,
+    ys: &[i64; 514],
+    ny: usize,
+    xlo: i64,
+    ylo: i64,
+    xhi: i64,
+    yhi: i64,
+) -> Cut
+    requires { ⌜ InOrder (now xs) nx ⌝ }
+    requires { ⌜ InOrder (now ys) ny ⌝ }
+    requires { ⌜ Edges xlo xhi ⌝ }
+    requires { ⌜ Edges ylo yhi ⌝ }
+    ensures { λ r. ⌜ r ≡ cutRecord (onLines (take nx (now (xs .entry))) (take ny (now (ys .entry)))) (rectOf xlo ylo xhi yhi) ⌝ }
+{
+    let x = middle_line(xs, nx, xlo, xhi);
+    let y = middle_line(ys, ny, ylo, yhi);
+    if x <= xlo {
+        if y <= ylo {
+            return Cut {
+                found: false,
+                across: false,
+                at: 0,
+            };
+        }
+        return cut_at(false, y);
+    }
+    if y <= ylo {
+        return cut_at(true, x);
+    }
+    let across = yhi - ylo <= xhi - xlo;
+    let at = if across { x } else { y };
+    cut_at(across, at)
+}
