@@ -12,11 +12,12 @@ use lib.IntN.{natAbs}
 use lib.ListN.{length, length-append, replicate}
 use Rattle.numbers.proofs.Joined.{flatten-snoc}
 use Rattle.numbers.proofs.Truth.{holds, fails, cond-ind}
-use Rattle.job.specs.Reader.{Reading, fault, got, Reader, andThen, _>>=_, return, line, lineResult, repeated, end}
+use Rattle.job_line.specs.OneLine.{Reading, fault, got, Reader, line, lineResult}
+use Rattle.job.specs.Reader.{andThen, _>>=_, return, repeated, end}
 use Rattle.job.specs.Format.{Job, jobOf, jobLines}
 use Rattle.job.specs.Meaning.{Kind, area, posts, post, stops, stop, rounds, Held, formOf, rangeOf, dueAfter, Good, top, one-more, FirstMalformed, no-form, too-much, FirstOutOfRange, Condition}
-use Rattle.job.specs.declared.Refusal.{Refusal}
-use Rattle.job.specs.declared.Refusal.the-variants.{Malformed, OutOfRange}
+use Rattle.job_line.specs.declared.Refusal.{Refusal}
+use Rattle.job_line.specs.declared.Refusal.the-variants.{Malformed, OutOfRange}
 use Rattle.job.proofs.FormLaws.{textOf, form-spells, form-whole, form-local}
 use Rattle.job.proofs.RangeLaws.{range-small}
 use Rattle.job.proofs.ReaderLaws.{not-got, lineOf}

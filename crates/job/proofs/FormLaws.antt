@@ -4,7 +4,7 @@ use mathlib.Core.Path.{_≡_, refl, sym, ap, subst, _∙_}
 use mathlib.Core.Bool.{not}
 use mathlib.Core.List.{List, [], _∷_, _++_, append-nil, foldr, flatten}
 use mathlib.Core.Option.{Option, some, bind-eq-some-iff, Option·none-ne-some, Option·some-injective}
-use Prim.Native.Nat.{ℕ, _+_, _*_, _^_, _≤_, _<_}
+use Prim.Native.Nat.{ℕ, suc, _+_, _*_, _^_, _≤_, _<_}
 use Prim.Native.String.{String}
 use native.Mathlib.Nat.{le-trans, pow-le-pow-right}
 use native.Mathlib.Omega.{arith}
@@ -16,9 +16,10 @@ use Rattle.numbers.proofs.Truth.{cond-ind, cond-true, cond-false}
 use Rattle.text.specs.Ascii.{bytes, comma, newline, isDigit}
 use Rattle.text.specs.Numeral.{digits, number}
 use Rattle.text.specs.Decimal.{spellInt}
-use Rattle.text.proofs.NumeralLaws.{number-reads, number-spelled, number-length}
-use Rattle.job.specs.Form.{Form, _>>=_, _>>_, byte, key, field, return}
-use Rattle.job.specs.Lines.{areaLine, countLine, postLine, stopLine}
+use Rattle.text.proofs.DigitCounts.{length-spellInt-below}
+use Rattle.text.proofs.NumeralLaws.{number-reads, number-spelled}
+use Rattle.job_line.specs.Form.{Form, _>>=_, _>>_, byte, key, field, return}
+use Rattle.job_line.specs.Lines.{areaLine, countLine, postLine, stopLine}
 use Rattle.job.specs.Meaning.{Kind, area, posts, post, stops, stop, rounds, Held, formOf}
 
 -- what it says of a form that it reads the texts of values, where the values are such, and nothing else
@@ -81,10 +82,10 @@ pub within-more : (d e : ℕ) → d ≤ e → (ends : List ℕ) (v : Numbers end
 within-more d e h [] v w = tt
 within-more d e h (end ∷ ends) v w = (le-trans (w .0) (pow-le-pow-right (lit≤ {m = 1} {n = 10} tt) h), within-more d e h ends (v .1) (w .1))
 
-pieces-length : (d : ℕ) → 1 ≤ d → d ≤ 20 → (ends : List ℕ) (v : Numbers ends) → Within d ends v → length (flatten (pieces ends v)) ≤ length ends * (d + 2)
+pieces-length : (d : ℕ) (ends : List ℕ) (v : Numbers ends) → Within (suc d) ends v → length (flatten (pieces ends v)) ≤ length ends * (d + 3)
 unfolding flatten
-pieces-length d h k [] v w = omega arith
-pieces-length d h k (end ∷ ends) v w = simp length-append (omega (arith, number-length (v .0) d h k (w .0), pieces-length d h k ends (v .1) (w .1)))
+pieces-length d [] v w = omega arith
+pieces-length d (end ∷ ends) v w = simp length-append (omega (arith, length-spellInt-below d (v .0) (w .0), pieces-length d ends (v .1) (w .1)))
 
 -- no end is a digit
 abbrev NoDigits : List ℕ → Type 0
@@ -179,6 +180,6 @@ form-whole k v small = rw append-nil at (form-spells k .writes v [] small)
 pub form-local : (k : Kind) (text : List ℕ) (v : Held k) (rest : List ℕ) → formOf k text ≡ some (v, []) → formOf k (text ++ rest) ≡ some (v, rest)
 form-local k text v rest e = let (t, small) = form-spells k .reads text v [] e in rw (t, append-nil) (form-spells k .writes v rest small)
 
-pub text-length : (d : ℕ) → 1 ≤ d → d ≤ 20 → (k : Kind) (v : Held k) → HeldWithin d k v → length (textOf k v) ≤ length (nameOf k) + length (endsOf k) * (d + 2)
+pub text-length : (d : ℕ) (k : Kind) (v : Held k) → HeldWithin (suc d) k v → length (textOf k v) ≤ length (nameOf k) + length (endsOf k) * (d + 3)
 unfolding flatten
-text-length d h l k v w = simp length-append (omega (arith, pieces-length d h l (endsOf k) (numbersOf k v) w))
+text-length d k v w = simp length-append (omega (arith, pieces-length d (endsOf k) (numbersOf k v) w))

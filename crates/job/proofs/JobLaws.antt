@@ -12,8 +12,9 @@ use Rattle.query.specs.Place.{Place, Rect}
 use Rattle.query.specs.Deck.{Stop}
 use Rattle.query.specs.Range.{StopInRange}
 use Rattle.text.specs.Ascii.{bytes}
-use Rattle.job.specs.Lines.{StopLine, upTo}
-use Rattle.job.specs.Reader.{repeated, got, end}
+use Rattle.job_line.specs.Lines.{StopLine, upTo}
+use Rattle.job_line.specs.OneLine.{got}
+use Rattle.job.specs.Reader.{repeated, end}
 use Rattle.job.specs.Format.{Job, jobOf, stopOf, jobLines}
 use Rattle.job.specs.Spelling.{spellStop, spell, Writable}
 use Rattle.job.specs.Meaning.{Kind, Held, area, posts, post, stops, stop, rounds, rangeOf}
@@ -26,7 +27,7 @@ unfolding spell
 spell-is job = refl
 
 line-length : (k : Kind) (v : Held k) → T (rangeOf k v) → length (textOf k v) ≤ length (nameOf k) + length (endsOf k) * 7
-line-length k v t = text-length 5 (omega arith) (omega arith) k v (range-within k v t)
+line-length k v t = text-length 4 k v (range-within k v t)
 
 -- ---- the lines of a job, by what they hold: an area, posts, stops and rounds
 module _ (r : Rect) (ps : List Place) (ss : List StopLine) (k : ℕ) where

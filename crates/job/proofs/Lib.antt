@@ -5,7 +5,5 @@ pub mod ReaderLaws
 pub mod JobLaws
 pub mod Faults
 pub mod Meaning
-pub mod RangeTests
-pub mod LineLaws
 pub mod PartLaws
 pub mod ReadLaws

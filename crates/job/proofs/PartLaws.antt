@@ -14,24 +14,25 @@ use mir.Val.{SFits}
 use Rattle.query.specs.Place.{Place}
 use Rattle.text.specs.Ascii.{bytes}
 use Rattle.text.proofs.KeyLaws.{drop-next}
-use Rattle.job.specs.Lines.{StopLine, countLine, postLine, stopLine, placeInRange, stopInRange, upTo}
-use Rattle.job.specs.Reader.{fault, got, Reader, andThen, lineResult, line, repeated, end}
+use Rattle.job_line.specs.Lines.{StopLine, countLine, postLine, stopLine, placeInRange, stopInRange, upTo}
+use Rattle.job_line.specs.OneLine.{fault, got, Reader, lineResult, line}
+use Rattle.job.specs.Reader.{andThen, repeated, end}
 use Rattle.numbers.specs.Padded.{padded}
 use Rattle.numbers.proofs.Padded.{padded-map}
-use Rattle.job.specs.Reading.{countForm, countIn, CountAt, PostAt, StopAt}
+use Rattle.job_line.specs.Reading.{countForm, countIn, CountAt, PostAt, StopAt}
 use Rattle.job.specs.Parts.{postLines, stopLines, allPosts, allStops, lastLine, PostsAt, StopsAt, LastAt}
-use Rattle.job.specs.declared.Refusal.{Refusal}
-use Rattle.job.specs.declared.Refusal.the-variants.{Malformed}
-use Rattle.job.specs.declared.CountLine.{CountLine}
-use Rattle.job.specs.declared.CountLine.the-variants as C
+use Rattle.job_line.specs.declared.Refusal.{Refusal}
+use Rattle.job_line.specs.declared.Refusal.the-variants.{Malformed}
+use Rattle.job_line.specs.declared.CountLine.{CountLine}
+use Rattle.job_line.specs.declared.CountLine.the-variants as C
 use Rattle.job.specs.declared.Posts.{Posts}
 use Rattle.job.specs.declared.Stops.{Stops}
-use Rattle.job.specs.declared.PostLine.{PostLine}
-use Rattle.job.specs.declared.PostLine.the-variants as P
-use Rattle.job.specs.declared.StopLine as Answer
-use Rattle.job.specs.declared.StopLine.the-variants as S
+use Rattle.job_line.specs.declared.PostLine.{PostLine}
+use Rattle.job_line.specs.declared.PostLine.the-variants as P
+use Rattle.job_line.specs.declared.StopLine as Answer
+use Rattle.job_line.specs.declared.StopLine.the-variants as S
 use Rattle.job.specs.declared.Next.the-variants.{At, Refused}
-use Rattle.job.proofs.RangeTests.{held, held-is}
+use Rattle.job_line.proofs.RangeTests.{held, held-is}
 
 -- ---- the reading that is left
 module _ {A : Type 0} (one : Reader A) where
@@ -162,7 +163,7 @@ module _ {A : Type 0} (name : String) (rest : ℤ → Reader A) {s : List ℕ} {
   not-counted e = ap (λ R. andThen R rest) (read-is e)
 
   pub counted-most : {count next : ℕ} → r ≡ C.Read count next → count ≤ most
-  counted-most e = subst (CountAt s at (bytes name) most n) e count-at .within
+  counted-most e = subst (CountAt s at (bytes name) most n) e count-at .within .0
 
 posts-is : (n : ℕ) (bs : List ℕ) → andThen (line (countLine "posts=") (upTo 64) n bs) (λ c. postLines (natAbs c)) ≡ allPosts n bs
 unfolding allPosts
@@ -213,4 +214,4 @@ module _ {s : List ℕ} {at n : ℕ} {r : CountLine} (count-at : CountAt s at (b
     last-more h = record { is = ended-more (pos count) (n + 1) next s h ∙ counted "rounds=" ended count-at e ∙ last-is n (drop at s); within = tt }
 
     pub last-read : length s ≤ next → LastAt s at n (C.Read count next)
-    last-read h = record { is = ended-here (pos count) (n + 1) next s h ∙ counted "rounds=" ended count-at e ∙ last-is n (drop at s); within = counted-most "rounds=" ended count-at e }
+    last-read h = record { is = ended-here (pos count) (n + 1) next s h ∙ counted "rounds=" ended count-at e ∙ last-is n (drop at s); within = subst (CountAt s at (bytes "rounds=") 1000 n) e count-at .within }

@@ -13,7 +13,7 @@ use Rattle.numbers.proofs.Integer.{order, abs-range}
 use Rattle.numbers.proofs.Ranges.{between-range, range-between}
 use Rattle.query.specs.Place.{Place, Rect}
 use Rattle.query.specs.Range.{PlaceInRange, RectInRange, StopInRange}
-use Rattle.job.specs.Lines.{StopLine, coordinateInRange, placeInRange, areaInRange, stopInRange, upTo}
+use Rattle.job_line.specs.Lines.{StopLine, coordinateInRange, placeInRange, areaInRange, stopInRange, upTo}
 use Rattle.job.specs.Format.{stopOf}
 use Rattle.job.specs.Meaning.{Kind, area, posts, post, stops, stop, rounds, Held, rangeOf}
 use Rattle.job.proofs.FormLaws.{HeldWithin, within-more, endsOf, numbersOf}

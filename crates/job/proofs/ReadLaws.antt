@@ -13,27 +13,28 @@ use mir.Syntax.{w64}
 use mir.Val.{SFits}
 use Rattle.numbers.specs.Lists.{nonEmpty}
 use Rattle.query.specs.Place.{Place, Rect}
-use Rattle.job.specs.Lines.{StopLine, areaLine, countLine, areaInRange, upTo}
-use Rattle.job.specs.Reader.{Reading, fault, got, Reader, andThen, line, end}
+use Rattle.job_line.specs.Lines.{StopLine, areaLine, countLine, areaInRange, upTo}
+use Rattle.job_line.specs.OneLine.{Reading, fault, got, Reader, line}
+use Rattle.job.specs.Reader.{andThen, end}
 use Rattle.job.specs.Format as Format
 use Rattle.job.specs.Format.{refused, accepted, jobOf, stopOf, emptyArea, checked, jobLines, resultOf, readJob}
 use Rattle.job.specs.Record.{jobRecord}
 use Rattle.numbers.specs.Padded.{padded}
-use Rattle.job.specs.Reading.{areaOf, countIn, AreaAt}
+use Rattle.job_line.specs.Reading.{areaOf, countIn, AreaAt}
 use Rattle.job.specs.Parts.{postLines, stopLines, allPosts, allStops, lastLine, nextIn, PostsHold, StopsHold, PostsAt, StopsAt, LastAt, CheckedAt}
-use Rattle.job.specs.declared.Area.{Area}
-use Rattle.job.specs.declared.AreaLine.{AreaLine}
-use Rattle.job.specs.declared.AreaLine.the-variants as A
-use Rattle.job.specs.declared.CountLine.{CountLine}
-use Rattle.job.specs.declared.CountLine.the-variants as C
+use Rattle.job_line.specs.declared.Area.{Area}
+use Rattle.job_line.specs.declared.AreaLine.{AreaLine}
+use Rattle.job_line.specs.declared.AreaLine.the-variants as A
+use Rattle.job_line.specs.declared.CountLine.{CountLine}
+use Rattle.job_line.specs.declared.CountLine.the-variants as C
 use Rattle.job.specs.declared.Next.the-variants.{At, Refused}
 use Rattle.job.specs.declared.Posts.{Posts}
 use Rattle.job.specs.declared.Stops.{Stops}
 use Rattle.job.specs.declared.Job.{Job}
 use Rattle.job.specs.declared.Outcome.the-variants.{Accepted}
-use Rattle.job.specs.declared.Refusal.{Refusal}
-use Rattle.job.specs.declared.Refusal.the-variants.{TooLong, EmptyArea, NoPosts, NoStops}
-use Rattle.job.proofs.RangeTests.{held, held-is}
+use Rattle.job_line.specs.declared.Refusal.{Refusal}
+use Rattle.job_line.specs.declared.Refusal.the-variants.{TooLong, EmptyArea, NoPosts, NoStops}
+use Rattle.job_line.proofs.RangeTests.{held, held-is}
 
 -- ---- refusal 4
 module _ {a : Area} (xlo : SFits w64 (a .xlo)) (ylo : SFits w64 (a .ylo)) (xhi : SFits w64 (a .xhi)) (yhi : SFits w64 (a .yhi)) where

@@ -11,10 +11,11 @@ use lib.ListN.{length}
 use lib.Seq.{append-snoc}
 use Rattle.numbers.proofs.Truth.{holds}
 use Rattle.numbers.proofs.Members.{each-cons}
-use Rattle.job.specs.Reader.{Reading, fault, got, Reader, andThen, _>>=_, line, lineResult, repeated, end}
+use Rattle.job_line.specs.OneLine.{Reading, fault, got, Reader, line, lineResult}
+use Rattle.job.specs.Reader.{andThen, _>>=_, repeated, end}
 use Rattle.job.specs.Meaning.{Kind, Held, formOf, rangeOf}
-use Rattle.job.specs.declared.Refusal.{Refusal}
-use Rattle.job.specs.declared.Refusal.the-variants.{OutOfRange}
+use Rattle.job_line.specs.declared.Refusal.{Refusal}
+use Rattle.job_line.specs.declared.Refusal.the-variants.{OutOfRange}
 use Rattle.job.proofs.FormLaws.{textOf, form-spells}
 use Rattle.job.proofs.RangeLaws.{range-small}
 

@@ -10,10 +10,11 @@ use lib.Signed.{ltZ}
 use Rattle.numbers.specs.Lists.{nonEmpty}
 use Rattle.query.specs.Place.{Place, Rect}
 use Rattle.query.specs.Deck.{Stop, Deck, plain}
-use Rattle.job.specs.Lines.{StopLine, areaLine, countLine, postLine, stopLine, placeInRange, areaInRange, stopInRange, upTo}
-use Rattle.job.specs.Reader.{Reading, fault, got, Reader, _>>=_, _>>_, return, line, repeated, end}
-use Rattle.job.specs.declared.Refusal.{Refusal}
-use Rattle.job.specs.declared.Refusal.the-variants.{TooLong, EmptyArea, NoPosts, NoStops}
+use Rattle.job_line.specs.Lines.{StopLine, areaLine, countLine, postLine, stopLine, placeInRange, areaInRange, stopInRange, upTo}
+use Rattle.job_line.specs.OneLine.{Reading, fault, got, Reader, line}
+use Rattle.job.specs.Reader.{_>>=_, _>>_, return, repeated, end}
+use Rattle.job_line.specs.declared.Refusal.{Refusal}
+use Rattle.job_line.specs.declared.Refusal.the-variants.{TooLong, EmptyArea, NoPosts, NoStops}
 
 -- a job: a deck and the number of rounds
 pub record Job : Type 0 where

@@ -1,11 +1,7 @@
-pub mod Refusal
-pub mod Form
-pub mod Lines
 pub mod Reader
 pub mod Format
 pub mod Spelling
 pub mod Meaning
 pub mod Record
 pub mod Vectors
-pub mod Reading
 pub mod Parts

@@ -6,16 +6,17 @@ use mathlib.Core.List.{List, [], map}
 use lib.IntN.{ℤ, pos, natAbs}
 use lib.ListN.{length, drop}
 use Rattle.query.specs.Place as Query
-use Rattle.job.specs.Lines as Lines
-use Rattle.job.specs.Lines.{countLine, postLine, stopLine, placeInRange, stopInRange, upTo}
-use Rattle.job.specs.Reader.{Reading, fault, got, Reader, _>>=_, _>>_, return, line, repeated, end}
-use Rattle.job.specs.Reading.{areaOf, countIn, CountWithin}
+use Rattle.job_line.specs.Lines as Lines
+use Rattle.job_line.specs.Lines.{countLine, postLine, stopLine, placeInRange, stopInRange, upTo}
+use Rattle.job_line.specs.OneLine.{Reading, fault, got, Reader, line}
+use Rattle.job.specs.Reader.{_>>=_, _>>_, return, repeated, end}
+use Rattle.job_line.specs.Reading.{areaOf, countIn, CountWithin}
 use Rattle.job.specs.Format.{jobOf, checked}
 use Rattle.job.specs.Record.{jobRecord}
 use Rattle.numbers.specs.Padded.{padded}
-use Rattle.job.specs.declared.Area.{Area}
+use Rattle.job_line.specs.declared.Area.{Area}
 use Rattle.job.specs.declared.Job.{Job}
-use Rattle.job.specs.declared.CountLine.{CountLine}
+use Rattle.job_line.specs.declared.CountLine.{CountLine}
 use Rattle.job.specs.declared.Next.{Next}
 use Rattle.job.specs.declared.Next.the-variants.{At, Refused}
 use Rattle.job.specs.declared.Posts.{Posts}
@@ -84,7 +85,7 @@ lastLine = do
 
 pub record LastAt (s : List ℕ) (at n : ℕ) (r : CountLine) : Type 0 where
   pub is : countIn s n r ≡ lastLine n (drop at s)
-  pub within : CountWithin 1000 r
+  pub within : CountWithin s 1000 r
 
 -- refusals 4, 5 and 6 of what the lines hold, or the job
 pub record CheckedAt (area : Area) (posts : Posts) (stops : Stops) (rounds : ℕ) (r : Job) : Type 0 where

@@ -1,20 +1,9 @@
--- Reading line by line: each line first by its form (refusal 2), then by its ranges (refusal 3), with lines counted from 1.
+-- Reading line by line, one reader of a line after another.
 -- Assumes nothing.
-use Prim.Native.Nat.{ℕ, zero, suc, _+_}
-use mathlib.Core.Bool.{Bool, cond}
+use Prim.Native.Nat.{ℕ, zero, suc}
 use mathlib.Core.List.{List, [], _∷_, _++_}
-use mathlib.Core.Option.{Option, none, some}
-use Rattle.job.specs.Form as F
-use Rattle.job.specs.declared.Refusal.{Refusal}
-use Rattle.job.specs.declared.Refusal.the-variants.{Malformed, OutOfRange}
-
--- a refusal, or what was read, the number of the next line and the text from there on
-pub data Reading (A : Type 0) : Type 0 where
-  fault : Refusal → Reading A
-  got : A → ℕ → List ℕ → Reading A
-
-abbrev pub Reader : Type 0 → Type 0
-Reader A = ℕ → List ℕ → Reading A
+use Rattle.job_line.specs.OneLine.{Reading, fault, got, Reader}
+use Rattle.job_line.specs.declared.Refusal.the-variants.{Malformed}
 
 abbrev pub andThen : {A B : Type 0} → Reading A → (A → Reader B) → Reading B
 andThen (fault why) next = fault why
@@ -31,14 +20,6 @@ first >> next = first >>= (λ a. next)
 
 unfoldable pub return : {A : Type 0} → A → Reader A
 return a n bs = got a n bs
-
--- 01 "2 before 3 in a line"
-abbrev pub lineResult : {A : Type 0} → (A → Bool) → ℕ → Option (A × List ℕ) → Reading A
-lineResult inRange n none = fault (Malformed n)
-lineResult inRange n (some r) = cond (inRange (r .0)) (got (r .0) (n + 1) (r .1)) (fault (OutOfRange n))
-
-unfoldable pub line : {A : Type 0} → F.Form A → (A → Bool) → Reader A
-line form inRange n bs = lineResult inRange n (form bs)
 
 -- so many lines of one kind, behind those read before
 unfoldable pub repeated : {A : Type 0} → ℕ → Reader A → List A → Reader (List A)

@@ -1,27 +1,18 @@
 // The job format: a job's bytes are read as the deck and rounds that they spell, or refused at their first fault.
 
-use text::ParsedNumber;
+use job_line::Area;
+use job_line::AreaLine;
+use job_line::CountLine;
+use job_line::PostLine;
+use job_line::Refusal;
+use job_line::StopLine;
 ghost use mathlib.Core.Path.{_≡_};
 ghost use Prim.Native.Nat.{_+_, _≤_};
 ghost use lib.ListN.{drop};
-ghost use Rattle.numbers.specs.Integer.{between};
-ghost use Rattle.job.specs.Lines.{coordinateInRange, placeInRange, areaInRange, stopInRange};
+ghost use Rattle.job_line.specs.Reading.{areaOf};
 ghost use Rattle.job.specs.Format.{emptyArea, readJob, refused};
 ghost use Rattle.job.specs.Record.{jobRecord};
-ghost use Rattle.job.specs.Reading.{areaOf, placeOf, stopLineOf, FieldAt, AreaAt, CountAt, PostAt, StopAt};
 ghost use Rattle.job.specs.Parts.{postLines, stopLines, PostsAt, StopsAt, allPosts, allStops, LastAt, CheckedAt};
-
-// Why a call is refused. `numberOf` and `lineOf` of specs/Refusal.antt give document 01's number and line for each.
-pub enum Refusal {
-    TooLong,
-    Malformed(u64),
-    OutOfRange(u64),
-    EmptyArea,
-    NoPosts,
-    NoStops,
-    SmallSpace,
-    ShortOutput,
-}
 
 // A deck, one array a field. The first `posts` and `stops` elements of the arrays count; the others are 0.
 pub struct Deck {
@@ -49,40 +40,6 @@ pub struct Job {
     pub deck: Deck,
 }
 
-// An area and a place as a line has them.
-struct Area {
-    xlo: i64,
-    ylo: i64,
-    xhi: i64,
-    yhi: i64,
-}
-
-struct Place {
-    x: i64,
-    y: i64,
-}
-
-// What one line is read as: what it holds and the place after it, or the refusal.
-enum AreaLine {
-    Read(Area, usize),
-    Refused(Refusal),
-}
-
-enum CountLine {
-    Read(usize, usize),
-    Refused(Refusal),
-}
-
-enum PostLine {
-    Read(i64, i64, usize),
-    Refused(Refusal),
-}
-
-enum StopLine {
-    Read(i64, i64, u64, usize),
-    Refused(Refusal),
-}
-
 // Where reading goes on, or the refusal.
 enum Next {
     At(usize),
@@ -105,160 +62,6 @@ struct Stops {
     visits: [u64; 512],
 }
 
-// ---- ranges
-
-fn between(lo: i64, hi: i64, v: i64) -> bool
-    ensures { λ r. ⌜ r ≡ between lo hi v ⌝ }
-{
-    if lo <= v { v <= hi } else { false }
-}
-
-fn coordinate_in_range(v: i64) -> bool
-    ensures { λ r. ⌜ r ≡ coordinateInRange v ⌝ }
-{
-    between(-20000, 20000, v)
-}
-
-fn place_in_range(p: Place) -> bool
-    ensures { λ r. ⌜ r ≡ placeInRange (placeOf p) ⌝ }
-{
-    if coordinate_in_range(p.x) {
-        coordinate_in_range(p.y)
-    } else {
-        false
-    }
-}
-
-fn area_in_range(a: Area) -> bool
-    ensures { λ r. ⌜ r ≡ areaInRange (areaOf a) ⌝ }
-{
-    if !coordinate_in_range(a.xlo) {
-        return false;
-    }
-    if !coordinate_in_range(a.ylo) {
-        return false;
-    }
-    if !coordinate_in_range(a.xhi) {
-        return false;
-    }
-    coordinate_in_range(a.yhi)
-}
-
-fn stop_in_range(p: Place, visits: i64) -> bool
-    ensures { λ r. ⌜ r ≡ stopInRange (stopLineOf p visits) ⌝ }
-{
-    if place_in_range(p) {
-        between(1, 65535, visits)
-    } else {
-        false
-    }
-}
-
-// ---- lines
-
-// A number and the byte that ends it.
-fn field(s: &[u8], at: usize, end: u8) -> ParsedNumber
-    ensures { λ r. ⌜ FieldAt (now (s .entry)) at end r ⌝ }
-{
-    match text::number(s, at) {
-        ParsedNumber::Read(z, next) => {
-            if text::byte_is(s, next, end) {
-                ParsedNumber::Read(z, next + 1)
-            } else {
-                ParsedNumber::Fault
-            }
-        }
-        ParsedNumber::Fault => ParsedNumber::Fault,
-    }
-}
-
-// `area=xlo,ylo,xhi,yhi`
-fn area_line(s: &[u8], at: usize, line: u64) -> AreaLine
-    ensures { λ r. ⌜ AreaAt (now (s .entry)) at line r ⌝ }
-{
-    if !text::starts(s, at, b"area=") {
-        return AreaLine::Refused(Refusal::Malformed(line));
-    }
-    let ParsedNumber::Read(xlo, after_xlo) = field(s, at + 5, b',') else {
-        return AreaLine::Refused(Refusal::Malformed(line));
-    };
-    let ParsedNumber::Read(ylo, after_ylo) = field(s, after_xlo, b',') else {
-        return AreaLine::Refused(Refusal::Malformed(line));
-    };
-    let ParsedNumber::Read(xhi, after_xhi) = field(s, after_ylo, b',') else {
-        return AreaLine::Refused(Refusal::Malformed(line));
-    };
-    let ParsedNumber::Read(yhi, next) = field(s, after_xhi, b'\n') else {
-        return AreaLine::Refused(Refusal::Malformed(line));
-    };
-    let area = Area { xlo, ylo, xhi, yhi };
-    if !area_in_range(area) {
-        return AreaLine::Refused(Refusal::OutOfRange(line));
-    }
-    AreaLine::Read(area, next)
-}
-
-// `posts=n`, `stops=n`, `rounds=n`: a number from 0 to `most` behind `key`.
-fn count_line(s: &[u8], at: usize, key: &[u8], most: usize, line: u64) -> CountLine
-    ensures { λ r. ⌜ CountAt (now (s .entry)) at (now (key .entry)) most line r ⌝ }
-{
-    if !text::starts(s, at, key) {
-        return CountLine::Refused(Refusal::Malformed(line));
-    }
-    let ParsedNumber::Read(z, next) = field(s, at + key.len(), b'\n') else {
-        return CountLine::Refused(Refusal::Malformed(line));
-    };
-    if z < 0 {
-        return CountLine::Refused(Refusal::OutOfRange(line));
-    }
-    let n = z as usize;
-    if most < n {
-        return CountLine::Refused(Refusal::OutOfRange(line));
-    }
-    CountLine::Read(n, next)
-}
-
-// `post=x,y`
-fn post_line(s: &[u8], at: usize, line: u64) -> PostLine
-    ensures { λ r. ⌜ PostAt (now (s .entry)) at line r ⌝ }
-{
-    if !text::starts(s, at, b"post=") {
-        return PostLine::Refused(Refusal::Malformed(line));
-    }
-    let ParsedNumber::Read(x, after_x) = field(s, at + 5, b',') else {
-        return PostLine::Refused(Refusal::Malformed(line));
-    };
-    let ParsedNumber::Read(y, next) = field(s, after_x, b'\n') else {
-        return PostLine::Refused(Refusal::Malformed(line));
-    };
-    if !place_in_range(Place { x, y }) {
-        return PostLine::Refused(Refusal::OutOfRange(line));
-    }
-    PostLine::Read(x, y, next)
-}
-
-// `stop=x,y,visits`
-fn stop_line(s: &[u8], at: usize, line: u64) -> StopLine
-    ensures { λ r. ⌜ StopAt (now (s .entry)) at line r ⌝ }
-{
-    if !text::starts(s, at, b"stop=") {
-        return StopLine::Refused(Refusal::Malformed(line));
-    }
-    let ParsedNumber::Read(x, after_x) = field(s, at + 5, b',') else {
-        return StopLine::Refused(Refusal::Malformed(line));
-    };
-    let ParsedNumber::Read(y, after_y) = field(s, after_x, b',') else {
-        return StopLine::Refused(Refusal::Malformed(line));
-    };
-    let ParsedNumber::Read(visits, next) = field(s, after_y, b'\n') else {
-        return StopLine::Refused(Refusal::Malformed(line));
-    };
-    if !stop_in_range(Place { x, y }, visits) {
-        return StopLine::Refused(Refusal::OutOfRange(line));
-    }
-    StopLine::Read(x, y, visits as u64, next)
-}
-
 // ---- parts
 
 // `count` lines `post=x,y` from line `first` on.
@@ -271,7 +74,7 @@ fn post_lines(s: &[u8], start: usize, count: usize, first: u64) -> Posts
     let mut at = start;
     let mut i: usize = 0;
     while i < count {
-        match post_line(s, at, first + i as u64) {
+        match job_line::post_line(s, at, first + i as u64) {
             PostLine::Read(post_x, post_y, next) => {
                 x[i] = post_x;
                 y[i] = post_y;
@@ -307,7 +110,7 @@ fn stop_lines(s: &[u8], start: usize, count: usize, first: u64) -> Stops
     let mut at = start;
     let mut i: usize = 0;
     while i < count {
-        match stop_line(s, at, first + i as u64) {
+        match job_line::stop_line(s, at, first + i as u64) {
             StopLine::Read(stop_x, stop_y, stop_visits, next) => {
                 x[i] = stop_x;
                 y[i] = stop_y;
@@ -340,7 +143,7 @@ fn read_posts(s: &[u8], at: usize, line: u64) -> Posts
     requires { ⌜ line ≤ 900 ⌝ }
     ensures { λ r. ⌜ PostsAt (now (s .entry)) (line + 1) (allPosts line (drop at (now (s .entry)))) r ⌝ }
 {
-    match count_line(s, at, b"posts=", 64, line) {
+    match job_line::count_line(s, at, b"posts=", 64, line) {
         CountLine::Read(count, next) => post_lines(s, next, count, line + 1),
         CountLine::Refused(why) => {
             let none = [0i64; 64];
@@ -359,7 +162,7 @@ fn read_stops(s: &[u8], at: usize, line: u64) -> Stops
     requires { ⌜ line ≤ 900 ⌝ }
     ensures { λ r. ⌜ StopsAt (now (s .entry)) (line + 1) (allStops line (drop at (now (s .entry)))) r ⌝ }
 {
-    match count_line(s, at, b"stops=", 512, line) {
+    match job_line::count_line(s, at, b"stops=", 512, line) {
         CountLine::Read(count, next) => stop_lines(s, next, count, line + 1),
         CountLine::Refused(why) => {
             let none = [0i64; 512];
@@ -379,7 +182,7 @@ fn last_line(s: &[u8], at: usize, line: u64) -> CountLine
     requires { ⌜ line ≤ 900 ⌝ }
     ensures { λ r. ⌜ LastAt (now (s .entry)) at line r ⌝ }
 {
-    match count_line(s, at, b"rounds=", 1000, line) {
+    match job_line::count_line(s, at, b"rounds=", 1000, line) {
         CountLine::Read(rounds, next) => {
             if next < s.len() {
                 return CountLine::Refused(Refusal::Malformed(line + 1));
@@ -469,7 +272,7 @@ pub fn read(bytes: &[u8]) -> Job
     if 16384 < bytes.len() {
         return refuse(Refusal::TooLong);
     }
-    match area_line(bytes, 0, 1) {
+    match job_line::area_line(bytes, 0, 1) {
         AreaLine::Read(area, at) => {
             let posts = read_posts(bytes, at, 2);
             let after_posts = posts.next;

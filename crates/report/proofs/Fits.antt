@@ -7,7 +7,7 @@ use lib.ListN.{length, length-append}
 use Rattle.query.specs.Figures.{Figures}
 use Rattle.text.specs.Ascii.{bytes}
 use Rattle.text.proofs.DigitCounts.{length-spellNat}
-use Rattle.job.specs.Refusal.{lineOf}
+use Rattle.job_line.specs.Refusal.{lineOf}
 use Rattle.report.specs.Text.{reportText}
 use Rattle.report.specs.Limits.{FiguresInRange, ReportFits}
 use Rattle.report.proofs.TextLaws.{statePart, placePart, costsPart, roundsPart, report-parts, refusal-parts, length-five, length-state, length-place, length-costs, length-rounds, length-number}

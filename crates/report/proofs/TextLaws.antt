@@ -15,9 +15,9 @@ use Rattle.text.specs.Decimal.{spellNat, spellInt}
 use Rattle.text.specs.Written.{Wrote}
 use Rattle.text.proofs.DigitCounts.{length-spellNat, length-spellNat-below, length-spellInt, length-spellInt-below}
 use Rattle.text.proofs.WrittenLaws.{written-front, wrote-both}
-use Rattle.job.specs.Refusal.{numberOf, lineOf}
-use Rattle.job.specs.declared.Refusal.{Refusal}
-use Rattle.job.specs.declared.Refusal.the-variants.{TooLong, Malformed, OutOfRange, EmptyArea, NoPosts, NoStops, SmallSpace, ShortOutput}
+use Rattle.job_line.specs.Refusal.{numberOf, lineOf}
+use Rattle.job_line.specs.declared.Refusal.{Refusal}
+use Rattle.job_line.specs.declared.Refusal.the-variants.{TooLong, Malformed, OutOfRange, EmptyArea, NoPosts, NoStops, SmallSpace, ShortOutput}
 use Rattle.report.specs.Text.{stateText, reportText, refusalText}
 use Rattle.report.specs.Output.{Filled}
 

@@ -6,7 +6,7 @@ use lib.IntN.{pos, negsuc, negℤ, natAbs}
 use lib.ListN.{length}
 use Rattle.query.specs.Figures.{Figures, stopped}
 use Rattle.query.specs.Range.{PlaceInRange, costLimit}
-use Rattle.job.specs.declared.Refusal.{Refusal}
+use Rattle.job_line.specs.declared.Refusal.{Refusal}
 use Rattle.report.specs.Text.{reportText, refusalText}
 
 -- 01 "Coordinates are .. −20,000 to 20,000", "Rounds: 0 to 1,000", and the most that a place can cost

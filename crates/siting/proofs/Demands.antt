@@ -18,8 +18,8 @@ use Rattle.query.proofs.FigureRanges.{figures-in-range}
 use Rattle.job.specs.Format.{Job, Result, refused, accepted, readJob}
 use Rattle.job.specs.Spelling.{spell, Allowed}
 use Rattle.job.proofs.Meaning.{accepted-law, refused-law, spelling-law, allowed-in-range}
-use Rattle.job.specs.declared.Refusal.{Refusal}
-use Rattle.job.specs.declared.Refusal.the-variants.{TooLong, Malformed, OutOfRange, EmptyArea, NoPosts, NoStops, SmallSpace, ShortOutput}
+use Rattle.job_line.specs.declared.Refusal.{Refusal}
+use Rattle.job_line.specs.declared.Refusal.the-variants.{TooLong, Malformed, OutOfRange, EmptyArea, NoPosts, NoStops, SmallSpace, ShortOutput}
 use Rattle.report.specs.Text.{reportText}
 use Rattle.report.specs.Limits.{FiguresInRange}
 use Rattle.report.proofs.Fits.{report-fits}

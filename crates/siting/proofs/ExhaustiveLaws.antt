@@ -18,7 +18,7 @@ use Rattle.job.proofs.Meaning.{accepted-law, refused-law}
 use Rattle.job.specs.Record.{jobRecord}
 use Rattle.job.specs.declared.Job as Held
 use Rattle.job.specs.declared.Outcome.the-variants.{Accepted, Refused}
-use Rattle.job.specs.declared.Refusal.{Refusal}
+use Rattle.job_line.specs.declared.Refusal.{Refusal}
 use Rattle.sites.specs.DeckOf.{deckOf}
 use Rattle.sites.specs.Sites.{sitesOf}
 use Rattle.sites.specs.Record.{sitesRecord}

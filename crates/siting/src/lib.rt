@@ -1,7 +1,7 @@
 // The public calls of the siting tool.
 use job::Deck;
 use job::Outcome;
-use job::Refusal;
+use job_line::Refusal;
 use report::Report;
 use report::State;
 use search::halves::Spot;

@@ -53,11 +53,11 @@ digits-twice [] = refl
 digits-twice (b ∷ bs) = cond-ind (λ (ds : List ℕ). digits ds ≡ ds) (isDigit b) (λ t. digits-cons b (digits bs) t ∙ ap (λ (l : List ℕ). b ∷ l) (digits-twice bs)) (λ t. refl)
 
 -- ---- a number's digits
-decimal-small : (most n : ℕ) → n < 10 → decimal (suc most) n ≡ (48 + n) ∷ []
+pub decimal-small : (most n : ℕ) → n < 10 → decimal (suc most) n ≡ (48 + n) ∷ []
 unfolding decimal
 decimal-small most n h = cond-true (ltb n 10) _ _ (lt→ltb n 10 h)
 
-decimal-large : (most n : ℕ) → 10 ≤ n → decimal (suc most) n ≡ decimal most (n / 10) ++ ((48 + n % 10) ∷ [])
+pub decimal-large : (most n : ℕ) → 10 ≤ n → decimal (suc most) n ≡ decimal most (n / 10) ++ ((48 + n % 10) ∷ [])
 unfolding decimal
 decimal-large most n h = cond-false (ltb n 10) _ _ (le→nltb n 10 h)
 
@@ -71,11 +71,10 @@ pub record DigitsOf (n : ℕ) (ds : List ℕ) : Type 0 where
   pub value : valueOf ds ≡ n
   pub some-digit : 1 ≤ length ds
   pub first-digit : 1 ≤ n → getD ds 0 0 ≢ 48
-  pub short : (k : ℕ) → 1 ≤ k → n < 10 ^ k → length ds ≤ k
 
 one-digit : (n : ℕ) → n < 10 → DigitsOf n ((48 + n) ∷ [])
 unfolding valueOf digits
-one-digit n h = record { all-digits = digits-cons (48 + n) [] (range-digit (48 + n) (omega arith) (omega arith)); value = omega arith; some-digit = omega arith; first-digit = λ k. omega arith; short = λ k j l. omega arith }
+one-digit n h = record { all-digits = digits-cons (48 + n) [] (range-digit (48 + n) (omega arith) (omega arith)); value = omega arith; some-digit = omega arith; first-digit = λ k. omega arith }
 
 one-more : (n : ℕ) (ds : List ℕ) → 10 ≤ n → DigitsOf (n / 10) ds → DigitsOf n (ds ++ ((48 + n % 10) ∷ []))
 unfolding valueOf digits
@@ -84,12 +83,7 @@ one-more n ds h s = record {
   value = rw foldl-append (omega (arith, s .value));
   some-digit = simp length-append (omega arith);
   first-digit = λ k. rw (List·getD-append ds _ 0 0 (s .some-digit)) (s .first-digit (omega arith));
-  short = short;
 }
-  where
-    short : (k : ℕ) → 1 ≤ k → n < 10 ^ k → length (ds ++ ((48 + n % 10) ∷ [])) ≤ k
-    short (suc zero) j l = omega arith
-    short (suc (suc k)) j l = simp length-append (omega (arith, s .short (suc k) (omega arith) (omega (arith, pow-suc 10 (suc k)))))
 
 pub decimal-digits : (most n : ℕ) → n < 10 ^ suc most → DigitsOf n (decimal (suc most) n)
 decimal-digits zero n h = rw (decimal-small 0 n h) (one-digit n h)

@@ -7,15 +7,15 @@ use Prim.Native.Nat.{ℕ, zero, suc, _+_, _/_, _%_, _^_, _≤_, _<_}
 use native.Mathlib.Omega.{arith}
 use native.Mathlib.Nat.{le-of-lt, lt-of-lt-of-le, pow-suc, pow-le-pow-right}
 use mathlib.Core.List.{List, [], _∷_, _++_}
-use lib.Dec.{lit<, leb, leb→le, nleb→lt, ltb, lt→ltb}
-use lib.Arith.{le→nltb}
+use lib.Dec.{lit<, leb, leb→le, nleb→lt, ltb}
 use lib.ListN.{length, length-append}
 use borrow.Author.Tests.{ltb-true}
 use lib.Signed.{ltZ}
 use lib.IntN.{ℤ, pos, negsuc, natAbs}
-use Rattle.numbers.proofs.Truth.{test, cond-ind, cond-true, cond-false}
+use Rattle.numbers.proofs.Truth.{test, cond-ind}
 use Rattle.text.specs.Ascii.{minus}
 use Rattle.text.specs.Decimal.{decimal, spellNat, spellInt}
+use Rattle.text.proofs.DecimalLaws.{decimal-small, decimal-large}
 
 pub length-decimal : (most n : ℕ) → length (decimal most n) ≤ most
 unfolding decimal
@@ -27,8 +27,8 @@ length-decimal (suc most) n =
 -- digits for more digits than needed are the digits
 pub decimal-enough : (f g n : ℕ) → n < 10 ^ suc f → n < 10 ^ suc g → decimal (suc f) n ≡ decimal (suc g) n
 unfolding decimal
-decimal-enough zero g n h k = cond-true (ltb n 10) _ _ (lt→ltb n 10 (omega arith)) ∙ sym (cond-true (ltb n 10) _ _ (lt→ltb n 10 (omega arith)))
-decimal-enough (suc f) zero n h k = cond-true (ltb n 10) _ _ (lt→ltb n 10 (omega arith)) ∙ sym (cond-true (ltb n 10) _ _ (lt→ltb n 10 (omega arith)))
+decimal-enough zero g n h k = decimal-small 0 n (omega arith) ∙ sym (decimal-small g n (omega arith))
+decimal-enough (suc f) zero n h k = decimal-small (suc f) n (omega arith) ∙ sym (decimal-small 0 n (omega arith))
 decimal-enough (suc f) (suc g) n h k =
     ap (λ (l : List ℕ). cond (ltb n 10) ((48 + n) ∷ []) (l ++ ((48 + n % 10) ∷ [])))
     (decimal-enough f g (n / 10) (omega (arith, pow-suc 10 (suc f))) (omega (arith, pow-suc 10 (suc g))))
@@ -36,13 +36,11 @@ decimal-enough (suc f) (suc g) n h k =
 -- ---- numbers of at most 20 digits
 pub spellNat-one : (n : ℕ) → n < 10 → spellNat n ≡ (48 + n) ∷ []
 unfolding spellNat
-spellNat-one n h = cond-true (ltb n 10) _ _ (lt→ltb n 10 h)
+spellNat-one n h = decimal-small 19 n h
 
 pub spellNat-more : (n : ℕ) → 10 ≤ n → n < 10 ^ 20 → spellNat n ≡ spellNat (n / 10) ++ ((48 + n % 10) ∷ [])
 unfolding spellNat
-spellNat-more n h k =
-    cond-false (ltb n 10) _ _ (le→nltb n 10 h)
-    ∙ ap (λ (l : List ℕ). l ++ ((48 + n % 10) ∷ [])) (decimal-enough 18 19 (n / 10) (omega arith) (omega arith))
+spellNat-more n h k = decimal-large 19 n h ∙ ap (λ (l : List ℕ). l ++ ((48 + n % 10) ∷ [])) (decimal-enough 18 19 (n / 10) (omega arith) (omega arith))
 
 pub length-spellNat : (n : ℕ) → length (spellNat n) ≤ 20
 unfolding spellNat

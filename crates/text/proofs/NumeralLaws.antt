@@ -1,4 +1,4 @@
--- A number that a text starts with is read as what it spells, and only its spelling is read so. Its spelling's length.
+-- A number that a text starts with is read as what it spells, and only its spelling is read so.
 -- Assumes nothing.
 use mathlib.Core.Path.{_≡_, refl, ap, subst, _∙_}
 use mathlib.Core.Bool.{Bool, true, false, not, cond, _&&_, _||_}
@@ -6,9 +6,8 @@ use mathlib.Core.Logic.{_≢_, _↔_}
 use mathlib.Core.List.{List, [], _∷_, _++_, append-nil}
 use mathlib.Core.Option.{Option, none, some, Option·none-ne-some}
 use Prim.Native.Nat.{ℕ, zero, suc, _^_, _≤_, _<_}
-use native.Mathlib.Nat.{le-trans, pow-le-pow-right}
 use native.Mathlib.Omega.{arith}
-use lib.Dec.{T, T-not, not-T, leb, eqb, leb→le, le→leb, eqb→eq, eqb·suc-zero, lit≤}
+use lib.Dec.{T, T-not, not-T, leb, eqb, leb→le, le→leb, eqb→eq, eqb·suc-zero}
 use lib.IntN.{ℤ, pos, negsuc, negℤ, natAbs}
 use lib.ListN.{length, getD, drop}
 use lib.Seq.{drop-append-seam}
@@ -16,6 +15,7 @@ use Rattle.numbers.proofs.Truth.{and-left, and-right, holds, cond-ind, cond-fal
 use Rattle.text.specs.Numeral.{digits, valueOf, isNatural, natural, negative, number}
 use Rattle.text.specs.Decimal.{spellNat, spellInt}
 use Rattle.text.proofs.DecimalLaws.{DigitsOf, decimal-digits, digits-append, digits-first, digits-rest, digits-twice, decimal-value, value-less}
+use Rattle.text.proofs.DigitCounts.{length-spellNat-below}
 
 -- ---- the form of a number that is not negative
 natural-tests : (a b c d : Bool) → T (a && b && (c || not d)) ↔ (T a × T b × (T d → T c))
@@ -58,11 +58,11 @@ record Found (bs : List ℕ) (n : ℕ) (rest : List ℕ) : Type 0 where
   value : valueOf (digits bs) ≡ n
   after : drop (length (digits bs)) bs ≡ rest
 
-spelled-form : (n : ℕ) (ds : List ℕ) → n < 10 ^ 9 → DigitsOf n ds → T (isNatural ds)
-spelled-form n ds h s = form-natural ds (s .some-digit) (s .short 9 (omega arith) h) (first n s)
+spelled-form : (n : ℕ) → n < 10 ^ 9 → DigitsOf n (spellNat n) → T (isNatural (spellNat n))
+spelled-form n h s = form-natural (spellNat n) (s .some-digit) (length-spellNat-below 8 n h) (first n s)
   where
-    first : (n : ℕ) → DigitsOf n ds → getD ds 0 0 ≡ 48 → length ds ≡ 1
-    first zero s e = omega (arith, s .some-digit, s .short 1 (omega arith) (omega arith))
+    first : (n : ℕ) → DigitsOf n (spellNat n) → getD (spellNat n) 0 0 ≡ 48 → length (spellNat n) ≡ 1
+    first zero s e = omega (arith, s .some-digit, length-spellNat-below 0 0 (omega arith))
     first (suc n) s e = absurd (s .first-digit (omega arith) e)
 
 spelled-found : (n : ℕ) (rest : List ℕ) → n < 10 ^ 9 → digits rest ≡ [] → Found (spellNat n ++ rest) n rest
@@ -70,7 +70,7 @@ unfolding spellNat
 spelled-found n rest h e =
     let w : DigitsOf n (spellNat n) = decimal-digits 19 n (omega arith) in
     let found : digits (spellNat n ++ rest) ≡ spellNat n = digits-append (spellNat n) rest (w .all-digits) ∙ rw e (append-nil (spellNat n)) in
-    record { form = rw found (spelled-form n (spellNat n) h w); value = rw found (w .value); after = rw found (drop-append-seam (spellNat n) rest) }
+    record { form = rw found (spelled-form n h w); value = rw found (w .value); after = rw found (drop-append-seam (spellNat n) rest) }
 
 minus-starts : (bs : List ℕ) (n : ℕ) (rest : List ℕ) → n ≢ 0 → Starts bs (pos n) rest → Starts (45 ∷ bs) (negℤ (pos n)) rest
 unfolding spellInt
@@ -114,13 +114,3 @@ pub number-spelled : (z : ℤ) (rest : List ℕ) → natAbs z < 10 ^ 9 → digit
 unfolding number spellInt
 number-spelled (pos n) rest h e = number-natural (spellNat n ++ rest) (spelled-found n rest h e .form) ∙ natural-spelled n rest h e
 number-spelled (negsuc n) rest h e = let f = spelled-found (suc n) rest h e in rw (holds (isNatural (digits (spellNat (suc n) ++ rest))) (f .form), f .value, f .after, eqb·suc-zero n)
-
--- ---- how long a spelling is
-pub natural-length : (n k : ℕ) → 1 ≤ k → k ≤ 20 → n < 10 ^ k → length (spellNat n) ≤ k
-unfolding spellNat
-natural-length n k h l m = decimal-digits 19 n (le-trans m (pow-le-pow-right (lit≤ {m = 1} {n = 10} tt) l)) .short k h m
-
-pub number-length : (z : ℤ) (k : ℕ) → 1 ≤ k → k ≤ 20 → natAbs z < 10 ^ k → length (spellInt z) ≤ suc k
-unfolding spellInt
-number-length (pos n) k h l m = omega (arith, natural-length n k h l m)
-number-length (negsuc n) k h l m = omega (arith, natural-length (suc n) k h l m)

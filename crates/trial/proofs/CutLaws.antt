@@ -22,7 +22,7 @@ use Rattle.query.specs.Cut.{canCut, cutLine}
 use Rattle.job.specs.Format.{Result, refused, accepted, readJob}
 use Rattle.job.specs.Record.{deckRecord}
 use Rattle.numbers.specs.Padded.{padded}
-use Rattle.job.proofs.RangeTests.{held, held-is}
+use Rattle.job_line.proofs.RangeTests.{held, held-is}
 use Rattle.sites.specs.DeckOf.{deckOf}
 use Rattle.pricing.specs.Columns.{FlagsAre}
 use Rattle.lines.specs.LineRecord.{Rows, marked, linesBetween, linesRecord, InOrder}

@@ -21,11 +21,11 @@ use Rattle.query.specs.Cost.{cost, before}
 use Rattle.query.specs.Reach.{load}
 use Rattle.query.specs.Bound.{span, cornerSum, bound}
 use Rattle.query.specs.Range.{costLimit, loadLimit, InRange}
-use Rattle.job.specs.Lines.{placeInRange}
+use Rattle.job_line.specs.Lines.{placeInRange}
 use Rattle.job.specs.Format.{readJob}
 use Rattle.job.specs.Record.{deckRecord}
 use Rattle.numbers.specs.Padded.{padded}
-use Rattle.job.proofs.RangeTests.{held}
+use Rattle.job_line.proofs.RangeTests.{held}
 use Rattle.sites.specs.DeckOf.{deckOf}
 use Rattle.sites.specs.Sites.{sitesOf}
 use Rattle.pricing.specs.Figures.{costOf, loadOf}

@@ -19,10 +19,10 @@ use Rattle.numbers.proofs.Words as Words
 use Rattle.numbers.proofs.Integer.{order, abs-range, sub-nat}
 use Rattle.query.specs.Place.{Place}
 use Rattle.query.specs.Range.{PlaceInRange, costLimit}
-use Rattle.job.specs.Lines.{placeInRange}
+use Rattle.job_line.specs.Lines.{placeInRange}
 use Rattle.job.specs.Format.{Job, readJob}
 use Rattle.job.proofs.RangeLaws.{place-range}
-use Rattle.job.proofs.RangeTests.{held, held-is}
+use Rattle.job_line.proofs.RangeTests.{held, held-is}
 use Rattle.pricing.specs.Columns.{Figure}
 use Rattle.cuts.specs.CutRecord.{rectOf, Edges}
 use Rattle.numbers.proofs.Words.{difference, difference-fits}

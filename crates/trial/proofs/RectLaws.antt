@@ -12,9 +12,9 @@ use mir.Val.{SFits, toZ, ofZ}
 use Rattle.numbers.proofs.Truth.{and-left, and-right}
 use Rattle.query.specs.Place.{Place}
 use Rattle.query.specs.Range.{PlaceInRange}
-use Rattle.job.specs.Lines.{placeInRange}
+use Rattle.job_line.specs.Lines.{placeInRange}
 use Rattle.job.proofs.RangeLaws.{place-range}
-use Rattle.job.proofs.RangeTests.{held, held-is}
+use Rattle.job_line.proofs.RangeTests.{held, held-is}
 use Rattle.pricing.specs.Columns.{EdgesInRange}
 use Rattle.sites.specs.Ranges.{Near180000}
 use Rattle.cuts.specs.CutRecord.{rectOf, Edges}

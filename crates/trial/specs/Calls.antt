@@ -6,8 +6,8 @@ use mathlib.Core.List.{List, [], _∷_}
 use lib.IntN.{ℤ, pos, natAbs, negℤ}
 use lib.ListN.{getD}
 use Rattle.query.specs.Range.{costLimit}
-use Rattle.job.specs.Refusal.{numberOf, lineOf}
-use Rattle.job.specs.declared.Refusal as Job
+use Rattle.job_line.specs.Refusal.{numberOf, lineOf}
+use Rattle.job_line.specs.declared.Refusal as Job
 use Rattle.report.specs.declared.Report as Report
 use Rattle.report.specs.declared.State.{State}
 use Rattle.report.specs.declared.State.the-variants.{Done, Stopped}

@@ -8,7 +8,7 @@ use Rattle.query.specs.Place.{Rect, NonEmpty, corner, emptyRect}
 use Rattle.query.specs.Deck as Query
 use Rattle.query.specs.Deck.{plain}
 use Rattle.query.specs.Range.{InRange}
-use Rattle.job.specs.Lines.{placeInRange}
+use Rattle.job_line.specs.Lines.{placeInRange}
 use Rattle.job.specs.Format.{Result, refused, accepted}
 use Rattle.job.specs.Record.{deckRecord}
 use Rattle.sites.specs.Sites.{sitesOf}

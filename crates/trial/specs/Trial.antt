@@ -15,8 +15,8 @@ use Rattle.query.specs.Bound.{bound}
 use Rattle.query.specs.Lines.{lines}
 use Rattle.query.specs.Problem.{problem}
 use Rattle.query.specs.Cut.{canCut, cutLine}
-use Rattle.job.specs.Refusal.{numberOf, lineOf}
-use Rattle.job.specs.Lines.{placeInRange}
+use Rattle.job_line.specs.Refusal.{numberOf, lineOf}
+use Rattle.job_line.specs.Lines.{placeInRange}
 use Rattle.job.specs.Format.{Job, Result, refused, accepted}
 use Rattle.sites.specs.Sites.{Site}
 use Rattle.pricing.specs.Figures.{costOf, loadOf}

@@ -1,6 +1,6 @@
 // The calls `siting::report` and `siting::exhaustive`, for the tests: their answers as numbers, and all that the first leaves in the
 // memory that it is lent.
-use job::Refusal;
+use job_line::Refusal;
 use report::Report;
 use report::State;
 use search::halves::Spot;

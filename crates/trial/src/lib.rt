@@ -18,7 +18,7 @@ ghost use mathlib.Core.List.{_++_};
 ghost use Rattle.query.specs.Lines.{lines};
 ghost use Rattle.query.specs.Problem.{problem};
 ghost use Rattle.query.specs.Range.{PlaceInRange, costLimit, loadLimit};
-ghost use Rattle.job.specs.Lines.{coordinateInRange, placeInRange};
+ghost use Rattle.job_line.specs.Lines.{coordinateInRange, placeInRange};
 ghost use Rattle.job.specs.Format.{readJob};
 ghost use Rattle.sites.specs.DeckOf.{deckOf};
 ghost use Rattle.lines.specs.LineRecord.{linesRecord};

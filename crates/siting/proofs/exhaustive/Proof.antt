@@ -12,11 +12,11 @@ read-requires c κs = search needs
 enum-told : tie.Need-enum-told
 enum-told c = search needs
 
-sites-requires : tie.Need-sites-requires
-sites-requires c κs = let e = c .before .before .before .read .ensures in sites-ask (read-accepted _ _ e _ (c .enum-told .given .1)) _ e
+of-deck-requires : tie.Need-of-deck-requires
+of-deck-requires c κs = let e = c .before .before .before .read .ensures in sites-ask (read-accepted _ _ e _ (c .enum-told .given .1)) _ e
 
 cheapest-requires : tie.Need-cheapest-requires
-cheapest-requires c κs = walk-ready _ _ (c .before .before .before .before .read .ensures) _ (c .before .enum-told .given .1) _ (c .sites .ensures)
+cheapest-requires c κs = walk-ready _ _ (c .before .before .before .before .read .ensures) _ (c .before .enum-told .given .1) _ (c .of-deck .ensures)
 
 enum-known-outcome : tie.Need-enum-known-outcome
 enum-known-outcome c = search needs
@@ -33,7 +33,7 @@ exhaustive-spec =
     (tie.spec
     read-requires
     enum-told
-    sites-requires
+    of-deck-requires
     cheapest-requires
     enum-known-outcome
     returns

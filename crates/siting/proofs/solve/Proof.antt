@@ -6,11 +6,11 @@ use borrow.Author.Needs.{needs}
 use Rattle.siting.proofs.solve.Statement.{statement}
 use Rattle.siting.proofs.solve.Tie as tie
 
-sites-requires : tie.Need-sites-requires
-sites-requires c κs = search needs
+of-deck-requires : tie.Need-of-deck-requires
+of-deck-requires c κs = search needs
 
 before-requires : tie.Need-before-requires
-before-requires c κs = let s = c .before .before .before .before in let e = c .before .before .before .sites .ensures in (made-most _ (s .pre .range) _ e, paid-range (made-range _ (s .pre .range) _ e))
+before-requires c κs = let s = c .before .before .before .before in let e = c .before .before .before .of-deck .ensures in (made-most _ (s .pre .range) _ e, paid-range (made-range _ (s .pre .range) _ e))
 
 search-requires : tie.Need-search-requires
 search-requires c κs = search needs
@@ -22,9 +22,9 @@ same-length : tie.Need-same-length
 same-length c = search needs
 
 returns : tie.Need-returns
-returns c = let b = c .before .before .before .before .before in solved _ _ _ (b .before .before .before .before .before .pre) _ (b .before .before .before .before .sites .ensures) _ _ _ _ _ (b .before2 .ensures) (c .before .before .before .search .ensures) (c .before .state-of .ensures)
+returns c = let b = c .before .before .before .before .before in solved _ _ _ (b .before .before .before .before .before .pre) _ (b .before .before .before .before .of-deck .ensures) _ _ _ _ _ (b .before2 .ensures) (c .before .before .before .search .ensures) (c .before .state-of .ensures)
 
 pub solve-spec : {M : Type 1} → statement M
 solve-spec =
     tie.close
-    (tie.spec sites-requires before-requires search-requires state-of-requires same-length returns)
+    (tie.spec of-deck-requires before-requires search-requires state-of-requires same-length returns)

@@ -8,7 +8,7 @@ use mir.ValLaws.{toZ-ofZ}
 use Rattle.numbers.specs.Integer.{dist}
 use Rattle.numbers.proofs.Distance.{dist-most}
 use Rattle.query.specs.Place.{Rect}
-use Rattle.job.proofs.RangeTests.{held-is}
+use Rattle.job_line.proofs.RangeTests.{held-is}
 use Rattle.trial.specs.Opened.{rectAllowed}
 use Rattle.trial.proofs.RectLaws.{Fits4, RectIs, rect-held, allowed-is}
 use native.Mathlib.Omega.{arith}

@@ -2,8 +2,8 @@
 -- Assumes nothing.
 use native.Mathlib.Omega.{arith}
 use lib.IntN.{pos, negsuc}
-use Rattle.job.specs.Lines.{coordinateInRange}
-use Rattle.job.proofs.RangeTests.{between-on, between-off}
+use Rattle.job_line.specs.Lines.{coordinateInRange}
+use Rattle.job_line.proofs.RangeTests.{between-on, between-off}
 use Rattle.trial.proofs.coordinate_in_range.Statement.{statement}
 use Rattle.trial.proofs.coordinate_in_range.Tie as tie
 

@@ -2,7 +2,7 @@
 -- Assumes nothing.
 use mathlib.Core.Path.{_∙_}
 use Rattle.query.specs.Place.{x-axis, y-axis}
-use Rattle.job.proofs.RangeTests.{held-is}
+use Rattle.job_line.proofs.RangeTests.{held-is}
 use Rattle.trial.proofs.RectLaws.{Fits4, RectIs, allowed-is, x-edges, y-edges}
 use Rattle.trial.proofs.CutLaws.{found-in-order, found-cut}
 use Rattle.trial.proofs.cut_of.Statement.{statement}

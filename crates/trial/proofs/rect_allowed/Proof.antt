@@ -2,7 +2,7 @@
 -- Assumes nothing.
 use borrow.Author.Needs.{needs}
 use borrow.Author.Tests.{not-true, not-false}
-use Rattle.job.proofs.RangeTests.{held-is}
+use Rattle.job_line.proofs.RangeTests.{held-is}
 use Rattle.trial.proofs.RectLaws.{tested-place, low-off, high-off, across-off, deep-on}
 use Rattle.trial.proofs.rect_allowed.Statement.{statement}
 use Rattle.trial.proofs.rect_allowed.Tie as tie

@@ -6,7 +6,7 @@ use borrow.Author.Tests.{not-true, not-false}
 use denote.Ref.{now}
 use Rattle.numbers.proofs.Words.{is-true}
 use Rattle.query.specs.Range.{PlaceInRange}
-use Rattle.job.specs.Lines.{placeInRange}
+use Rattle.job_line.specs.Lines.{placeInRange}
 use Rattle.job.specs.Format.{readJob}
 use Rattle.job.proofs.RangeLaws.{place-range}
 use Rattle.trial.specs.Opened.{Open}

@@ -2,7 +2,7 @@
 -- Assumes nothing.
 use mathlib.Core.Path.{sym, ap}
 use mathlib.Core.Bool.{Bool, cond}
-use Rattle.job.proofs.RangeTests.{held-is}
+use Rattle.job_line.proofs.RangeTests.{held-is}
 use native.Mathlib.Omega.{arith}
 use Rattle.trial.proofs.many.positive.Statement.{statement}
 use Rattle.trial.proofs.many.positive.Tie as tie

@@ -1,0 +1,3 @@
+pub mod RangeTests
+pub mod LineLaws
+pub mod OneAnswer

@@ -1,0 +1,92 @@
+-- `job_line::post_line` meets its contract.
+-- Assumes nothing.
+use native.Mathlib.Omega.{arith}
+use borrow.Author.Needs.{needs}
+use borrow.Author.Tests.{not-true, not-false}
+use Rattle.text.specs.Ascii.{bytes}
+use Rattle.job_line.proofs.LineLaws.{after-key, post-key, post-x, post-y, post-out, post-in}
+use Rattle.job_line.proofs.post_line.Statement.{statement}
+use Rattle.job_line.proofs.post_line.Tie as tie
+
+slice-aggregate-starts : tie.Need-slice-aggregate-starts
+slice-aggregate-starts c = search needs
+
+starts-requires : tie.Need-starts-requires
+starts-requires c κs = search needs
+
+returns : tie.Need-returns
+unfolding bytes
+returns c = post-key _ (c .before .starts .ensures) (not-true _ (c .if1 .taken))
+
+add-field : tie.Need-add-field
+add-field c = omega (arith, after-key (c .before .starts .ensures) (not-false _ (c .if1 .left)))
+
+field-requires : tie.Need-field-requires
+field-requires c κs = search needs
+
+enum-known-x : tie.Need-enum-known-x
+enum-known-x c = search needs
+
+enum-told : tie.Need-enum-told
+enum-told c = search needs
+
+returns-2 : tie.Need-returns-2
+unfolding bytes
+returns-2 c =
+    post-x _ (c .before .before .before .before .starts .ensures) (not-false _ (c .before .before .before .if1 .left))
+    (c .before .before .field .ensures) (c .enum-told .given .1)
+
+field-requires-2 : tie.Need-field-requires-2
+field-requires-2 c κs = search needs
+
+enum-known-y : tie.Need-enum-known-y
+enum-known-y c = search needs
+
+enum-told-2 : tie.Need-enum-told-2
+enum-told-2 c = search needs
+
+returns-3 : tie.Need-returns-3
+unfolding bytes
+returns-3 c =
+    let d = c .before .before .before .before .before .before in
+    post-y _ (d .before .before .starts .ensures) (not-false _ (d .before .if1 .left)) (d .field .ensures)
+    (c .before .before .before .before .x .given .1) (c .before .before .field2 .ensures) (c .enum-told2 .given .1)
+
+place-in-range-requires : tie.Need-place-in-range-requires
+place-in-range-requires c κs = search needs
+
+returns-4 : tie.Need-returns-4
+unfolding bytes
+returns-4 c =
+    let e = c .before .before .before .before .before in
+    let d = e .before .before .before .before in
+    post-out _ (d .before .before .starts .ensures) (not-false _ (d .before .if1 .left)) (d .field .ensures)
+    (e .before .before .x .given .1) (e .field2 .ensures) (c .before .before .before .y .given .1) (c .before .place-in-range .ensures) (not-true _ (c .if2 .taken))
+
+returns-5 : tie.Need-returns-5
+unfolding bytes
+returns-5 c =
+    let e = c .before .before .before .before .before in
+    let d = e .before .before .before .before in
+    post-in _ (d .before .before .starts .ensures) (not-false _ (d .before .if1 .left)) (d .field .ensures)
+    (e .before .before .x .given .1) (e .field2 .ensures) (c .before .before .before .y .given .1) (c .before .place-in-range .ensures) (not-false _ (c .if2 .left))
+
+pub post-line-spec : {M : Type 1} → statement M
+post-line-spec =
+    tie.close
+    (tie.spec
+    slice-aggregate-starts
+    starts-requires
+    returns
+    add-field
+    field-requires
+    enum-known-x
+    enum-told
+    returns-2
+    field-requires-2
+    enum-known-y
+    enum-told-2
+    returns-3
+    place-in-range-requires
+    returns-4
+    returns-5)

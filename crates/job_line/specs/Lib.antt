@@ -1,0 +1,5 @@
+pub mod Refusal
+pub mod Form
+pub mod Lines
+pub mod OneLine
+pub mod Reading

@@ -1,0 +1,207 @@
+// One line of a job: what it holds and the place after it, or the refusal of a line without its form or of a value out of range.
+
+use text::ParsedNumber;
+ghost use mathlib.Core.Path.{_≡_};
+ghost use Rattle.numbers.specs.Integer.{between};
+ghost use Rattle.job_line.specs.Lines.{coordinateInRange, placeInRange, areaInRange, stopInRange};
+ghost use Rattle.job_line.specs.Reading.{areaOf, placeOf, stopLineOf, FieldAt, AreaAt, CountAt, PostAt, StopAt};
+
+// Why a call is refused. `numberOf` and `lineOf` of specs/Refusal.antt give document 01's number and line for each.
+pub enum Refusal {
+    TooLong,
+    Malformed(u64),
+    OutOfRange(u64),
+    EmptyArea,
+    NoPosts,
+    NoStops,
+    SmallSpace,
+    ShortOutput,
+}
+
+// An area and a place as a line has them.
+pub struct Area {
+    pub xlo: i64,
+    pub ylo: i64,
+    pub xhi: i64,
+    pub yhi: i64,
+}
+
+struct Place {
+    x: i64,
+    y: i64,
+}
+
+// What one line is read as: what it holds and the place after it, or the refusal.
+pub enum AreaLine {
+    Read(Area, usize),
+    Refused(Refusal),
+}
+
+pub enum CountLine {
+    Read(usize, usize),
+    Refused(Refusal),
+}
+
+pub enum PostLine {
+    Read(i64, i64, usize),
+    Refused(Refusal),
+}
+
+pub enum StopLine {
+    Read(i64, i64, u64, usize),
+    Refused(Refusal),
+}
+
+// ---- ranges
+
+fn between(lo: i64, hi: i64, v: i64) -> bool
+    ensures { λ r. ⌜ r ≡ between lo hi v ⌝ }
+{
+    if lo <= v { v <= hi } else { false }
+}
+
+fn coordinate_in_range(v: i64) -> bool
+    ensures { λ r. ⌜ r ≡ coordinateInRange v ⌝ }
+{
+    between(-20000, 20000, v)
+}
+
+fn place_in_range(p: Place) -> bool
+    ensures { λ r. ⌜ r ≡ placeInRange (placeOf p) ⌝ }
+{
+    if coordinate_in_range(p.x) {
+        coordinate_in_range(p.y)
+    } else {
+        false
+    }
+}
+
+fn area_in_range(a: Area) -> bool
+    ensures { λ r. ⌜ r ≡ areaInRange (areaOf a) ⌝ }
+{
+    if !coordinate_in_range(a.xlo) {
+        return false;
+    }
+    if !coordinate_in_range(a.ylo) {
+        return false;
+    }
+    if !coordinate_in_range(a.xhi) {
+        return false;
+    }
+    coordinate_in_range(a.yhi)
+}
+
+fn stop_in_range(p: Place, visits: i64) -> bool
+    ensures { λ r. ⌜ r ≡ stopInRange (stopLineOf p visits) ⌝ }
+{
+    if place_in_range(p) {
+        between(1, 65535, visits)
+    } else {
+        false
+    }
+}
+
+// ---- lines
+
+// A number and the byte that ends it.
+fn field(s: &[u8], at: usize, end: u8) -> ParsedNumber
+    ensures { λ r. ⌜ FieldAt (now (s .entry)) at end r ⌝ }
+{
+    match text::number(s, at) {
+        ParsedNumber::Read(z, next) => {
+            if text::byte_is(s, next, end) {
+                ParsedNumber::Read(z, next + 1)
+            } else {
+                ParsedNumber::Fault
+            }
+        }
+        ParsedNumber::Fault => ParsedNumber::Fault,
+    }
+}
+
+// `area=xlo,ylo,xhi,yhi`
+pub fn area_line(s: &[u8], at: usize, line: u64) -> AreaLine
+    ensures { λ r. ⌜ AreaAt (now (s .entry)) at line r ⌝ }
+{
+    if !text::starts(s, at, b"area=") {
+        return AreaLine::Refused(Refusal::Malformed(line));
+    }
+    let ParsedNumber::Read(xlo, after_xlo) = field(s, at + 5, b',') else {
+        return AreaLine::Refused(Refusal::Malformed(line));
+    };
+    let ParsedNumber::Read(ylo, after_ylo) = field(s, after_xlo, b',') else {
+        return AreaLine::Refused(Refusal::Malformed(line));
+    };
+    let ParsedNumber::Read(xhi, after_xhi) = field(s, after_ylo, b',') else {
+        return AreaLine::Refused(Refusal::Malformed(line));
+    };
+    let ParsedNumber::Read(yhi, next) = field(s, after_xhi, b'\n') else {
+        return AreaLine::Refused(Refusal::Malformed(line));
+    };
+    let area = Area { xlo, ylo, xhi, yhi };
+    if !area_in_range(area) {
+        return AreaLine::Refused(Refusal::OutOfRange(line));
+    }
+    AreaLine::Read(area, next)
+}
+
+// `posts=n`, `stops=n`, `rounds=n`: a number from 0 to `most` behind `key`.
+pub fn count_line(s: &[u8], at: usize, key: &[u8], most: usize, line: u64) -> CountLine
+    ensures { λ r. ⌜ CountAt (now (s .entry)) at (now (key .entry)) most line r ⌝ }
+{
+    if !text::starts(s, at, key) {
+        return CountLine::Refused(Refusal::Malformed(line));
+    }
+    let ParsedNumber::Read(z, next) = field(s, at + key.len(), b'\n') else {
+        return CountLine::Refused(Refusal::Malformed(line));
+    };
+    if z < 0 {
+        return CountLine::Refused(Refusal::OutOfRange(line));
+    }
+    let n = z as usize;
+    if most < n {
+        return CountLine::Refused(Refusal::OutOfRange(line));
+    }
+    CountLine::Read(n, next)
+}
+
+// `post=x,y`
+pub fn post_line(s: &[u8], at: usize, line: u64) -> PostLine
+    ensures { λ r. ⌜ PostAt (now (s .entry)) at line r ⌝ }
+{
+    if !text::starts(s, at, b"post=") {
+        return PostLine::Refused(Refusal::Malformed(line));
+    }
+    let ParsedNumber::Read(x, after_x) = field(s, at + 5, b',') else {
+        return PostLine::Refused(Refusal::Malformed(line));
+    };
+    let ParsedNumber::Read(y, next) = field(s, after_x, b'\n') else {
+        return PostLine::Refused(Refusal::Malformed(line));
+    };
+    if !place_in_range(Place { x, y }) {
+        return PostLine::Refused(Refusal::OutOfRange(line));
+    }
+    PostLine::Read(x, y, next)
+}
+
+// `stop=x,y,visits`
+pub fn stop_line(s: &[u8], at: usize, line: u64) -> StopLine
+    ensures { λ r. ⌜ StopAt (now (s .entry)) at line r ⌝ }
+{
+    if !text::starts(s, at, b"stop=") {
+        return StopLine::Refused(Refusal::Malformed(line));
+    }
+    let ParsedNumber::Read(x, after_x) = field(s, at + 5, b',') else {
+        return StopLine::Refused(Refusal::Malformed(line));
+    };
+    let ParsedNumber::Read(y, after_y) = field(s, after_x, b',') else {
+        return StopLine::Refused(Refusal::Malformed(line));
+    };
+    let ParsedNumber::Read(visits, next) = field(s, after_y, b'\n') else {
+        return StopLine::Refused(Refusal::Malformed(line));
+    };
+    if !stop_in_range(Place { x, y }, visits) {
+        return StopLine::Refused(Refusal::OutOfRange(line));
+    }
+    StopLine::Read(x, y, visits as u64, next)
+}
