@@ -5,4 +5,6 @@ pub mod Moves
 pub mod Trims
 pub mod Numbers
 pub mod SpaceLaws
+pub mod Numbering
+pub mod Rotations
 pub mod Inserts

@@ -5,7 +5,7 @@ use mathlib.Core.List.{List, [], _∷_, map, zipWith}
 use Prim.Native.Nat.{ℕ, zero, suc, _+_, _-_, _*_, _^_, _≤_, _<_, max}
 use native.Mathlib.Omega.{arith}
 use lib.IntN.{ℤ, pos, _-ℤ_}
-use lib.ListN.{length, take, length-map, length-take}
+use lib.ListN.{length, take, length-map, length-take, drop}
 use lib.Signed.{mag}
 use Rattle.numbers.specs.Integer.{halfUp}
 use Rattle.query.specs.Place.{Rect, NonEmpty, Axis, x-axis, y-axis, coordinate}
@@ -45,9 +45,10 @@ use Rattle.sites.proofs.TravelLaws.{narrow}
 use Rattle.cells.specs.declared.Cell.{Cell}
 use Rattle.search.specs.declared.run.State.{State}
 use Rattle.search.specs.declared.run.Found.{Found}
-use Rattle.cells.specs.Space.{entryCell, entries}
+use Rattle.cells.specs.Space.{Numbered, cellsIn}
 use Rattle.search.specs.Run.{siteProblem, boundOf, Sited, Lined, Ranged, rectIn, unbounded, searchOf, Holds, Steady, foundOf, rowsOf, InColumns, Reaching, Ready, Searched}
 use Rattle.cells.proofs.Keys.{back, fitting}
+use Rattle.cells.proofs.Numbers.{order-numbers}
 use Rattle.search.proofs.StepLaws.{near-back, rect-narrow}
 use Rattle.search.proofs.RunLaws.{cells-are, holds-any}
 
@@ -186,11 +187,14 @@ module _ (deck : Deck) (sites : Sites) (rounds lent : ℕ) (ready : Ready deck s
       pub coded-steady : Steady coded
       coded-steady = subst Steady (sym coded-is) (deck-steady (deckOf deck) (ready .range) (ready .full))
 
-      pub searched : (s : List ℤ) (t : List ℕ) (st : State) → Holds (rowsOf sites) (run coded rounds) 0 s t st → (before after : List ℤ) (r : Found) → r ≡ foundOf (searchOf s [] st) → ((u : List ℕ) → after ≡ filled (length before) (allNumbers (map entryCell (entries s u (st .head) (st .tail - st .head))))) → Searched deck rounds before after r
+      pub searched : (s : List ℤ) (o t : List ℕ) (st : State) → Numbered o → Holds (rowsOf sites) (run coded rounds) 0 (cellsIn s o) t st → (before after : List ℤ) (r : Found) → r ≡ foundOf (searchOf (cellsIn s o) [] st) → after ≡ filled (length before) (cellsIn s (take (st .tail - st .head) (drop (st .head) o))) → Searched deck rounds before after r
       unfolding space
-      searched s t st holds before after r found written = record {
-        found = found ∙ ap foundOf (holds-any coded (rowsOf sites) rounds 0 s t st holds ∙ ap (λ (P : Problem). run P rounds) coded-is);
-        cells = written t ∙ ap (λ (l : List Order.Cell). filled (length before) (allNumbers l)) (cells-are coded (rowsOf sites) rounds 0 s t st holds ∙ ap (λ (P : Problem). run P rounds .live) coded-is);
+      searched s o t st numbered holds before after r found written = record {
+        found = found ∙ ap foundOf (holds-any coded (rowsOf sites) rounds 0 (cellsIn s o) t st holds ∙ ap (λ (P : Problem). run P rounds) coded-is);
+        cells =
+            written
+            ∙ ap (filled (length before)) (sym (order-numbers s o t (st .head) (st .tail - st .head) (omega (arith, numbered .long, holds .in-turn, holds .ends))))
+            ∙ ap (λ (l : List Order.Cell). filled (length before) (allNumbers l)) (cells-are coded (rowsOf sites) rounds 0 (cellsIn s o) t st holds ∙ ap (λ (P : Problem). run P rounds .live) coded-is);
       }
 
 -- what `find_lines` asks of columns that are full

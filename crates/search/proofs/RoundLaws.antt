@@ -1,193 +1,44 @@
 -- A start and a round as the code makes them are those of document 01.
 -- Assumes nothing.
 use mathlib.Core.Path.{_≡_, refl, sym, ap, subst, _∙_}
-use mathlib.Core.Bool.{Bool, true, false, cond, not, _&&_}
-use mathlib.Core.Logic.{_⊎_, inr, ⊎-elim}
-use mathlib.Core.List.{List, [], _∷_, map, List·Memᴰ, List·Memᴰ·head, List·Memᴰ·tail, List·Memᴰ·not-nil, Pairwise, Pairwise·nil, Pairwise·of-cons, Memᴰ·of-map}
+use mathlib.Core.Logic.{⊎-elim}
+use mathlib.Core.List.{List, [], _∷_, map, List·Memᴰ, List·Memᴰ·head, List·Memᴰ·tail, List·Memᴰ·not-nil, Pairwise·nil, Pairwise·of-cons, Memᴰ·of-map}
 use Prim.Native.Nat.{ℕ, suc, _+_, _-_, _^_, _≤_, _<_}
 use native.Mathlib.Numerals.{add-one}
 use native.Mathlib.Omega.{arith}
 use lib.Dec.{T}
 use lib.Signed.{mag}
 use lib.IntN.{ℤ, pos}
-use Rattle.numbers.specs.Lists.{keep, leastBy, insertBy}
-use Rattle.numbers.proofs.Truth.{test, holds, fails}
-use Rattle.numbers.proofs.Members.{insertBy-sorted, insertBy-cases, keep-from}
-use Rattle.query.specs.Place.{Place, Rect, corner, emptyRect}
+use Rattle.numbers.specs.Lists.{keep, insertBy}
+use Rattle.numbers.proofs.Members.{keep-from}
+use Rattle.query.specs.Place.{Place, Rect, emptyRect}
 use Rattle.query.specs.Problem.{Problem}
 use Rattle.query.specs.Cut.{Line, canCut, cutLine, cutBefore, cutAfter, newCorners}
 use Rattle.query.specs.Order as Query
-use Rattle.query.specs.Order.{Priced, precedes, pricedKey, cellKey, better, cellBefore}
+use Rattle.query.specs.Order.{Priced, precedes, pricedKey, cellKey, cellBefore}
 use Rattle.query.specs.Range.{RectInRange, costLimit}
-use Rattle.query.specs.Search.{Search, isLive, pricedAt, cellOf, bestOf, otherCorners, startBest, start, cellsAfter, bestAfter, roundOn, round}
-use Rattle.query.proofs.KeyOrder.{cellBefore-strict}
+use Rattle.query.specs.Search.{Search, isLive, cellOf, bestOf, startBest, start, cellsAfter, bestAfter, roundOn, round}
 use Rattle.query.proofs.CellsAfter.{after-is}
 use Rattle.sites.specs.Sites.{Site}
 use Rattle.pricing.specs.Figures.{costOf}
 use Rattle.cuts.specs.CutRecord.{onLines, isX, cutAt, cutRecord}
 use Rattle.cuts.specs.declared.Cut.{Cut}
-use Rattle.cuts.proofs.CutRecordLaws.{canCut-lines, cutLine-lines}
 use Rattle.cells.specs.declared.Cell.{Cell}
 use Rattle.cells.specs.declared.Costs.{Costs}
 use Rattle.search.specs.declared.halves.Spot.{Spot}
 use Rattle.search.specs.declared.halves.Halves.{Halves}
 use Rattle.search.specs.declared.run.State.{State}
-use Rattle.cells.specs.Space.{Entry, keyOf, queryCell, entryCell, cellAt, costsAt, entries, entryBefore}
+use Rattle.cells.specs.Space.{Entry, keyOf, queryCell, entryCell, cellAt, costsAt, entries}
 use Rattle.cells.specs.Steps.{InOrder, Trimmed}
-use Rattle.search.specs.Run.{siteProblem, pricedOf, spotOf, rectIn, cornerCosts, cellFor, improved, bestCorner, lowCorner, highCorner, halvesOf, withLive, Ranged, Cutting, Takeable, Added, Costed, searchOf, Holds}
+use Rattle.search.specs.Run.{siteProblem, pricedOf, rectIn, cornerCosts, cellFor, improved, bestCorner, lowCorner, highCorner, halvesOf, withLive, Ranged, Cutting, Takeable, Added, Costed, searchOf, Holds}
 use Rattle.cells.proofs.Keys.{back, fitting}
-use Rattle.cells.proofs.SpaceLaws.{keep-insert-in, keep-insert-out, keep-agree, cells-insert, cells-keep, cells-in-order, insert-in-order, keep-in-order, entries-first, entries-none}
+use Rattle.cells.proofs.Trims.{trimmed-live}
+use Rattle.cells.proofs.SpaceLaws.{keep-agree, cells-keep, cells-in-order, keep-in-order, entries-first, entries-none}
 use Rattle.search.proofs.StepLaws.{improved-limit}
 use Rattle.search.proofs.CutParts.{first-is, second-is, corners-are, cut-is, first-range, second-range}
-
--- ---- one more entry, if it is live
-module _ (P : Problem) (best : Priced) (e : Entry) (head tail : ℕ) (s : List ℤ) (t : List ℕ) where
-  pub added-none : (r : Bool) → r ≡ isLive P best (entryCell e) → r ≡ false → Added P best e head tail s t s t head
-  unfolding withLive
-  added-none r f g = let dead : isLive P best (entryCell e) ≡ false = sym f ∙ g in record { down = omega arith; by-one = omega arith; entries-are = λ order. rw dead }
-
-  pub added-one : (s′ : List ℤ) (t′ : List ℕ) (r : Bool) → r ≡ isLive P best (entryCell e) → r ≡ true → 1 ≤ head → head ≤ tail → (InOrder (entries s t head (tail - head)) → entries s′ t′ (head - 1) (tail - head + 1) ≡ insertBy entryBefore e (entries s t head (tail - head))) → Added P best e head tail s t s′ t′ (head - 1)
-  unfolding withLive
-  added-one s′ t′ r f g h k q =
-      let live : isLive P best (entryCell e) ≡ true = sym f ∙ g in
-      let count : tail - (head - 1) ≡ tail - head + 1 = omega arith in
-      record { down = omega arith; by-one = omega arith; entries-are = λ order. rw (live, count) (q order) }
-
-and-right : (b : Bool) → b ≡ b && true
-and-right true = refl
-and-right false = refl
-
-and-never : (b : Bool) → false ≡ b && false
-and-never true = refl
-and-never false = refl
-
--- what a test of `is_live` says
-module _ (P : Problem) (best : Priced) (c : Query.Cell) where
-  pub live-behind : (r : Bool) → r ≡ precedes (cellKey c) (pricedKey best) → r ≡ false → false ≡ isLive P best c
-  unfolding isLive
-  live-behind r e f = let g : precedes (cellKey c) (pricedKey best) ≡ false = sym e ∙ f in rw g (and-never (canCut P (c .rect)))
-
-  pub live-cut : (r : Bool) → r ≡ precedes (cellKey c) (pricedKey best) → r ≡ true → canCut P (c .rect) ≡ isLive P best c
-  unfolding isLive
-  live-cut r e f = let g : precedes (cellKey c) (pricedKey best) ≡ true = sym e ∙ f in rw g (and-right (canCut P (c .rect)))
-
-  live-precedes : canCut P (c .rect) ≡ true → (r : Bool) → r ≡ precedes (cellKey c) (pricedKey best) → r ≡ isLive P best c
-  unfolding isLive
-  live-precedes e r f = rw e f
-
--- ---- live cells among cells in order
--- a cell more, if it is live
-withCell : Problem → Priced → Query.Cell → List Query.Cell → List Query.Cell
-withCell P best x ys = cond (isLive P best x) (insertBy cellBefore x ys) ys
-
-abbrev Ordered : List Query.Cell → Type 0
-Ordered cells = Pairwise (λ c d. T (not (cellBefore d c))) cells
-
-module _ (P : Problem) (best : Priced) where
-  keep-one : (x : Query.Cell) (cs : List Query.Cell) → Ordered cs → keep (isLive P best) (insertBy cellBefore x cs) ≡ withCell P best x (keep (isLive P best) cs)
-  unfolding withCell
-  keep-one x cs s =
-      ⊎-elim (λ (u : T (isLive P best x)). rw (holds (isLive P best x) u) (keep-insert-in cellBefore (isLive P best) x cellBefore-strict cs s u))
-      (λ (u : T (not (isLive P best x))). rw (fails (isLive P best x) u) (keep-insert-out cellBefore (isLive P best) x cs u))
-      (test (isLive P best x))
-
-  keep-two : (x y : Query.Cell) (cs : List Query.Cell) → Ordered cs → keep (isLive P best) (insertBy cellBefore x (insertBy cellBefore y cs)) ≡ withCell P best x (withCell P best y (keep (isLive P best) cs))
-  keep-two x y cs s = keep-one x (insertBy cellBefore y cs) (insertBy-sorted cellBefore cellBefore-strict y cs s) ∙ ap (withCell P best x) (keep-one y cs s)
-
-  map-with : (e : Entry) (es : List Entry) → map entryCell (withLive P best e es) ≡ withCell P best (entryCell e) (map entryCell es)
-  unfolding withLive withCell
-  map-with e es =
-      ⊎-elim (λ (u : T (isLive P best (entryCell e))). rw (holds (isLive P best (entryCell e)) u) (cells-insert e es))
-      (λ (u : T (not (isLive P best (entryCell e)))). rw (fails (isLive P best (entryCell e)) u)) (test (isLive P best (entryCell e)))
-
-  -- where all can be cut, those that come before the best are the live ones
-  keep-live : (cs : List Query.Cell) → ((c : Query.Cell) → List·Memᴰ c cs → T (canCut P (c .rect))) → keep (λ c. precedes (cellKey c) (pricedKey best)) cs ≡ keep (isLive P best) cs
-  keep-live cs h = keep-agree (λ c. precedes (cellKey c) (pricedKey best)) (isLive P best) cs (λ c m. live-precedes P best c (holds (canCut P (c .rect)) (h c m)) (precedes (cellKey c) (pricedKey best)) refl)
-
-  with-in-order : (e : Entry) (es : List Entry) → InOrder es → InOrder (withLive P best e es)
-  unfolding withLive
-  with-in-order e es order = go (isLive P best (entryCell e))
-    where
-      go : (b : Bool) → InOrder (cond b (insertBy entryBefore e es) es)
-      go true = insert-in-order e es order
-      go false = order
-
-  with-cases : (e : Entry) (es : List Entry) {f : Entry} → List·Memᴰ f (withLive P best e es) → (f ≡ e) ⊎ List·Memᴰ f es
-  unfolding withLive
-  with-cases e es {f} = go (isLive P best (entryCell e))
-    where
-      go : (b : Bool) → List·Memᴰ f (cond b (insertBy entryBefore e es) es) → (f ≡ e) ⊎ List·Memᴰ f es
-      go true m = insertBy-cases entryBefore e es m
-      go false m = inr m
-
--- ---- the problem's lines
-module _ (sites : List Site) (vs hs : List ℤ) (area : Rect) where
-  pub can-lines : (r : Rect) → canCut (siteProblem sites vs hs area) r ≡ canCut (onLines vs hs) r
-  unfolding siteProblem
-  can-lines r = canCut-lines (siteProblem sites vs hs area) r
-
-  line-lines : (r : Rect) → cutLine (siteProblem sites vs hs area) r ≡ cutLine (onLines vs hs) r
-  unfolding siteProblem
-  line-lines r = cutLine-lines (siteProblem sites vs hs area) r
-
-  live-lines : (best : Priced) (c : Query.Cell) → isLive (siteProblem sites vs hs area) best c ≡ isLive (onLines vs hs) best c
-  unfolding isLive
-  live-lines best c = ap (λ (b : Bool). b && precedes (cellKey c) (pricedKey best)) (can-lines (c .rect))
-
-  with-lines : (best : Priced) (c : Query.Cell) (cs : List Query.Cell) → withCell (onLines vs hs) best c cs ≡ withCell (siteProblem sites vs hs area) best c cs
-  unfolding withCell
-  with-lines best c cs = rw (live-lines best c)
-
-  cell-is : (r : Rect) → queryCell (cellFor sites r) ≡ cellOf (siteProblem sites vs hs area) r
-  unfolding siteProblem
-  cell-is r = refl
-
-  -- ---- the best place
-  better-cost : (p : Place) → pricedOf (spotOf sites p) ≡ pricedAt (siteProblem sites vs hs area) p
-  unfolding siteProblem
-  better-cost p = refl
-
-improved-is : (best p : Spot) → pricedOf (improved best p) ≡ cond (better (pricedOf p) (pricedOf best)) (pricedOf p) (pricedOf best)
-unfolding improved
-improved-is best p = go (better (pricedOf p) (pricedOf best))
-  where
-    go : (b : Bool) → pricedOf (cond b p best) ≡ cond b (pricedOf p) (pricedOf best)
-    go true = refl
-    go false = refl
-
-bestOf-nil : (P : Problem) (best : Priced) → bestOf P best [] ≡ best
-unfolding bestOf
-bestOf-nil P best = refl
-
-bestOf-cons : (P : Problem) (best : Priced) (p : Place) (ps : List Place) → bestOf P best (p ∷ ps) ≡ bestOf P (cond (better (pricedAt P p) best) (pricedAt P p) best) ps
-unfolding bestOf leastBy
-bestOf-cons P best p ps = refl
-
-module _ (sites : List Site) (vs hs : List ℤ) (area : Rect) where
-  best-more : (best : Spot) (p : Place) (ps : List Place) → bestOf (siteProblem sites vs hs area) (pricedOf best) (p ∷ ps) ≡ bestOf (siteProblem sites vs hs area) (pricedOf (improved best (spotOf sites p))) ps
-  best-more best p ps = rw (bestOf-cons (siteProblem sites vs hs area) (pricedOf best) p ps, improved-is best (spotOf sites p), better-cost sites vs hs area p)
-
-  best-two : (best : Spot) (p q : Place) → bestOf (siteProblem sites vs hs area) (pricedOf best) (p ∷ q ∷ []) ≡ pricedOf (improved (improved best (spotOf sites p)) (spotOf sites q))
-  best-two best p q = best-more best p (q ∷ []) ∙ best-more (improved best (spotOf sites p)) q [] ∙ bestOf-nil (siteProblem sites vs hs area) (pricedOf (improved (improved best (spotOf sites p)) (spotOf sites q)))
-
-  pub start-best : pricedOf (bestCorner area (cornerCosts sites area)) ≡ startBest (siteProblem sites vs hs area)
-  unfolding startBest otherCorners bestCorner siteProblem
-  start-best =
-      let P = siteProblem sites vs hs area in
-      let c₁ = spotOf sites (corner area) in
-      let c₂ = improved c₁ (spotOf sites (record { x = area .xlo; y = area .yhi })) in
-      let c₃ = improved c₂ (spotOf sites (record { x = area .xhi; y = area .ylo })) in
-      let c₄ = improved c₃ (spotOf sites (record { x = area .xhi; y = area .yhi })) in
-      sym (best-more c₁ (record { x = area .xlo; y = area .yhi }) (record { x = area .xhi; y = area .ylo } ∷ record { x = area .xhi; y = area .yhi } ∷ [])
-      ∙ best-more c₂ (record { x = area .xhi; y = area .ylo }) (record { x = area .xhi; y = area .yhi } ∷ [])
-      ∙ best-more c₃ (record { x = area .xhi; y = area .yhi }) []
-      ∙ bestOf-nil P (pricedOf c₄))
+use Rattle.search.proofs.LiveLaws.{withCell, keep-two, map-with, keep-live, with-in-order, with-cases, single, can-lines, line-lines, live-lines, with-lines, cell-is, best-two, start-best}
 
 -- ---- a start
-single : (P : Problem) (best : Priced) (x : Query.Cell) → withCell P best x [] ≡ keep (isLive P best) (x ∷ [])
-unfolding withCell keep insertBy
-single P best x = refl
-
 pub search-is : (s : List ℤ) (t : List ℕ) (st : State) → searchOf s t st ≡ record { best = pricedOf (st .best); live = map entryCell (entries s t (st .head) (st .tail - st .head)); cuts = st .cuts }
 unfolding searchOf
 search-is s t st = refl
@@ -354,7 +205,7 @@ module _ (sites : List Site) (vs hs : List ℤ) (s : List ℤ) (t : List ℕ) (s
   pub rounded : (hv : Halves) → hv ≡ halvesOf sites (cutRecord (onLines vs hs) (rectIn c)) (rectIn c) → (b best : Spot) → b ≡ improved (st .best) (hv .low) → best ≡ improved b (hv .high) → (tail : ℕ) → Trimmed s (st .head + 1) (st .tail) (keyOf (pos (best .cost)) (best .x) (best .y)) tail → (s₁ : List ℤ) (t₁ : List ℕ) (behind : ℕ) → Added (onLines vs hs) (pricedOf best) (record { cell = hv .second; costs = hv .«second_costs» }) (st .head + 1) tail s t s₁ t₁ behind → (s₂ : List ℤ) (t₂ : List ℕ) (front : ℕ) → Added (onLines vs hs) (pricedOf best) (record { cell = hv .first; costs = hv .«first_costs» }) behind tail s₁ t₁ s₂ t₂ front → Holds sites (round (siteProblem sites vs hs emptyRect) (searchOf s t st)) (st .head - 1) s₂ t₂ (record { head = front; tail = tail; best = best; cuts = st .cuts + 1 })
   rounded hv hve b best be bests tail trimmed s₁ t₁ behind one s₂ t₂ front two =
       let all : best ≡ improved (improved (st .best) (halves .low)) (halves .high) = bests ∙ (λ i. improved ((be ∙ ap (λ (x : Halves). improved (st .best) (x .low)) hve) i) (hve i .high)) in
-      let es₁ : entries s t (st .head + 1) (tail - (st .head + 1)) ≡ keep (λ e. precedes (cellKey (entryCell e)) (pricedKey (pricedOf best))) others = trimmed .live t (Pairwise·of-cons (subst InOrder split (h .in-order))) in
+      let es₁ : entries s t (st .head + 1) (tail - (st .head + 1)) ≡ keep (λ e. precedes (cellKey (entryCell e)) (pricedKey (pricedOf best))) others = trimmed-live s (st .head + 1) (st .tail) (pricedKey (pricedOf best)) tail trimmed t (Pairwise·of-cons (subst InOrder split (h .in-order))) in
       let order₁ : InOrder (entries s t (st .head + 1) (tail - (st .head + 1))) = subst InOrder (sym es₁) (keep-in-order (λ e. precedes (cellKey (entryCell e)) (pricedKey (pricedOf best))) others turn) in
       let es₂ = one .entries-are order₁ in
       let order₂ : InOrder (entries s₁ t₁ behind (tail - behind)) = subst InOrder (sym es₂) (with-in-order (onLines vs hs) (pricedOf best) (record { cell = hv .second; costs = hv .«second_costs» }) (entries s t (st .head + 1) (tail - (st .head + 1))) order₁) in

@@ -34,7 +34,8 @@ use Rattle.cells.specs.Steps.{InOrder}
 use Rattle.search.specs.Run.{siteProblem, pricedOf, searchOf, Takeable, Holds, Steady, Answerable, isDone, foundOf}
 use Rattle.cells.proofs.Keys.{back, fitting}
 use Rattle.cells.proofs.SpaceLaws.{cells-in-order, entries-first, entries-none, entries-length}
-use Rattle.search.proofs.RoundLaws.{can-lines, search-is, round-area}
+use Rattle.search.proofs.LiveLaws.{can-lines}
+use Rattle.search.proofs.RoundLaws.{search-is, round-area}
 
 -- ---- rounds from a search on
 unfoldable pub roundsFrom : Problem → ℕ → Search → Search

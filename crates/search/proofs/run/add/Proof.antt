@@ -1,7 +1,8 @@
 -- `search::run::add` meets its contract: an entry that is live is inserted at its place, and one that is not changes nothing.
 -- Assumes nothing.
 use native.Mathlib.Omega.{arith}
-use Rattle.search.proofs.RoundLaws.{added-none, added-one}
+use Rattle.cells.proofs.Inserts.{inserted-numbered, inserted-entries}
+use Rattle.search.proofs.LiveLaws.{added-none, added-one}
 use Rattle.search.proofs.run.add.Statement.{statement}
 use Rattle.search.proofs.run.add.Tie as tie
 
@@ -15,7 +16,12 @@ sub-result : tie.Need-sub-result
 sub-result c = omega (arith, c .before .before .before .before .before .before .pre .1 .room)
 
 returns : tie.Need-returns
-returns c = let s = c .before .before .before .before .before .before in (added-one _ _ _ (s .args .head) (s .args .tail) _ _ _ _ _ (c .before .before .before .before .before .is-live .ensures) (c .before .before .before .before .if1 .taken) (s .pre .1 .room) (s .pre .1 .in-turn) (c .insert .ensures .entries-are), c .insert .ensures .numbered)
+returns c =
+    let s = c .before .before .before .before .before .before in
+    let room = s .pre .1 .room in
+    let in-turn = s .pre .1 .in-turn in
+    let ends = s .pre .1 .ends in
+    (added-one _ _ _ (s .args .head) (s .args .tail) _ _ _ _ _ (c .before .before .before .before .before .is-live .ensures) (c .before .before .before .before .if1 .taken) room in-turn (inserted-entries _ _ _ _ _ _ _ _ _ (s .pre .2) room in-turn ends (c .insert .ensures)), inserted-numbered _ _ _ _ _ _ _ _ _ (s .pre .2) room in-turn ends (c .insert .ensures))
 
 returns-2 : tie.Need-returns-2
 returns-2 c = let s = c .before .before in (added-none _ _ _ (s .args .head) (s .args .tail) _ _ _ (c .before .is-live .ensures) (c .if1 .left), s .pre .2)

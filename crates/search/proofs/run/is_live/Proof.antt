@@ -9,7 +9,7 @@ use Rattle.cuts.specs.declared.Cut.{Cut}
 use Rattle.search.specs.Run.{pricedOf}
 use Rattle.cells.specs.Space.{queryCell}
 use Rattle.cells.proofs.Keys.{cell-precedes}
-use Rattle.search.proofs.RoundLaws.{live-behind, live-cut}
+use Rattle.search.proofs.LiveLaws.{live-behind, live-cut}
 use Rattle.search.proofs.run.is_live.Statement.{statement}
 use Rattle.search.proofs.run.is_live.Tie as tie
 

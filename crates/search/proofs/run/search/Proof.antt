@@ -1,8 +1,10 @@
 -- `search::run::search` meets its contract: the code's problem is the deck's, whose runs stay in range, so that the answer and the cell space are those of document 01.
 -- Assumes nothing.
-use mathlib.Core.Path.{ap}
+use mathlib.Core.Path.{sym, ap, subst}
 use native.Mathlib.Omega.{arith}
 use borrow.Author.Needs.{needs}
+use Rattle.cells.specs.Space.{Numbered}
+use Rattle.cells.proofs.Numbering.{slots-numbered}
 use Rattle.search.specs.Run.{rectIn}
 use Rattle.search.proofs.DeckRun.{columns-range, sites-count, deck-sited, area-ranged, reaching, deck-lined, coded-steady, searched}
 use Rattle.search.proofs.RunLaws.{cell-count, answerable}
@@ -28,7 +30,7 @@ run-of-requires : tie.Need-run-of-requires
 run-of-requires c κs =
     let s = c .before .before .before .before .before .before .before .before .before .before .before .before .before .before .before .before .before .before in
     let area = c .before .before .before .before .before .before .before .before .before .before .before .before .before .before .before .before .before .area-of in
-    (deck-sited _ _ _ _ (s .pre), deck-lined _ _ _ _ (s .pre) (area .result) (ap rectIn (area .ensures)) _ _ (c .before .before .before .before .before .before .before .before .before .before .before .before .before .before .before .vertical .ensures) (c .before .before .before .before .before .before .before .before .before .before .before .before .before .before .horizontal .ensures), area-ranged _ _ _ _ (s .pre) (area .result) (ap rectIn (area .ensures)), s .pre .rounds-limit, coded-steady _ _ _ _ (s .pre) (area .result) (ap rectIn (area .ensures)) _ _ (c .before .before .before .before .before .before .before .before .before .before .before .before .before .before .before .vertical .ensures) (c .before .before .before .before .before .before .before .before .before .before .before .before .before .before .horizontal .ensures), c .before .before .before .before .before .before .before .before .before .before .before .before .number .ensures)
+    (deck-sited _ _ _ _ (s .pre), deck-lined _ _ _ _ (s .pre) (area .result) (ap rectIn (area .ensures)) _ _ (c .before .before .before .before .before .before .before .before .before .before .before .before .before .before .before .vertical .ensures) (c .before .before .before .before .before .before .before .before .before .before .before .before .before .before .horizontal .ensures), area-ranged _ _ _ _ (s .pre) (area .result) (ap rectIn (area .ensures)), s .pre .rounds-limit, coded-steady _ _ _ _ (s .pre) (area .result) (ap rectIn (area .ensures)) _ _ (c .before .before .before .before .before .before .before .before .before .before .before .before .before .before .before .vertical .ensures) (c .before .before .before .before .before .before .before .before .before .before .before .before .before .before .horizontal .ensures), subst Numbered (sym (c .before .before .before .before .before .before .before .before .before .before .before .before .number .ensures)) slots-numbered)
 
 write-out-requires : tie.Need-write-out-requires
 write-out-requires c κs =
@@ -47,7 +49,7 @@ same-length c = search needs
 returns : tie.Need-returns
 returns c =
     let area = c .before .before .before .before .before .before .before .before .before .before .before .before .before .before .before .before .before .before .before .before .before .before .before .before .before .before .area-of in
-    searched _ _ _ _ (c .before .before .before .before .before .before .before .before .before .before .before .before .before .before .before .before .before .before .before .before .before .before .before .before .before .before .before .pre) (area .result) (ap rectIn (area .ensures)) _ _ (c .before .before .before .before .before .before .before .before .before .before .before .before .before .before .before .before .before .before .before .before .before .before .before .before .vertical .ensures) (c .before .before .before .before .before .before .before .before .before .before .before .before .before .before .before .before .before .before .before .before .before .before .before .horizontal .ensures) _ _ _ (c .before .before .before .before .before .before .before .before .run-of .ensures .0) _ _ _ (c .answer .ensures) (c .before .before .before .before .write-out .ensures)
+    searched _ _ _ _ (c .before .before .before .before .before .before .before .before .before .before .before .before .before .before .before .before .before .before .before .before .before .before .before .before .before .before .before .pre) (area .result) (ap rectIn (area .ensures)) _ _ (c .before .before .before .before .before .before .before .before .before .before .before .before .before .before .before .before .before .before .before .before .before .before .before .before .vertical .ensures) (c .before .before .before .before .before .before .before .before .before .before .before .before .before .before .before .before .before .before .before .before .before .before .before .horizontal .ensures) _ _ _ _ (c .before .before .before .before .before .before .before .before .run-of .ensures .1) (c .before .before .before .before .before .before .before .before .run-of .ensures .0) _ _ _ (c .answer .ensures) (c .before .before .before .before .write-out .ensures)
 
 pub search-spec : {M : Type 1} → statement M
 search-spec =
