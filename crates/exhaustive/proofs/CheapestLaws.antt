@@ -9,8 +9,8 @@ use lib.Signed.{mag}
 use Rattle.numbers.proofs.Truth.{holds, fails}
 use Rattle.query.specs.Place.{Place}
 use Rattle.sites.specs.Sites.{Site}
-use Rattle.search.specs.declared.halves.Spot.{Spot}
-use Rattle.search.specs.Run.{spotOf}
+use Rattle.problem.specs.declared.Spot.{Spot}
+use Rattle.problem.specs.Problem.{spotOf}
 use Rattle.cells.proofs.Keys.{back, fitting}
 use Rattle.exhaustive.specs.Cheapest.{cheaperOf, firstCheapest}
 

@@ -21,8 +21,8 @@ use Rattle.query.specs.Exhaustive.{crossings, cheapestCrossing}
 use Rattle.query.proofs.KeyOrder.{not-earlier}
 use Rattle.sites.specs.Sites.{Site}
 use Rattle.pricing.specs.Figures.{costOf}
-use Rattle.search.specs.declared.halves.Spot.{Spot}
-use Rattle.search.specs.Run.{siteProblem, pricedOf, spotOf}
+use Rattle.problem.specs.declared.Spot.{Spot}
+use Rattle.problem.specs.Problem.{siteProblem, pricedOf, spotOf}
 use Rattle.exhaustive.specs.Cheapest.{cheaperOf, firstCheapest, along}
 use Rattle.exhaustive.proofs.CheapestLaws.{cheapest-none, cheapest-more}
 

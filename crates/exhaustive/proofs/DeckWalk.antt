@@ -31,14 +31,13 @@ use Rattle.lines.proofs.LineRecordLaws.{record-front}
 use Rattle.lines.proofs.DeckLines.{lines-in-order}
 use Rattle.pricing.proofs.RecordLaws.{paid-range}
 use Rattle.cells.specs.declared.Cell.{Cell}
-use Rattle.search.specs.declared.halves.Spot.{Spot}
-use Rattle.search.specs.Run as Run
-use Rattle.search.specs.Run.{Sited, pricedOf, spotOf, rectIn, Near20000, Ranged, rowsOf, InColumns, Reaching}
+use Rattle.problem.specs.declared.Spot.{Spot}
+use Rattle.problem.specs.Problem.{Prepared, Sited, pricedOf, spotOf, rectIn, Near20000, Ranged, rowsOf, InColumns, Reaching}
 use Rattle.cells.proofs.Keys.{back}
-use Rattle.search.proofs.StepLaws.{near-places, spot-back}
-use Rattle.search.proofs.DeckRun.{columns-range, sites-count, deck-sited, area-ranged, reaching, coded-is}
+use Rattle.problem.proofs.Coordinates.{near-places, spot-back}
+use Rattle.problem.proofs.DeckProblem.{columns-range, sites-count, deck-sited, area-ranged, reaching, coded-is}
 use Rattle.exhaustive.specs.Ramps.{LinesInRange}
-use Rattle.exhaustive.specs.Cheapest.{firstCheapest, along, Ready}
+use Rattle.exhaustive.specs.Cheapest.{firstCheapest, along}
 use Rattle.exhaustive.proofs.CrossingOrder.{InTurn, crossing-turn, walk-is}
 
 -- ---- the lines of a deck in range
@@ -78,19 +77,15 @@ module _ (deck : Query.Deck) (range : InRange deck) (full : NonEmpty (deck .area
       rw (← e) (not-earlier (record { x = v; y = h }) (corner (deck .area)) (lines-range deck x-axis full v on-v .0) (lines-range deck y-axis full h on-h .0))
 
 -- ---- a deck and its sites
-module _ (deck : Deck) (sites : Sites) (ready : Ready deck sites) where
-  -- what a search of no rounds asks
-  searchable : Run.Ready deck sites 0 5
-  searchable = record { sites-are = ready .sites-are; range = ready .range; full = ready .full; posts = ready .posts; stops = ready .stops; rounds-limit = omega arith; room = omega arith }
-
+module _ (deck : Deck) (sites : Sites) (ready : Prepared deck sites) where
   pub columns : InColumns sites
-  columns = columns-range deck sites 0 5 searchable
+  columns = columns-range deck sites ready
 
   pub count : sites .count ≤ 512
-  count = sites-count deck sites 0 5 searchable
+  count = sites-count deck sites ready
 
   pub sited : Sited (sites .x) (sites .y) (sites .visits) (sites .near) (sites .count)
-  sited = deck-sited deck sites 0 5 searchable
+  sited = deck-sited deck sites ready
 
   pub paid : PaidInRange (sites .visits) (sites .near)
   paid = paid-range columns
@@ -100,10 +95,10 @@ module _ (deck : Deck) (sites : Sites) (ready : Ready deck sites) where
 
   module _ (area : Cell) (area-is : rectIn area ≡ deckOf deck .area) where
     pub ranged : Ranged (rectIn area)
-    ranged = area-ranged deck sites 0 5 searchable area area-is
+    ranged = area-ranged deck sites ready area area-is
 
     pub reaches : (flags : List ℕ) → flags ≡ flagsOf (rowsOf sites) (rectIn area) → Reaching deck area flags
-    reaches = reaching deck sites 0 5 searchable area area-is
+    reaches = reaching deck sites ready area area-is
 
     pub corner-near : Near20000 (back (area .xlo)) (back (area .ylo))
     corner-near = near-places (area .xlo) (area .ylo) (ranged .range .low-corner .x-range) (ranged .range .low-corner .y-range)
@@ -116,4 +111,4 @@ module _ (deck : Deck) (sites : Sites) (ready : Ready deck sites) where
         let hs = deck-front (deckOf deck) (ready .range) (ready .full) y-axis h he in
         ap pricedOf (b ∙ ap (λ (s : Spot). firstCheapest (rowsOf sites) s (flatMap (along (take (h .count) (h .at))) (take (v .count) (v .at)))) corner-first)
         ∙ walk-is (rowsOf sites) (take (v .count) (v .at)) (take (h .count) (h .at)) (rectIn area) (rw (vs, hs) (deck-turn (deckOf deck) (ready .range) (ready .full))) (λ q m. subst (λ (r : Rect). T (not (earlier q (corner r)))) (sym area-is) (deck-corner (deckOf deck) (ready .range) (ready .full) q (rw (vs, hs) at m)))
-        ∙ ap cheapestCrossing (coded-is deck sites 0 5 searchable area area-is v h ve he)
+        ∙ ap cheapestCrossing (coded-is deck sites ready area area-is v h ve he)

@@ -10,8 +10,8 @@ use lib.ListN.{getD, take, drop, length-take, drop-of-length-le}
 use lib.Seq.{drop-cons, getD-take, length-take-le}
 use Rattle.sites.specs.Sites.{Site}
 use Rattle.pricing.specs.Figures.{costOf, beforeOf}
-use Rattle.search.specs.declared.halves.Spot.{Spot}
-use Rattle.search.specs.Run.{spotOf, spotAt}
+use Rattle.problem.specs.declared.Spot.{Spot}
+use Rattle.problem.specs.Problem.{spotOf, spotAt}
 use Rattle.cells.proofs.Keys.{back}
 use Rattle.exhaustive.specs.Ramps.{heightOf, prefixSum, LinesInRange, RampSums, SitesAdded, Payable, Sweepable}
 use Rattle.exhaustive.specs.Cheapest.{cheaperOf, firstCheapest, along, Swept}

@@ -12,7 +12,7 @@ use Rattle.query.specs.Range.{costLimit}
 use Rattle.sites.specs.Sites.{Site}
 use Rattle.pricing.specs.Figures.{beforeOf}
 use Rattle.pricing.specs.Columns.{Figure}
-use Rattle.search.specs.declared.halves.Spot.{Spot}
+use Rattle.problem.specs.declared.Spot.{Spot}
 use Rattle.cells.proofs.Keys.{back}
 use Rattle.exhaustive.specs.Ramps.{LinesInRange, RampSums, SiteSums, SitesAdded, Sweepable}
 use Rattle.exhaustive.specs.Cheapest.{firstCheapest, along, Swept}

@@ -1,22 +1,18 @@
 -- The exhaustive search as the code runs it: the crossings in their order, one vertical line after another, and of equal costs the first.
 -- Assumes nothing.
-use Prim.Native.Nat.{ℕ, _≤_}
+use Prim.Native.Nat.{ℕ}
 use mathlib.Core.Path.{_≡_}
 use mathlib.Core.Bool.{cond}
 use mathlib.Core.List.{List, map, foldl}
 use lib.Dec.{ltb}
 use lib.IntN.{ℤ}
 use lib.ListN.{take}
-use Rattle.query.specs.Place.{Place, NonEmpty}
-use Rattle.query.specs.Range.{InRange}
-use Rattle.job.specs.declared.Deck.{Deck}
-use Rattle.sites.specs.DeckOf.{deckOf}
-use Rattle.sites.specs.Sites.{Site, sitesOf}
+use Rattle.query.specs.Place.{Place}
+use Rattle.sites.specs.Sites.{Site}
 use Rattle.pricing.specs.Figures.{costOf, beforeOf}
-use Rattle.sites.specs.Record.{sitesRecord}
 use Rattle.sites.specs.declared.Sites.{Sites}
-use Rattle.search.specs.declared.halves.Spot.{Spot}
-use Rattle.search.specs.Run.{spotOf}
+use Rattle.problem.specs.declared.Spot.{Spot}
+use Rattle.problem.specs.Problem.{spotOf}
 use Rattle.exhaustive.specs.Ramps.{SitesAdded}
 
 -- the cheaper of two spots, the first of them where they cost the same
@@ -35,11 +31,3 @@ along horizontal v = map (λ h. record { x = v; y = h }) horizontal
 -- the cheapest of a spot and the crossings of the vertical line at v, whatever the sites whose ramps the columns hold
 pub record Swept (ls : List ℤ) (n : ℕ) (v : ℤ) (up up-at down down-at : List ℕ) (before : ℕ) (first r : Spot) : Type 0 where
   pub is : (sites : List Site) (m : ℕ) → SitesAdded sites m ls n v up up-at down down-at → before ≡ beforeOf sites → r ≡ firstCheapest sites first (along (take n ls) v)
-
--- what the search asks: a deck in range, and its sites
-pub record Ready (deck : Deck) (sites : Sites) : Type 0 where
-  pub sites-are : sites ≡ sitesRecord (sitesOf (deckOf deck))
-  pub range : InRange (deckOf deck)
-  pub full : NonEmpty (deckOf deck .area)
-  pub posts : deck .posts ≤ 64
-  pub stops : deck .stops ≤ 512

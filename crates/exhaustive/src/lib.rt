@@ -2,9 +2,7 @@
 // so that the costs of all its crossings follow from prefix sums, with no pass over the sites for each.
 use job::Deck;
 use numbers::abs_diff;
-use search::halves;
-use search::halves::Spot;
-use search::run;
+use problem::Spot;
 use sites::Sites;
 ghost use mathlib.Core.Path.{_≡_};
 ghost use mathlib.Core.List.{flatMap};
@@ -17,7 +15,7 @@ ghost use Rattle.sites.specs.DeckOf.{deckOf};
 ghost use Rattle.pricing.specs.Figures.{beforeOf};
 ghost use Rattle.pricing.specs.Columns.{siteRows, SiteInRange, Figure};
 ghost use Rattle.lines.specs.LineRecord.{FirstAtLeast};
-ghost use Rattle.search.specs.Run.{Sited, pricedOf};
+ghost use Rattle.problem.specs.Problem.{Prepared, Sited, pricedOf};
 ghost use Rattle.exhaustive.specs.Ramps.{
   heightOf,
   LinesInRange,
@@ -32,7 +30,7 @@ ghost use Rattle.exhaustive.specs.Ramps.{
   Payable,
   Sweepable,
 };
-ghost use Rattle.exhaustive.specs.Cheapest.{cheaperOf, firstCheapest, along, Swept, Ready};
+ghost use Rattle.exhaustive.specs.Cheapest.{cheaperOf, firstCheapest, along, Swept};
 
 // How far a coordinate lies above −1,000,000, which is below every start of a ramp.
 fn height(y: i64) -> u64
@@ -229,7 +227,7 @@ fn sweep<'a>(
         down_from = down_from + down_at[j];
         let y = h[j];
         let cost = cost_at(before, ups, up_from, downs, down_from, height(y));
-        found = cheaper(found, run::place(v, y, cost));
+        found = cheaper(found, problem::place(v, y, cost));
         j += 1;
     }
     found
@@ -303,20 +301,20 @@ fn cheapest_of<'a>(
 
 // The cheapest crossing of a deck's lines, the earliest among equals, with its cost.
 pub fn cheapest(deck: Deck, sites: Sites) -> Spot
-    requires { ⌜ Ready deck sites ⌝ }
+    requires { ⌜ Prepared deck sites ⌝ }
     ensures { λ r. ⌜ pricedOf r ≡ exhaustive (deckOf deck) ⌝ }
 {
-    let area = run::area_of(deck);
-    let flags = run::flags_of(area, sites);
-    let v = run::vertical(deck, area, flags);
-    let h = run::horizontal(deck, area, flags);
+    let area = problem::area_of(deck);
+    let flags = problem::flags_of(area, sites);
+    let v = problem::vertical(deck, area, flags);
+    let h = problem::horizontal(deck, area, flags);
     let n = sites.count;
     let nv = v.count;
     let nh = h.count;
     let mut table = [0u16; 40001];
     number_lines(&h.at, nh, &mut table);
     let before = pricing::before(&sites.visits, &sites.near, n);
-    let first = halves::priced(
+    let first = problem::priced(
         &sites.x,
         &sites.y,
         &sites.visits,

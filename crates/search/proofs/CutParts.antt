@@ -22,9 +22,10 @@ use Rattle.cuts.specs.declared.Cut.{Cut}
 use Rattle.cuts.proofs.CutRecordLaws.{cutRecord-cut}
 use Rattle.cells.specs.declared.Cell.{Cell}
 use Rattle.cells.specs.declared.Costs.{Costs}
-use Rattle.search.specs.declared.halves.Spot.{Spot}
+use Rattle.problem.specs.declared.Spot.{Spot}
 use Rattle.search.specs.declared.halves.Halves.{Halves}
-use Rattle.search.specs.Run.{pricedOf, spotOf, cornerCosts, cellFor, Ranged, lowCorner, highCorner, firstRect, secondRect, firstCosts, secondCosts, halvesOf}
+use Rattle.search.specs.Run.{cornerCosts, cellFor, lowCorner, highCorner, firstRect, secondRect, firstCosts, secondCosts, halvesOf}
+use Rattle.problem.specs.Problem.{pricedOf, spotOf, Ranged}
 
 -- ---- by axis
 pub first-is : (axis : Axis) (v : ℤ) (r : Rect) → firstRect r (highCorner (isX axis) v r) ≡ cutBefore axis v r

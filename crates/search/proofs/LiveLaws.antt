@@ -21,10 +21,11 @@ use Rattle.query.proofs.KeyOrder.{cellBefore-strict}
 use Rattle.sites.specs.Sites.{Site}
 use Rattle.cuts.specs.CutRecord.{onLines}
 use Rattle.cuts.proofs.CutRecordLaws.{canCut-lines, cutLine-lines}
-use Rattle.search.specs.declared.halves.Spot.{Spot}
+use Rattle.problem.specs.declared.Spot.{Spot}
 use Rattle.cells.specs.Space.{Entry, queryCell, entryCell, entries, entryBefore}
 use Rattle.cells.specs.Steps.{InOrder}
-use Rattle.search.specs.Run.{siteProblem, pricedOf, spotOf, cornerCosts, cellFor, improved, bestCorner, withLive, Added}
+use Rattle.search.specs.Run.{cornerCosts, cellFor, improved, bestCorner, withLive, Added}
+use Rattle.problem.specs.Problem.{siteProblem, pricedOf, spotOf}
 use Rattle.cells.proofs.SpaceLaws.{keep-insert-in, keep-insert-out, keep-agree, cells-insert, insert-in-order}
 
 -- ---- one more entry, if it is live

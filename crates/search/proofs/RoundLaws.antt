@@ -25,12 +25,13 @@ use Rattle.cuts.specs.CutRecord.{onLines, isX, cutAt, cutRecord}
 use Rattle.cuts.specs.declared.Cut.{Cut}
 use Rattle.cells.specs.declared.Cell.{Cell}
 use Rattle.cells.specs.declared.Costs.{Costs}
-use Rattle.search.specs.declared.halves.Spot.{Spot}
+use Rattle.problem.specs.declared.Spot.{Spot}
 use Rattle.search.specs.declared.halves.Halves.{Halves}
 use Rattle.search.specs.declared.run.State.{State}
 use Rattle.cells.specs.Space.{Entry, keyOf, queryCell, entryCell, cellAt, costsAt, entries}
 use Rattle.cells.specs.Steps.{InOrder, Trimmed}
-use Rattle.search.specs.Run.{siteProblem, pricedOf, rectIn, cornerCosts, cellFor, improved, bestCorner, lowCorner, highCorner, halvesOf, withLive, Ranged, Cutting, Takeable, Added, Costed, searchOf, Holds}
+use Rattle.search.specs.Run.{cornerCosts, cellFor, improved, bestCorner, lowCorner, highCorner, halvesOf, withLive, Cutting, Takeable, Added, Costed, searchOf, Holds}
+use Rattle.problem.specs.Problem.{siteProblem, pricedOf, rectIn, Ranged}
 use Rattle.cells.proofs.Keys.{back, fitting}
 use Rattle.cells.proofs.Trims.{trimmed-live}
 use Rattle.cells.proofs.SpaceLaws.{keep-agree, cells-keep, cells-in-order, keep-in-order, entries-first, entries-none}

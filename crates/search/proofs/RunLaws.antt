@@ -31,7 +31,8 @@ use Rattle.search.specs.declared.run.State.{State}
 use Rattle.search.specs.declared.run.Found.{Found}
 use Rattle.cells.specs.Space.{Entry, queryCell, entryCell, cellAt, entryAt, entries}
 use Rattle.cells.specs.Steps.{InOrder}
-use Rattle.search.specs.Run.{siteProblem, pricedOf, searchOf, Takeable, Holds, Steady, Answerable, isDone, foundOf}
+use Rattle.search.specs.Run.{searchOf, Takeable, Holds, Steady, Answerable, isDone, foundOf}
+use Rattle.problem.specs.Problem.{siteProblem, pricedOf}
 use Rattle.cells.proofs.Keys.{back, fitting}
 use Rattle.cells.proofs.SpaceLaws.{cells-in-order, entries-first, entries-none, entries-length}
 use Rattle.search.proofs.LiveLaws.{can-lines}

@@ -1,17 +1,14 @@
 -- A search as the code runs it: its state, the search of document 01 that it holds, and what its steps do.
 -- Assumes nothing.
-use Prim.Native.Nat.{ℕ, _+_, _*_, _-_, _≤_, _<_, max}
+use Prim.Native.Nat.{ℕ, _+_, _*_, _-_, _≤_, _<_}
 use mathlib.Core.Path.{_≡_}
 use mathlib.Core.Bool.{Bool, true, false, cond}
 use mathlib.Core.List.{List, [], _∷_, map, List·Memᴰ}
 use lib.Dec.{T}
-use lib.IntN.{ℤ, pos, natAbs, _-ℤ_}
+use lib.IntN.{ℤ, natAbs}
 use lib.ListN.{length}
-use Rattle.numbers.specs.Integer.{halfUp}
 use Rattle.numbers.specs.Lists.{insertBy}
-use Rattle.query.specs.Place.{Place, Rect, NonEmpty}
-use Rattle.query.specs.Deck.{plain}
-use Rattle.query.specs.Bound.{span}
+use Rattle.query.specs.Place.{Place, Rect}
 use Rattle.query.specs.Problem.{Problem, problem}
 use Rattle.query.specs.Cut.{canCut}
 use Rattle.query.specs.Order as Query
@@ -22,59 +19,23 @@ use Rattle.query.specs.Space.{space}
 use Rattle.query.specs.Range.{RectInRange, InRange, costLimit}
 use Rattle.job.specs.declared.Deck.{Deck}
 use Rattle.sites.specs.DeckOf.{deckOf}
-use Rattle.sites.specs.Sites.{Site, sitesOf}
-use Rattle.pricing.specs.Figures.{costOf, loadOf, flagsOf}
-use Rattle.sites.specs.Record.{sitesRecord}
-use Rattle.pricing.specs.Columns.{siteRows, ColumnsInRange}
+use Rattle.sites.specs.Sites.{Site}
+use Rattle.pricing.specs.Figures.{costOf}
 use Rattle.lines.specs.LineRecord as Lines
 use Rattle.cuts.specs.CutRecord.{onLines}
 use Rattle.sites.specs.declared.Sites.{Sites}
 use Rattle.cuts.specs.declared.Cut.{Cut}
 use Rattle.cells.specs.declared.Cell.{Cell}
 use Rattle.cells.specs.declared.Costs.{Costs}
-use Rattle.search.specs.declared.halves.Spot.{Spot}
+use Rattle.problem.specs.Problem.{boundOf, pricedOf, spotOf, rectIn, Ranged, spotAt, Prepared}
+use Rattle.problem.specs.declared.Spot.{Spot}
 use Rattle.search.specs.declared.halves.Halves.{Halves}
 use Rattle.search.specs.declared.run.State.{State}
 use Rattle.search.specs.declared.run.Found.{Found}
-use Rattle.cells.specs.Space.{Entry, queryCell, entryCell, cellAt, entries, entryBefore}
+use Rattle.cells.specs.Space.{Entry, entryCell, cellAt, entries, entryBefore}
 use Rattle.cells.specs.Steps.{InOrder}
 
--- ---- the problem of document 01 from sites and lines
--- the bound of a cell
-unfoldable pub boundOf : List Site → Rect → ℤ
-unfolding costOf loadOf span halfUp
-boundOf sites r = halfUp (pos (max (costOf sites (record { x = r .xlo; y = r .ylo }) + costOf sites (record { x = r .xhi; y = r .yhi })) (costOf sites (record { x = r .xlo; y = r .yhi }) + costOf sites (record { x = r .xhi; y = r .ylo }))) -ℤ pos (span plain r * loadOf sites r))
-
--- the problem of some sites, lines and an area
-unfoldable pub siteProblem : List Site → List ℤ → List ℤ → Rect → Problem
-unfolding costOf boundOf
-siteProblem sites vertical horizontal area = record { area = area; vertical = vertical; horizontal = horizontal; price = costOf sites; bound = boundOf sites }
-
--- columns of sites in range
-pub record Sited (xs ys : List ℤ) (vs ns : List ℕ) (n : ℕ) : Type 0 where
-  pub count : n ≤ 512
-  pub range : ColumnsInRange xs ys vs ns
-  pub cost-limit : (p : Place) → costOf (siteRows xs ys vs ns n) p ≤ costLimit
-
--- arrays of lines in order
-pub record Lined (vertical : List ℤ) (nv : ℕ) (horizontal : List ℤ) (nh : ℕ) : Type 0 where
-  pub across : Lines.InOrder vertical nv
-  pub deep : Lines.InOrder horizontal nh
-
 -- ---- places and cells as the code holds them
-abbrev pub pricedOf : Spot → Priced
-pricedOf p = record { at = record { x = p .x; y = p .y }; cost = p .cost }
-
-abbrev pub spotOf : List Site → Place → Spot
-spotOf sites p = record { x = p .x; y = p .y; cost = costOf sites p }
-
-abbrev pub rectIn : Cell → Rect
-rectIn c = queryCell c .rect
-
--- a rectangle whose bound is not known yet
-abbrev pub unbounded : Rect → Cell
-unbounded r = record { xlo = r .xlo; ylo = r .ylo; xhi = r .xhi; yhi = r .yhi; bound = pos 0 }
-
 -- the costs of the corners of a rectangle, and its cell
 abbrev pub cornerCosts : List Site → Rect → Costs
 cornerCosts sites r = record { c00 = costOf sites (record { x = r .xlo; y = r .ylo }); c01 = costOf sites (record { x = r .xlo; y = r .yhi }); c10 = costOf sites (record { x = r .xhi; y = r .ylo }); c11 = costOf sites (record { x = r .xhi; y = r .yhi }) }
@@ -82,23 +43,10 @@ cornerCosts sites r = record { c00 = costOf sites (record { x = r .xlo; y = r .y
 abbrev pub cellFor : List Site → Rect → Cell
 cellFor sites r = record { xlo = r .xlo; ylo = r .ylo; xhi = r .xhi; yhi = r .yhi; bound = boundOf sites r }
 
--- numbers and rectangles in range
-pub record Near20000 (x y : ℤ) : Type 0 where
-  pub x-range : natAbs x ≤ 20000
-  pub y-range : natAbs y ≤ 20000
-
-pub record Ranged (r : Rect) : Type 0 where
-  pub range : RectInRange r
-  pub full : NonEmpty r
-
 -- the better of two
 unfoldable pub improved : Spot → Spot → Spot
 unfolding better
 improved best p = cond (better (pricedOf p) (pricedOf best)) p best
-
--- a place with a cost
-abbrev pub spotAt : ℤ → ℤ → ℕ → Spot
-spotAt x y cost = record { x = x; y = y; cost = cost }
 
 pub record CostsInRange (k : Costs) : Type 0 where
   pub corner-00 : k .c00 ≤ costLimit
@@ -226,28 +174,9 @@ unfoldable pub foundOf : Search → Found
 unfolding Figures.low
 foundOf s = record { done = isDone (s .live); x = s .best .at .x; y = s .best .at .y; high = Figures.high s; low = Figures.low s; cuts = s .cuts }
 
--- the rows that a record of sites counts, and its columns in range
-abbrev pub rowsOf : Sites → List Site
-rowsOf r = siteRows (r .x) (r .y) (r .visits) (r .near) (r .count)
-
-abbrev pub InColumns : Sites → Type 0
-InColumns r = ColumnsInRange (r .x) (r .y) (r .visits) (r .near)
-
--- what the lines of a deck ask: its area, and which of its stops reach it
-pub record Reaching (deck : Deck) (area : Cell) (flags : List ℕ) : Type 0 where
-  pub posts : deck .posts ≤ 64
-  pub stops : deck .stops ≤ 512
-  pub area-is : rectIn area ≡ deckOf deck .area
-  pub ranged : RectInRange (rectIn area)
-  pub flags-are : flags ≡ flagsOf (sitesOf (deckOf deck)) (deckOf deck .area)
-
--- what a search asks: a deck in range, its sites, and room for the cells of so many rounds
+-- what a search asks: a deck and its sites, and room for the cells of so many rounds
 pub record Ready (deck : Deck) (sites : Sites) (rounds lent : ℕ) : Type 0 where
-  pub sites-are : sites ≡ sitesRecord (sitesOf (deckOf deck))
-  pub range : InRange (deckOf deck)
-  pub full : NonEmpty (deckOf deck .area)
-  pub posts : deck .posts ≤ 64
-  pub stops : deck .stops ≤ 512
+  pub prepared : Prepared deck sites
   pub rounds-limit : rounds ≤ 1000
   pub room : 5 * (rounds + 1) ≤ lent
 

@@ -2,6 +2,7 @@
 use cells::Cell;
 use cells::Costs;
 use cuts::Cut;
+use problem::Spot;
 ghost use mathlib.Core.Path.{_≡_};
 ghost use Prim.Native.Nat.{_-_, _≤_};
 ghost use lib.ListN.{take};
@@ -14,14 +15,8 @@ ghost use Rattle.query.specs.Lines.{lines};
 ghost use Rattle.pricing.specs.Figures.{loadOf};
 ghost use Rattle.pricing.specs.Columns.{siteRows, Figure};
 ghost use Rattle.cuts.specs.CutRecord.{Edges, onLines, cutRecord};
-ghost use Rattle.search.specs.Run.{Sited, Lined, pricedOf, spotOf, rectIn, cornerCosts, cellFor, Near20000, Ranged, improved, lowCorner, highCorner, firstRect, secondRect, firstCosts, secondCosts, halvesOf, Cutting, CutInRange};
-
-// A place with its cost.
-pub struct Spot {
-    pub x: i64,
-    pub y: i64,
-    pub cost: u64,
-}
+ghost use Rattle.search.specs.Run.{cornerCosts, cellFor, improved, lowCorner, highCorner, firstRect, secondRect, firstCosts, secondCosts, halvesOf, Cutting, CutInRange};
+ghost use Rattle.problem.specs.Problem.{Sited, Lined, pricedOf, spotOf, rectIn, Near20000, Ranged};
 
 // What a cut makes of a cell: its two new corners, and its two parts with the costs of their corners.
 pub struct Halves {
@@ -31,23 +26,6 @@ pub struct Halves {
     pub first_costs: Costs,
     pub second: Cell,
     pub second_costs: Costs,
-}
-
-// A place, priced.
-pub fn priced<'a>(
-    xs: &'a [i32; 512],
-    ys: &'a [i32; 512],
-    visits: &'a [u32; 512],
-    near: &'a [u32; 512],
-    n: usize,
-    x: i64,
-    y: i64,
-) -> Spot
-    requires { ⌜ Sited (now xs) (now ys) (now visits) (now near) n × Near20000 x y ⌝ }
-    ensures { λ r. ⌜ r ≡ spotOf (siteRows (now (xs .entry)) (now (ys .entry)) (now (visits .entry)) (now (near .entry)) n) (record { x = x; y = y }) ⌝ }
-{
-    let cost = pricing::cost(xs, ys, visits, near, n, x as i32, y as i32);
-    Spot { x, y, cost }
 }
 
 // The better of two places.
@@ -148,9 +126,9 @@ fn low_corner<'a>(
     ensures { λ r. ⌜ r ≡ spotOf (siteRows (now (xs .entry)) (now (ys .entry)) (now (visits .entry)) (now (near .entry)) n) (lowCorner (cut .across) (cut .at) (rectIn c)) ⌝ }
 {
     if cut.across {
-        return priced(xs, ys, visits, near, n, cut.at, c.ylo);
+        return problem::priced(xs, ys, visits, near, n, cut.at, c.ylo);
     }
-    priced(xs, ys, visits, near, n, c.xlo, cut.at)
+    problem::priced(xs, ys, visits, near, n, c.xlo, cut.at)
 }
 
 // The new corner that is the high corner of the part before the cut.
@@ -167,9 +145,9 @@ fn high_corner<'a>(
     ensures { λ r. ⌜ r ≡ spotOf (siteRows (now (xs .entry)) (now (ys .entry)) (now (visits .entry)) (now (near .entry)) n) (highCorner (cut .across) (cut .at) (rectIn c)) ⌝ }
 {
     if cut.across {
-        return priced(xs, ys, visits, near, n, cut.at, c.yhi);
+        return problem::priced(xs, ys, visits, near, n, cut.at, c.yhi);
     }
-    priced(xs, ys, visits, near, n, c.xhi, cut.at)
+    problem::priced(xs, ys, visits, near, n, c.xhi, cut.at)
 }
 
 // The costs of the corners of the part before a cut, from those of the cell and of the new corners.

@@ -1,10 +1,10 @@
 // The search by cells: its start, its rounds and what it answers.
 use crate::halves;
-use crate::halves::Spot;
 use cells::Cell;
 use cells::Costs;
 use job::Deck;
 use lines::Lines;
+use problem::Spot;
 use sites::Sites;
 ghost use mathlib.Core.Path.{_≡_};
 ghost use mathlib.Core.List.{[]};
@@ -21,7 +21,8 @@ ghost use Rattle.pricing.specs.Columns.{siteRows};
 ghost use Rattle.lines.specs.LineRecord.{linesRecord};
 ghost use Rattle.cuts.specs.CutRecord.{onLines};
 ghost use Rattle.cells.specs.Space.{queryCell, cellsIn, costsIn, Numbered};
-ghost use Rattle.search.specs.Run.{siteProblem, Sited, Lined, pricedOf, rectIn, unbounded, cornerCosts, Ranged, spotAt, CostsInRange, bestCorner, Addable, Added, searchOf, Takeable, Holds, Steady, Answerable, rowsOf, InColumns, Reaching, foundOf, Ready, Searched};
+ghost use Rattle.search.specs.Run.{cornerCosts, CostsInRange, bestCorner, Addable, Added, searchOf, Takeable, Holds, Steady, Answerable, foundOf, Ready, Searched};
+ghost use Rattle.problem.specs.Problem.{siteProblem, Sited, Lined, pricedOf, rectIn, unbounded, Ranged, spotAt, rowsOf, InColumns, Reaching};
 
 // A search while it runs: where its live cells stand in the order, the best place so far and the cuts made.
 pub struct State {
@@ -142,10 +143,10 @@ fn corners<'a>(
     requires { ⌜ Sited (now xs) (now ys) (now visits) (now near) n × RectInRange (rectIn c) ⌝ }
     ensures { λ r. ⌜ r ≡ cornerCosts (siteRows (now (xs .entry)) (now (ys .entry)) (now (visits .entry)) (now (near .entry)) n) (rectIn c) ⌝ }
 {
-    let front = halves::priced(xs, ys, visits, near, n, c.xlo, c.ylo);
-    let left = halves::priced(xs, ys, visits, near, n, c.xlo, c.yhi);
-    let right = halves::priced(xs, ys, visits, near, n, c.xhi, c.ylo);
-    let back = halves::priced(xs, ys, visits, near, n, c.xhi, c.yhi);
+    let front = problem::priced(xs, ys, visits, near, n, c.xlo, c.ylo);
+    let left = problem::priced(xs, ys, visits, near, n, c.xlo, c.yhi);
+    let right = problem::priced(xs, ys, visits, near, n, c.xhi, c.ylo);
+    let back = problem::priced(xs, ys, visits, near, n, c.xhi, c.yhi);
     Costs {
         c00: front.cost,
         c01: left.cost,
@@ -154,22 +155,15 @@ fn corners<'a>(
     }
 }
 
-// A place with a cost that is known.
-pub fn place(x: i64, y: i64, cost: u64) -> Spot
-    ensures { λ r. ⌜ r ≡ spotAt x y cost ⌝ }
-{
-    Spot { x, y, cost }
-}
-
 // The best of the corners of a cell.
 fn best_corner(c: Cell, k: Costs) -> Spot
     requires { ⌜ CostsInRange k ⌝ }
     ensures { λ r. ⌜ r ≡ bestCorner (rectIn c) k ⌝ }
 {
-    let front = place(c.xlo, c.ylo, k.c00);
-    let left = place(c.xlo, c.yhi, k.c01);
-    let right = place(c.xhi, c.ylo, k.c10);
-    let back = place(c.xhi, c.yhi, k.c11);
+    let front = problem::place(c.xlo, c.ylo, k.c00);
+    let left = problem::place(c.xlo, c.yhi, k.c01);
+    let right = problem::place(c.xhi, c.ylo, k.c10);
+    let back = problem::place(c.xhi, c.yhi, k.c11);
     halves::improve(halves::improve(halves::improve(front, left), right), back)
 }
 
@@ -271,63 +265,15 @@ fn answer<'a>(s: &'a [i64; 5005], o: &'a [u16; 1001], st: State) -> Found
     }
 }
 
-// The area of a deck, with no bound yet.
-pub fn area_of(deck: Deck) -> Cell
-    ensures { λ r. ⌜ r ≡ unbounded (deckOf deck .area) ⌝ }
-{
-    Cell {
-        xlo: deck.xlo,
-        ylo: deck.ylo,
-        xhi: deck.xhi,
-        yhi: deck.yhi,
-        bound: 0,
-    }
-}
-
-// Which of a deck's sites reach its area.
-pub fn flags_of(area: Cell, sites: Sites) -> [u8; 512]
-    requires { ⌜ InColumns sites × (sites .count ≤ 512) × Ranged (rectIn area) ⌝ }
-    ensures { λ r. ⌜ r ≡ flagsOf (rowsOf sites) (rectIn area) ⌝ }
-{
-    let n = sites.count;
-    pricing::reach_flags(
-        &sites.x,
-        &sites.y,
-        &sites.near,
-        n,
-        area.xlo as i32,
-        area.ylo as i32,
-        area.xhi as i32,
-        area.yhi as i32,
-    )
-}
-
-// The lines of a deck: the vertical ones, and the horizontal ones.
-pub fn vertical(deck: Deck, area: Cell, flags: [u8; 512]) -> Lines
-    requires { ⌜ Reaching deck area flags ⌝ }
-    ensures { λ r. ⌜ r ≡ linesRecord (lines (deckOf deck) x-axis) ⌝ }
-{
-    let n = deck.stops;
-    lines::find_lines(&deck.stop_x, &flags, n, area.xlo, area.xhi)
-}
-
-pub fn horizontal(deck: Deck, area: Cell, flags: [u8; 512]) -> Lines
-    requires { ⌜ Reaching deck area flags ⌝ }
-    ensures { λ r. ⌜ r ≡ linesRecord (lines (deckOf deck) y-axis) ⌝ }
-{
-    let n = deck.stops;
-    lines::find_lines(&deck.stop_y, &flags, n, area.ylo, area.yhi)
-}
-
 // The search of a deck whose sites are given, for at most so many rounds: its answer, with its live cells in the cell space.
 pub fn search(deck: Deck, sites: Sites, rounds: u64, cells: &mut [i64]) -> Found
     requires { ⌜ Ready deck sites rounds (length (now cells)) ⌝ }
     ensures { λ r. ⌜ Searched deck rounds (now (cells .entry)) (now (cells .exit)) r ⌝ }
 {
-    let area = area_of(deck);
-    let flags = flags_of(area, sites);
-    let v = vertical(deck, area, flags);
-    let h = horizontal(deck, area, flags);
+    let area = problem::area_of(deck);
+    let flags = problem::flags_of(area, sites);
+    let v = problem::vertical(deck, area, flags);
+    let h = problem::horizontal(deck, area, flags);
     let n = sites.count;
     let nv = v.count;
     let nh = h.count;

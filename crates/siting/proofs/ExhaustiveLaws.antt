@@ -24,9 +24,8 @@ use Rattle.sites.specs.Sites.{sitesOf}
 use Rattle.sites.specs.Record.{sitesRecord}
 use Rattle.sites.specs.declared.Sites.{Sites}
 use Rattle.report.specs.declared.Report.{Report}
-use Rattle.search.specs.Run.{pricedOf}
-use Rattle.search.specs.declared.halves.Spot.{Spot}
-use Rattle.exhaustive.specs.Cheapest.{Ready}
+use Rattle.problem.specs.Problem.{pricedOf, Prepared}
+use Rattle.problem.specs.declared.Spot.{Spot}
 use Rattle.siting.specs.declared.Cheapest.{Cheapest}
 use Rattle.siting.specs.declared.Cheapest.the-variants as Cheapest
 use Rattle.siting.specs.Exhaustive.{spotRecord, cheapestOf, exhaustiveCall, ExhaustiveCallLaw}
@@ -92,7 +91,7 @@ spot-is s p e = ap spotRecord e
 
 module _ (job : List ℕ) (j : Held.Job) (e : j ≡ jobRecord (readJob job)) where
   -- what `cheapest` asks
-  pub walk-ready : (rounds : ℕ) → j .outcome ≡ Accepted rounds → (sites : Sites) → sites ≡ sitesRecord (sitesOf (deckOf (j .deck))) → Ready (j .deck) sites
+  pub walk-ready : (rounds : ℕ) → j .outcome ≡ Accepted rounds → (sites : Sites) → sites ≡ sitesRecord (sitesOf (deckOf (j .deck))) → Prepared (j .deck) sites
   walk-ready rounds o sites f =
       let s = read-accepted job j e rounds o in
       let (range, posts, stops) = sites-ask s j e in

@@ -15,7 +15,7 @@ use Rattle.job.specs.Meaning as Meaning
 use Rattle.job_line.specs.declared.Refusal.{Refusal}
 use Rattle.report.specs.declared.Report.{Report}
 use Rattle.report.specs.declared.State.the-variants.{Done}
-use Rattle.search.specs.declared.halves.Spot.{Spot}
+use Rattle.problem.specs.declared.Spot.{Spot}
 use Rattle.siting.specs.declared.Cheapest.{Cheapest}
 use Rattle.siting.specs.declared.Cheapest.the-variants as Cheapest
 use Rattle.siting.specs.declared.Answer.the-variants as Answered

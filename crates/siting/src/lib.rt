@@ -2,9 +2,9 @@
 use job::Deck;
 use job::Outcome;
 use job_line::Refusal;
+use problem::Spot;
 use report::Report;
 use report::State;
-use search::halves::Spot;
 use search::run;
 ghost use Prim.Native.Nat.{_≤_};
 ghost use mathlib.Core.Path.{_≡_};

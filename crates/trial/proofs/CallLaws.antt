@@ -24,7 +24,7 @@ use Rattle.job.proofs.Meaning.{accepted-law, refused-law, allowed-in-range}
 use Rattle.report.specs.Report.{figuresOf}
 use Rattle.report.specs.Limits.{FiguresInRange}
 use Rattle.report.specs.declared.Report.{Report}
-use Rattle.search.specs.declared.halves.Spot.{Spot}
+use Rattle.problem.specs.declared.Spot.{Spot}
 use Rattle.siting.specs.declared.Answer.{Answer}
 use Rattle.siting.specs.declared.Answer.the-variants as Answered
 use Rattle.siting.specs.declared.Cheapest.{Cheapest}

@@ -11,7 +11,7 @@ use Rattle.job_line.specs.declared.Refusal as Job
 use Rattle.report.specs.declared.Report as Report
 use Rattle.report.specs.declared.State.{State}
 use Rattle.report.specs.declared.State.the-variants.{Done, Stopped}
-use Rattle.search.specs.declared.halves.Spot.{Spot}
+use Rattle.problem.specs.declared.Spot.{Spot}
 use Rattle.siting.specs.declared.Answer.{Answer}
 use Rattle.siting.specs.declared.Answer.the-variants.{Report, Refused}
 use Rattle.siting.specs.declared.Cheapest.{Cheapest}

@@ -1,9 +1,9 @@
 // The calls `siting::report` and `siting::exhaustive`, for the tests: their answers as numbers, and all that the first leaves in the
 // memory that it is lent.
 use job_line::Refusal;
+use problem::Spot;
 use report::Report;
 use report::State;
-use search::halves::Spot;
 use siting::Answer;
 use siting::Cheapest;
 ghost use mathlib.Core.Path.{_≡_};

@@ -2,8 +2,8 @@
 -- Assumes nothing.
 use mathlib.Core.Path.{ap, _∙_}
 use Rattle.cuts.specs.CutRecord.{cutRecord}
-use Rattle.search.specs.Run.{rectIn}
-use Rattle.search.proofs.StepLaws.{edges-x, edges-y, rect-back}
+use Rattle.problem.specs.Problem.{rectIn}
+use Rattle.problem.proofs.Coordinates.{edges-x, edges-y, rect-back}
 use Rattle.search.proofs.halves.cut_of.Statement.{statement}
 use Rattle.search.proofs.halves.cut_of.Tie as tie
 

@@ -1,6 +1,7 @@
 -- `search::halves::high_corner` meets its contract: by the axis of the cut.
 -- Assumes nothing.
-use Rattle.search.proofs.StepLaws.{near-places, high-across, high-deep}
+use Rattle.search.proofs.StepLaws.{high-across, high-deep}
+use Rattle.problem.proofs.Coordinates.{near-places}
 use Rattle.search.proofs.halves.high_corner.Statement.{statement}
 use Rattle.search.proofs.halves.high_corner.Tie as tie
 

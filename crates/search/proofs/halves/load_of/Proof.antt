@@ -1,7 +1,8 @@
 -- `search::halves::load_of` meets its contract: the cell's edges are in range, so that `load` sees them as they are.
 -- Assumes nothing.
-use Rattle.search.specs.Run.{rectIn}
-use Rattle.search.proofs.StepLaws.{near-narrow, edges-narrow, load-narrow}
+use Rattle.problem.specs.Problem.{rectIn}
+use Rattle.search.proofs.StepLaws.{load-narrow}
+use Rattle.problem.proofs.Coordinates.{near-narrow, edges-narrow}
 use Rattle.search.proofs.halves.load_of.Statement.{statement}
 use Rattle.search.proofs.halves.load_of.Tie as tie
 

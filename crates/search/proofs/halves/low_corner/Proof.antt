@@ -1,6 +1,7 @@
 -- `search::halves::low_corner` meets its contract: by the axis of the cut.
 -- Assumes nothing.
-use Rattle.search.proofs.StepLaws.{near-places, low-across, low-deep}
+use Rattle.search.proofs.StepLaws.{low-across, low-deep}
+use Rattle.problem.proofs.Coordinates.{near-places}
 use Rattle.search.proofs.halves.low_corner.Statement.{statement}
 use Rattle.search.proofs.halves.low_corner.Tie as tie
 

@@ -1,7 +1,8 @@
 -- `search::run::corners` meets its contract: each corner is in range, and is priced.
 -- Assumes nothing.
-use Rattle.search.specs.Run.{rectIn}
-use Rattle.search.proofs.StepLaws.{near-places, corner-costs}
+use Rattle.problem.specs.Problem.{rectIn}
+use Rattle.search.proofs.StepLaws.{corner-costs}
+use Rattle.problem.proofs.Coordinates.{near-places}
 use Rattle.search.proofs.run.corners.Statement.{statement}
 use Rattle.search.proofs.run.corners.Tie as tie
 

@@ -6,7 +6,8 @@ use denote.Ref.{now}
 use lib.ListN.{take}
 use Rattle.query.specs.Range.{RectInRange, costLimit}
 use Rattle.pricing.specs.Columns.{siteRows}
-use Rattle.search.specs.Run.{rectIn, Cutting}
+use Rattle.search.specs.Run.{Cutting}
+use Rattle.problem.specs.Problem.{rectIn}
 use Rattle.search.proofs.RoundLaws.{cutting, rounded, halves-limit, halves-ranged, limit-of, trim-key}
 use Rattle.search.proofs.run.round.Statement.{statement}
 use Rattle.search.proofs.run.round.Tie as tie

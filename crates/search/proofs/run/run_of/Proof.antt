@@ -8,7 +8,8 @@ use Rattle.query.specs.Search.{run}
 use Rattle.query.specs.Place.{emptyRect}
 use Rattle.pricing.specs.Columns.{siteRows}
 use Rattle.cells.specs.Space.{cellsIn, costsIn, Numbered}
-use Rattle.search.specs.Run.{siteProblem, rectIn, searchOf, Holds}
+use Rattle.search.specs.Run.{searchOf, Holds}
+use Rattle.problem.specs.Problem.{siteProblem, rectIn}
 use Rattle.search.proofs.RunLaws.{roundsFrom, holds-first, holds-more, holds-run, ended, finished, takeable}
 use Rattle.search.proofs.run.run_of.Statement.{statement}
 use Rattle.search.proofs.run.run_of.Tie as tie

@@ -1,8 +1,8 @@
--- `search::halves::priced` meets its contract: the coordinates are in range, so that `cost` sees them as they are.
+-- `problem::priced` meets its contract: the coordinates are in range, so that `cost` sees them as they are.
 -- Assumes nothing.
-use Rattle.search.proofs.StepLaws.{near-narrow, place-narrow, priced-is}
-use Rattle.search.proofs.halves.priced.Statement.{statement}
-use Rattle.search.proofs.halves.priced.Tie as tie
+use Rattle.problem.proofs.Coordinates.{near-narrow, place-narrow, priced-is}
+use Rattle.problem.proofs.priced.Statement.{statement}
+use Rattle.problem.proofs.priced.Tie as tie
 
 cast-cost : tie.Need-cast-cost
 cast-cost c = near-narrow (c .args .x) (c .pre .1 .x-range)

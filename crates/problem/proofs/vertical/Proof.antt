@@ -1,12 +1,12 @@
--- `search::run::vertical` meets its contract: the lines found are those of the deck, whose stops the columns hold and the flags tell.
+-- `problem::vertical` meets its contract: the lines found are those of the deck, whose stops the columns hold and the flags tell.
 -- Assumes nothing.
 use mathlib.Core.Path.{_≡_, _∙_}
 use borrow.Author.Needs.{needs}
 use lib.ListN.{length}
 use Rattle.sites.proofs.DeckLaws.{DeckColumns}
-use Rattle.search.proofs.DeckRun.{vertical-is, rows-full}
-use Rattle.search.proofs.run.vertical.Statement.{statement}
-use Rattle.search.proofs.run.vertical.Tie as tie
+use Rattle.problem.proofs.DeckProblem.{vertical-is, rows-full}
+use Rattle.problem.proofs.vertical.Statement.{statement}
+use Rattle.problem.proofs.vertical.Tie as tie
 
 flags-long : (c : tie.Start) → length (c .args .t3) ≡ 512
 flags-long c = search needs

@@ -1,11 +1,11 @@
--- `search::run::flags_of` meets its contract: the area's edges are in range, so that `reach_flags` sees them as they are.
+-- `problem::flags_of` meets its contract: the area's edges are in range, so that `reach_flags` sees them as they are.
 -- Assumes nothing.
 use Rattle.pricing.proofs.RecordLaws.{reach-range}
-use Rattle.search.specs.Run.{rectIn}
-use Rattle.search.proofs.DeckRun.{flags-are}
-use Rattle.search.proofs.StepLaws.{near-narrow, edges-narrow}
-use Rattle.search.proofs.run.flags_of.Statement.{statement}
-use Rattle.search.proofs.run.flags_of.Tie as tie
+use Rattle.problem.specs.Problem.{rectIn}
+use Rattle.problem.proofs.DeckProblem.{flags-are}
+use Rattle.problem.proofs.Coordinates.{near-narrow, edges-narrow}
+use Rattle.problem.proofs.flags_of.Statement.{statement}
+use Rattle.problem.proofs.flags_of.Tie as tie
 
 cast-reach-flags : tie.Need-cast-reach-flags
 cast-reach-flags c = near-narrow (c .before .before .before .before .before .before .args .area .xlo) (c .before .before .before .before .before .before .pre .2 .range .low-corner .x-range)

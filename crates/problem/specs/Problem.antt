@@ -1,0 +1,95 @@
+-- The problem of document 01 as the code holds it: sites, lines, and places with their costs.
+-- Assumes nothing.
+use Prim.Native.Nat.{ℕ, _+_, _*_, _≤_, max}
+use mathlib.Core.Path.{_≡_}
+use mathlib.Core.List.{List}
+use lib.IntN.{ℤ, pos, natAbs, _-ℤ_}
+use Rattle.numbers.specs.Integer.{halfUp}
+use Rattle.query.specs.Place.{Place, Rect, NonEmpty}
+use Rattle.query.specs.Deck.{plain}
+use Rattle.query.specs.Bound.{span}
+use Rattle.query.specs.Problem.{Problem}
+use Rattle.query.specs.Order.{Priced}
+use Rattle.query.specs.Range.{RectInRange, InRange, costLimit}
+use Rattle.job.specs.declared.Deck.{Deck}
+use Rattle.sites.specs.DeckOf.{deckOf}
+use Rattle.sites.specs.Sites.{Site, sitesOf}
+use Rattle.sites.specs.Record.{sitesRecord}
+use Rattle.sites.specs.declared.Sites.{Sites}
+use Rattle.pricing.specs.Figures.{costOf, loadOf, flagsOf}
+use Rattle.pricing.specs.Columns.{siteRows, ColumnsInRange}
+use Rattle.lines.specs.LineRecord as Lines
+use Rattle.cells.specs.declared.Cell.{Cell}
+use Rattle.cells.specs.Space.{queryCell}
+use Rattle.problem.specs.declared.Spot.{Spot}
+
+-- the bound of a cell
+unfoldable pub boundOf : List Site → Rect → ℤ
+unfolding costOf loadOf span halfUp
+boundOf sites r = halfUp (pos (max (costOf sites (record { x = r .xlo; y = r .ylo }) + costOf sites (record { x = r .xhi; y = r .yhi })) (costOf sites (record { x = r .xlo; y = r .yhi }) + costOf sites (record { x = r .xhi; y = r .ylo }))) -ℤ pos (span plain r * loadOf sites r))
+
+-- the problem of some sites, lines and an area
+unfoldable pub siteProblem : List Site → List ℤ → List ℤ → Rect → Problem
+unfolding costOf boundOf
+siteProblem sites vertical horizontal area = record { area = area; vertical = vertical; horizontal = horizontal; price = costOf sites; bound = boundOf sites }
+
+-- columns of sites in range
+pub record Sited (xs ys : List ℤ) (vs ns : List ℕ) (n : ℕ) : Type 0 where
+  pub count : n ≤ 512
+  pub range : ColumnsInRange xs ys vs ns
+  pub cost-limit : (p : Place) → costOf (siteRows xs ys vs ns n) p ≤ costLimit
+
+-- arrays of lines in order
+pub record Lined (vertical : List ℤ) (nv : ℕ) (horizontal : List ℤ) (nh : ℕ) : Type 0 where
+  pub across : Lines.InOrder vertical nv
+  pub deep : Lines.InOrder horizontal nh
+
+-- ---- places and cells as the code holds them
+-- a place with a cost
+abbrev pub spotAt : ℤ → ℤ → ℕ → Spot
+spotAt x y cost = record { x = x; y = y; cost = cost }
+
+abbrev pub pricedOf : Spot → Priced
+pricedOf p = record { at = record { x = p .x; y = p .y }; cost = p .cost }
+
+abbrev pub spotOf : List Site → Place → Spot
+spotOf sites p = record { x = p .x; y = p .y; cost = costOf sites p }
+
+abbrev pub rectIn : Cell → Rect
+rectIn c = queryCell c .rect
+
+-- a rectangle whose bound is not known yet
+abbrev pub unbounded : Rect → Cell
+unbounded r = record { xlo = r .xlo; ylo = r .ylo; xhi = r .xhi; yhi = r .yhi; bound = pos 0 }
+
+-- numbers and rectangles in range
+pub record Near20000 (x y : ℤ) : Type 0 where
+  pub x-range : natAbs x ≤ 20000
+  pub y-range : natAbs y ≤ 20000
+
+pub record Ranged (r : Rect) : Type 0 where
+  pub range : RectInRange r
+  pub full : NonEmpty r
+
+-- the rows that a record of sites counts, and its columns in range
+abbrev pub rowsOf : Sites → List Site
+rowsOf r = siteRows (r .x) (r .y) (r .visits) (r .near) (r .count)
+
+abbrev pub InColumns : Sites → Type 0
+InColumns r = ColumnsInRange (r .x) (r .y) (r .visits) (r .near)
+
+-- what the lines of a deck ask: its area, and which of its stops reach it
+pub record Reaching (deck : Deck) (area : Cell) (flags : List ℕ) : Type 0 where
+  pub posts : deck .posts ≤ 64
+  pub stops : deck .stops ≤ 512
+  pub area-is : rectIn area ≡ deckOf deck .area
+  pub ranged : RectInRange (rectIn area)
+  pub flags-are : flags ≡ flagsOf (sitesOf (deckOf deck)) (deckOf deck .area)
+
+-- a deck in range, and its sites
+pub record Prepared (deck : Deck) (sites : Sites) : Type 0 where
+  pub sites-are : sites ≡ sitesRecord (sitesOf (deckOf deck))
+  pub range : InRange (deckOf deck)
+  pub full : NonEmpty (deckOf deck .area)
+  pub posts : deck .posts ≤ 64
+  pub stops : deck .stops ≤ 512

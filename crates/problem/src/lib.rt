@@ -1,0 +1,93 @@
+// The problem of a deck as both searches take it: its area, its lines, and places with their costs.
+use cells::Cell;
+use job::Deck;
+use lines::Lines;
+use sites::Sites;
+ghost use mathlib.Core.Path.{_≡_};
+ghost use Prim.Native.Nat.{_≤_};
+ghost use Rattle.query.specs.Place.{x-axis, y-axis};
+ghost use Rattle.query.specs.Lines.{lines};
+ghost use Rattle.sites.specs.DeckOf.{deckOf};
+ghost use Rattle.pricing.specs.Figures.{flagsOf};
+ghost use Rattle.pricing.specs.Columns.{siteRows};
+ghost use Rattle.lines.specs.LineRecord.{linesRecord};
+ghost use Rattle.problem.specs.Problem.{Sited, spotOf, spotAt, rectIn, unbounded, Near20000, Ranged, rowsOf, InColumns, Reaching};
+
+// A place with its cost.
+pub struct Spot {
+    pub x: i64,
+    pub y: i64,
+    pub cost: u64,
+}
+
+// A place, priced.
+pub fn priced<'a>(
+    xs: &'a [i32; 512],
+    ys: &'a [i32; 512],
+    visits: &'a [u32; 512],
+    near: &'a [u32; 512],
+    n: usize,
+    x: i64,
+    y: i64,
+) -> Spot
+    requires { ⌜ Sited (now xs) (now ys) (now visits) (now near) n × Near20000 x y ⌝ }
+    ensures { λ r. ⌜ r ≡ spotOf (siteRows (now (xs .entry)) (now (ys .entry)) (now (visits .entry)) (now (near .entry)) n) (record { x = x; y = y }) ⌝ }
+{
+    let cost = pricing::cost(xs, ys, visits, near, n, x as i32, y as i32);
+    Spot { x, y, cost }
+}
+
+// A place with a cost that is known.
+pub fn place(x: i64, y: i64, cost: u64) -> Spot
+    ensures { λ r. ⌜ r ≡ spotAt x y cost ⌝ }
+{
+    Spot { x, y, cost }
+}
+
+// The area of a deck, with no bound yet.
+pub fn area_of(deck: Deck) -> Cell
+    ensures { λ r. ⌜ r ≡ unbounded (deckOf deck .area) ⌝ }
+{
+    Cell {
+        xlo: deck.xlo,
+        ylo: deck.ylo,
+        xhi: deck.xhi,
+        yhi: deck.yhi,
+        bound: 0,
+    }
+}
+
+// Which of a deck's sites reach its area.
+pub fn flags_of(area: Cell, sites: Sites) -> [u8; 512]
+    requires { ⌜ InColumns sites × (sites .count ≤ 512) × Ranged (rectIn area) ⌝ }
+    ensures { λ r. ⌜ r ≡ flagsOf (rowsOf sites) (rectIn area) ⌝ }
+{
+    let n = sites.count;
+    pricing::reach_flags(
+        &sites.x,
+        &sites.y,
+        &sites.near,
+        n,
+        area.xlo as i32,
+        area.ylo as i32,
+        area.xhi as i32,
+        area.yhi as i32,
+    )
+}
+
+// The lines of a deck: the vertical ones, and the horizontal ones.
+pub fn vertical(deck: Deck, area: Cell, flags: [u8; 512]) -> Lines
+    requires { ⌜ Reaching deck area flags ⌝ }
+    ensures { λ r. ⌜ r ≡ linesRecord (lines (deckOf deck) x-axis) ⌝ }
+{
+    let n = deck.stops;
+    lines::find_lines(&deck.stop_x, &flags, n, area.xlo, area.xhi)
+}
+
+pub fn horizontal(deck: Deck, area: Cell, flags: [u8; 512]) -> Lines
+    requires { ⌜ Reaching deck area flags ⌝ }
+    ensures { λ r. ⌜ r ≡ linesRecord (lines (deckOf deck) y-axis) ⌝ }
+{
+    let n = deck.stops;
+    lines::find_lines(&deck.stop_y, &flags, n, area.ylo, area.yhi)
+}
