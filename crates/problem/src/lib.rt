@@ -34,7 +34,7 @@ pub fn priced<'a>(
     ensures { λ r. ⌜ r ≡ spotOf (siteRows (now (xs .entry)) (now (ys .entry)) (now (visits .entry)) (now (near .entry)) n) (record { x = x; y = y }) ⌝ }
 {
     let cost = pricing::cost(xs, ys, visits, near, n, x as i32, y as i32);
-    Spot { x, y, cost }
+    place(x, y, cost)
 }
 
 // A place with a cost that is known.
