@@ -105,6 +105,6 @@ module _ (sites : List Site) (vs hs : List ℤ) (area : Rect) where
       ∙ ap (λ (b : Priced). bestOf P b ps) (cheaper-is first (spotOf sites p) (h p (List·Memᴰ·head refl)))
       ∙ sym (step-is first p ps)
 
-  pub walk-is : InTurn (flatMap (along hs) vs) → ((q : Place) → List·Memᴰ q (flatMap (along hs) vs) → T (not (earlier q (corner area)))) → pricedOf (firstCheapest sites (spotOf sites (corner area)) (flatMap (along hs) vs)) ≡ cheapestCrossing P
+  pub cheapest-is : InTurn (flatMap (along hs) vs) → ((q : Place) → List·Memᴰ q (flatMap (along hs) vs) → T (not (earlier q (corner area)))) → pricedOf (firstCheapest sites (spotOf sites (corner area)) (flatMap (along hs) vs)) ≡ cheapestCrossing P
   unfolding cheapestCrossing crossings siteProblem
-  walk-is t h = cheapest-best (spotOf sites (corner area)) (flatMap (along hs) vs) t h
+  cheapest-is t h = cheapest-best (spotOf sites (corner area)) (flatMap (along hs) vs) t h

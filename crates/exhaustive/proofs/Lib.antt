@@ -6,6 +6,6 @@ pub mod TableLaws
 pub mod AllSites
 pub mod CheapestLaws
 pub mod SweepLaws
-pub mod WalkLaws
+pub mod CheapestOfLines
 pub mod CrossingOrder
-pub mod DeckWalk
+pub mod DeckCrossings

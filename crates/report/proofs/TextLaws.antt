@@ -12,9 +12,10 @@ use Rattle.query.specs.Figures.{Figures, State, done, stopped}
 use Rattle.query.specs.Range.{costLimit}
 use Rattle.text.specs.Ascii.{bytes, comma}
 use Rattle.text.specs.Decimal.{spellNat, spellInt}
-use Rattle.text.specs.Written.{Wrote}
-use Rattle.text.proofs.DigitCounts.{length-spellNat, length-spellNat-below, length-spellInt, length-spellInt-below}
-use Rattle.text.proofs.WrittenLaws.{written-front, wrote-both}
+use Rattle.write.specs.Written.{Wrote}
+use Rattle.text.proofs.DigitCounts.{length-spellNat, length-spellNat-below, length-spellInt-below}
+use Rattle.write.proofs.SpellLaws.{length-spellInt}
+use Rattle.write.proofs.WrittenLaws.{written-front, wrote-both}
 use Rattle.job_line.specs.Refusal.{numberOf, lineOf}
 use Rattle.job_line.specs.declared.Refusal.{Refusal}
 use Rattle.job_line.specs.declared.Refusal.the-variants.{TooLong, Malformed, OutOfRange, EmptyArea, NoPosts, NoStops, SmallSpace, ShortOutput}

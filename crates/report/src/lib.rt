@@ -1,13 +1,12 @@
 // The text of a report and of a refusal.
 use job_line::Refusal;
-use text::write;
 ghost use Prim.Native.Nat.{_+_, _≤_};
 ghost use mathlib.Core.Path.{_≡_};
 ghost use mathlib.Core.List.{[], _∷_, _++_};
 ghost use lib.ListN.{length};
 ghost use Rattle.text.specs.Ascii.{bytes, comma};
 ghost use Rattle.text.specs.Decimal.{spellNat, spellInt};
-ghost use Rattle.text.specs.Written.{Wrote};
+ghost use Rattle.write.specs.Written.{Wrote};
 ghost use Rattle.job_line.specs.Refusal.{numberOf, lineOf};
 ghost use Rattle.report.specs.Report.{stateOf, figuresOf};
 ghost use Rattle.report.specs.Text.{stateText, reportText, refusalText};

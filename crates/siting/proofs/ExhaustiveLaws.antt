@@ -91,16 +91,16 @@ spot-is s p e = ap spotRecord e
 
 module _ (job : List ℕ) (j : Held.Job) (e : j ≡ jobRecord (readJob job)) where
   -- what `cheapest` asks
-  pub walk-ready : (rounds : ℕ) → j .outcome ≡ Accepted rounds → (sites : Sites) → sites ≡ sitesRecord (sitesOf (deckOf (j .deck))) → Prepared (j .deck) sites
-  walk-ready rounds o sites f =
+  pub exhaustive-ready : (rounds : ℕ) → j .outcome ≡ Accepted rounds → (sites : Sites) → sites ≡ sitesRecord (sitesOf (deckOf (j .deck))) → Prepared (j .deck) sites
+  exhaustive-ready rounds o sites f =
       let s = read-accepted job j e rounds o in
       let (range, posts, stops) = sites-ask s j e in
       record { sites-are = f; range = range; full = read-full s j e; posts = posts; stops = stops }
 
-  pub walk-found : (rounds : ℕ) → j .outcome ≡ Accepted rounds → (s : Spot) → pricedOf s ≡ Query.exhaustive (deckOf (j .deck)) → Cheapest.At s ≡ exhaustiveCall job
-  walk-found rounds o s f =
+  pub exhaustive-found : (rounds : ℕ) → j .outcome ≡ Accepted rounds → (s : Spot) → pricedOf s ≡ Query.exhaustive (deckOf (j .deck)) → Cheapest.At s ≡ exhaustiveCall job
+  exhaustive-found rounds o s f =
       let t = read-accepted job j e rounds o in
       ap Cheapest.At (spot-is s (Query.exhaustive (t .job .deck)) (f ∙ ap Query.exhaustive (read-deckOf t j e))) ∙ sym (call-accepted job (t .job) (t .read))
 
-  pub walk-refused : (why : Refusal) → j .outcome ≡ Refused why → Cheapest.Refused why ≡ exhaustiveCall job
-  walk-refused why o = sym (call-refused job why (read-refused job j e why o))
+  pub exhaustive-refused : (why : Refusal) → j .outcome ≡ Refused why → Cheapest.Refused why ≡ exhaustiveCall job
+  exhaustive-refused why o = sym (call-refused job why (read-refused job j e why o))

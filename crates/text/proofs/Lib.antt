@@ -4,4 +4,3 @@ pub mod KeyLaws
 pub mod DigitLaws
 pub mod SignLaws
 pub mod DigitCounts
-pub mod WrittenLaws

@@ -2,4 +2,3 @@ pub mod Ascii
 pub mod Numeral
 pub mod Decimal
 pub mod Reading
-pub mod Written

@@ -1,6 +1,4 @@
-// Numbers and fixed keys in byte slices.
-pub mod write;
-
+// Numbers and fixed keys read from byte slices.
 ghost use Rattle.text.specs.Reading.{ByteIs, Starts, DigitAt, DigitsAt, NaturalAt, NegativeAt, NumberAt};
 
 // A number that is not negative and the place after it, or nothing that has a number's form.

@@ -7,7 +7,7 @@ use borrow.Author.Needs.{needs}
 use Rattle.query.specs.Place.{x-axis, y-axis}
 use Rattle.sites.specs.DeckOf.{deckOf}
 use Rattle.problem.specs.Problem.{rectIn}
-use Rattle.exhaustive.proofs.DeckWalk.{deck-lines, columns, count, sited, paid, before-is, ranged, reaches, corner-near, answers}
+use Rattle.exhaustive.proofs.DeckCrossings.{deck-lines, columns, count, sited, paid, before-is, ranged, reaches, corner-near, answers}
 use Rattle.exhaustive.proofs.cheapest.Statement.{statement}
 use Rattle.exhaustive.proofs.cheapest.Tie as tie
 

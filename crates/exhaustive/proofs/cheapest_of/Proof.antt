@@ -7,18 +7,18 @@ use lib.ListN.{getD, take}
 use denote.Ref.{now}
 use Rattle.pricing.specs.Columns.{siteRows}
 use Rattle.exhaustive.proofs.SiteRamps.{small-back}
-use Rattle.exhaustive.proofs.WalkLaws.{Walking, walk-none, walk-more, walk-all}
+use Rattle.exhaustive.proofs.CheapestOfLines.{Compared, compared-none, compared-more, compared-all}
 use Rattle.exhaustive.proofs.cheapest_of.Statement.{statement}
 use Rattle.exhaustive.proofs.cheapest_of.Tie as tie
 
 abbrev Inv-loop : tie.InvT-loop
-Inv-loop xs ys visits near n v nv h nh table before found₀ i₀ found i = Walking (siteRows xs ys visits near n) (take nh h) v nv found₀ found i
+Inv-loop xs ys visits near n v nv h nh table before found₀ i₀ found i = Compared (siteRows xs ys visits near n) (take nh h) v nv found₀ found i
 
 abbrev μ-loop : tie.MeasureT-loop
 μ-loop xs ys visits near n v nv h nh table before found₀ i₀ found i = nv - i
 
 loop-holds : tie.Need-loop-holds Inv-loop μ-loop
-loop-holds c = walk-none _ _ _ _ _
+loop-holds c = compared-none _ _ _ _ _
 
 mul-cheapest-on : tie.Need-mul-cheapest-on Inv-loop μ-loop
 mul-cheapest-on c = omega arith
@@ -42,10 +42,10 @@ loop-less c = omega (arith, c .before .before .loop-test .taken)
 loop-again : tie.Need-loop-again Inv-loop μ-loop
 loop-again c =
     let at = c .before .before .before in
-    walk-more _ _ _ _ _ (at .before .pre .1) (at .loop .inv) (c .before .before .loop-test .taken) _ (c .cheapest-on .ensures)
+    compared-more _ _ _ _ _ (at .before .pre .1) (at .loop .inv) (c .before .before .loop-test .taken) _ (c .cheapest-on .ensures)
 
 returns : tie.Need-returns Inv-loop μ-loop
-returns c = walk-all _ _ _ _ _ (c .before .loop .inv) (c .loop-test .left)
+returns c = compared-all _ _ _ _ _ (c .before .loop .inv) (c .loop-test .left)
 
 pub cheapest-of-spec : {M : Type 1} → statement M
 cheapest-of-spec =

@@ -2,7 +2,7 @@
 -- Assumes nothing.
 use native.Mathlib.Omega.{arith}
 use Rattle.exhaustive.proofs.SiteRamps.{small-back}
-use Rattle.exhaustive.proofs.WalkLaws.{zero-sums, sweepable, swept-line}
+use Rattle.exhaustive.proofs.CheapestOfLines.{zero-sums, sweepable, swept-line}
 use Rattle.exhaustive.proofs.cheapest_on.Statement.{statement}
 use Rattle.exhaustive.proofs.cheapest_on.Tie as tie
 

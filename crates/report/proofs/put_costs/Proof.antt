@@ -6,7 +6,7 @@ use mir.Syntax.{w64}
 use mir.ValLaws.{toZ-ofZ}
 use Rattle.text.specs.Ascii.{bytes}
 use Rattle.text.specs.Decimal.{spellNat, spellInt}
-use Rattle.text.proofs.WrittenLaws.{wrote-pair}
+use Rattle.write.proofs.WrittenLaws.{wrote-pair}
 use Rattle.report.proofs.put_costs.Statement.{statement}
 use Rattle.report.proofs.put_costs.Tie as tie
 

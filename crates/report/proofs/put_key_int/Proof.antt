@@ -4,7 +4,7 @@ use native.Mathlib.Omega.{arith}
 use borrow.Author.Needs.{needs}
 use mir.Syntax.{w64}
 use mir.ValLaws.{toZ-ofZ}
-use Rattle.text.proofs.WrittenLaws.{wrote-both}
+use Rattle.write.proofs.WrittenLaws.{wrote-both}
 use Rattle.report.proofs.TextLaws.{length-int-part}
 use Rattle.report.proofs.put_key_int.Statement.{statement}
 use Rattle.report.proofs.put_key_int.Tie as tie

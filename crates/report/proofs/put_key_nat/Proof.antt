@@ -2,7 +2,7 @@
 -- Assumes nothing.
 use native.Mathlib.Omega.{arith}
 use borrow.Author.Needs.{needs}
-use Rattle.text.proofs.WrittenLaws.{wrote-both}
+use Rattle.write.proofs.WrittenLaws.{wrote-both}
 use Rattle.report.proofs.TextLaws.{length-nat-part}
 use Rattle.report.proofs.put_key_nat.Statement.{statement}
 use Rattle.report.proofs.put_key_nat.Tie as tie

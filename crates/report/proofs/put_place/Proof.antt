@@ -7,7 +7,7 @@ use mir.Syntax.{w64}
 use mir.ValLaws.{toZ-ofZ}
 use Rattle.text.specs.Ascii.{bytes, comma}
 use Rattle.text.specs.Decimal.{spellInt}
-use Rattle.text.proofs.WrittenLaws.{wrote-pair}
+use Rattle.write.proofs.WrittenLaws.{wrote-pair}
 use Rattle.report.proofs.put_place.Statement.{statement}
 use Rattle.report.proofs.put_place.Tie as tie
 

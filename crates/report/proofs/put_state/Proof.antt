@@ -7,8 +7,8 @@ use mathlib.Core.List.{List, _++_}
 use lib.ListN.{length}
 use borrow.Author.Needs.{needs}
 use Rattle.text.specs.Ascii.{bytes}
-use Rattle.text.specs.Written.{Wrote}
-use Rattle.text.proofs.WrittenLaws.{wrote-both}
+use Rattle.write.specs.Written.{Wrote}
+use Rattle.write.proofs.WrittenLaws.{wrote-both}
 use Rattle.report.specs.declared.State.{State}
 use Rattle.report.specs.Report.{stateOf}
 use Rattle.report.specs.Text.{stateText}

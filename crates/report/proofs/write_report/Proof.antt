@@ -11,7 +11,7 @@ use mir.Syntax.{w64}
 use mir.Val.{toZ, ofZ}
 use mir.ValLaws.{toZ-ofZ}
 use Rattle.text.specs.Ascii.{bytes}
-use Rattle.text.specs.Written.{Wrote}
+use Rattle.write.specs.Written.{Wrote}
 use Rattle.report.specs.declared.Report.{Report}
 use Rattle.report.specs.Limits.{FiguresInRange}
 use Rattle.report.specs.Report.{stateOf, figuresOf}

@@ -1,7 +1,7 @@
 -- `siting::exhaustive` meets its contract.
 -- Assumes nothing.
 use Rattle.siting.proofs.ReadLaws.{read-accepted, sites-ask}
-use Rattle.siting.proofs.ExhaustiveLaws.{walk-ready, walk-found, walk-refused}
+use Rattle.siting.proofs.ExhaustiveLaws.{exhaustive-ready, exhaustive-found, exhaustive-refused}
 use borrow.Author.Needs.{needs}
 use Rattle.siting.proofs.exhaustive.Statement.{statement}
 use Rattle.siting.proofs.exhaustive.Tie as tie
@@ -16,16 +16,16 @@ of-deck-requires : tie.Need-of-deck-requires
 of-deck-requires c κs = let e = c .before .before .before .read .ensures in sites-ask (read-accepted _ _ e _ (c .enum-told .given .1)) _ e
 
 cheapest-requires : tie.Need-cheapest-requires
-cheapest-requires c κs = walk-ready _ _ (c .before .before .before .before .read .ensures) _ (c .before .enum-told .given .1) _ (c .of-deck .ensures)
+cheapest-requires c κs = exhaustive-ready _ _ (c .before .before .before .before .read .ensures) _ (c .before .enum-told .given .1) _ (c .of-deck .ensures)
 
 enum-known-outcome : tie.Need-enum-known-outcome
 enum-known-outcome c = search needs
 
 returns : tie.Need-returns
-returns c = walk-found _ _ (c .before .before .before .before .before .read .ensures) _ (c .before .before .enum-told .given .1) _ (c .cheapest .ensures)
+returns c = exhaustive-found _ _ (c .before .before .before .before .before .read .ensures) _ (c .before .before .enum-told .given .1) _ (c .cheapest .ensures)
 
 returns-2 : tie.Need-returns-2
-returns-2 c = walk-refused _ _ (c .before .before .before .before .read .ensures) _ (c .before .outcome .given .1)
+returns-2 c = exhaustive-refused _ _ (c .before .before .before .before .read .ensures) _ (c .before .outcome .given .1)
 
 pub exhaustive-spec : {M : Type 1} → statement M
 exhaustive-spec =

@@ -1,4 +1,4 @@
--- `text::write::put_int` meets its contract: a `-` where the number is negative, and the digits of its absolute value.
+-- `write::put_int` meets its contract: a `-` where the number is negative, and the digits of its absolute value.
 -- Assumes nothing.
 use mathlib.Core.Path.{_≡_, _∙_}
 use mathlib.Core.Bool.{true, false}
@@ -12,13 +12,13 @@ use lib.Signed.{ltZ}
 use mir.Syntax.{w64}
 use mir.Val.{SFits, toZ, ofZ}
 use mir.ValLaws.{toZ-ofZ}
 use Rattle.text.specs.Decimal.{spellNat, spellInt}
-use Rattle.text.specs.Written.{Wrote}
-use Rattle.text.proofs.DigitCounts.{spellInt-nonNeg, spellInt-negative}
-use Rattle.text.proofs.WrittenLaws.{wrote-both, wrote-store}
+use Rattle.write.specs.Written.{Wrote}
+use Rattle.write.proofs.SpellLaws.{spellInt-nonNeg, spellInt-negative}
+use Rattle.write.proofs.WrittenLaws.{wrote-both, wrote-store}
 use borrow.Author.Needs.{needs}
-use Rattle.text.proofs.write.put_int.Statement.{statement}
-use Rattle.text.proofs.write.put_int.Tie as tie
+use Rattle.write.proofs.put_int.Statement.{statement}
+use Rattle.write.proofs.put_int.Tie as tie
 
 -- z as it is read back from its bits
 nonNegative : {out after : List ℕ} {at end : ℕ} (z : ℤ) (n : ℕ) → SFits w64 z → ltZ (toZ w64 (ofZ w64 z)) (pos 0) ≡ false → n ≡ natAbs (toZ w64 (ofZ w64 z)) → Wrote out at (spellNat n) after end → Wrote out at (spellInt z) after end

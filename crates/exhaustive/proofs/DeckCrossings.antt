@@ -38,7 +38,7 @@ use Rattle.problem.proofs.Coordinates.{near-places, spot-back}
 use Rattle.problem.proofs.DeckProblem.{columns-range, sites-count, deck-sited, area-ranged, reaching, coded-is}
 use Rattle.exhaustive.specs.Ramps.{LinesInRange}
 use Rattle.exhaustive.specs.Cheapest.{firstCheapest, along}
-use Rattle.exhaustive.proofs.CrossingOrder.{InTurn, crossing-turn, walk-is}
+use Rattle.exhaustive.proofs.CrossingOrder.{InTurn, crossing-turn, cheapest-is}
 
 -- ---- the lines of a deck in range
 edges-abs : (lo v hi : ℤ) (k : ℕ) → natAbs lo ≤ k → natAbs hi ≤ k → lo ≤ℤ v → v ≤ℤ hi → natAbs v ≤ k
@@ -110,5 +110,5 @@ module _ (deck : Deck) (sites : Sites) (ready : Prepared deck sites) where
         let vs = deck-front (deckOf deck) (ready .range) (ready .full) x-axis v ve in
         let hs = deck-front (deckOf deck) (ready .range) (ready .full) y-axis h he in
         ap pricedOf (b ∙ ap (λ (s : Spot). firstCheapest (rowsOf sites) s (flatMap (along (take (h .count) (h .at))) (take (v .count) (v .at)))) corner-first)
-        ∙ walk-is (rowsOf sites) (take (v .count) (v .at)) (take (h .count) (h .at)) (rectIn area) (rw (vs, hs) (deck-turn (deckOf deck) (ready .range) (ready .full))) (λ q m. subst (λ (r : Rect). T (not (earlier q (corner r)))) (sym area-is) (deck-corner (deckOf deck) (ready .range) (ready .full) q (rw (vs, hs) at m)))
+        ∙ cheapest-is (rowsOf sites) (take (v .count) (v .at)) (take (h .count) (h .at)) (rectIn area) (rw (vs, hs) (deck-turn (deckOf deck) (ready .range) (ready .full))) (λ q m. subst (λ (r : Rect). T (not (earlier q (corner r)))) (sym area-is) (deck-corner (deckOf deck) (ready .range) (ready .full) q (rw (vs, hs) at m)))
         ∙ ap cheapestCrossing (coded-is deck sites ready area area-is v h ve he)

@@ -1,13 +1,13 @@
--- `text::write::put` meets its contract. The loop's invariant: the first i bytes of `s` are written.
+-- `write::put` meets its contract. The loop's invariant: the first i bytes of `s` are written.
 -- Assumes nothing.
 use mathlib.Core.Path.{_≡_}
 use Prim.Native.Nat.{_+_, _≤_, _-_}
 use native.Mathlib.Omega.{arith}
 use lib.ListN.{length, take, length-set}
-use Rattle.text.specs.Written.{Wrote}
-use Rattle.text.proofs.WrittenLaws.{wrote-nothing, wrote-turn, wrote-all}
-use Rattle.text.proofs.write.put.Statement.{statement}
-use Rattle.text.proofs.write.put.Tie as tie
+use Rattle.write.specs.Written.{Wrote}
+use Rattle.write.proofs.WrittenLaws.{wrote-nothing, wrote-turn, wrote-all}
+use Rattle.write.proofs.put.Statement.{statement}
+use Rattle.write.proofs.put.Tie as tie
 
 abbrev Inv-loop : tie.InvT-loop
 Inv-loop out₀ at s i₀ out i = (i ≤ length s) × (length out ≡ length out₀) × Wrote out₀ at (take i s) out (at + i)

@@ -50,21 +50,21 @@ module _ (sites : List Site) (m : ℕ) (ls : List ℤ) (n : ℕ) (v : ℤ) (up u
   swept-line first r s = s .is sites m added (now .is)
 
 -- ---- line after line
-pub record Walking (sites : List Site) (hs vs : List ℤ) (n : ℕ) (first found : Spot) (i : ℕ) : Type 0 where
+pub record Compared (sites : List Site) (hs vs : List ℤ) (n : ℕ) (first found : Spot) (i : ℕ) : Type 0 where
   pub count : i ≤ n
   pub left : firstCheapest sites first (flatMap (along hs) (take n vs)) ≡ firstCheapest sites found (flatMap (along hs) (drop i (take n vs)))
 
 module _ (sites : List Site) (hs vs : List ℤ) (n : ℕ) (first : Spot) where
-  pub walk-none : Walking sites hs vs n first first 0
-  walk-none = record { count = omega arith; left = refl }
+  pub compared-none : Compared sites hs vs n first first 0
+  compared-none = record { count = omega arith; left = refl }
 
-  pub walk-all : {found : Spot} {i : ℕ} → Walking sites hs vs n first found i → n ≤ i → found ≡ firstCheapest sites first (flatMap (along hs) (take n vs))
+  pub compared-all : {found : Spot} {i : ℕ} → Compared sites hs vs n first found i → n ≤ i → found ≡ firstCheapest sites first (flatMap (along hs) (take n vs))
   unfolding flatMap
-  walk-all {found} {i} w h = sym (w .left ∙ rw (drop-of-length-le (take n vs) {i = i} (omega (arith, length-take n vs))) (cheapest-none sites found))
+  compared-all {found} {i} w h = sym (w .left ∙ rw (drop-of-length-le (take n vs) {i = i} (omega (arith, length-take n vs))) (cheapest-none sites found))
 
-  pub walk-more : {found : Spot} {i : ℕ} → LinesInRange vs n → Walking sites hs vs n first found i → i < n → (found′ : Spot) → found′ ≡ firstCheapest sites found (along hs (back (getD vs i (pos 0)))) → Walking sites hs vs n first found′ (i + 1)
+  pub compared-more : {found : Spot} {i : ℕ} → LinesInRange vs n → Compared sites hs vs n first found i → i < n → (found′ : Spot) → found′ ≡ firstCheapest sites found (along hs (back (getD vs i (pos 0)))) → Compared sites hs vs n first found′ (i + 1)
   unfolding flatMap
-  walk-more {found} {i} lines w h found′ b =
+  compared-more {found} {i} lines w h found′ b =
       let v = getD vs i (pos 0) in
       let line-next : drop i (take n vs) ≡ v ∷ drop (i + 1) (take n vs) = drop-cons (take n vs) i (pos 0) (rw (length-take-le n vs (omega (arith, lines .in-order .within, lines .in-order .full))) h) ∙ rw (getD-take n vs i (pos 0) h, add-one i) in
       let e : found′ ≡ firstCheapest sites found (along hs v) = rw (small-back v (omega (arith, lines .range i h))) at b in

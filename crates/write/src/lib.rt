@@ -3,8 +3,8 @@ ghost use Prim.Native.Nat.{_+_, _≤_};
 ghost use mathlib.Core.Path.{_≡_};
 ghost use lib.ListN.{length};
 ghost use lib.IntN.{natAbs};
 ghost use Rattle.text.specs.Decimal.{spellNat, spellInt};
-ghost use Rattle.text.specs.Written.{Wrote};
+ghost use Rattle.write.specs.Written.{Wrote};
 
 pub fn put(out: &mut [u8], at: usize, s: &[u8]) -> usize
     requires { ⌜ at + length (now s) ≤ length (now out) ⌝ }

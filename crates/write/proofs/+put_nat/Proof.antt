@@ -1,4 +1,4 @@
--- `text::write::put_nat`, which calls itself, meets its contract. The measure is the number. What its call of itself writes are all digits but the last.
+-- `write::put_nat`, which calls itself, meets its contract. The measure is the number. What its call of itself writes are all digits but the last.
 -- Assumes nothing.
 use mathlib.Core.Path.{_≡_}
 use Prim.Native.Nat.{ℕ, _+_, _/_, _%_, _^_, _≤_, _<_}
@@ -7,15 +7,16 @@ use mathlib.Core.List.{List}
 use lib.ListN.{length, set, length-set}
 use borrow.Fn.Kinds.{In}
 use borrow.Fn.PlainCycle.{Measures, is, falls, and}
 use Rattle.text.specs.Decimal.{spellNat}
-use Rattle.text.specs.Written.{Wrote}
-use Rattle.text.proofs.DigitCounts.{spellNat-one, spellNat-more, length-spellNat-below}
-use Rattle.text.proofs.WrittenLaws.{wrote-store, wrote-byte}
-use Rattle.text.proofs.write.put_nat.Reads as put-nat
-use Rattle.text.proofs.write.put_nat.Kinds as put-nat-kinds
-use Rattle.text.proofs.write.+put_nat.Lts-put_nat as put-nat-lts
-use Rattle.text.proofs.write.+put_nat.{statement}
-use Rattle.text.proofs.write.+put_nat.Tie.{close}
+use Rattle.write.specs.Written.{Wrote}
+use Rattle.text.proofs.DigitCounts.{length-spellNat-below}
+use Rattle.write.proofs.SpellLaws.{spellNat-one, spellNat-more}
+use Rattle.write.proofs.WrittenLaws.{wrote-store, wrote-byte}
+use Rattle.write.proofs.put_nat.Reads as put-nat
+use Rattle.write.proofs.put_nat.Kinds as put-nat-kinds
+use Rattle.write.proofs.+put_nat.Lts-put_nat as put-nat-lts
+use Rattle.write.proofs.+put_nat.{statement}
+use Rattle.write.proofs.+put_nat.Tie.{close}
 
 -- one digit
 single : (out : List ℕ) (at n : ℕ) → n < 10 → at < length out → Wrote out at (spellNat n) (set out at (48 + n)) (at + 1)

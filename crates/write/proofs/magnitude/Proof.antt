@@ -1,4 +1,4 @@
--- `text::write::magnitude` meets its contract: of a number −(n + 1) it takes n, which fits an i64, and adds 1.
+-- `write::magnitude` meets its contract: of a number −(n + 1) it takes n, which fits an i64, and adds 1.
 -- Assumes nothing.
 use mathlib.Core.Path.{_≡_}
 use mathlib.Core.Bool.{true, false, true≢false}
@@ -13,8 +13,8 @@ use mir.Syntax.{w64}
 use mir.Val.{Fits, SFits, toZ, ofZ}
 use mir.ValLaws.{toZ-ofZ}
 use Rattle.numbers.proofs.Integer.{order, sub-nat}
-use Rattle.text.proofs.write.magnitude.Statement.{statement}
-use Rattle.text.proofs.write.magnitude.Tie as tie
+use Rattle.write.proofs.magnitude.Statement.{statement}
+use Rattle.write.proofs.magnitude.Tie as tie
 
 -- what is asked of y = z and of x = −1 − z, each as it is read back from its bits
 record Steps (z y x : ℤ) : Type 0 where
