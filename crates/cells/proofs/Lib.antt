@@ -1,10 +1,8 @@
 pub mod Keys
-pub mod Slots
 pub mod Listing
-pub mod Moves
+pub mod Entries
 pub mod Trims
 pub mod Numbers
 pub mod SpaceLaws
-pub mod Numbering
 pub mod Rotations
 pub mod Inserts

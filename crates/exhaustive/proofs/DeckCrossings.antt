@@ -30,10 +30,10 @@ use Rattle.lines.proofs.Indexed.{member-at}
 use Rattle.lines.proofs.LineRecordLaws.{record-front}
 use Rattle.lines.proofs.DeckLines.{lines-in-order}
 use Rattle.pricing.proofs.RecordLaws.{paid-range}
-use Rattle.cells.specs.declared.Cell.{Cell}
+use Rattle.slots.specs.declared.Cell.{Cell}
 use Rattle.problem.specs.declared.Spot.{Spot}
 use Rattle.problem.specs.Problem.{Prepared, Sited, pricedOf, spotOf, rectIn, Near20000, Ranged, rowsOf, InColumns, Reaching}
-use Rattle.cells.proofs.Keys.{back}
+use Rattle.slots.proofs.ReadBack.{back}
 use Rattle.problem.proofs.Coordinates.{near-places, spot-back}
 use Rattle.problem.proofs.DeckProblem.{columns-range, sites-count, deck-sited, area-ranged, reaching, coded-is}
 use Rattle.exhaustive.specs.Ramps.{LinesInRange}

@@ -34,8 +34,8 @@ use Rattle.lines.specs.LineRecord.{Rows, marked, linesBetween, linesRecord}
 use Rattle.lines.specs.declared.Lines.{Lines}
 use Rattle.lines.proofs.LineRecordLaws.{record-front}
 use Rattle.lines.proofs.DeckLines.{coordinates, reached, lines-marked, lines-in-order, padded-reached}
-use Rattle.cells.specs.declared.Cell.{Cell}
-use Rattle.cells.proofs.Keys.{back, fitting}
+use Rattle.slots.specs.declared.Cell.{Cell}
+use Rattle.slots.proofs.ReadBack.{back, fitting}
 use Rattle.problem.specs.Problem.{boundOf, siteProblem, Sited, Lined, rectIn, unbounded, Ranged, rowsOf, InColumns, Reaching, Prepared}
 use Rattle.problem.proofs.Coordinates.{near-back, rect-narrow}
 

@@ -19,8 +19,8 @@ use Rattle.sites.specs.declared.Sites.{Sites}
 use Rattle.pricing.specs.Figures.{costOf, loadOf, flagsOf}
 use Rattle.pricing.specs.Columns.{siteRows, ColumnsInRange}
 use Rattle.lines.specs.LineRecord as Lines
-use Rattle.cells.specs.declared.Cell.{Cell}
-use Rattle.cells.specs.Space.{queryCell}
+use Rattle.slots.specs.declared.Cell.{Cell}
+use Rattle.slots.specs.Slot.{queryCell}
 use Rattle.problem.specs.declared.Spot.{Spot}
 
 -- the bound of a cell

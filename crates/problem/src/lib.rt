@@ -1,8 +1,8 @@
 // The problem of a deck as both searches take it: its area, its lines, and places with their costs.
-use cells::Cell;
 use job::Deck;
 use lines::Lines;
 use sites::Sites;
+use slots::Cell;
 ghost use mathlib.Core.Path.{_≡_};
 ghost use Prim.Native.Nat.{_≤_};
 ghost use Rattle.query.specs.Place.{x-axis, y-axis};

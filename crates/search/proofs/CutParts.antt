@@ -20,8 +20,8 @@ use Rattle.pricing.specs.Figures.{costOf}
 use Rattle.cuts.specs.CutRecord.{isX, cutAt, cutRecord}
 use Rattle.cuts.specs.declared.Cut.{Cut}
 use Rattle.cuts.proofs.CutRecordLaws.{cutRecord-cut}
-use Rattle.cells.specs.declared.Cell.{Cell}
-use Rattle.cells.specs.declared.Costs.{Costs}
+use Rattle.slots.specs.declared.Cell.{Cell}
+use Rattle.slots.specs.declared.Costs.{Costs}
 use Rattle.problem.specs.declared.Spot.{Spot}
 use Rattle.search.specs.declared.halves.Halves.{Halves}
 use Rattle.search.specs.Run.{cornerCosts, cellFor, lowCorner, highCorner, firstRect, secondRect, firstCosts, secondCosts, halvesOf}

@@ -24,10 +24,10 @@ use Rattle.sites.specs.DeckOf.{deckOf}
 use Rattle.lines.specs.LineRecord.{linesRecord}
 use Rattle.sites.specs.declared.Sites.{Sites}
 use Rattle.lines.specs.declared.Lines.{Lines}
-use Rattle.cells.specs.declared.Cell.{Cell}
+use Rattle.slots.specs.declared.Cell.{Cell}
 use Rattle.search.specs.declared.run.State.{State}
 use Rattle.search.specs.declared.run.Found.{Found}
-use Rattle.cells.specs.Space.{Numbered, cellsIn}
+use Rattle.slots.specs.Numbering.{Numbered, cellsIn}
 use Rattle.search.specs.Run.{searchOf, Holds, Steady, foundOf, Searched}
 use Rattle.problem.proofs.DeckProblem.{codedProblem, coded-is}
 use Rattle.problem.specs.Problem.{Prepared, rectIn, rowsOf}

@@ -22,7 +22,8 @@ use Rattle.sites.specs.Sites.{Site}
 use Rattle.cuts.specs.CutRecord.{onLines}
 use Rattle.cuts.proofs.CutRecordLaws.{canCut-lines, cutLine-lines}
 use Rattle.problem.specs.declared.Spot.{Spot}
-use Rattle.cells.specs.Space.{Entry, queryCell, entryCell, entries, entryBefore}
+use Rattle.slots.specs.Slot.{Entry, queryCell, entryCell}
+use Rattle.cells.specs.Space.{entries, entryBefore}
 use Rattle.cells.specs.Steps.{InOrder}
 use Rattle.search.specs.Run.{cornerCosts, cellFor, improved, bestCorner, withLive, Added}
 use Rattle.problem.specs.Problem.{siteProblem, pricedOf, spotOf}

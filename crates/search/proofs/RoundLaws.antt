@@ -23,16 +23,17 @@ use Rattle.sites.specs.Sites.{Site}
 use Rattle.pricing.specs.Figures.{costOf}
 use Rattle.cuts.specs.CutRecord.{onLines, isX, cutAt, cutRecord}
 use Rattle.cuts.specs.declared.Cut.{Cut}
-use Rattle.cells.specs.declared.Cell.{Cell}
-use Rattle.cells.specs.declared.Costs.{Costs}
+use Rattle.slots.specs.declared.Cell.{Cell}
+use Rattle.slots.specs.declared.Costs.{Costs}
 use Rattle.problem.specs.declared.Spot.{Spot}
 use Rattle.search.specs.declared.halves.Halves.{Halves}
 use Rattle.search.specs.declared.run.State.{State}
-use Rattle.cells.specs.Space.{Entry, keyOf, queryCell, entryCell, cellAt, costsAt, entries}
+use Rattle.slots.specs.Slot.{Entry, queryCell, entryCell, cellAt, costsAt}
+use Rattle.cells.specs.Space.{keyOf, entries}
 use Rattle.cells.specs.Steps.{InOrder, Trimmed}
 use Rattle.search.specs.Run.{cornerCosts, cellFor, improved, bestCorner, lowCorner, highCorner, halvesOf, withLive, Cutting, Takeable, Added, Costed, searchOf, Holds}
 use Rattle.problem.specs.Problem.{siteProblem, pricedOf, rectIn, Ranged}
-use Rattle.cells.proofs.Keys.{back, fitting}
+use Rattle.slots.proofs.ReadBack.{back, fitting}
 use Rattle.cells.proofs.Trims.{trimmed-live}
 use Rattle.cells.proofs.SpaceLaws.{keep-agree, cells-keep, cells-in-order, keep-in-order, entries-first, entries-none}
 use Rattle.search.proofs.StepLaws.{improved-limit}

@@ -26,14 +26,15 @@ use Rattle.query.specs.Figures as Figures
 use Rattle.query.proofs.SearchLaws.{run-in-order, partition-law}
 use Rattle.query.proofs.Counts.{cuts-most, live-count}
 use Rattle.sites.specs.Sites.{Site}
-use Rattle.cells.specs.declared.Cell.{Cell}
+use Rattle.slots.specs.declared.Cell.{Cell}
 use Rattle.search.specs.declared.run.State.{State}
 use Rattle.search.specs.declared.run.Found.{Found}
-use Rattle.cells.specs.Space.{Entry, queryCell, entryCell, cellAt, entryAt, entries}
+use Rattle.slots.specs.Slot.{Entry, queryCell, entryCell, cellAt, entryAt}
+use Rattle.cells.specs.Space.{entries}
 use Rattle.cells.specs.Steps.{InOrder}
 use Rattle.search.specs.Run.{searchOf, Takeable, Holds, Steady, Answerable, isDone, foundOf}
 use Rattle.problem.specs.Problem.{siteProblem, pricedOf}
-use Rattle.cells.proofs.Keys.{back, fitting}
+use Rattle.slots.proofs.ReadBack.{back, fitting}
 use Rattle.cells.proofs.SpaceLaws.{cells-in-order, entries-first, entries-none, entries-length}
 use Rattle.search.proofs.LiveLaws.{can-lines}
 use Rattle.search.proofs.RoundLaws.{search-is, round-area}

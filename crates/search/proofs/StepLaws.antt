@@ -25,14 +25,15 @@ use Rattle.pricing.specs.Columns.{BoundInRange, Figure}
 use Rattle.cuts.specs.CutRecord.{Edges}
 use Rattle.cuts.specs.declared.Cut.{Cut}
 use Rattle.sites.proofs.TravelLaws.{narrow}
-use Rattle.cells.specs.declared.Cell.{Cell}
-use Rattle.cells.specs.declared.Costs.{Costs}
+use Rattle.slots.specs.declared.Cell.{Cell}
+use Rattle.slots.specs.declared.Costs.{Costs}
 use Rattle.problem.specs.declared.Spot.{Spot}
 use Rattle.cells.specs.Space.{keyOf}
 use Rattle.search.specs.Run.{cornerCosts, cellFor, CostsInRange, improved, bestCorner, lowCorner, highCorner, CutInRange}
 use Rattle.problem.proofs.Coordinates.{near-back, rect-narrow, spot-back}
 use Rattle.problem.specs.Problem.{pricedOf, spotOf, rectIn, boundOf, Ranged, spotAt}
-use Rattle.cells.proofs.Keys.{back, fitting, KeyFits, key-back}
+use Rattle.slots.proofs.ReadBack.{back, fitting}
+use Rattle.cells.proofs.Keys.{KeyFits, key-back}
 
 -- ---- the better of two
 better-is : (p best : Spot) → better (pricedOf p) (pricedOf best) ≡ precedes (keyOf (pos (p .cost)) (p .x) (p .y)) (keyOf (pos (best .cost)) (best .x) (best .y))

@@ -25,14 +25,15 @@ use Rattle.lines.specs.LineRecord as Lines
 use Rattle.cuts.specs.CutRecord.{onLines}
 use Rattle.sites.specs.declared.Sites.{Sites}
 use Rattle.cuts.specs.declared.Cut.{Cut}
-use Rattle.cells.specs.declared.Cell.{Cell}
-use Rattle.cells.specs.declared.Costs.{Costs}
+use Rattle.slots.specs.declared.Cell.{Cell}
+use Rattle.slots.specs.declared.Costs.{Costs}
 use Rattle.problem.specs.Problem.{boundOf, pricedOf, spotOf, rectIn, Ranged, spotAt, Prepared}
 use Rattle.problem.specs.declared.Spot.{Spot}
 use Rattle.search.specs.declared.halves.Halves.{Halves}
 use Rattle.search.specs.declared.run.State.{State}
 use Rattle.search.specs.declared.run.Found.{Found}
-use Rattle.cells.specs.Space.{Entry, entryCell, cellAt, entries, entryBefore}
+use Rattle.slots.specs.Slot.{Entry, entryCell, cellAt}
+use Rattle.cells.specs.Space.{entries, entryBefore}
 use Rattle.cells.specs.Steps.{InOrder}
 
 -- ---- places and cells as the code holds them

@@ -1,8 +1,8 @@
 // Priced places, cells with their bounds, and the two halves that a cut makes of a cell.
-use cells::Cell;
-use cells::Costs;
 use cuts::Cut;
 use problem::Spot;
+use slots::Cell;
+use slots::Costs;
 ghost use mathlib.Core.Path.{_≡_};
 ghost use Prim.Native.Nat.{_-_, _≤_};
 ghost use lib.ListN.{take};

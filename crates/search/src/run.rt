@@ -1,11 +1,11 @@
 // The search by cells: its start, its rounds and what it answers.
 use crate::halves;
-use cells::Cell;
-use cells::Costs;
 use job::Deck;
 use lines::Lines;
 use problem::Spot;
 use sites::Sites;
+use slots::Cell;
+use slots::Costs;
 ghost use mathlib.Core.Path.{_≡_};
 ghost use mathlib.Core.List.{[]};
 ghost use Prim.Native.Nat.{_-_, _≤_};
@@ -20,7 +20,8 @@ ghost use Rattle.pricing.specs.Figures.{flagsOf};
 ghost use Rattle.pricing.specs.Columns.{siteRows};
 ghost use Rattle.lines.specs.LineRecord.{linesRecord};
 ghost use Rattle.cuts.specs.CutRecord.{onLines};
-ghost use Rattle.cells.specs.Space.{queryCell, cellsIn, costsIn, Numbered};
+ghost use Rattle.slots.specs.Slot.{queryCell};
+ghost use Rattle.slots.specs.Numbering.{cellsIn, costsIn, Numbered};
 ghost use Rattle.search.specs.Run.{cornerCosts, CostsInRange, bestCorner, Addable, Added, searchOf, Takeable, Holds, Steady, Answerable, foundOf, Ready, Searched};
 ghost use Rattle.problem.specs.Problem.{siteProblem, Sited, Lined, pricedOf, rectIn, unbounded, Ranged, spotAt, rowsOf, InColumns, Reaching};
 
@@ -99,8 +100,8 @@ fn round<'a>(
     ensures { λ r. ⌜ Holds (siteRows (now (xs .entry)) (now (ys .entry)) (now (visits .entry)) (now (near .entry)) n) (Search.round (siteProblem (siteRows (now (xs .entry)) (now (ys .entry)) (now (visits .entry)) (now (near .entry)) n) (take nv (now (v .entry))) (take nh (now (h .entry))) emptyRect) (searchOf (cellsIn (now (s .entry)) (now (o .entry))) (costsIn (now (t .entry)) (now (o .entry))) st)) (st .head - 1) (cellsIn (now (s .exit)) (now (o .exit))) (costsIn (now (t .exit)) (now (o .exit))) r × Numbered (now (o .exit)) ⌝ }
 {
     let head = st.head;
-    let c = cells::cell_at(s, o, head);
-    let k = cells::costs_at(t, o, head);
+    let c = slots::cell_at(s, o, head);
+    let k = slots::costs_at(t, o, head);
     let halves = halves::halve(xs, ys, visits, near, n, v, nv, h, nh, c, k);
     let best = halves::improve(halves::improve(st.best, halves.low), halves.high);
     let first = halves.first;
@@ -241,7 +242,7 @@ fn low_of<'a>(s: &'a [i64; 5005], o: &'a [u16; 1001], st: State) -> i64
     if st.tail <= head {
         return high;
     }
-    let c = cells::cell_at(s, o, head);
+    let c = slots::cell_at(s, o, head);
     if c.bound < high {
         return c.bound;
     }
@@ -280,7 +281,7 @@ pub fn search(deck: Deck, sites: Sites, rounds: u64, cells: &mut [i64]) -> Found
     let mut s = [0i64; 5005];
     let mut t = [0u64; 4004];
     let mut o = [0u16; 1001];
-    cells::number(&mut o);
+    slots::number(&mut o);
     let st = run_of(
         &sites.x,
         &sites.y,

@@ -7,7 +7,7 @@ use Rattle.query.specs.Order.{precedes, cellKey, pricedKey}
 use Rattle.cuts.proofs.CutRecordLaws.{cutRecord-found}
 use Rattle.cuts.specs.declared.Cut.{Cut}
 use Rattle.problem.specs.Problem.{pricedOf}
-use Rattle.cells.specs.Space.{queryCell}
+use Rattle.slots.specs.Slot.{queryCell}
 use Rattle.cells.proofs.Keys.{cell-precedes}
 use Rattle.search.proofs.LiveLaws.{live-behind, live-cut}
 use Rattle.search.proofs.run.is_live.Statement.{statement}

@@ -7,7 +7,7 @@ use lib.ListN.{take}
 use Rattle.query.specs.Search.{run}
 use Rattle.query.specs.Place.{emptyRect}
 use Rattle.pricing.specs.Columns.{siteRows}
-use Rattle.cells.specs.Space.{cellsIn, costsIn, Numbered}
+use Rattle.slots.specs.Numbering.{cellsIn, costsIn, Numbered}
 use Rattle.search.specs.Run.{searchOf, Holds}
 use Rattle.problem.specs.Problem.{siteProblem, rectIn}
 use Rattle.search.proofs.RunLaws.{roundsFrom, holds-first, holds-more, holds-run, ended, finished, takeable}

@@ -3,8 +3,8 @@
 use mathlib.Core.Path.{sym, ap, subst}
 use native.Mathlib.Omega.{arith}
 use borrow.Author.Needs.{needs}
-use Rattle.cells.specs.Space.{Numbered}
-use Rattle.cells.proofs.Numbering.{slots-numbered}
+use Rattle.slots.specs.Numbering.{Numbered}
+use Rattle.slots.proofs.NumberingLaws.{slots-numbered}
 use Rattle.problem.specs.Problem.{rectIn}
 use Rattle.search.proofs.DeckRun.{coded-steady, searched}
 use Rattle.problem.proofs.DeckProblem.{columns-range, sites-count, deck-sited, area-ranged, reaching, deck-lined}
