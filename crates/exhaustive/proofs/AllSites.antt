@@ -16,7 +16,7 @@ use Rattle.sites.proofs.WordLaws.{coordinate}
 use Rattle.sites.proofs.TravelLaws.{far, travel-plain}
 use Rattle.pricing.proofs.SiteLaws.{paidBy, paidNow, costOf-sum, beforeOf-sum}
 use Rattle.pricing.proofs.ColumnLaws.{siteAt, sum-none, sum-more, has-row, row-range}
-use Rattle.slots.proofs.ReadBack.{back}
+use Rattle.numbers.proofs.WordTests.{back}
 use Rattle.exhaustive.specs.Ramps.{prefixSum, SiteSums, SiteAdded, SitesAdded}
 use Rattle.exhaustive.proofs.Prefixes.{prefix-most}
 use Rattle.exhaustive.proofs.SiteRamps.{sums-more, small-back}

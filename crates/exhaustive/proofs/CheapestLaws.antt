@@ -11,7 +11,7 @@ use Rattle.query.specs.Place.{Place}
 use Rattle.sites.specs.Sites.{Site}
 use Rattle.problem.specs.declared.Spot.{Spot}
 use Rattle.problem.specs.Problem.{spotOf}
-use Rattle.slots.proofs.ReadBack.{back, fitting}
+use Rattle.numbers.proofs.WordTests.{back, fitting}
 use Rattle.exhaustive.specs.Cheapest.{cheaperOf, firstCheapest}
 
 -- ---- the cheaper of two

@@ -13,7 +13,7 @@ use Rattle.sites.specs.Sites.{Site}
 use Rattle.pricing.specs.Figures.{beforeOf}
 use Rattle.pricing.specs.Columns.{Figure}
 use Rattle.problem.specs.declared.Spot.{Spot}
-use Rattle.slots.proofs.ReadBack.{back}
+use Rattle.numbers.proofs.WordTests.{back}
 use Rattle.exhaustive.specs.Ramps.{LinesInRange, RampSums, SiteSums, SitesAdded, Sweepable}
 use Rattle.exhaustive.specs.Cheapest.{firstCheapest, along, Swept}
 use Rattle.exhaustive.proofs.SiteRamps.{small-back}

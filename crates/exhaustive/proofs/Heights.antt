@@ -12,7 +12,7 @@ use mir.ValLaws.{toZ-ofZ}
 use Rattle.numbers.specs.Integer.{dist}
 use Rattle.numbers.proofs.Integer.{pp, nn, order, add-nat, dist-nat, abs-range}
 use Rattle.numbers.proofs.Words.{word-fits, natural-fits, natural-is, natural-cast}
-use Rattle.slots.proofs.ReadBack.{back}
+use Rattle.numbers.proofs.WordTests.{back}
 use Rattle.exhaustive.specs.Ramps.{heightOf}
 
 natural : (z : ℤ) (m n : ℕ) → pp z + n ≡ nn z + m → n ≤ m → natAbs z + n ≡ m

@@ -13,7 +13,7 @@ use Rattle.numbers.specs.Integer.{dist}
 use Rattle.numbers.proofs.Integer.{add-nat, sub-nat, sum-abs, sub-abs}
 use Rattle.numbers.proofs.Words.{word-fits}
 use Rattle.pricing.specs.Columns.{SiteInRange}
-use Rattle.slots.proofs.ReadBack.{back}
+use Rattle.numbers.proofs.WordTests.{back}
 use Rattle.exhaustive.specs.Ramps.{heightOf, LinesInRange, RampSums, RampInRange, RampAdded, SiteAdded}
 use Rattle.exhaustive.proofs.Heights.{height-nat, height-least, height-dist}
 

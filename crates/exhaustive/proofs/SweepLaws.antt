@@ -12,7 +12,7 @@ use Rattle.sites.specs.Sites.{Site}
 use Rattle.pricing.specs.Figures.{costOf, beforeOf}
 use Rattle.problem.specs.declared.Spot.{Spot}
 use Rattle.problem.specs.Problem.{spotOf, spotAt}
-use Rattle.slots.proofs.ReadBack.{back}
+use Rattle.numbers.proofs.WordTests.{back}
 use Rattle.exhaustive.specs.Ramps.{heightOf, prefixSum, LinesInRange, RampSums, SitesAdded, Payable, Sweepable}
 use Rattle.exhaustive.specs.Cheapest.{cheaperOf, firstCheapest, along, Swept}
 use Rattle.exhaustive.proofs.Heights.{height-most}

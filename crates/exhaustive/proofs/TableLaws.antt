@@ -13,7 +13,7 @@ use Rattle.numbers.proofs.Truth.{test}
 use Rattle.numbers.proofs.Integer.{order}
 use Rattle.lines.specs.LineRecord.{FirstAtLeast}
 use Rattle.lines.proofs.Indexed.{front-le}
-use Rattle.slots.proofs.ReadBack.{back}
+use Rattle.numbers.proofs.WordTests.{back}
 use Rattle.exhaustive.specs.Ramps.{heightOf, LinesInRange, Filled, Parted, Numbered}
 use Rattle.exhaustive.proofs.Heights.{height-nat, height-most, height-least, height-le}
 use Rattle.exhaustive.proofs.SiteRamps.{small-back}

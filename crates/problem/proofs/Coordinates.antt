@@ -18,7 +18,7 @@ use Rattle.pricing.specs.Columns.{EdgesInRange}
 use Rattle.cuts.specs.CutRecord.{Edges}
 use Rattle.sites.proofs.WordLaws.{narrow-fits, narrowed}
 use Rattle.sites.proofs.TravelLaws.{narrow, narrow-place}
-use Rattle.slots.proofs.ReadBack.{back}
+use Rattle.numbers.proofs.WordTests.{back}
 use Rattle.problem.specs.declared.Spot.{Spot}
 use Rattle.problem.specs.Problem.{spotOf, Near20000, Ranged}
 

@@ -35,7 +35,7 @@ use Rattle.lines.specs.declared.Lines.{Lines}
 use Rattle.lines.proofs.LineRecordLaws.{record-front}
 use Rattle.lines.proofs.DeckLines.{coordinates, reached, lines-marked, lines-in-order, padded-reached}
 use Rattle.slots.specs.declared.Cell.{Cell}
-use Rattle.slots.proofs.ReadBack.{back, fitting}
+use Rattle.numbers.proofs.WordTests.{back, fitting}
 use Rattle.problem.specs.Problem.{boundOf, siteProblem, Sited, Lined, rectIn, unbounded, Ranged, rowsOf, InColumns, Reaching, Prepared}
 use Rattle.problem.proofs.Coordinates.{near-back, rect-narrow}
 

@@ -33,7 +33,7 @@ use Rattle.cells.specs.Space.{keyOf, entries}
 use Rattle.cells.specs.Steps.{InOrder, Trimmed}
 use Rattle.search.specs.Run.{cornerCosts, cellFor, improved, bestCorner, lowCorner, highCorner, halvesOf, withLive, Cutting, Takeable, Added, Costed, searchOf, Holds}
 use Rattle.problem.specs.Problem.{siteProblem, pricedOf, rectIn, Ranged}
-use Rattle.slots.proofs.ReadBack.{back, fitting}
+use Rattle.numbers.proofs.WordTests.{back, fitting}
 use Rattle.cells.proofs.Trims.{trimmed-live}
 use Rattle.cells.proofs.SpaceLaws.{keep-agree, cells-keep, cells-in-order, keep-in-order, entries-first, entries-none}
 use Rattle.search.proofs.StepLaws.{improved-limit}

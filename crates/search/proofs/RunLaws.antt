@@ -34,7 +34,7 @@ use Rattle.cells.specs.Space.{entries}
 use Rattle.cells.specs.Steps.{InOrder}
 use Rattle.search.specs.Run.{searchOf, Takeable, Holds, Steady, Answerable, isDone, foundOf}
 use Rattle.problem.specs.Problem.{siteProblem, pricedOf}
-use Rattle.slots.proofs.ReadBack.{back, fitting}
+use Rattle.numbers.proofs.WordTests.{back, fitting}
 use Rattle.cells.proofs.SpaceLaws.{cells-in-order, entries-first, entries-none, entries-length}
 use Rattle.search.proofs.LiveLaws.{can-lines}
 use Rattle.search.proofs.RoundLaws.{search-is, round-area}

@@ -32,7 +32,7 @@ use Rattle.cells.specs.Space.{keyOf}
 use Rattle.search.specs.Run.{cornerCosts, cellFor, CostsInRange, improved, bestCorner, lowCorner, highCorner, CutInRange}
 use Rattle.problem.proofs.Coordinates.{near-back, rect-narrow, spot-back}
 use Rattle.problem.specs.Problem.{pricedOf, spotOf, rectIn, boundOf, Ranged, spotAt}
-use Rattle.slots.proofs.ReadBack.{back, fitting}
+use Rattle.numbers.proofs.WordTests.{back, fitting}
 use Rattle.cells.proofs.Keys.{KeyFits, key-back}
 
 -- ---- the better of two

@@ -1,6 +1,6 @@
 -- `problem::place` meets its contract: coordinates of 64 bits are as they were.
 -- Assumes nothing.
-use Rattle.slots.proofs.ReadBack.{fitting}
+use Rattle.numbers.proofs.WordTests.{fitting}
 use Rattle.problem.proofs.place.Statement.{statement}
 use Rattle.problem.proofs.place.Tie as tie
 
