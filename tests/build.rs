@@ -2,7 +2,7 @@
 fn main() {
     let folder = std::path::Path::new(env!("CARGO_MANIFEST_DIR")).join("../target/staticlib");
     println!("cargo:rustc-link-search=native={}", folder.display());
-    for library in ["libsiting.a", "libtrial.a"] {
+    for library in ["libsiting.a", "libtrial.a", "libtrial_calls.a"] {
         println!("cargo:rerun-if-changed={}", folder.join(library).display());
     }
 }

@@ -1,6 +1,6 @@
 //! The time of the proved kernels beside that of hand-written Rust twins: the same figures of the same deck, on the same machine in the same run.
 //!
-//! A proved kernel is repeated inside an exported function of crate `trial`, which first reads the job. The time of reading is
+//! A proved kernel is repeated inside the exported function of crate `kernels`, which first reads the job. The time of reading is
 //! taken with 0 turns and subtracted. The twin starts from the columns, repeats the same turns, and must give the same sum.
 
 use std::hint::black_box;
@@ -12,20 +12,32 @@ mod whole;
 
 #[link(name = "trial", kind = "static")]
 extern "C" {
-    fn trial_cost_many(job: *const u8, len: usize, k: u64) -> i64;
-    fn trial_load_many(job: *const u8, len: usize, k: u64) -> i64;
-    fn trial_bound_many(job: *const u8, len: usize, k: u64) -> i64;
-    fn trial_cut_many(job: *const u8, len: usize, k: u64) -> i64;
-    fn trial_near_many(job: *const u8, len: usize, k: u64) -> i64;
-    fn trial_refusal(job: *const u8, len: usize) -> u64;
-    fn trial_report(job: *const u8, len: usize, cells: *mut i64, cells_len: usize, out: *mut u8, out_len: usize) -> i64;
+    fn trial_reading(job: *const u8, len: usize, which: u64) -> i64;
+}
+
+#[link(name = "trial_calls", kind = "static")]
+extern "C" {
+    fn trial_report(job: *const u8, len: usize, cells: *mut i64, cells_len: usize, out: *mut u8, out_len: usize, which: u64) -> i64;
     fn trial_exhaustive(job: *const u8, len: usize, which: u64) -> i64;
 }
 
-type Kernel = unsafe extern "C" fn(*const u8, usize, u64) -> i64;
+#[link(name = "kernels", kind = "static")]
+extern "C" {
+    fn kernel_sum(job: *const u8, len: usize, which: u64, k: u64) -> i64;
+}
+
+/// The numbers by which `kernel_sum` knows its kernels.
+#[derive(Clone, Copy)]
+enum Kernel {
+    Cost,
+    Load,
+    Bound,
+    Cut,
+    Near,
+}
 
 fn proved(kernel: Kernel, job: &[u8], k: u64) -> i64 {
-    unsafe { kernel(job.as_ptr(), job.len(), k) }
+    unsafe { kernel_sum(job.as_ptr(), job.len(), kernel as u64, k) }
 }
 
 /// Nanoseconds, and the result.
@@ -53,8 +65,9 @@ fn compare(name: &str, job: &[u8], k: u64, kernel: Kernel, twin: impl Fn(u64) ->
     println!("{name:<44} {ours:>10.1} {theirs:>10.1} {:>7.2}", ours / theirs);
 }
 
+/// 0 for a report, else minus the number of the refusal.
 fn proved_report(job: &[u8], cells: &mut [i64], out: &mut [u8]) -> i64 {
-    unsafe { trial_report(job.as_ptr(), job.len(), cells.as_mut_ptr(), cells.len(), out.as_mut_ptr(), out.len()) }
+    -unsafe { trial_report(job.as_ptr(), job.len(), cells.as_mut_ptr(), cells.len(), out.as_mut_ptr(), out.len(), 7) }
 }
 
 type Report = fn(&[u8], &mut [i64], &mut [u8]) -> i64;
@@ -100,7 +113,7 @@ fn compare_reading(name: &str, job: &[u8]) {
     let turns = 20;
     let (mut ours, mut theirs) = (f64::MAX, f64::MAX);
     for _ in 0..4 * REPETITIONS {
-        let (t, refused) = timed(|| (0..turns).map(|_| unsafe { trial_refusal(black_box(job).as_ptr(), job.len()) } as i64).sum());
+        let (t, refused) = timed(|| (0..turns).map(|_| unsafe { trial_reading(black_box(job).as_ptr(), job.len(), 0) }).sum());
         ours = ours.min(t);
         let (t, accepted) = timed(|| (0..turns).filter(|_| black_box(whole::parse(black_box(job))).is_ok()).count() as i64);
         theirs = theirs.min(t);
@@ -170,12 +183,12 @@ fn main() {
     let (xs, ys) = (deck.lines(&s, true), deck.lines(&s, false));
     println!("one deck: 64 posts, 512 stops, {} and {} lines; best of {REPETITIONS}, interleaved", xs.len(), ys.len());
     println!("{:<44} {:>10} {:>10} {:>7}", "ns a call", "proved", "twin", "ratio");
-    compare("near of 512 stops x 64 posts (sites)", &job, 400, trial_near_many, |k| twin::near_many(&deck, k));
-    compare("cost of a place, 512 stops", &job, 20_000, trial_cost_many, |k| twin::cost_many(&s, k));
-    compare("load of a rectangle, 512 stops", &job, 20_000, trial_load_many, |k| twin::load_many(&s, k));
-    compare("bound of a cell, 512 stops (4 costs, load)", &job, 5_000, trial_bound_many, |k| twin::bound_many(&s, k, twin::bound));
-    compare("the same, twin with one pass for all five", &job, 5_000, trial_bound_many, |k| twin::bound_many(&s, k, twin::bound_in_one_pass));
-    compare("choice of a cut", &job, 100_000, trial_cut_many, |k| twin::cut_many(&xs, &ys, k));
+    compare("near of 512 stops x 64 posts (sites)", &job, 400, Kernel::Near, |k| twin::near_many(&deck, k));
+    compare("cost of a place, 512 stops", &job, 20_000, Kernel::Cost, |k| twin::cost_many(&s, k));
+    compare("load of a rectangle, 512 stops", &job, 20_000, Kernel::Load, |k| twin::load_many(&s, k));
+    compare("bound of a cell, 512 stops (4 costs, load)", &job, 5_000, Kernel::Bound, |k| twin::bound_many(&s, k, twin::bound));
+    compare("the same, twin with one pass for all five", &job, 5_000, Kernel::Bound, |k| twin::bound_many(&s, k, twin::bound_in_one_pass));
+    compare("choice of a cut", &job, 100_000, Kernel::Cut, |k| twin::cut_many(&xs, &ys, k));
     reports();
     walks();
     growth();

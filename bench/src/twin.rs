@@ -150,7 +150,7 @@ fn cut(xs: &[i64], ys: &[i64], r: &Rect) -> i64 {
     }
 }
 
-// ---- the turns of crates/trial/src/many.rt
+// ---- the turns of crates/kernels/src/lib.rt
 
 fn spread(t: u64, factor: u64, less: i32) -> i32 {
     ((t % 65_536) * factor % 20_001) as i32 - less

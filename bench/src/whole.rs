@@ -471,7 +471,7 @@ impl Text<'_> {
     }
 }
 
-/// 0 for a report, else minus the number of the refusal, as `trial_report`.
+/// 0 for a report, else minus the number of the refusal, as `proved_report`.
 fn report_with(job: &[u8], cells: &mut [i64], out: &mut [u8], find: impl FnOnce(&Deck, &mut [i64]) -> Found) -> i64 {
     let deck = match read(job) {
         Ok(deck) => deck,

@@ -7,3 +7,4 @@ pub mod Faults
 pub mod Meaning
 pub mod PartLaws
 pub mod ReadLaws
+pub mod RefusalLaws

@@ -1,11 +1,10 @@
 -- The text of a report and of a refusal in parts, as the functions write them, and the lengths of the parts.
 -- Assumes nothing.
 use mathlib.Core.Path.{_≡_, _∙_}
-use Prim.Native.Nat.{ℕ, _+_, _^_, _≤_, _<_, zero-le}
+use Prim.Native.Nat.{ℕ, _+_, _≤_, zero-le}
 use native.Mathlib.Nat.{zero-add}
 use native.Mathlib.Omega.{arith}
 use mathlib.Core.List.{List, [], _∷_, _++_, flatten, append-assoc, append-nil}
-use lib.Dec.{lit<}
 use lib.ListN.{length, length-append}
 use lib.IntN.{ℤ, natAbs}
 use Rattle.query.specs.Figures.{Figures, State, done, stopped}
@@ -18,7 +17,7 @@ use Rattle.write.proofs.SpellLaws.{length-spellInt}
 use Rattle.write.proofs.WrittenLaws.{written-front, wrote-both}
 use Rattle.job_line.specs.Refusal.{numberOf, lineOf}
 use Rattle.job_line.specs.declared.Refusal.{Refusal}
-use Rattle.job_line.specs.declared.Refusal.the-variants.{TooLong, Malformed, OutOfRange, EmptyArea, NoPosts, NoStops, SmallSpace, ShortOutput}
+use Rattle.job.proofs.RefusalLaws.{number-most}
 use Rattle.report.specs.Text.{stateText, reportText, refusalText}
 use Rattle.report.specs.Output.{Filled}
 
@@ -78,17 +77,7 @@ unfolding bytes
 length-rounds n h = simp length-append (omega (arith, length-spellNat-below 3 n (omega arith)))
 
 pub length-number : (why : Refusal) → length (spellNat (numberOf why)) ≤ 1
-length-number why = length-spellNat-below 0 (numberOf why) (small why)
-  where
-    small : (why : Refusal) → numberOf why < 10 ^ 1
-    small TooLong = lit< tt
-    small (Malformed line) = lit< tt
-    small (OutOfRange line) = lit< tt
-    small EmptyArea = lit< tt
-    small NoPosts = lit< tt
-    small NoStops = lit< tt
-    small SmallSpace = lit< tt
-    small ShortOutput = lit< tt
+length-number why = length-spellNat-below 0 (numberOf why) (omega (arith, number-most why))
 
 -- a key and any number behind it
 pub length-nat-part : (key : List ℕ) (n : ℕ) → length (key ++ spellNat n) ≤ length key + 20

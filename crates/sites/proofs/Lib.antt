@@ -2,3 +2,4 @@ pub mod WordLaws
 pub mod TravelLaws
 pub mod ClosestLaws
 pub mod DeckLaws
+pub mod ReadLaws

@@ -42,19 +42,6 @@ abbrev zeros : List ℤ
 zeros = replicate 5005 (pos 0)
 
 -- ---- refusal numbers as signed words
-pub number-fits : (why : Refusal) (n : ℕ) → n ≡ numberOf why → SFits w64 (pos n)
-number-fits why n e = rw e (go why)
-  where
-    go : (why : Refusal) → SFits w64 (pos (numberOf why))
-    go TooLong = omega arith
-    go (Malformed line) = omega arith
-    go (OutOfRange line) = omega arith
-    go EmptyArea = omega arith
-    go NoPosts = omega arith
-    go NoStops = omega arith
-    go SmallSpace = omega arith
-    go ShortOutput = omega arith
-
 pub minus-fits : (why : Refusal) (n : ℕ) → n ≡ numberOf why → SFits w64 (toZ w64 0 -ℤ toZ w64 n)
 minus-fits why n e = rw e (go why)
   where

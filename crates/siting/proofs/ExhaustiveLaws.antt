@@ -30,7 +30,7 @@ use Rattle.siting.specs.declared.Cheapest.{Cheapest}
 use Rattle.siting.specs.declared.Cheapest.the-variants as Cheapest
 use Rattle.siting.specs.Exhaustive.{spotRecord, cheapestOf, exhaustiveCall, ExhaustiveCallLaw}
 use Rattle.siting.proofs.Demands.{is-done, accepted-report}
-use Rattle.siting.proofs.ReadLaws.{read-accepted, read-refused, read-deckOf, read-full, sites-ask}
+use Rattle.sites.proofs.ReadLaws.{read-accepted, read-refused, read-deckOf, read-full, sites-ask}
 
 abbrev refusalIn : Refusal → Cheapest → Refusal
 refusalIn other (Cheapest.At spot) = other

@@ -45,7 +45,7 @@ use Rattle.siting.specs.declared.Answer.the-variants as Answered
 use Rattle.siting.specs.declared.Response.{Response}
 use Rattle.siting.specs.Call.{stateRecord, reportRecord, turnedDown, overwritten, reported, reportCall}
 use Rattle.siting.specs.Parts.{stateFor, Solvable, Solved, refusedResponse, Responded}
-use Rattle.siting.proofs.ReadLaws.{Spelt, read-accepted, read-rounds, read-deckOf, read-full, sites-ask}
+use Rattle.sites.proofs.ReadLaws.{Spelt, read-accepted, read-rounds, read-deckOf, read-full, sites-ask}
 use Rattle.siting.proofs.Demands.{job-limits, call-accepted}
 
 -- ---- solve

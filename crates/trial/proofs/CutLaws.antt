@@ -36,8 +36,8 @@ use Rattle.lines.proofs.LineRecordLaws.{record-front}
 use Rattle.cuts.proofs.CutRecordLaws.{cutRecord-found, cutRecord-cut}
 use Rattle.trial.specs.Opened.{openedRecord, rectAllowed, Open}
 use Rattle.trial.specs.Trial.{minusOne, least, axisOf, axisNumber, cutAxisFigure, cutLineFigure, linesWritten}
-use Rattle.trial.specs.declared.Opened.{Opened}
-use Rattle.siting.proofs.ReadLaws.{Spelt}
+use Rattle.trial.specs.declared.opened.Opened.{Opened}
+use Rattle.sites.proofs.ReadLaws.{Spelt}
 use Rattle.trial.proofs.OpenLaws.{open-is, on-job, inside}
 use Rattle.trial.proofs.RectLaws.{RectIs, Fits4, rect-held, word, rect-words}
 use Rattle.trial.proofs.FigureLaws.{deck-same, deckOf-same, rows-same, columns, count-same}

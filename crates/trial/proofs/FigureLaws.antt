@@ -37,10 +37,22 @@ use Rattle.pricing.proofs.RecordLaws.{rowsOf, record-rows, InColumns, sites-ran
 use Rattle.pricing.proofs.SiteLaws.{siteOf, sitesOf-map, cost-law, load-law, before-law}
 use Rattle.trial.specs.Opened.{openedDeck, openedRecord, rectAllowed, Open}
 use Rattle.trial.specs.Trial.{minusOne, least, boundOf, beforeFigure, nearFigure, costFigure, loadFigure, boundFigure}
-use Rattle.trial.specs.declared.Opened.{Opened}
-use Rattle.siting.proofs.ReadLaws.{Spelt, held-deck}
+use Rattle.trial.specs.declared.opened.Opened.{Opened}
+use Rattle.sites.proofs.ReadLaws.{Spelt, held-deck}
 use Rattle.trial.proofs.OpenLaws.{open-is, on-job, inside}
 use Rattle.trial.proofs.RectLaws.{Fits4, place-held, rect-held}
+
+bound-steps : (deck : Query.Deck) (r : Rect) → bound deck r ≡ halfUp (pos (max (cost deck (record { x = r .xlo; y = r .ylo }) + cost deck (record { x = r .xhi; y = r .yhi })) (cost deck (record { x = r .xlo; y = r .yhi }) + cost deck (record { x = r .xhi; y = r .ylo }))) -ℤ pos (span (deck .axis) r * load deck r))
+unfolding bound cornerSum
+bound-steps deck r = refl
+
+plain-span : (r : Rect) → span plain r ≡ dist (r .xlo) (r .xhi) + dist (r .ylo) (r .yhi)
+unfolding span
+plain-span r = omega arith
+
+-- the bound of a deck whose axis costs are plain
+plain-bound : (deck : Query.Deck) → deck .axis ≡ plain → (r : Rect) → bound deck r ≡ halfUp (pos (max (cost deck (record { x = r .xlo; y = r .ylo }) + cost deck (record { x = r .xhi; y = r .yhi })) (cost deck (record { x = r .xlo; y = r .yhi }) + cost deck (record { x = r .xhi; y = r .ylo }))) -ℤ pos ((dist (r .xlo) (r .xhi) + dist (r .ylo) (r .yhi)) * load deck r))
+plain-bound deck e r = bound-steps deck r ∙ rw (e, plain-span r)
 
 module _ (o : Opened) (h : Open o) where
   pub sites-same : o .sites ≡ sitesRecord (sitesOf (h .deck))
@@ -73,6 +85,9 @@ module _ (o : Opened) (h : Open o) where
   pub load-same : (r : Rect) → loadOf (rowsOf (o .sites)) r ≡ load (h .deck) r
   load-same r = rw rows-same (load-law (h .deck) (h .plain-axis) r)
 
+  pub bound-same : (r : Rect) → boundOf (rowsOf (o .sites)) r ≡ bound (h .deck) r
+  bound-same r = rw (cost-same (record { x = r .xlo; y = r .ylo }), cost-same (record { x = r .xhi; y = r .yhi }), cost-same (record { x = r .xlo; y = r .yhi }), cost-same (record { x = r .xhi; y = r .ylo }), load-same r) (sym (plain-bound (h .deck) (h .plain-axis) r))
+
   pub before-same : {n : ℕ} → BeforeIs (o .sites .visits) (o .sites .near) (o .sites .count) n → n ≡ before (h .deck)
   before-same b = b .is (o .sites .x) (o .sites .y) (columns .x-long) (columns .y-long) ∙ rw rows-same (before-law (h .deck))
 
@@ -80,18 +95,6 @@ module _ (o : Opened) (h : Open o) where
   pub deck-ask : InRange (deckOf (o .deck)) × (o .deck .posts ≤ 64) × (o .deck .stops ≤ 512)
   unfolding deckRecord
   deck-ask = (subst InRange (sym deckOf-same) (h .range), rw deck-same (h .range .most-posts), rw deck-same (h .range .most-stops))
-
-bound-steps : (deck : Query.Deck) (r : Rect) → bound deck r ≡ halfUp (pos (max (cost deck (record { x = r .xlo; y = r .ylo }) + cost deck (record { x = r .xhi; y = r .yhi })) (cost deck (record { x = r .xlo; y = r .yhi }) + cost deck (record { x = r .xhi; y = r .ylo }))) -ℤ pos (span (deck .axis) r * load deck r))
-unfolding bound cornerSum
-bound-steps deck r = refl
-
-plain-span : (r : Rect) → span plain r ≡ dist (r .xlo) (r .xhi) + dist (r .ylo) (r .yhi)
-unfolding span
-plain-span r = omega arith
-
--- the bound of a deck whose axis costs are plain
-plain-bound : (deck : Query.Deck) → deck .axis ≡ plain → (r : Rect) → bound deck r ≡ halfUp (pos (max (cost deck (record { x = r .xlo; y = r .ylo }) + cost deck (record { x = r .xhi; y = r .yhi })) (cost deck (record { x = r .xlo; y = r .yhi }) + cost deck (record { x = r .xhi; y = r .ylo }))) -ℤ pos ((dist (r .xlo) (r .xhi) + dist (r .ylo) (r .yhi)) * load deck r))
-plain-bound deck e r = bound-steps deck r ∙ rw (e, plain-span r)
 
 -- the first elements of an array are those of the list in front
 padded-at : (xs : List ℕ) (i : ℕ) → i < length xs → getD (padded 512 0 xs) i 0 ≡ getD xs i 0
@@ -102,9 +105,6 @@ padded-at xs i h = List·getD-append xs _ 0 i h
 module _ {bytes : List ℕ} {o : Opened} (e : o ≡ openedRecord (readJob bytes)) (s : Spelt bytes) where
   abbrev job-open : Open o
   job-open = open-is bytes o e s
-
-  pub bound-same : (r : Rect) → boundOf (rowsOf (o .sites)) r ≡ bound (s .job .deck) r
-  bound-same r = rw (cost-same o job-open (record { x = r .xlo; y = r .ylo }), cost-same o job-open (record { x = r .xhi; y = r .yhi }), cost-same o job-open (record { x = r .xlo; y = r .yhi }), cost-same o job-open (record { x = r .xhi; y = r .ylo }), load-same o job-open r) (sym (plain-bound (s .job .deck) (job-open .plain-axis) r))
 
   pub cost-answer : {x y : ℤ} {n : ℕ} → SFits w64 x → SFits w64 y → placeInRange (record { x = x; y = y }) ≡ true → Figure (costOf (rowsOf (o .sites)) (record { x = held x; y = held y })) costLimit n → toZ w64 n ≡ costFigure (record { x = x; y = y }) (readJob bytes)
   cost-answer {x} {y} {n} f g t fig =
@@ -118,7 +118,7 @@ module _ {bytes : List ℕ} {o : Opened} (e : o ≡ openedRecord (readJob bytes)
 
   pub bound-answer : {xlo ylo xhi yhi b : ℤ} → Fits4 xlo ylo xhi yhi → rectAllowed (rectOf xlo ylo xhi yhi) ≡ true → b ≡ boundOf (rowsOf (o .sites)) (rectOf (held xlo) (held ylo) (held xhi) (held yhi)) → b ≡ boundFigure (rectOf xlo ylo xhi yhi) (readJob bytes)
   bound-answer {xlo} {ylo} {xhi} {yhi} f t is =
-      is ∙ ap (boundOf (rowsOf (o .sites))) (rect-held f) ∙ bound-same (rectOf xlo ylo xhi yhi)
+      is ∙ ap (boundOf (rowsOf (o .sites))) (rect-held f) ∙ bound-same o job-open (rectOf xlo ylo xhi yhi)
       ∙ inside least (rectAllowed (rectOf xlo ylo xhi yhi)) (λ job. bound (job .deck) (rectOf xlo ylo xhi yhi)) s t
 
   pub before-answer : {n : ℕ} → BeforeIs (o .sites .visits) (o .sites .near) (o .sites .count) n → toZ w64 n ≡ beforeFigure (readJob bytes)

@@ -2,5 +2,4 @@ pub mod OpenLaws
 pub mod RectLaws
 pub mod FigureLaws
 pub mod CutLaws
-pub mod ManyLaws
-pub mod CallLaws
+pub mod NumberLaws

@@ -5,7 +5,6 @@ use mathlib.Core.Bool.{Bool, true, false, cond}
 use mathlib.Core.List.{List, []}
 use Prim.Native.Nat.{ℕ, _≤_}
 use native.Mathlib.Omega.{arith}
-use lib.IntN.{pos}
 use Rattle.job.specs.Format.{Job, Result, refused, accepted, readJob}
 use Rattle.job.specs.Record.{jobRecord}
 use Rattle.job.specs.declared.Job as Held
@@ -16,17 +15,17 @@ use Rattle.sites.specs.DeckOf.{deckOf}
 use Rattle.sites.specs.Sites.{sitesOf}
 use Rattle.sites.specs.Record.{sitesRecord}
 use Rattle.sites.specs.declared.Sites.{Sites}
-use Rattle.siting.proofs.ReadLaws.{differ, Spelt, read-accepted, read-deck, read-rounds, spelt-range, read-deckOf}
+use Rattle.sites.proofs.ReadLaws.{differ, Spelt, read-accepted, read-deck, read-rounds, spelt-range, read-deckOf}
 use Rattle.trial.specs.Opened.{openedDeck, openedRecord, Open}
-use Rattle.trial.specs.Trial.{onJob, roundsOf}
-use Rattle.trial.specs.declared.Opened.{Opened}
+use Rattle.trial.specs.Trial.{onJob}
+use Rattle.trial.specs.declared.opened.Opened.{Opened}
 
 -- an accepted job has at most 1,000 rounds
-pub rounds-read : (bytes : List ℕ) (j : Held.Job) (e : j ≡ jobRecord (readJob bytes)) (rounds : ℕ) → j .outcome ≡ Accepted rounds → (rounds ≤ 1000) × (pos rounds ≡ roundsOf (readJob bytes))
+pub rounds-read : (bytes : List ℕ) (j : Held.Job) (e : j ≡ jobRecord (readJob bytes)) (rounds : ℕ) (f : j .outcome ≡ Accepted rounds) → (rounds ≤ 1000) × (rounds ≡ read-accepted bytes j e rounds f .job .rounds)
 rounds-read bytes j e rounds f =
     let s = read-accepted bytes j e rounds f in
     let g = read-rounds bytes j e rounds f s in
-    (omega (arith, g, s .allowed .writable .rounds), ap (λ (n : ℕ). pos n) g ∙ sym (ap roundsOf (s .read)))
+    (omega (arith, g, s .allowed .writable .rounds), g)
 
 module _ {bytes : List ℕ} (s : Spelt bytes) (j : Held.Job) (e : j ≡ jobRecord (readJob bytes)) where
   pub opened-accepted : (sites : Sites) → sites ≡ sitesRecord (sitesOf (deckOf (j .deck))) → record { accepted = true; deck = j .deck; sites = sites } ≡ openedRecord (readJob bytes)

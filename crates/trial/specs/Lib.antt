@@ -1,4 +1,2 @@
 pub mod Opened
 pub mod Trial
-pub mod Many
-pub mod Calls

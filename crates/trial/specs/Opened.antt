@@ -13,7 +13,7 @@ use Rattle.job.specs.Format.{Result, refused, accepted}
 use Rattle.job.specs.Record.{deckRecord}
 use Rattle.sites.specs.Sites.{sitesOf}
 use Rattle.sites.specs.Record.{sitesRecord}
-use Rattle.trial.specs.declared.Opened.{Opened}
+use Rattle.trial.specs.declared.opened.Opened.{Opened}
 
 unfoldable pub openedDeck : Query.Deck → Opened
 unfolding sitesRecord deckRecord sitesOf

@@ -2,12 +2,12 @@
 -- Assumes nothing.
 use Prim.Native.Nat.{ℕ, _+_, _*_, max}
 use mathlib.Core.Bool.{Bool, cond, _&&_}
-use mathlib.Core.List.{List, map, _++_}
+use mathlib.Core.List.{List, [], _∷_, map, _++_}
 use lib.Dec.{ltb}
 use lib.IntN.{ℤ, pos, negsuc, _-ℤ_}
 use lib.ListN.{length, getD, drop}
 use Rattle.numbers.specs.Integer.{dist, halfUp}
-use Rattle.query.specs.Place.{Place, Rect, Axis, x-axis, y-axis}
+use Rattle.query.specs.Place.{Place, Rect, corner, Axis, x-axis, y-axis}
 use Rattle.query.specs.Travel.{near}
 use Rattle.query.specs.Cost.{cost, before}
 use Rattle.query.specs.Reach.{load}
@@ -16,6 +16,7 @@ use Rattle.query.specs.Lines.{lines}
 use Rattle.query.specs.Problem.{problem}
 use Rattle.query.specs.Cut.{canCut, cutLine}
 use Rattle.job_line.specs.Refusal.{numberOf, lineOf}
+use Rattle.job_line.specs.declared.Refusal.{Refusal}
 use Rattle.job_line.specs.Lines.{placeInRange}
 use Rattle.job.specs.Format.{Job, Result, refused, accepted}
 use Rattle.sites.specs.Sites.{Site}
@@ -34,18 +35,16 @@ minusOne = negsuc 0
 abbrev pub least : ℤ
 least = negsuc 9223372036854775807
 
--- the number and the line of the refusal, and 0 for an accepted job
-abbrev pub refusalNumber : Result → ℕ
-refusalNumber (refused why) = numberOf why
-refusalNumber (accepted job) = 0
+-- the number and the line of a refusal
+abbrev pub refusalNumbers : Refusal → List ℤ
+refusalNumbers why = pos (numberOf why) ∷ pos (lineOf why) ∷ []
 
-abbrev pub refusalLine : Result → ℕ
-refusalLine (refused why) = lineOf why
-refusalLine (accepted job) = 0
+-- of what reading gives, the number and the line of the refusal, and the rounds
+abbrev pub readingNumbers : Result → List ℤ
+readingNumbers (refused why) = pos (numberOf why) ∷ pos (lineOf why) ∷ minusOne ∷ []
+readingNumbers (accepted job) = pos 0 ∷ pos 0 ∷ pos (job .rounds) ∷ []
 
-abbrev pub roundsOf : Result → ℤ
-roundsOf r = onJob minusOne (λ job. pos (job .rounds)) r
-
+-- ---- figures of the deck
 abbrev pub beforeFigure : Result → ℤ
 beforeFigure r = onJob minusOne (λ job. pos (before (job .deck))) r
 
@@ -73,6 +72,15 @@ cutAxisFigure rect r = onJob minusOne (λ job. cond (rectAllowed rect) (cond (ca
 -- the line of the cut
 abbrev pub cutLineFigure : Rect → Result → ℤ
 cutLineFigure rect r = onJob least (λ job. cond (rectAllowed rect && canCut (problem (job .deck)) rect) (cutLine (problem (job .deck)) rect .at) least) r
+
+-- the near of the stop with a signed number
+abbrev pub nearAt : ℤ → Result → ℤ
+nearAt (pos i) r = nearFigure i r
+nearAt (negsuc i) r = minusOne
+
+-- all these figures, in the order that `trial_figure` numbers them
+abbrev pub deckFigures : Rect → Result → List ℤ
+deckFigures rect r = beforeFigure r ∷ nearAt (rect .xlo) r ∷ costFigure (corner rect) r ∷ loadFigure rect r ∷ boundFigure rect r ∷ cutAxisFigure rect r ∷ cutLineFigure rect r ∷ []
 
 abbrev pub axisOf : Bool → Axis
 axisOf across = cond across x-axis y-axis

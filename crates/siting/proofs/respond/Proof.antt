@@ -1,7 +1,7 @@
 -- `siting::respond` meets its contract: each way out is that of the call's definition.
 -- Assumes nothing.
 use Rattle.siting.proofs.Demands.{refused-call, small-space, short-output}
-use Rattle.siting.proofs.ReadLaws.{read-refused}
+use Rattle.sites.proofs.ReadLaws.{read-refused}
 use Rattle.siting.proofs.SolveLaws.{respond-refused, spelt, rounds-same, rounds-limit, solvable, report-limits, respond-reported}
 use native.Mathlib.Omega.{arith}
 use borrow.Author.Needs.{needs}

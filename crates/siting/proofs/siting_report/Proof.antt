@@ -1,6 +1,8 @@
 -- `siting::siting_report` meets its contract.
 -- Assumes nothing.
-use Rattle.siting.proofs.EntryLaws.{number-fits, minus-fits, entry-report, entry-refused}
+use native.Mathlib.Omega.{arith}
+use Rattle.job.proofs.RefusalLaws.{number-most}
+use Rattle.siting.proofs.EntryLaws.{minus-fits, entry-report, entry-refused}
 use borrow.Author.Needs.{needs}
 use Rattle.siting.proofs.siting_report.Statement.{statement}
 use Rattle.siting.proofs.siting_report.Tie as tie
@@ -24,7 +26,7 @@ number-of-requires : tie.Need-number-of-requires
 number-of-requires c κs = search needs
 
 cast-result-2 : tie.Need-cast-result-2
-cast-result-2 c = number-fits (c .before .before .answer .given .0 .0) _ (c .number-of .ensures)
+cast-result-2 c = omega (arith, number-most (c .before .before .answer .given .0 .0), c .number-of .ensures)
 
 sub-result : tie.Need-sub-result
 sub-result c = minus-fits (c .before .before .answer .given .0 .0) _ (c .number-of .ensures)

@@ -3,10 +3,11 @@
 use borrow.Author.Tests.{not-true, not-false}
 use denote.Ref.{now}
 use Rattle.trial.specs.Opened.{Open}
-use Rattle.siting.proofs.ReadLaws.{Spelt}
+use Rattle.sites.proofs.ReadLaws.{Spelt}
 use Rattle.trial.proofs.OpenLaws.{open-accepted, open-is, open-refused}
 use Rattle.trial.proofs.CutLaws.{found-in-order, written-none, written-lines}
 use borrow.Author.Needs.{needs}
+use native.Mathlib.Omega.{arith}
 use Rattle.trial.proofs.trial_lines.Statement.{statement}
 use Rattle.trial.proofs.trial_lines.Tie as tie
 
@@ -27,7 +28,7 @@ lines-of-requires : tie.Need-lines-of-requires
 lines-of-requires c κs = opens c
 
 returns-2 : tie.Need-returns-2
-returns-2 c = let d = c .before .before in written-none (d .before .before .open-job .ensures) (spelt d) (d .before .before .before .before .args .across) (c .before .lines-of .ensures) _ (c .if2 .taken)
+returns-2 c = let d = c .before .before in written-none (d .before .before .open-job .ensures) (spelt d) (d .before .before .before .before .args .across) (c .before .lines-of .ensures) (now (d .before .before .before .before .args .out)) (omega (arith, c .if2 .taken))
 
 put-lines-requires : tie.Need-put-lines-requires
 put-lines-requires c κs = let order = found-in-order _ (opens (c .before .before .before .before .before)) _ _ (c .before .before .before .before .lines-of .ensures) in (order .within, order .full, c .before .before .before .if2 .left)

@@ -1,0 +1,70 @@
+-- How large the number and the line of a refusal can be.
+-- Assumes nothing.
+use mathlib.Core.Path.{_≡_, refl, sym, ap, _∙_}
+use mathlib.Core.List.{List, [], _∷_, _++_, flatten}
+use mathlib.Core.Option.{Option, none, some}
+use Prim.Native.Nat.{ℕ, suc, _≤_}
+use native.Mathlib.Omega.{arith}
+use lib.ListN.{length, length-append}
+use Rattle.numbers.proofs.Joined.{flatten-snoc}
+use Rattle.job_line.specs.Lines.{areaLine, countLine, postLine, stopLine}
+use Rattle.job.specs.Format.{refused, readJob}
+use Rattle.job_line.specs.Refusal.{numberOf, lineOf}
+use Rattle.job.specs.Meaning.{Kind, area, posts, post, stops, stop, rounds, Held, formOf, Good, top, one-more, FirstMalformed, no-form, too-much, Condition}
+use Rattle.job_line.specs.declared.Refusal.{Refusal}
+use Rattle.job_line.specs.declared.Refusal.the-variants.{TooLong, Malformed, OutOfRange, EmptyArea, NoPosts, NoStops, SmallSpace, ShortOutput}
+use Rattle.job.proofs.Meaning.{refused-law}
+
+pub number-most : (why : Refusal) → numberOf why ≤ 8
+number-most TooLong = omega arith
+number-most (Malformed line) = omega arith
+number-most (OutOfRange line) = omega arith
+number-most EmptyArea = omega arith
+number-most NoPosts = omega arith
+number-most NoStops = omega arith
+number-most SmallSpace = omega arith
+number-most ShortOutput = omega arith
+
+-- ---- the line: each line before it has a byte
+no-bytes : (k : Kind) → formOf k [] ≡ none
+unfolding areaLine countLine postLine stopLine
+no-bytes area = refl
+no-bytes posts = refl
+no-bytes post = refl
+no-bytes stops = refl
+no-bytes stop = refl
+no-bytes rounds = refl
+
+not-none : {A C : Type 0} {a : A} → _≡_ {A = Option A} none (some a) → C
+not-none e = absurd (let z : _≡_ {A = ℕ} 0 1 = cc in omega arith)
+
+some-bytes : (k : Kind) (text : List ℕ) {r : Held k × List ℕ} → formOf k text ≡ some r → 1 ≤ length text
+some-bytes k [] e = not-none (sym (no-bytes k) ∙ e)
+some-bytes k (b ∷ text) e = omega arith
+
+good-length : {lines : List (List ℕ)} {due : List Kind} → Good lines due → length lines ≤ length (flatten lines)
+good-length top = omega arith
+good-length (one-more {lines} {k} {due} good text v e t) =
+    let joined : flatten (lines ++ (text ∷ [])) ++ [] ≡ flatten lines ++ (text ++ []) = flatten-snoc lines text [] in
+    let same = ap length joined in
+    omega (arith, good-length good, some-bytes k text e, length-append lines (text ∷ []), length-append (flatten lines) (text ++ []), length-append text [], length-append (flatten (lines ++ (text ∷ []))) [], same)
+
+line-number : (bytes : List ℕ) (lines : List (List ℕ)) (rest : List ℕ) {due : List Kind} {n : ℕ} → length bytes ≤ 16384 → Good lines due → bytes ≡ flatten lines ++ rest → n ≡ suc (length lines) → n ≤ 16385
+line-number bytes lines rest short good split number = omega (arith, good-length good, ap length split, length-append (flatten lines) rest)
+
+malformed-most : (bytes : List ℕ) (n : ℕ) → length bytes ≤ 16384 → FirstMalformed bytes n → n ≤ 16385
+malformed-most bytes n short (no-form lines rest k due good split number e) = line-number bytes lines rest short good split number
+malformed-most bytes n short (too-much lines rest good split number some-text) = line-number bytes lines rest short good split number
+
+pub condition-line : (bytes : List ℕ) (why : Refusal) → Condition why bytes → lineOf why ≤ 16385
+condition-line bytes TooLong c = omega arith
+condition-line bytes (Malformed n) c = malformed-most bytes n (c .0) (c .1)
+condition-line bytes (OutOfRange n) c = line-number bytes (c .1 .lines) (c .1 .rest) (c .0) (c .1 .before) (c .1 .split) (c .1 .number)
+condition-line bytes EmptyArea c = omega arith
+condition-line bytes NoPosts c = omega arith
+condition-line bytes NoStops c = omega arith
+condition-line bytes SmallSpace c = omega arith
+condition-line bytes ShortOutput c = omega arith
+
+pub line-most : (bytes : List ℕ) (why : Refusal) → readJob bytes ≡ refused why → lineOf why ≤ 16385
+line-most bytes why e = condition-line bytes why (refused-law bytes why .exactly .0 e)

@@ -1,0 +1,195 @@
+-- Sums over turns, and the places and rectangles of the turns.
+-- Assumes nothing.
+use mathlib.Core.Path.{_≡_, refl, sym, ap, subst, _∙_}
+use mathlib.Core.Bool.{Bool, false, cond, _&&_}
+use mathlib.Core.List.{List}
+use Prim.Native.Nat.{ℕ, zero, suc, _+_, _*_, _%_, _≤_, _<_}
+use native.Mathlib.Nat.{mul-le-mul}
+use native.Mathlib.Numerals.{add-one}
+use native.Mathlib.Omega.{arith}
+use borrow.Author.Tests.{lt-ltb, le-ltb}
+use lib.Dec.{T, ltb}
+use lib.ListN.{getD, take}
+use lib.IntN.{ℤ, pos, natAbs, _-ℤ_}
+use lib.Signed.{leZ, _≤ℤ_}
+use mir.Syntax.{w64}
+use mir.Val.{SFits, toZ, ofZ}
+use mir.ValLaws.{toZ-ofZ, toZ-pos}
+use Rattle.numbers.proofs.Truth.{and-intro}
+use Rattle.numbers.proofs.Words as Words
+use Rattle.numbers.proofs.Integer.{order, abs-range, sub-nat}
+use Rattle.query.specs.Place.{Place, x-axis, y-axis}
+use Rattle.query.specs.Lines.{lines}
+use Rattle.query.specs.Deck.{Deck}
+use Rattle.query.specs.Range.{PlaceInRange, costLimit}
+use Rattle.job_line.specs.Lines.{placeInRange}
+use Rattle.job.specs.Format.{Result, readJob}
+use Rattle.job.proofs.RangeLaws.{place-range}
+use Rattle.job_line.proofs.RangeTests.{held, held-is}
+use Rattle.pricing.specs.Columns.{Figure}
+use Rattle.lines.specs.LineRecord.{linesRecord}
+use Rattle.cuts.specs.CutRecord.{rectOf, Edges, onLines, cutRecord}
+use Rattle.numbers.proofs.Words.{difference, difference-fits}
+use Rattle.sites.specs.DeckOf.{deckOf}
+use Rattle.sites.specs.Record.{sitesRecord}
+use Rattle.sites.specs.Sites.{sitesOf}
+use Rattle.pricing.specs.Figures.{costOf, loadOf}
+use Rattle.sites.proofs.ReadLaws.{Spelt}
+use Rattle.pricing.proofs.RecordLaws.{rowsOf}
+use Rattle.lines.specs.declared.Lines.{Lines}
+use Rattle.trial.specs.Opened.{openedRecord, rectAllowed, Open}
+use Rattle.trial.specs.Trial.{onJob, minusOne, least, boundOf}
+use Rattle.trial.specs.declared.opened.Opened.{Opened}
+use Rattle.trial.proofs.OpenLaws.{open-refused, on-job}
+use Rattle.trial.proofs.FigureLaws.{deckOf-same, cost-same, load-same, bound-same}
+use Rattle.trial.proofs.CutLaws.{found-at}
+use Rattle.kernels.specs.Sums.{sumTo, side, spread, Spread, placeAt, rectAt, positive, costTurn, loadTurn, boundTurn, cutTurn, turn, kernelSum}
+
+-- ---- sums
+pub record Summed (f : ℕ → ℕ) (limit k sum t : ℕ) : Type 0 where
+  pub within : t ≤ k
+  pub is : sum ≡ sumTo f t
+  pub most : sum ≤ t * limit
+
+pub summed-none : (f : ℕ → ℕ) (limit k : ℕ) → Summed f limit k 0 0
+unfolding sumTo
+summed-none f limit k = record { within = omega arith; is = refl; most = omega arith }
+
+sum-more : (f : ℕ → ℕ) (t : ℕ) → sumTo f (t + 1) ≡ sumTo f t + f t
+unfolding sumTo
+sum-more f t = rw add-one
+
+pub summed-more : {f : ℕ → ℕ} {limit k sum t : ℕ} (v : ℕ) → Summed f limit k sum t → t < k → v ≡ f t → v ≤ limit → Summed f limit k (sum + v) (t + 1)
+summed-more {f} {limit} {k} {sum} {t} v s h e l = record { within = omega arith; is = ap (λ (n : ℕ). n + v) (s .is) ∙ ap (λ (n : ℕ). sumTo f t + n) e ∙ sym (sum-more f t); most = omega (arith, s .most) }
+
+pub summed-all : {f : ℕ → ℕ} {limit k sum t : ℕ} → Summed f limit k sum t → k ≤ t → k ≤ 100000 → limit ≤ costLimit → Figure (sumTo f k) (100000 * costLimit) sum
+summed-all {f} {limit} {k} {sum} {t} s h few small =
+    let e : t ≡ k = omega arith in
+    let few : t ≤ 100000 = omega arith in
+    let m : t * limit ≤ 100000 * costLimit = mul-le-mul few small in
+    record { is = s .is ∙ ap (sumTo f) e; within = omega (arith, m) }
+
+sumTo-same : (f g : ℕ → ℕ) → ((t : ℕ) → f t ≡ g t) → (k : ℕ) → sumTo f k ≡ sumTo g k
+unfolding sumTo
+sumTo-same f g e zero = refl
+sumTo-same f g e (suc k) = rw (e k, sumTo-same f g e k)
+
+-- a sum of the same numbers
+pub same-sum : {f : ℕ → ℕ} (g : ℕ → ℕ) (k : ℕ) {limit n : ℕ} → ((t : ℕ) → f t ≡ g t) → Figure (sumTo f k) limit n → Figure (sumTo g k) limit n
+same-sum {f} g k e fig = record { is = fig .is ∙ sumTo-same f g e k; within = fig .within }
+
+-- ---- the sums of an opened job, by the kernel's number
+abbrev SumIs : Opened → ℕ → ℕ → ℕ → Type 0
+SumIs o which k n = Figure (sumTo (turn (deckOf (o .deck)) which) k) (100000 * costLimit) n
+
+module _ (o : Opened) (h : Open o) (which k : ℕ) {n : ℕ} where
+  pub cost-sum : which ≡ 0 → Figure (sumTo (λ t. costOf (rowsOf (o .sites)) (placeAt t)) k) (100000 * costLimit) n → SumIs o which k n
+  cost-sum e fig = rw (e, deckOf-same o h) (same-sum (costTurn (h .deck)) k (λ t. cost-same o h (placeAt t)) fig)
+
+  pub load-sum : which ≡ 1 → Figure (sumTo (λ t. loadOf (rowsOf (o .sites)) (rectAt t)) k) (100000 * costLimit) n → SumIs o which k n
+  load-sum e fig = rw (e, deckOf-same o h) (same-sum (loadTurn (h .deck)) k (λ t. load-same o h (rectAt t)) fig)
+
+  pub bound-sum : which ≡ 2 → Figure (sumTo (λ t. positive (boundOf (rowsOf (o .sites)) (rectAt t))) k) (100000 * costLimit) n → SumIs o which k n
+  bound-sum e fig = rw (e, deckOf-same o h) (same-sum (boundTurn (h .deck)) k (λ t. ap positive (bound-same o h (rectAt t))) fig)
+
+  pub cut-sum : which ≡ 3 → (v u : Lines) → v ≡ linesRecord (lines (deckOf (o .deck)) x-axis) → u ≡ linesRecord (lines (deckOf (o .deck)) y-axis) → Figure (sumTo (λ t. positive (cutRecord (onLines (take (v .count) (v .at)) (take (u .count) (u .at))) (rectAt t) .at)) k) (100000 * costLimit) n → SumIs o which k n
+  cut-sum e v u a b fig = rw (e, deckOf-same o h) (same-sum (cutTurn (h .deck)) k (λ t. ap positive (found-at o h v u (rectAt t) a b)) fig)
+
+  pub near-sum : which ≡ 4 → Figure (sumTo (λ t. getD (sitesRecord (sitesOf (deckOf (o .deck))) .near) (t % 512) 0) k) (100000 * costLimit) n → SumIs o which k n
+  near-sum e fig = rw e fig
+
+-- ---- what `kernel_sum` answers
+pub kernel-none : (which k : ℕ) (r : Result) → 4 < which → least ≡ kernelSum which k r
+kernel-none which k r h = rw (lt-ltb 4 which h)
+
+module _ (which k : ℕ) (w : which ≤ 4) where
+  abbrev onDeck : Result → ℤ
+  onDeck r = onJob minusOne (λ job. cond (ltb 100000 k) minusOne (pos (sumTo (turn (job .deck) which) k))) r
+
+  kernel-is : (r : Result) → onDeck r ≡ kernelSum which k r
+  kernel-is r = rw (le-ltb 4 which w)
+
+  pub kernel-refused : (bytes : List ℕ) (o : Opened) → o ≡ openedRecord (readJob bytes) → o .accepted ≡ false → minusOne ≡ kernelSum which k (readJob bytes)
+  kernel-refused bytes o e f = open-refused bytes o e _ _ f ∙ kernel-is (readJob bytes)
+
+  module _ {bytes : List ℕ} (s : Spelt bytes) where
+    sum-is : cond (ltb 100000 k) minusOne (pos (sumTo (turn (s .job .deck) which) k)) ≡ kernelSum which k (readJob bytes)
+    sum-is = on-job minusOne (λ job. cond (ltb 100000 k) minusOne (pos (sumTo (turn (job .deck) which) k))) s ∙ kernel-is (readJob bytes)
+
+    pub too-many : 100000 < k → minusOne ≡ kernelSum which k (readJob bytes)
+    too-many h = sym (ap (λ (b : Bool). cond b minusOne (pos (sumTo (turn (s .job .deck) which) k))) (lt-ltb 100000 k h)) ∙ sum-is
+
+    pub kernel-answer : {deck : Deck} {n : ℕ} → deck ≡ s .job .deck → k ≤ 100000 → Figure (sumTo (turn deck which) k) (100000 * costLimit) n → toZ w64 n ≡ kernelSum which k (readJob bytes)
+    kernel-answer {deck} {n} e h fig = toZ-pos w64 n (omega (arith, fig .within)) ∙ ap pos (fig .is ∙ ap (λ (d : Deck). sumTo (turn d which) k) e) ∙ sym (ap (λ (b : Bool). cond b minusOne (pos (sumTo (turn (s .job .deck) which) k))) (le-ltb 100000 k h)) ∙ sum-is
+
+-- ---- numbers of a turn
+pub product-fits : (t factor : ℕ) → factor ≤ 65536 → (t % 65536) * factor ≤ 65536 * 65536
+product-fits t factor h = let g : t % 65536 ≤ 65536 = omega arith in mul-le-mul g h
+
+pub side-most : (t factor : ℕ) → side t factor ≤ 20000
+side-most t factor = go ((t % 65536) * factor)
+  where
+    go : (n : ℕ) → n % 20001 ≤ 20000
+    go n = omega arith
+
+module _ (m s : ℕ) (g : m ≤ 20000) (h : s ≤ 20000) where
+  pub less-fits : SFits w64 (toZ w64 m -ℤ toZ w64 s)
+  less-fits = difference-fits m s (omega arith) (omega arith)
+
+  pub less-is : toZ w64 (ofZ w64 (toZ w64 m -ℤ toZ w64 s)) ≡ pos m -ℤ pos s
+  less-is = toZ-ofZ w64 (toZ w64 m -ℤ toZ w64 s) less-fits ∙ difference m s (omega arith) (omega arith)
+
+  less-range : natAbs (pos m -ℤ pos s) ≤ 20000
+  less-range = abs-range (pos m -ℤ pos s) 20000 .1 (omega (arith, sub-nat (pos m) (pos s)))
+
+pub spread-is : (t factor less : ℕ) → less ≤ 20000 → Spread t factor less (toZ w64 (ofZ w64 (toZ w64 (side t factor) -ℤ toZ w64 less)))
+spread-is t factor less h =
+    let e = less-is (side t factor) less (side-most t factor) h in
+    record { is = e; range = rw e (less-range (side t factor) less (side-most t factor) h) }
+
+pub spread-held : {t factor less : ℕ} {r : ℤ} → Spread t factor less r → held r ≡ spread t factor less
+spread-held {t} {factor} {less} {r} s = held-is (Words.word-fits w64 r (omega (arith, s .range))) ∙ s .is
+
+spread-range : {t factor less : ℕ} {r : ℤ} → Spread t factor less r → natAbs (spread t factor less) ≤ 20000
+spread-range s = subst (λ (z : ℤ). natAbs z ≤ 20000) (s .is) (s .range)
+
+pub place-turn : {t : ℕ} {x y : ℤ} → Spread t 7919 10000 x → Spread t 6007 10000 y → _≡_ {A = Place} (record { x = held x; y = held y }) (placeAt t)
+place-turn a b = rw (spread-held a, spread-held b)
+
+pub place-ok : {t : ℕ} {x y : ℤ} → Spread t 7919 10000 x → Spread t 6007 10000 y → PlaceInRange (record { x = held x; y = held y })
+place-ok a b = rw (spread-held a, spread-held b) (record { x-range = spread-range a; y-range = spread-range b })
+
+-- a low edge is not above a high one
+low-high : (m s : ℕ) → m ≤ 20000 → (pos m -ℤ pos 20000) ≤ℤ (pos s -ℤ pos 0)
+low-high m s h = omega (arith, order, sub-nat (pos m) (pos 20000), sub-nat (pos s) (pos 0))
+
+module _ {t : ℕ} {xlo ylo xhi yhi : ℤ} (a : Spread t 7919 20000 xlo) (b : Spread t 6007 20000 ylo) (c : Spread t 4409 0 xhi) (d : Spread t 3001 0 yhi) where
+  pub rect-turn : rectOf (held xlo) (held ylo) (held xhi) (held yhi) ≡ rectAt t
+  rect-turn = rw (spread-held a, spread-held b, spread-held c, spread-held d)
+
+  low-is : PlaceInRange (record { x = held xlo; y = held ylo })
+  low-is = rw (spread-held a, spread-held b) (record { x-range = spread-range a; y-range = spread-range b })
+
+  high-is : PlaceInRange (record { x = held xhi; y = held yhi })
+  high-is = rw (spread-held c, spread-held d) (record { x-range = spread-range c; y-range = spread-range d })
+
+  across-is : held xlo ≤ℤ held xhi
+  across-is = rw (spread-held a, spread-held c) (low-high (side t 7919) (side t 4409) (side-most t 7919))
+
+  deep-is : held ylo ≤ℤ held yhi
+  deep-is = rw (spread-held b, spread-held d) (low-high (side t 6007) (side t 3001) (side-most t 6007))
+
+  pub rect-ok : T (rectAllowed (rectOf (held xlo) (held ylo) (held xhi) (held yhi)))
+  unfolding rectAllowed
+  rect-ok =
+      let low = placeInRange (record { x = held xlo; y = held ylo }) in
+      let high = placeInRange (record { x = held xhi; y = held yhi }) in
+      let across = leZ (held xlo) (held xhi) in
+      let deep = leZ (held ylo) (held yhi) in
+      and-intro low (high && (across && deep)) (place-range _ .1 low-is) (and-intro high (across && deep) (place-range _ .1 high-is) (and-intro across deep (across-is .le) (deep-is .le)))
+
+  pub x-ok : Edges (held xlo) (held xhi)
+  x-ok = record { lo-range = low-is .x-range; hi-range = high-is .x-range }
+
+  pub y-ok : Edges (held ylo) (held yhi)
+  y-ok = record { lo-range = low-is .y-range; hi-range = high-is .y-range }

@@ -1,0 +1,48 @@
+-- `kernels::costs` meets its contract: after t turns the sum is that of the first t places.
+-- Assumes nothing.
+use mathlib.Core.Path.{ap, _∙_}
+use Prim.Native.Nat.{_-_}
+use Rattle.query.specs.Range.{costLimit}
+use Rattle.pricing.specs.Columns.{siteRows}
+use Rattle.pricing.specs.Figures.{costOf}
+use Rattle.kernels.specs.Sums.{placeAt}
+use Rattle.kernels.proofs.SumLaws.{Summed, summed-none, summed-more, summed-all, place-turn, place-ok}
+use native.Mathlib.Omega.{arith}
+use Rattle.kernels.proofs.costs.Statement.{statement}
+use Rattle.kernels.proofs.costs.Tie as tie
+
+abbrev Inv-loop : tie.InvT-loop
+Inv-loop xs ys visits near n k sum₀ t₀ sum t = Summed (λ t. costOf (siteRows xs ys visits near n) (placeAt t)) costLimit k sum t
+
+abbrev μ-loop : tie.MeasureT-loop
+μ-loop xs ys visits near n k sum₀ t₀ sum t = k - t
+
+loop-holds : tie.Need-loop-holds Inv-loop μ-loop
+loop-holds c = summed-none _ _ _
+
+spread-requires : tie.Need-spread-requires Inv-loop μ-loop
+spread-requires c κs = (omega arith, omega arith)
+
+spread-requires-2 : tie.Need-spread-requires-2 Inv-loop μ-loop
+spread-requires-2 c κs = (omega arith, omega arith)
+
+cost-in-requires : tie.Need-cost-in-requires Inv-loop μ-loop
+cost-in-requires c κs = let s = c .before .before .before .before in (s .pre .0, s .pre .1, place-ok (c .before .spread .ensures) (c .spread2 .ensures))
+
+loop-again : tie.Need-loop-again Inv-loop μ-loop
+loop-again c = let l = c .before .before .before .before in summed-more _ (l .loop .inv) (c .before .before .before .loop-test .taken) (c .cost-in .ensures .is ∙ ap (costOf _) (place-turn (c .before .before .spread .ensures) (c .before .spread2 .ensures))) (c .cost-in .ensures .within)
+
+add-sum : tie.Need-add-sum Inv-loop μ-loop
+add-sum c = let next = loop-again c in omega (arith, next .most, next .within, c .before .before .before .before .before .pre .2)
+
+add-t : tie.Need-add-t Inv-loop μ-loop
+add-t c = omega arith
+
+loop-less : tie.Need-loop-less Inv-loop μ-loop
+loop-less c = omega arith
+
+returns : tie.Need-returns Inv-loop μ-loop
+returns c = summed-all (c .before .loop .inv) (c .loop-test .left) (c .before .before .pre .2) (omega arith)
+
+pub costs-spec : {M : Type 1} → statement M
+costs-spec = tie.close (tie.spec Inv-loop μ-loop loop-holds spread-requires spread-requires-2 cost-in-requires add-sum add-t loop-less loop-again returns)

@@ -1,0 +1,73 @@
+-- Figures that are summed over places and rectangles made from an index, for the benchmarks.
+-- Assumes nothing.
+use Prim.Native.Nat.{ℕ, zero, suc, _+_, _*_, _%_, _≤_}
+use mathlib.Core.Path.{_≡_}
+use mathlib.Core.Bool.{cond}
+use mathlib.Core.List.{[], _∷_}
+use lib.Dec.{ltb}
+use lib.IntN.{ℤ, pos, natAbs, _-ℤ_}
+use lib.Signed.{ltZ}
+use lib.ListN.{getD}
+use Rattle.query.specs.Place.{Place, Rect}
+use Rattle.query.specs.Deck.{Deck}
+use Rattle.query.specs.Cost.{cost}
+use Rattle.query.specs.Reach.{load}
+use Rattle.query.specs.Bound.{bound}
+use Rattle.query.specs.Problem.{problem}
+use Rattle.job.specs.Format.{Result}
+use Rattle.sites.specs.Sites.{sitesOf}
+use Rattle.sites.specs.Record.{sitesRecord}
+use Rattle.cuts.specs.CutRecord.{cutRecord}
+use Rattle.trial.specs.Trial.{onJob, minusOne, least}
+
+-- f 0 + .. + f (k - 1)
+unfoldable pub sumTo : (ℕ → ℕ) → ℕ → ℕ
+sumTo f zero = 0
+sumTo f (suc k) = sumTo f k + f k
+
+-- a number from 0 to 20,000 for each turn, less a number
+abbrev pub side : ℕ → ℕ → ℕ
+side t factor = (t % 65536) * factor % 20001
+
+abbrev pub spread : ℕ → ℕ → ℕ → ℤ
+spread t factor less = pos (side t factor) -ℤ pos less
+
+pub record Spread (t factor less : ℕ) (r : ℤ) : Type 0 where
+  pub is : r ≡ spread t factor less
+  pub range : natAbs r ≤ 20000
+
+-- the place and the rectangle of a turn
+abbrev pub placeAt : ℕ → Place
+placeAt t = record { x = spread t 7919 10000; y = spread t 6007 10000 }
+
+abbrev pub rectAt : ℕ → Rect
+rectAt t = record { xlo = spread t 7919 20000; ylo = spread t 6007 20000; xhi = spread t 4409 0; yhi = spread t 3001 0 }
+
+abbrev pub positive : ℤ → ℕ
+positive z = cond (ltZ (pos 0) z) 1 0
+
+-- ---- what each kernel adds at a turn
+abbrev pub costTurn : Deck → ℕ → ℕ
+costTurn deck t = cost deck (placeAt t)
+
+abbrev pub loadTurn : Deck → ℕ → ℕ
+loadTurn deck t = load deck (rectAt t)
+
+-- 1 where the bound, or the line of the cut, is above 0
+abbrev pub boundTurn : Deck → ℕ → ℕ
+boundTurn deck t = positive (bound deck (rectAt t))
+
+abbrev pub cutTurn : Deck → ℕ → ℕ
+cutTurn deck t = positive (cutRecord (problem deck) (rectAt t) .at)
+
+-- the near of stop t, over and over; 0 behind the last
+abbrev pub nearTurn : Deck → ℕ → ℕ
+nearTurn deck t = getD (sitesRecord (sitesOf deck) .near) (t % 512) 0
+
+-- the same by the kernel's number
+abbrev pub turn : Deck → ℕ → ℕ → ℕ
+turn deck which = getD (costTurn deck ∷ loadTurn deck ∷ boundTurn deck ∷ cutTurn deck ∷ nearTurn deck ∷ []) which (λ t. 0)
+
+-- a sum over k turns. -1 where the job is refused or k is above 100,000, and the least number where there is no such kernel
+abbrev pub kernelSum : ℕ → ℕ → Result → ℤ
+kernelSum which k r = cond (ltb 4 which) least (onJob minusOne (λ job. cond (ltb 100000 k) minusOne (pos (sumTo (turn (job .deck) which) k))) r)

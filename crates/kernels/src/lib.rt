@@ -1,0 +1,191 @@
+// The kernels of pricing over many places and rectangles, for the benchmarks: the job is read once and the loop runs here.
+use job::Deck;
+use trial::opened;
+use trial::opened::Opened;
+ghost use mathlib.Core.Path.{_≡_};
+ghost use Prim.Native.Nat.{_*_, _%_, _≤_};
+ghost use lib.ListN.{getD, take};
+ghost use Rattle.query.specs.Range.{InRange, costLimit};
+ghost use Rattle.job.specs.Format.{readJob};
+ghost use Rattle.pricing.specs.Columns.{siteRows, ColumnsInRange, Figure};
+ghost use Rattle.sites.specs.DeckOf.{deckOf};
+ghost use Rattle.sites.specs.Record.{sitesRecord};
+ghost use Rattle.sites.specs.Sites.{sitesOf};
+ghost use Rattle.pricing.specs.Figures.{costOf, loadOf};
+ghost use Rattle.lines.specs.LineRecord.{InOrder};
+ghost use Rattle.cuts.specs.CutRecord.{onLines, cutRecord};
+ghost use Rattle.trial.specs.Trial.{boundOf};
+ghost use Rattle.trial.specs.Opened.{Open};
+ghost use Rattle.kernels.specs.Sums.{sumTo, Spread, placeAt, rectAt, positive, turn, kernelSum};
+
+// A number of -20,000 to 20,000 for each turn.
+fn spread(t: u64, factor: u64, less: u64) -> i64
+    requires { ⌜ (factor ≤ 65536) × (less ≤ 20000) ⌝ }
+    ensures { λ r. ⌜ Spread t factor less r ⌝ }
+{
+    ((t % 65536) * factor % 20001) as i64 - less as i64
+}
+
+fn positive(z: i64) -> u64
+    ensures { λ r. ⌜ Figure (positive z) 1 r ⌝ }
+{
+    if 0 < z { 1 } else { 0 }
+}
+
+fn costs<'a>(
+    xs: &'a [i32; 512],
+    ys: &'a [i32; 512],
+    visits: &'a [u32; 512],
+    near: &'a [u32; 512],
+    n: usize,
+    k: u64,
+) -> u64
+    requires { ⌜ (n ≤ 512) × ColumnsInRange (now xs) (now ys) (now visits) (now near) × (k ≤ 100000) ⌝ }
+    ensures { λ r. ⌜ Figure (sumTo (λ t. costOf (siteRows (now (xs .entry)) (now (ys .entry)) (now (visits .entry)) (now (near .entry)) n) (placeAt t)) k) (100000 * costLimit) r ⌝ }
+{
+    let mut sum: u64 = 0;
+    let mut t: u64 = 0;
+    while t < k {
+        let x = spread(t, 7919, 10000);
+        let y = spread(t, 6007, 10000);
+        sum = sum + opened::cost_in(xs, ys, visits, near, n, x, y);
+        t = t + 1;
+    }
+    sum
+}
+
+fn loads<'a>(
+    xs: &'a [i32; 512],
+    ys: &'a [i32; 512],
+    visits: &'a [u32; 512],
+    near: &'a [u32; 512],
+    n: usize,
+    k: u64,
+) -> u64
+    requires { ⌜ (n ≤ 512) × ColumnsInRange (now xs) (now ys) (now visits) (now near) × (k ≤ 100000) ⌝ }
+    ensures { λ r. ⌜ Figure (sumTo (λ t. loadOf (siteRows (now (xs .entry)) (now (ys .entry)) (now (visits .entry)) (now (near .entry)) n) (rectAt t)) k) (100000 * costLimit) r ⌝ }
+{
+    let mut sum: u64 = 0;
+    let mut t: u64 = 0;
+    while t < k {
+        let xlo = spread(t, 7919, 20000);
+        let ylo = spread(t, 6007, 20000);
+        let xhi = spread(t, 4409, 0);
+        let yhi = spread(t, 3001, 0);
+        sum = sum + opened::load_in(xs, ys, visits, near, n, xlo, ylo, xhi, yhi);
+        t = t + 1;
+    }
+    sum
+}
+
+fn bounds<'a>(
+    xs: &'a [i32; 512],
+    ys: &'a [i32; 512],
+    visits: &'a [u32; 512],
+    near: &'a [u32; 512],
+    n: usize,
+    k: u64,
+) -> u64
+    requires { ⌜ (n ≤ 512) × ColumnsInRange (now xs) (now ys) (now visits) (now near) × (k ≤ 100000) ⌝ }
+    ensures { λ r. ⌜ Figure (sumTo (λ t. positive (boundOf (siteRows (now (xs .entry)) (now (ys .entry)) (now (visits .entry)) (now (near .entry)) n) (rectAt t))) k) (100000 * costLimit) r ⌝ }
+{
+    let mut sum: u64 = 0;
+    let mut t: u64 = 0;
+    while t < k {
+        let xlo = spread(t, 7919, 20000);
+        let ylo = spread(t, 6007, 20000);
+        let xhi = spread(t, 4409, 0);
+        let yhi = spread(t, 3001, 0);
+        let b = opened::bound_in(xs, ys, visits, near, n, xlo, ylo, xhi, yhi);
+        sum = sum + positive(b);
+        t = t + 1;
+    }
+    sum
+}
+
+fn cuts(xs: &[i64; 514], nx: usize, ys: &[i64; 514], ny: usize, k: u64) -> u64
+    requires { ⌜ InOrder (now xs) nx × InOrder (now ys) ny × (k ≤ 100000) ⌝ }
+    ensures { λ r. ⌜ Figure (sumTo (λ t. positive (cutRecord (onLines (take nx (now (xs .entry))) (take ny (now (ys .entry)))) (rectAt t) .at)) k) (100000 * costLimit) r ⌝ }
+{
+    let mut sum: u64 = 0;
+    let mut t: u64 = 0;
+    while t < k {
+        let xlo = spread(t, 7919, 20000);
+        let ylo = spread(t, 6007, 20000);
+        let xhi = spread(t, 4409, 0);
+        let yhi = spread(t, 3001, 0);
+        let c = cuts::find_cut(xs, nx, ys, ny, xlo, ylo, xhi, yhi);
+        sum = sum + positive(c.at);
+        t = t + 1;
+    }
+    sum
+}
+
+// The near of stop t of the deck's sites.
+fn near_at(deck: Deck, t: u64) -> u64
+    requires { ⌜ InRange (deckOf deck) × (deck .posts ≤ 64) × (deck .stops ≤ 512) ⌝ }
+    ensures { λ r. ⌜ Figure (getD (sitesRecord (sitesOf (deckOf deck)) .near) (t % 512) 0) 720000 r ⌝ }
+{
+    let s = sites::of_deck(deck);
+    let near = s.near;
+    let i = (t % 512) as usize;
+    near[i] as u64
+}
+
+fn nears(deck: Deck, k: u64) -> u64
+    requires { ⌜ (InRange (deckOf deck) × (deck .posts ≤ 64) × (deck .stops ≤ 512)) × (k ≤ 100000) ⌝ }
+    ensures { λ r. ⌜ Figure (sumTo (λ t. getD (sitesRecord (sitesOf (deckOf deck)) .near) (t % 512) 0) k) (100000 * costLimit) r ⌝ }
+{
+    let mut sum: u64 = 0;
+    let mut t: u64 = 0;
+    while t < k {
+        sum = sum + near_at(deck, t);
+        t = t + 1;
+    }
+    sum
+}
+
+// What a kernel gives over k turns, summed: cost, load, bounds above 0, cuts above 0, near.
+fn sum_of(o: Opened, which: u64, k: u64) -> u64
+    requires { ⌜ Open o × (which ≤ 4) × (k ≤ 100000) ⌝ }
+    ensures { λ r. ⌜ Figure (sumTo (turn (deckOf (o .deck)) which) k) (100000 * costLimit) r ⌝ }
+{
+    let s = o.sites;
+    let n = s.count;
+    if which == 0 {
+        return costs(&s.x, &s.y, &s.visits, &s.near, n, k);
+    }
+    if which == 1 {
+        return loads(&s.x, &s.y, &s.visits, &s.near, n, k);
+    }
+    if which == 2 {
+        return bounds(&s.x, &s.y, &s.visits, &s.near, n, k);
+    }
+    if which == 3 {
+        let v = opened::lines_of(o, true);
+        let h = opened::lines_of(o, false);
+        let nx = v.count;
+        let ny = h.count;
+        return cuts(&v.at, nx, &h.at, ny, k);
+    }
+    let d = o.deck;
+    nears(d, k)
+}
+
+// The sum of a kernel over k turns; -1 where the job is refused or k is above 100,000. The least number where there is no such kernel.
+#[no_mangle]
+pub extern "C" fn kernel_sum(job: &[u8], which: u64, k: u64) -> i64
+    ensures { λ r. ⌜ r ≡ kernelSum which k (readJob (now (job .entry))) ⌝ }
+{
+    if 4 < which {
+        return -9223372036854775808;
+    }
+    let o = opened::open_job(job);
+    if !o.accepted {
+        return -1;
+    }
+    if 100000 < k {
+        return -1;
+    }
+    sum_of(o, which, k) as i64
+}

@@ -1,0 +1,43 @@
+-- `trial::near` meets its contract.
+-- Assumes nothing.
+use borrow.Author.Tests.{not-true, not-false}
+use denote.Ref.{now}
+use Rattle.trial.specs.Opened.{Open}
+use Rattle.sites.proofs.ReadLaws.{Spelt}
+use Rattle.trial.proofs.OpenLaws.{open-accepted, open-is, open-refused}
+use Rattle.trial.proofs.FigureLaws.{count-few, near-range, near-answer, near-none}
+use borrow.Author.Needs.{needs}
+use native.Mathlib.Omega.{arith}
+use Rattle.trial.proofs.near.Statement.{statement}
+use Rattle.trial.proofs.near.Tie as tie
+
+-- the job is accepted
+spelt : (c : tie.Else1) → Spelt (now (c .before .before .before .before .args .job))
+spelt c = open-accepted _ _ (c .before .before .open-job .ensures) (not-false _ (c .if1 .left))
+
+abbrev opens : (c : tie.Else1) → Open (c .before .before .open-job .result)
+opens c = open-is _ _ (c .before .before .open-job .ensures) (spelt c)
+
+open-job-requires : tie.Need-open-job-requires
+open-job-requires c κs = search needs
+
+returns : tie.Need-returns
+returns c = open-refused _ _ (c .before .before .open-job .ensures) _ _ (not-true _ (c .if1 .taken))
+
+mul-result : tie.Need-mul-result
+mul-result c = omega (arith, count-few _ (opens (c .before .before .before)))
+
+array-read-result : tie.Need-array-read-result
+array-read-result c = omega (arith, count-few _ (opens (c .before .before .before)))
+
+cast-result : tie.Need-cast-result
+cast-result c = let d = c .before .before .before in omega (arith, near-range (d .before .before .open-job .ensures) (spelt d) (c .before .before .before .before .before .before .before .args .i))
+
+returns-2 : tie.Need-returns-2
+returns-2 c = let d = c .before .before .before in near-answer (d .before .before .open-job .ensures) (spelt d) _ (c .if2 .taken)
+
+returns-3 : tie.Need-returns-3
+returns-3 c = let d = c .before .before .before in near-none (d .before .before .open-job .ensures) (spelt d) _ (c .if2 .left)
+
+pub near-spec : {M : Type 1} → statement M
+near-spec = tie.close (tie.spec open-job-requires returns mul-result array-read-result cast-result returns-2 returns-3)

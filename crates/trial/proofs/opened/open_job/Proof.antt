@@ -1,0 +1,31 @@
+-- `trial::opened::open_job` meets its contract: the deck that was read is in range, so that its sites can be found.
+-- Assumes nothing.
+use borrow.Author.Needs.{needs}
+use Rattle.sites.proofs.ReadLaws.{read-accepted, read-refused, sites-ask}
+use Rattle.trial.proofs.OpenLaws.{opened-accepted, opened-refused}
+use Rattle.sites.specs.Record.{sitesRecord}
+use Rattle.trial.proofs.opened.open_job.Statement.{statement}
+use Rattle.trial.proofs.opened.open_job.Tie as tie
+
+read-requires : tie.Need-read-requires
+read-requires c κs = search needs
+
+enum-told : tie.Need-enum-told
+enum-told c = search needs
+
+of-deck-requires : tie.Need-of-deck-requires
+of-deck-requires c κs = sites-ask (read-accepted _ _ (c .before .before .before .read .ensures) _ (c .enum-told .given .1)) _ (c .before .before .before .read .ensures)
+
+enum-told-2 : tie.Need-enum-told-2
+enum-told-2 c = search needs
+
+returns : tie.Need-returns
+returns c = opened-accepted (read-accepted _ _ (c .before .before .before .before .read .ensures) _ (c .before .enum-told .given .1)) _ (c .before .before .before .before .read .ensures) _ (c .of-deck .ensures)
+
+returns-2 : tie.Need-returns-2
+unfolding sitesRecord
+returns-2 c = opened-refused _ _ _ (c .before .before .before .read .ensures) (read-refused _ _ (c .before .before .before .read .ensures) _ (c .enum-told2 .given .1))
+
+pub open-job-spec : {M : Type 1} → statement M
+open-job-spec =
+    tie.close (tie.spec read-requires enum-told of-deck-requires enum-told-2 returns returns-2)

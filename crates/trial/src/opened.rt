@@ -1,0 +1,205 @@
+// A job that was read with the sites of its deck, and what is asked of both: ranges, figures over the columns of sites, lines and cuts.
+use cuts::Cut;
+use job::Deck;
+use job::Outcome;
+use lines::Lines;
+use numbers::abs_diff;
+use sites::Sites;
+ghost use mathlib.Core.Path.{_≡_};
+ghost use Prim.Native.Nat.{_≤_};
+ghost use lib.Dec.{T};
+ghost use Rattle.query.specs.Lines.{lines};
+ghost use Rattle.query.specs.Problem.{problem};
+ghost use Rattle.query.specs.Range.{PlaceInRange, costLimit, loadLimit};
+ghost use Rattle.job_line.specs.Lines.{coordinateInRange, placeInRange};
+ghost use Rattle.job.specs.Format.{readJob};
+ghost use Rattle.sites.specs.DeckOf.{deckOf};
+ghost use Rattle.lines.specs.LineRecord.{linesRecord};
+ghost use Rattle.cuts.specs.CutRecord.{rectOf, cutRecord};
+ghost use Rattle.pricing.specs.Columns.{siteRows, ColumnsInRange, Figure};
+ghost use Rattle.pricing.specs.Figures.{costOf, loadOf};
+ghost use Rattle.trial.specs.Opened.{openedRecord, rectAllowed, Open};
+ghost use Rattle.trial.specs.Trial.{boundOf, axisOf};
+
+// A job that was read, and the sites of its deck; none where it is refused.
+pub struct Opened {
+    pub accepted: bool,
+    pub deck: Deck,
+    pub sites: Sites,
+}
+
+pub fn open_job(bytes: &[u8]) -> Opened
+    ensures { λ r. ⌜ r ≡ openedRecord (readJob (now (bytes .entry))) ⌝ }
+{
+    let j = job::read(bytes);
+    let outcome = j.outcome;
+    let deck = j.deck;
+    match outcome {
+        Outcome::Accepted(_) => {
+            let sites = sites::of_deck(deck);
+            Opened {
+                accepted: true,
+                deck,
+                sites,
+            }
+        }
+        Outcome::Refused(_) => {
+            let coordinates = [0i32; 512];
+            let counts = [0u32; 512];
+            Opened {
+                accepted: false,
+                deck,
+                sites: Sites {
+                    count: 0,
+                    x: coordinates,
+                    y: coordinates,
+                    visits: counts,
+                    near: counts,
+                },
+            }
+        }
+    }
+}
+
+// ---- ranges
+
+fn coordinate_in_range(v: i64) -> bool
+    ensures { λ r. ⌜ r ≡ coordinateInRange v ⌝ }
+{
+    if -20000 <= v { v <= 20000 } else { false }
+}
+
+pub fn place_in_range(x: i64, y: i64) -> bool
+    ensures { λ r. ⌜ r ≡ placeInRange (record { x = x; y = y }) ⌝ }
+{
+    if coordinate_in_range(x) {
+        coordinate_in_range(y)
+    } else {
+        false
+    }
+}
+
+pub fn rect_allowed(xlo: i64, ylo: i64, xhi: i64, yhi: i64) -> bool
+    ensures { λ r. ⌜ r ≡ rectAllowed (rectOf xlo ylo xhi yhi) ⌝ }
+{
+    if !place_in_range(xlo, ylo) {
+        return false;
+    }
+    if !place_in_range(xhi, yhi) {
+        return false;
+    }
+    if xlo <= xhi { ylo <= yhi } else { false }
+}
+
+// ---- figures over columns of sites
+
+pub fn cost_in<'a>(
+    xs: &'a [i32; 512],
+    ys: &'a [i32; 512],
+    visits: &'a [u32; 512],
+    near: &'a [u32; 512],
+    n: usize,
+    x: i64,
+    y: i64,
+) -> u64
+    requires { ⌜ (n ≤ 512) × ColumnsInRange (now xs) (now ys) (now visits) (now near) × PlaceInRange (record { x = x; y = y }) ⌝ }
+    ensures { λ r. ⌜ Figure (costOf (siteRows (now (xs .entry)) (now (ys .entry)) (now (visits .entry)) (now (near .entry)) n) (record { x = x; y = y })) costLimit r ⌝ }
+{
+    pricing::cost(xs, ys, visits, near, n, x as i32, y as i32)
+}
+
+pub fn load_in<'a>(
+    xs: &'a [i32; 512],
+    ys: &'a [i32; 512],
+    visits: &'a [u32; 512],
+    near: &'a [u32; 512],
+    n: usize,
+    xlo: i64,
+    ylo: i64,
+    xhi: i64,
+    yhi: i64,
+) -> u64
+    requires { ⌜ (n ≤ 512) × ColumnsInRange (now xs) (now ys) (now visits) (now near) × T (rectAllowed (rectOf xlo ylo xhi yhi)) ⌝ }
+    ensures { λ r. ⌜ Figure (loadOf (siteRows (now (xs .entry)) (now (ys .entry)) (now (visits .entry)) (now (near .entry)) n) (rectOf xlo ylo xhi yhi)) loadLimit r ⌝ }
+{
+    pricing::load(
+        xs,
+        ys,
+        visits,
+        near,
+        n,
+        xlo as i32,
+        ylo as i32,
+        xhi as i32,
+        yhi as i32,
+    )
+}
+
+pub fn bound_in<'a>(
+    xs: &'a [i32; 512],
+    ys: &'a [i32; 512],
+    visits: &'a [u32; 512],
+    near: &'a [u32; 512],
+    n: usize,
+    xlo: i64,
+    ylo: i64,
+    xhi: i64,
+    yhi: i64,
+) -> i64
+    requires { ⌜ (n ≤ 512) × ColumnsInRange (now xs) (now ys) (now visits) (now near) × T (rectAllowed (rectOf xlo ylo xhi yhi)) ⌝ }
+    ensures { λ r. ⌜ r ≡ boundOf (siteRows (now (xs .entry)) (now (ys .entry)) (now (visits .entry)) (now (near .entry)) n) (rectOf xlo ylo xhi yhi) ⌝ }
+{
+    let c00 = cost_in(xs, ys, visits, near, n, xlo, ylo);
+    let c01 = cost_in(xs, ys, visits, near, n, xlo, yhi);
+    let c10 = cost_in(xs, ys, visits, near, n, xhi, ylo);
+    let c11 = cost_in(xs, ys, visits, near, n, xhi, yhi);
+    let load = load_in(xs, ys, visits, near, n, xlo, ylo, xhi, yhi);
+    pricing::bound(
+        c00,
+        c01,
+        c10,
+        c11,
+        abs_diff(xlo, xhi) + abs_diff(ylo, yhi),
+        load,
+    )
+}
+
+// The lines of the area along an axis: at an x where `across` is true.
+pub fn lines_of(o: Opened, across: bool) -> Lines
+    requires { ⌜ Open o ⌝ }
+    ensures { λ r. ⌜ r ≡ linesRecord (lines (deckOf (o .deck)) (axisOf across)) ⌝ }
+{
+    let d = o.deck;
+    let s = o.sites;
+    let n = s.count;
+    let xlo = d.xlo;
+    let ylo = d.ylo;
+    let xhi = d.xhi;
+    let yhi = d.yhi;
+    let flags = pricing::reach_flags(
+        &s.x,
+        &s.y,
+        &s.near,
+        n,
+        xlo as i32,
+        ylo as i32,
+        xhi as i32,
+        yhi as i32,
+    );
+    if across {
+        lines::find_lines(&d.stop_x, &flags, n, xlo, xhi)
+    } else {
+        lines::find_lines(&d.stop_y, &flags, n, ylo, yhi)
+    }
+}
+
+pub fn cut_of(o: Opened, xlo: i64, ylo: i64, xhi: i64, yhi: i64) -> Cut
+    requires { ⌜ Open o × T (rectAllowed (rectOf xlo ylo xhi yhi)) ⌝ }
+    ensures { λ r. ⌜ r ≡ cutRecord (problem (deckOf (o .deck))) (rectOf xlo ylo xhi yhi) ⌝ }
+{
+    let v = lines_of(o, true);
+    let h = lines_of(o, false);
+    let nx = v.count;
+    let ny = h.count;
+    cuts::find_cut(&v.at, nx, &h.at, ny, xlo, ylo, xhi, yhi)
+}
