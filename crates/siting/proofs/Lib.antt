@@ -1,4 +1,3 @@
-pub mod Demands
 pub mod SolveLaws
 pub mod EntryLaws
 pub mod ExhaustiveLaws

@@ -41,12 +41,13 @@ use Rattle.report.specs.declared.State.{State}
 use Rattle.report.proofs.Fits.{report-fits}
 use Rattle.search.specs.Run.{isDone, foundOf, Searched}
 use Rattle.search.specs.declared.run.Found.{Found}
-use Rattle.siting.specs.declared.Answer.the-variants as Answered
+use Rattle.calls.specs.declared.Answer.the-variants as Answered
 use Rattle.siting.specs.declared.Response.{Response}
-use Rattle.siting.specs.Call.{stateRecord, reportRecord, turnedDown, overwritten, reported, reportCall}
+use Rattle.calls.specs.Call.{stateRecord, reportRecord, turnedDown, overwritten, reported, reportCall}
 use Rattle.siting.specs.Parts.{stateFor, Solvable, Solved, refusedResponse, Responded}
 use Rattle.sites.proofs.ReadLaws.{Spelt, read-accepted, read-rounds, read-deckOf, read-full, sites-ask}
-use Rattle.siting.proofs.Demands.{job-limits, call-accepted}
+use Rattle.calls.proofs.Held.{figures-held}
+use Rattle.calls.proofs.Demands.{job-limits, call-accepted}
 
 -- ---- solve
 state-is : (cells : List Query.Cell) → stateFor (isDone cells) ≡ stateRecord (Figures.stateOf cells)
@@ -83,14 +84,6 @@ module _ (deck : Deck) (n lent : ℕ) (h : Solvable deck n lent) (sites : Sites)
 -- ---- respond
 pub respond-refused : (job : List ℕ) (cells : List ℤ) (out : List ℕ) (why : Refusal) → reportCall job cells out ≡ turnedDown why cells out → (r : Response) → r ≡ refusedResponse why → Responded job cells out cells out r
 respond-refused job cells out why e r f = subst (Responded job cells out cells out) (sym f) (record { left = sym e; filled = record { number = refl; content = refl }; few = omega arith })
-
--- the figures of a report's record
-state-held : (state : Figures.State) → stateOf (stateRecord state) ≡ state
-state-held Figures.done = refl
-state-held Figures.stopped = refl
-
-pub figures-held : (f : Figures.Figures) → figuresOf (reportRecord f) ≡ f
-figures-held f = ap (λ (x : Figures.State). record { state = x; at = f .at; high = f .high; low = f .low; before = f .before; rounds = f .rounds }) (state-held (f .state))
 
 reported-is : (job : Job) (cells cells′ : List ℤ) (out out′ : List ℕ) (r : Report) (text : List ℕ) → r ≡ reportRecord (figures (job .deck) (job .rounds)) → cells′ ≡ space (job .deck) (job .rounds) (length cells) → text ≡ reportText (figures (job .deck) (job .rounds)) → out′ ≡ text ++ drop (length text) out → record { answer = Answered.Report r; cells = cells′; out = out′ } ≡ reported job cells out
 unfolding reported overwritten

@@ -19,10 +19,10 @@ use Rattle.report.specs.Output.{Filled}
 use Rattle.report.specs.declared.Report.{Report}
 use Rattle.report.specs.declared.State.{State}
 use Rattle.report.specs.declared.State.the-variants.{Done, Stopped}
-use Rattle.siting.specs.declared.Answer.{Answer}
-use Rattle.siting.specs.declared.Answer.the-variants as Answered
+use Rattle.calls.specs.declared.Answer.{Answer}
+use Rattle.calls.specs.declared.Answer.the-variants as Answered
 use Rattle.siting.specs.declared.Response.{Response}
-use Rattle.siting.specs.Call.{reportRecord, reportCall}
+use Rattle.calls.specs.Call.{reportRecord, reportCall}
 
 abbrev pub stateFor : Bool → State
 stateFor isDone = cond isDone Done Stopped

@@ -1,4 +1,7 @@
-// The public calls of the siting tool.
+// The public calls of the siting tool; crate `calls` defines what they answer.
+use calls::Answer;
+use calls::Cheapest;
+use calls::Text;
 use job::Deck;
 use job::Outcome;
 use job_line::Refusal;
@@ -9,34 +12,16 @@ use search::run;
 ghost use Prim.Native.Nat.{_≤_};
 ghost use mathlib.Core.Path.{_≡_};
 ghost use lib.ListN.{length};
-ghost use Rattle.siting.specs.Call.{Left, reportCall};
-ghost use Rattle.siting.specs.Entry.{Returned, entry};
-ghost use Rattle.siting.specs.Program.{answerText, textRecord};
-ghost use Rattle.siting.specs.Exhaustive.{exhaustiveCall};
+ghost use Rattle.calls.specs.Call.{Left, reportCall};
+ghost use Rattle.calls.specs.Entry.{Returned, entry};
+ghost use Rattle.calls.specs.Program.{answerText, textRecord};
+ghost use Rattle.calls.specs.Exhaustive.{exhaustiveCall};
 ghost use Rattle.siting.specs.Parts.{stateFor, Solvable, Solved, refusedResponse, Responded};
-
-// Each answer is either a report, itself done or stopped, or one refusal.
-pub enum Answer {
-    Report(Report),
-    Refused(Refusal),
-}
-
-// The place and the cost of the cheapest crossing of lines, or one refusal.
-pub enum Cheapest {
-    At(Spot),
-    Refused(Refusal),
-}
 
 // An answer, and how many bytes it has written.
 struct Response {
     answer: Answer,
     bytes: usize,
-}
-
-// A text: the first `length` bytes; the others are 0.
-pub struct Text {
-    pub length: usize,
-    pub bytes: [u8; 128],
 }
 
 fn state_of(done: bool) -> State

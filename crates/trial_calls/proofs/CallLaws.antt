@@ -26,15 +26,15 @@ use Rattle.report.specs.Report.{figuresOf}
 use Rattle.report.specs.Limits.{FiguresInRange}
 use Rattle.report.specs.declared.Report.{Report}
 use Rattle.problem.specs.declared.Spot.{Spot}
-use Rattle.siting.specs.declared.Answer.{Answer}
-use Rattle.siting.specs.declared.Answer.the-variants as Answered
-use Rattle.siting.specs.declared.Cheapest.{Cheapest}
-use Rattle.siting.specs.declared.Cheapest.the-variants as Cheapest
-use Rattle.siting.specs.Call.{Left, reportRecord, reported, reportCall}
-use Rattle.siting.specs.Exhaustive.{exhaustiveCall}
-use Rattle.siting.specs.Demands.{Condition}
-use Rattle.siting.proofs.Demands.{job-limits, call-accepted, refused-call, small-space, short-output, demands}
-use Rattle.siting.proofs.ExhaustiveLaws.{exhaustive-call-law}
+use Rattle.calls.specs.declared.Answer.{Answer}
+use Rattle.calls.specs.declared.Answer.the-variants as Answered
+use Rattle.calls.specs.declared.Cheapest.{Cheapest}
+use Rattle.calls.specs.declared.Cheapest.the-variants as Cheapest
+use Rattle.calls.specs.Call.{Left, reportRecord, reported, reportCall}
+use Rattle.calls.specs.Exhaustive.{exhaustiveCall}
+use Rattle.calls.specs.Demands.{Condition}
+use Rattle.calls.proofs.Demands.{job-limits, call-accepted, refused-call, small-space, short-output, demands}
+use Rattle.calls.proofs.ExhaustiveCall.{exhaustive-call-law}
 use Rattle.trial.specs.Trial.{least, refusalNumbers}
 use Rattle.trial.proofs.NumberLaws.{number-at}
 use Rattle.trial_calls.specs.Calls.{called, reportNumbers, answerNumbers, SpotInRange, spotNumbers, cheapestNumbers}

@@ -10,11 +10,11 @@ use Rattle.report.specs.declared.Report as Report
 use Rattle.report.specs.declared.State.{State}
 use Rattle.report.specs.declared.State.the-variants.{Done, Stopped}
 use Rattle.problem.specs.declared.Spot.{Spot}
-use Rattle.siting.specs.declared.Answer.{Answer}
-use Rattle.siting.specs.declared.Answer.the-variants.{Report, Refused}
-use Rattle.siting.specs.declared.Cheapest.{Cheapest}
-use Rattle.siting.specs.declared.Cheapest.the-variants as Cheapest
-use Rattle.siting.specs.Call.{Left}
+use Rattle.calls.specs.declared.Answer.{Answer}
+use Rattle.calls.specs.declared.Answer.the-variants.{Report, Refused}
+use Rattle.calls.specs.declared.Cheapest.{Cheapest}
+use Rattle.calls.specs.declared.Cheapest.the-variants as Cheapest
+use Rattle.calls.specs.Call.{Left}
 use Rattle.trial.specs.Trial.{least, refusalNumbers}
 
 -- a result, with the cell space and the output as the call leaves them

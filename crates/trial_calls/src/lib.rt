@@ -1,16 +1,16 @@
 // The calls `siting::report` and `siting::exhaustive`, for the tests and benchmarks from Rust: a number of the answer, and all that the
 // first leaves in the memory that it is lent.
+use calls::Answer;
+use calls::Cheapest;
 use problem::Spot;
 use report::Report;
 use report::State;
-use siting::Answer;
-use siting::Cheapest;
 ghost use mathlib.Core.Path.{_≡_};
 ghost use lib.ListN.{getD};
 ghost use Rattle.report.specs.Report.{figuresOf};
 ghost use Rattle.report.specs.Limits.{FiguresInRange};
-ghost use Rattle.siting.specs.Call.{reportCall};
-ghost use Rattle.siting.specs.Exhaustive.{exhaustiveCall};
+ghost use Rattle.calls.specs.Call.{reportCall};
+ghost use Rattle.calls.specs.Exhaustive.{exhaustiveCall};
 ghost use Rattle.trial.specs.Trial.{least};
 ghost use Rattle.trial_calls.specs.Calls.{called, stateNumber, reportNumbers, figureFor, SpotInRange, spotNumbers, cheapestFigure};
 

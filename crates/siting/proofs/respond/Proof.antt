@@ -1,6 +1,6 @@
 -- `siting::respond` meets its contract: each way out is that of the call's definition.
 -- Assumes nothing.
-use Rattle.siting.proofs.Demands.{refused-call, small-space, short-output}
+use Rattle.calls.proofs.Demands.{refused-call, small-space, short-output}
 use Rattle.sites.proofs.ReadLaws.{read-refused}
 use Rattle.siting.proofs.SolveLaws.{respond-refused, spelt, rounds-same, rounds-limit, solvable, report-limits, respond-reported}
 use native.Mathlib.Omega.{arith}

@@ -15,8 +15,8 @@ use Rattle.report.specs.Text.{reportText}
 use Rattle.report.specs.declared.Report.{Report}
 use Rattle.report.specs.declared.State as Code
 use Rattle.report.specs.declared.State.the-variants.{Done, Stopped}
-use Rattle.siting.specs.declared.Answer.{Answer}
-use Rattle.siting.specs.declared.Answer.the-variants as Answered
+use Rattle.calls.specs.declared.Answer.{Answer}
+use Rattle.calls.specs.declared.Answer.the-variants as Answered
 
 -- an answer, with the cell space and the output as the call leaves them
 pub record Left : Type 0 where

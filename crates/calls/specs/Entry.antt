@@ -7,9 +7,9 @@ use lib.ListN.{length, replicate}
 use Rattle.job_line.specs.Refusal.{numberOf}
 use Rattle.report.specs.Report.{figuresOf}
 use Rattle.report.specs.Text.{reportText}
-use Rattle.siting.specs.declared.Answer.{Answer}
-use Rattle.siting.specs.declared.Answer.the-variants.{Report, Refused}
-use Rattle.siting.specs.Call.{Left, reportCall}
+use Rattle.calls.specs.declared.Answer.{Answer}
+use Rattle.calls.specs.declared.Answer.the-variants.{Report, Refused}
+use Rattle.calls.specs.Call.{Left, reportCall}
 
 -- the entry's result, and the output as it leaves it
 pub record Returned : Type 0 where

@@ -25,9 +25,9 @@ use Rattle.job_line.specs.declared.Refusal.the-variants.{TooLong, Malformed, Ou
 use Rattle.report.specs.Text.{reportText}
 use Rattle.report.specs.declared.Report.{Report}
 use Rattle.report.specs.declared.State.the-variants.{Done, Stopped}
-use Rattle.siting.specs.declared.Answer.the-variants as Answered
-use Rattle.siting.specs.Call.{reportCall, reportRecord}
-use Rattle.siting.specs.Entry.{entry}
+use Rattle.calls.specs.declared.Answer.the-variants as Answered
+use Rattle.calls.specs.Call.{reportCall, reportRecord}
+use Rattle.calls.specs.Entry.{entry}
 
 -- ---- demand 1
 -- document 01, "Turned down": the condition of each refusal of the call, in the stated order

@@ -7,10 +7,10 @@ use lib.ListN.{length, replicate}
 use Rattle.numbers.specs.Padded.{padded}
 use Rattle.report.specs.Report.{figuresOf}
 use Rattle.report.specs.Text.{reportText, refusalText}
-use Rattle.siting.specs.declared.Answer.{Answer}
-use Rattle.siting.specs.declared.Answer.the-variants.{Report, Refused}
-use Rattle.siting.specs.declared.Text.{Text}
-use Rattle.siting.specs.Call.{reportCall}
+use Rattle.calls.specs.declared.Answer.{Answer}
+use Rattle.calls.specs.declared.Answer.the-variants.{Report, Refused}
+use Rattle.calls.specs.declared.Text.{Text}
+use Rattle.calls.specs.Call.{reportCall}
 
 -- 01 "prints the report, or the two lines refused=n and line=n"
 unfoldable pub textOf : Answer → List ℕ

@@ -16,10 +16,10 @@ use Rattle.job_line.specs.declared.Refusal.{Refusal}
 use Rattle.report.specs.declared.Report.{Report}
 use Rattle.report.specs.declared.State.the-variants.{Done}
 use Rattle.problem.specs.declared.Spot.{Spot}
-use Rattle.siting.specs.declared.Cheapest.{Cheapest}
-use Rattle.siting.specs.declared.Cheapest.the-variants as Cheapest
-use Rattle.siting.specs.declared.Answer.the-variants as Answered
-use Rattle.siting.specs.Call.{reportCall}
+use Rattle.calls.specs.declared.Cheapest.{Cheapest}
+use Rattle.calls.specs.declared.Cheapest.the-variants as Cheapest
+use Rattle.calls.specs.declared.Answer.the-variants as Answered
+use Rattle.calls.specs.Call.{reportCall}
 
 abbrev pub spotRecord : Priced → Spot
 spotRecord p = record { x = p .at .x; y = p .at .y; cost = p .cost }

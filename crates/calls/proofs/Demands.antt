@@ -25,9 +25,9 @@ use Rattle.report.specs.Limits.{FiguresInRange}
 use Rattle.report.proofs.Fits.{report-fits}
 use Rattle.report.specs.declared.Report.{Report}
 use Rattle.report.specs.declared.State.the-variants.{Done, Stopped}
-use Rattle.siting.specs.declared.Answer.the-variants as Answered
-use Rattle.siting.specs.Call.{Left, stateRecord, reportRecord, turnedDown, overwritten, reported, answered, reportCall}
-use Rattle.siting.specs.Demands.{Condition, Demand1, Accepted, Demand2, ReportLaw, oneMore, Demand3Report, Demands}
+use Rattle.calls.specs.declared.Answer.the-variants as Answered
+use Rattle.calls.specs.Call.{Left, stateRecord, reportRecord, turnedDown, overwritten, reported, answered, reportCall}
+use Rattle.calls.specs.Demands.{Condition, Demand1, Accepted, Demand2, ReportLaw, oneMore, Demand3Report, Demands}
 
 -- the figures of an allowed job are in range, so that its report fits 128 bytes
 pub job-limits : (job : Job) → Allowed job → FiguresInRange (figures (job .deck) (job .rounds))

@@ -1,0 +1,4 @@
+pub mod Held
+pub mod Demands
+pub mod EntryLaw
+pub mod ExhaustiveCall

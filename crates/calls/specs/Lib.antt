@@ -1,0 +1,5 @@
+pub mod Call
+pub mod Entry
+pub mod Program
+pub mod Exhaustive
+pub mod Demands

@@ -1,0 +1,22 @@
+// What the calls of the siting tool answer. specs/ defines each call, and the customer's demands of them; proofs/ proves these.
+use job_line::Refusal;
+use problem::Spot;
+use report::Report;
+
+// Each answer is either a report, itself done or stopped, or one refusal.
+pub enum Answer {
+    Report(Report),
+    Refused(Refusal),
+}
+
+// The place and the cost of the cheapest crossing of lines, or one refusal.
+pub enum Cheapest {
+    At(Spot),
+    Refused(Refusal),
+}
+
+// A text: the first `length` bytes; the others are 0.
+pub struct Text {
+    pub length: usize,
+    pub bytes: [u8; 128],
+}
