@@ -6,8 +6,9 @@
 use std::hint::black_box;
 use std::time::Instant;
 
+mod exhaustive;
+mod read;
 mod twin;
-mod walk;
 mod whole;
 
 #[link(name = "trial", kind = "static")]
@@ -102,7 +103,7 @@ fn reports() {
     let twins: [(&str, Report); 3] = [("all stops", whole::report), ("stops in reach", whole::report_reaching), ("a list a cell", whole::report_listed)];
     let decks = [("largest", 64, 40_001, 512, 20_000, 1_000), ("posts at one edge", 64, 2_000, 512, 20_000, 1_000), ("typical", 8, 40_001, 100, 6_325, 200)];
     for (name, posts, strip, stops, half, rounds) in decks {
-        let job = |rounds| whole::job(posts, strip, stops, half, rounds);
+        let job = |rounds| read::job(posts, strip, stops, half, rounds);
         compare_reports(name, &job(rounds), if rounds == 1_000 { 1 } else { 20 }, &twins);
         compare_reports(&format!("{name}, 0 rounds"), &job(0), 20, &twins[..1]);
     }
@@ -115,7 +116,7 @@ fn compare_reading(name: &str, job: &[u8]) {
     for _ in 0..4 * REPETITIONS {
         let (t, refused) = timed(|| (0..turns).map(|_| unsafe { trial_reading(black_box(job).as_ptr(), job.len(), 0) }).sum());
         ours = ours.min(t);
-        let (t, accepted) = timed(|| (0..turns).filter(|_| black_box(whole::parse(black_box(job))).is_ok()).count() as i64);
+        let (t, accepted) = timed(|| (0..turns).filter(|_| black_box(read::parse(black_box(job))).is_ok()).count() as i64);
         theirs = theirs.min(t);
         assert!(refused == 0 && accepted == turns, "{name}: refused");
     }
@@ -127,24 +128,24 @@ fn compare_reading(name: &str, job: &[u8]) {
 fn growth() {
     println!();
     println!("{:<52} {:>10} {:>10} {:>7}", "reading, us a job", "proved", "twin", "ratio");
-    compare_reading("largest", &whole::job(64, 40_001, 512, 20_000, 1_000));
-    compare_reading("typical", &whole::job(8, 40_001, 100, 6_325, 200));
+    compare_reading("largest", &read::job(64, 40_001, 512, 20_000, 1_000));
+    compare_reading("typical", &read::job(8, 40_001, 100, 6_325, 200));
     println!();
     println!("{:<52} {:>10} {:>10} {:>7}", "growth of the report call, us a call", "proved", "twin", "ratio");
     let twin: [(&str, Report); 1] = [("all stops", whole::report)];
     for stops in [64, 128, 256, 512] {
-        compare_reports(&format!("{stops} stops"), &whole::job(64, 40_001, stops, 20_000, 1_000), 1, &twin);
+        compare_reports(&format!("{stops} stops"), &read::job(64, 40_001, stops, 20_000, 1_000), 1, &twin);
     }
     for posts in [1, 8, 64] {
-        compare_reports(&format!("{posts} posts"), &whole::job(posts, 40_001, 512, 20_000, 1_000), 1, &twin);
+        compare_reports(&format!("{posts} posts"), &read::job(posts, 40_001, 512, 20_000, 1_000), 1, &twin);
     }
     for rounds in [0, 10, 100, 1_000] {
-        compare_reports(&format!("{rounds} rounds"), &whole::job(64, 40_001, 512, 20_000, rounds), 1, &twin);
+        compare_reports(&format!("{rounds} rounds"), &read::job(64, 40_001, 512, 20_000, rounds), 1, &twin);
     }
 }
 
-/// The exhaustive call, `turns` times: place and cost must be the same. The plain walk, last of the twins, is long, and has few repetitions.
-fn compare_walks(name: &str, job: &[u8], turns: usize, twins: &[(&str, fn(&[u8]) -> walk::Spot)]) {
+/// The exhaustive call, `turns` times: place and cost must be the same. The plain pass over all crossings, last of the twins, is long, and has few repetitions.
+fn compare_exhaustive(name: &str, job: &[u8], turns: usize, twins: &[(&str, fn(&[u8]) -> exhaustive::Spot)]) {
     let proved = |job: &[u8], which| unsafe { trial_exhaustive(job.as_ptr(), job.len(), which) };
     assert_eq!(proved(job, 3), 0, "{name}: refused");
     let found = (proved(job, 2), proved(job, 0) as i32, proved(job, 1) as i32);
@@ -167,13 +168,13 @@ fn compare_walks(name: &str, job: &[u8], turns: usize, twins: &[(&str, fn(&[u8])
     }
 }
 
-fn walks() {
+fn exhaustive_calls() {
     println!();
     println!("{:<52} {:>10} {:>10} {:>7}", "the exhaustive call, us a call", "proved", "twin", "ratio");
-    let twins: [(&str, fn(&[u8]) -> walk::Spot); 3] = [("ramps by search", walk::searched), ("ramps by table", walk::looked_up), ("every crossing", walk::every_crossing)];
-    compare_walks("largest", &whole::job(64, 40_001, 512, 20_000, 0), 1, &twins);
-    compare_walks("a post in a corner", &walk::cornered(whole::job(1, 40_001, 512, 20_000, 0)), 1, &twins);
-    compare_walks("typical", &whole::job(8, 40_001, 100, 6_325, 0), 20, &twins);
+    let twins: [(&str, fn(&[u8]) -> exhaustive::Spot); 3] = [("ramps by search", exhaustive::searched), ("ramps by table", exhaustive::looked_up), ("every crossing", exhaustive::every_crossing)];
+    compare_exhaustive("largest", &read::job(64, 40_001, 512, 20_000, 0), 1, &twins);
+    compare_exhaustive("a post in a corner", &exhaustive::cornered(read::job(1, 40_001, 512, 20_000, 0)), 1, &twins);
+    compare_exhaustive("typical", &read::job(8, 40_001, 100, 6_325, 0), 20, &twins);
 }
 
 fn main() {
@@ -190,6 +191,6 @@ fn main() {
     compare("the same, twin with one pass for all five", &job, 5_000, Kernel::Bound, |k| twin::bound_many(&s, k, twin::bound_in_one_pass));
     compare("choice of a cut", &job, 100_000, Kernel::Cut, |k| twin::cut_many(&xs, &ys, k));
     reports();
-    walks();
+    exhaustive_calls();
     growth();
 }

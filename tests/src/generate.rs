@@ -35,6 +35,15 @@ pub fn seed() -> u64 {
     seed
 }
 
+/// So many random jobs, one after another.
+pub fn each_job(count: usize, bytes: impl Fn(&mut Random) -> Vec<u8>, mut check: impl FnMut(&mut Random, &[u8])) {
+    let mut random = Random::new(seed());
+    for _ in 0..count {
+        let job = bytes(&mut random);
+        check(&mut random, &job);
+    }
+}
+
 /// A valid job. Most have small coordinates, so that ties, equal places and stops on edges are common; some are extreme.
 pub fn job(random: &mut Random) -> Job {
     let size = match random.range(1, 10) {

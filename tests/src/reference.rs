@@ -312,7 +312,7 @@ pub fn search(job: &Job) -> Found {
 }
 
 /// The full walk: the cheapest crossing, the earliest among equals, as cost and place.
-pub fn walk(job: &Job) -> (i64, Place) {
+pub fn exhaustive(job: &Job) -> (i64, Place) {
     let deck = Deck::new(job);
     let horizontal = deck.horizontal();
     deck.vertical()
@@ -370,7 +370,7 @@ mod tests {
             let found = search(&Job { rounds, ..job.clone() });
             assert_eq!((found.done, found.at, found.high, found.low), (false, at, high, low));
         }
-        assert_eq!(walk(&job), (13, (4, 3)));
+        assert_eq!(exhaustive(&job), (13, (4, 3)));
         assert_eq!(brute_force(&job), (13, (4, 3)));
         assert_eq!(spell(&job), A.as_bytes());
     }

@@ -96,17 +96,17 @@ pub fn report_figure(job: &[u8], cells: &mut [i64], out: &mut [u8], which: u64) 
     reported(job, cells, out, if which < 7 { which } else { which.saturating_add(2) })
 }
 
-fn walked(job: &[u8], which: u64) -> i64 {
+fn exhaustive_figure(job: &[u8], which: u64) -> i64 {
     unsafe { trial_exhaustive(job.as_ptr(), job.len(), which) }
 }
 
 /// A number of the exhaustive call's answer, from 0: x, y, cost, the number of the refusal (0 for none). The least number where there is none.
 /// The exported function has one number more, that of `exhaustive_line`.
 pub fn exhaustive(job: &[u8], which: u64) -> i64 {
-    walked(job, if which < 4 { which } else { which.saturating_add(1) })
+    exhaustive_figure(job, if which < 4 { which } else { which.saturating_add(1) })
 }
 
 /// The line of its refusal, and 0 for none.
 pub fn exhaustive_line(job: &[u8]) -> u64 {
-    walked(job, 4) as u64
+    exhaustive_figure(job, 4) as u64
 }

@@ -1,7 +1,7 @@
-//! The proved exhaustive call against the reference: the full walk, every point of a small area, the done reports of the same job.
+//! The proved exhaustive call against the reference: the full exhaustive, every point of a small area, the done reports of the same job.
 
-use siting_tests::generate::{crowded, damaged, job, job_of, largest, noise, seed, special, Random};
-use siting_tests::reference::{brute_force, read, search, spell, walk, Job, Place, Rect, Refusal, Stop};
+use siting_tests::generate::{crowded, damaged, each_job, job, job_of, largest, noise, seed, special, Random};
+use siting_tests::reference::{brute_force, read, search, spell, exhaustive, Job, Place, Rect, Refusal, Stop};
 use siting_tests::trial;
 
 const LEAST: i64 = i64::MIN;
@@ -63,7 +63,7 @@ fn check(random: &mut Random, bytes: &[u8], seen: &mut Seen) {
     };
     seen.found += 1;
     let found = found.unwrap_or_else(|why| panic!("{why:?}\n{}", text(bytes)));
-    assert_eq!(found, walk(&job), "{}", text(bytes));
+    assert_eq!(found, exhaustive(&job), "{}", text(bytes));
     if points(job.area) * job.stops.len() as i64 <= 20_000 {
         assert_eq!(found, brute_force(&job), "{}", text(bytes));
         seen.brute_forced += 1;
@@ -91,12 +91,8 @@ fn check(random: &mut Random, bytes: &[u8], seen: &mut Seen) {
 }
 
 fn check_jobs(count: usize, bytes: impl Fn(&mut Random) -> Vec<u8>) -> Seen {
-    let mut random = Random::new(seed());
     let mut seen = Seen::default();
-    for _ in 0..count {
-        let b = bytes(&mut random);
-        check(&mut random, &b, &mut seen);
-    }
+    each_job(count, bytes, |random, b| check(random, b, &mut seen));
     println!("{seen:?}");
     assert_eq!(seen.jobs, count);
     seen
@@ -132,7 +128,7 @@ fn crossings_of_the_largest_decks_are_those_of_the_reference() {
     assert!(seen.found == 60, "{seen:?}");
 }
 
-/// Some 500 lines each way: the walk of the reference prices a quarter of a million crossings a deck.
+/// Some 500 lines each way: the reference prices a quarter of a million crossings a deck.
 #[test]
 fn crossings_of_crowded_decks_are_those_of_the_reference() {
     let seen = check_jobs(12, |random| {
@@ -186,7 +182,7 @@ fn finds(bytes: &str, cost: i64, at: Place) {
     let mut random = Random::new(1);
     assert_eq!(answer(&mut random, bytes.as_bytes()), Ok((cost, at)), "{bytes}");
     let job = read(bytes.as_bytes()).unwrap();
-    assert_eq!((walk(&job), brute_force(&job)), ((cost, at), (cost, at)), "{bytes}");
+    assert_eq!((exhaustive(&job), brute_force(&job)), ((cost, at), (cost, at)), "{bytes}");
     let found = search(&Job { rounds: 1_000, ..job });
     assert_eq!((found.done, found.high, found.at), (true, cost, at), "{bytes}");
 }

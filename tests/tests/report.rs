@@ -1,7 +1,7 @@
 //! The proved report call against the reference: answer, text, cell space and all that stays as it was, on random jobs and lent memory.
 
-use siting_tests::generate::{damaged, job, job_of, largest, noise, seed, special, Random};
-use siting_tests::reference::{brute_force, read, refusal_text, report_text, search, spell, walk, Deck, Found, Job, Rect, Refusal, Stop};
+use siting_tests::generate::{damaged, each_job, job, job_of, largest, noise, seed, special, Random};
+use siting_tests::reference::{brute_force, read, refusal_text, report_text, search, spell, exhaustive, Deck, Found, Job, Rect, Refusal, Stop};
 use siting_tests::trial;
 
 const LEAST: i64 = i64::MIN;
@@ -145,12 +145,8 @@ fn check_job(random: &mut Random, bytes: &[u8], seen: &mut Seen) {
 }
 
 fn check_jobs(count: usize, bytes: impl Fn(&mut Random) -> Vec<u8>) -> Seen {
-    let mut random = Random::new(seed());
     let mut seen = Seen::default();
-    for _ in 0..count {
-        let b = bytes(&mut random);
-        check_job(&mut random, &b, &mut seen);
-    }
+    each_job(count, bytes, |random, b| check_job(random, b, &mut seen));
     println!("{seen:?}");
     assert_eq!(seen.jobs, count);
     seen
@@ -242,7 +238,7 @@ fn every_point_of_a_small_area_costs_what_the_report_says() {
             assert!(cheapest.0 <= f.high && f.rounds <= most_cuts && f.rounds <= rounds, "{}", say());
             if f.done {
                 assert_eq!((f.high, f.at), cheapest, "{}", say());
-                assert_eq!((f.high, f.at), walk(&j), "{}", say());
+                assert_eq!((f.high, f.at), exhaustive(&j), "{}", say());
                 assert_eq!(f.low, f.high, "{}", say());
                 done += 1;
             } else {

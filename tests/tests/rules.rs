@@ -1,7 +1,7 @@
 //! The reference against itself: what document 01 promises of its rules, on random decks.
 
 use siting_tests::generate::{job, job_of, seed, Random};
-use siting_tests::reference::{brute_force, read, search, spell, walk, Job};
+use siting_tests::reference::{brute_force, read, search, spell, exhaustive, Job};
 
 #[test]
 fn a_finished_search_finds_the_earliest_cheapest_point() {
@@ -12,7 +12,7 @@ fn a_finished_search_finds_the_earliest_cheapest_point() {
         let found = search(&j);
         assert!(found.done);
         assert_eq!((found.high, found.at), brute_force(&j), "{}", String::from_utf8_lossy(&spell(&j)));
-        assert_eq!((found.high, found.at), walk(&j));
+        assert_eq!((found.high, found.at), exhaustive(&j));
         assert_eq!(found.low, found.high);
     }
 }

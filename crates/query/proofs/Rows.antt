@@ -40,10 +40,10 @@ rows = record {
   space-A-3 = refl;
   space-D-0 = refl;
   space-order-2 = refl;
-  walk-A = refl;
-  walk-B = refl;
-  walk-C = refl;
-  walk-D = refl;
-  walk-equal = refl;
-  walk-axis = refl;
+  exhaustive-A = refl;
+  exhaustive-B = refl;
+  exhaustive-C = refl;
+  exhaustive-D = refl;
+  exhaustive-equal = refl;
+  exhaustive-axis = refl;
 }

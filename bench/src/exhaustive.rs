@@ -1,7 +1,7 @@
 //! Hand-written Rust for the exhaustive call, from the job's bytes on: the method of crate `exhaustive`, once with a search by halves for
-//! each ramp and once with a table, and the plain walk, which prices every crossing by itself.
+//! each ramp and once with a table, and the plain pass, which prices every crossing by itself.
 
-use crate::whole::{read, Deck};
+use crate::read::{read, Deck};
 
 /// Cost, x, y.
 pub type Spot = (i64, i32, i32);
