@@ -14,14 +14,14 @@ use Rattle.numbers.proofs.Truth.{test, cond-true, cond-false}
 use Rattle.query.specs.Figures.{State, figures, done, stopped}
 use Rattle.query.specs.Space.{space}
 use Rattle.query.proofs.Demand3 as Query
-use Rattle.query.proofs.FigureRanges.{figures-in-range}
+use Rattle.query.specs.Range.{FiguresInRange}
+use Rattle.query.proofs.FigureRanges.{run-in-range}
 use Rattle.job.specs.Format.{Job, Result, refused, accepted, readJob}
 use Rattle.job.specs.Spelling.{spell, Allowed}
 use Rattle.job.proofs.Meaning.{accepted-law, refused-law, spelling-law, allowed-in-range}
 use Rattle.job_line.specs.declared.Refusal.{Refusal}
 use Rattle.job_line.specs.declared.Refusal.the-variants.{TooLong, Malformed, OutOfRange, EmptyArea, NoPosts, NoStops, SmallSpace, ShortOutput}
 use Rattle.report.specs.Text.{reportText}
-use Rattle.report.specs.Limits.{FiguresInRange}
 use Rattle.report.proofs.Fits.{report-fits}
 use Rattle.report.specs.declared.Report.{Report}
 use Rattle.report.specs.declared.State.the-variants.{Done, Stopped}
@@ -30,10 +30,10 @@ use Rattle.calls.specs.Call.{Left, stateRecord, reportRecord, turnedDown
 use Rattle.calls.specs.Demands.{Condition, Demand1, Accepted, Demand2, ReportLaw, oneMore, Demand3Report, Demands}
 
 -- the figures of an allowed job are in range, so that its report fits 128 bytes
-pub job-limits : (job : Job) → Allowed job → FiguresInRange (figures (job .deck) (job .rounds))
+pub job-limits : (job : Job) → Allowed job → FiguresInRange 1000 (figures (job .deck) (job .rounds))
 job-limits job a =
-    let range = figures-in-range (job .deck) (allowed-in-range job a) (a .area-full) (job .rounds) in
-    record { place = range .at-range; high-limit = range .high-limit; low-limit = range .low-limit; before-limit = range .before-limit; rounds-limit = omega (arith, range .rounds-limit, a .writable .rounds) }
+    let range = run-in-range (job .deck) (allowed-in-range job a) (a .area-full) (job .rounds) .figures-range in
+    record { place = range .place; high-limit = range .high-limit; low-limit = range .low-limit; before-limit = range .before-limit; rounds-limit = omega (arith, range .rounds-limit, a .writable .rounds) }
 
 text-fits : (job : Job) → Allowed job → length (reportText (figures (job .deck) (job .rounds))) ≤ 128
 text-fits job a = report-fits .report-fits (figures (job .deck) (job .rounds)) (job-limits job a)

@@ -4,7 +4,7 @@ use mathlib.Core.List.{List, [], map}
 use lib.IntN.{pos}
 use lib.ListN.{length}
 use Rattle.numbers.specs.Padded.{padded}
-use Rattle.query.specs.Place.{Place, Rect, emptyRect}
+use Rattle.query.specs.Place.{Place, Rect, zeroRect}
 use Rattle.query.specs.Deck.{Stop}
 use Rattle.job.specs.Format.{Result, refused, accepted}
 use Rattle.job.specs.declared.Deck.{Deck}
@@ -31,5 +31,5 @@ deckRecord area posts stops = record {
 -- what `read` answers: the record of the deck that the bytes spell, or a refusal with an empty one
 unfoldable pub jobRecord : Result → Job
 unfolding deckRecord
-jobRecord (refused why) = record { outcome = Refused why; deck = deckRecord emptyRect [] [] }
+jobRecord (refused why) = record { outcome = Refused why; deck = deckRecord zeroRect [] [] }
 jobRecord (accepted job) = record { outcome = Accepted (job .rounds); deck = deckRecord (job .deck .area) (job .deck .posts) (job .deck .stops) }

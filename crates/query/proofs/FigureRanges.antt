@@ -15,7 +15,7 @@ use Rattle.query.specs.Problem.{problem}
 use Rattle.query.specs.Order.{Cell}
 use Rattle.query.specs.Search.{run}
 use Rattle.query.specs.Figures.{high, low, figuresOf, figures}
-use Rattle.query.specs.Range.{PlaceInRange, RectInRange, InRange, costLimit, FiguresInRange}
+use Rattle.query.specs.Range.{PlaceInRange, RectInRange, InRange, costLimit, RunInRange}
 use Rattle.query.proofs.Ranges.{figure-limits}
 use Rattle.query.proofs.CutLaws.{cut-law}
 use Rattle.query.proofs.Invariant.{Ok, run-ok}
@@ -56,14 +56,16 @@ module _ (deck : Deck) (range : InRange deck) (full : NonEmpty (deck .area)) whe
       go l (List·Memᴰ·head e) = rw e (high-in-range n)
       go l (List·Memᴰ·tail m) = let w = Memᴰ·of-map (λ (c : Cell). c .bound) (run (problem deck) n .live) m in subst (λ (z : ℤ). natAbs z ≤ costLimit) (w .2) (bound-in-range n (w .0) (w .1))
 
-  pub figures-in-range : (n : ℕ) → FiguresInRange deck n
+  pub run-in-range : (n : ℕ) → RunInRange deck n
   unfolding figures figuresOf
-  figures-in-range n = record {
-    at-range = point-in-range (deck .area) (run (problem deck) n .best .at) (range .area) (demand-3 deck full n .in-area);
-    high-limit = high-in-range n;
-    low-limit = low-in-range n;
-    before-limit = figure-limits deck range .before-limit;
-    rounds-limit = cuts-most (problem deck) n;
+  run-in-range n = record {
+    figures-range = record {
+      place = point-in-range (deck .area) (run (problem deck) n .best .at) (range .area) (demand-3 deck full n .in-area);
+      high-limit = high-in-range n;
+      low-limit = low-in-range n;
+      before-limit = figure-limits deck range .before-limit;
+      rounds-limit = cuts-most (problem deck) n;
+    };
     cells-range = cell-in-range n;
     bounds-limit = bound-in-range n;
   }

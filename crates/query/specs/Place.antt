@@ -23,8 +23,8 @@ pub record Rect : Type 0 where
   pub yhi : ℤ
 
 -- the rectangle of zeros, for a record that needs one and has none
-abbrev pub emptyRect : Rect
-emptyRect = record { xlo = pos 0; ylo = pos 0; xhi = pos 0; yhi = pos 0 }
+abbrev pub zeroRect : Rect
+zeroRect = record { xlo = pos 0; ylo = pos 0; xhi = pos 0; yhi = pos 0 }
 
 -- p is a point of r, its edges included
 pub record In (r : Rect) (p : Place) : Type 0 where

@@ -13,7 +13,7 @@ use Rattle.query.specs.Bound.{span, bound}
 use Rattle.query.specs.Problem.{problem}
 use Rattle.query.specs.Order.{Cell}
 use Rattle.query.specs.Search.{run}
-use Rattle.query.specs.Figures.{figures}
+use Rattle.query.specs.Figures.{Figures, figures}
 
 -- 01 "Coordinates are .. −20,000 to 20,000"
 pub record PlaceInRange (p : Place) : Type 0 where
@@ -62,12 +62,16 @@ pub record FigureLimits (deck : Deck) : Type 0 where
   pub span-limit : (r : Rect) → RectInRange r → span (deck .axis) r ≤ travelLimit
   pub bound-limit : (r : Rect) → RectInRange r → natAbs (bound deck r) ≤ costLimit
 
--- the same of a report's figures, and of the cells that a search keeps
-pub record FiguresInRange (deck : Deck) (n : ℕ) : Type 0 where
-  pub at-range : PlaceInRange (figures deck n .at)
-  pub high-limit : figures deck n .high ≤ costLimit
-  pub low-limit : natAbs (figures deck n .low) ≤ costLimit
-  pub before-limit : figures deck n .before ≤ costLimit
-  pub rounds-limit : figures deck n .rounds ≤ n
+-- the same of a report's figures after so many rounds at most
+pub record FiguresInRange (rounds : ℕ) (f : Figures) : Type 0 where
+  pub place : PlaceInRange (f .at)
+  pub high-limit : f .high ≤ costLimit
+  pub low-limit : natAbs (f .low) ≤ costLimit
+  pub before-limit : f .before ≤ costLimit
+  pub rounds-limit : f .rounds ≤ rounds
+
+-- and of the cells that a search keeps
+pub record RunInRange (deck : Deck) (n : ℕ) : Type 0 where
+  pub figures-range : FiguresInRange n (figures deck n)
   pub cells-range : (c : Cell) → List·Memᴰ c (run (problem deck) n .live) → RectInRange (c .rect)
   pub bounds-limit : (c : Cell) → List·Memᴰ c (run (problem deck) n .live) → natAbs (c .bound) ≤ costLimit

@@ -9,10 +9,11 @@ use Rattle.text.specs.Ascii.{bytes}
 use Rattle.text.proofs.DigitCounts.{length-spellNat}
 use Rattle.job_line.specs.Refusal.{lineOf}
 use Rattle.report.specs.Text.{reportText}
-use Rattle.report.specs.Limits.{FiguresInRange, ReportFits}
+use Rattle.query.specs.Range.{FiguresInRange}
+use Rattle.report.specs.Limits.{ReportFits}
 use Rattle.report.proofs.TextLaws.{statePart, placePart, costsPart, roundsPart, report-parts, refusal-parts, length-five, length-state, length-place, length-costs, length-rounds, length-number}
 
-longest : (f : Figures) → FiguresInRange f → length (reportText f) ≤ 105
+longest : (f : Figures) → FiguresInRange 1000 f → length (reportText f) ≤ 105
 unfolding bytes
 longest f r =
     rw report-parts (omega (

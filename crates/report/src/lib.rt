@@ -10,7 +10,7 @@ ghost use Rattle.write.specs.Written.{Wrote};
 ghost use Rattle.job_line.specs.Refusal.{numberOf, lineOf};
 ghost use Rattle.report.specs.Report.{stateOf, figuresOf};
 ghost use Rattle.report.specs.Text.{stateText, reportText, refusalText};
-ghost use Rattle.report.specs.Limits.{FiguresInRange};
+ghost use Rattle.query.specs.Range.{FiguresInRange};
 ghost use Rattle.report.specs.Output.{Filled};
 
 pub enum State {
@@ -80,7 +80,7 @@ fn put_costs(out: &mut [u8], at: usize, high: u64, low: i64, before: u64) -> usi
 // The report at the start of `out`, and its length.
 pub fn write_report(out: &mut [u8], r: Report) -> usize
     requires { ⌜ 128 ≤ length (now out) ⌝ }
-    requires { ⌜ FiguresInRange (figuresOf r) ⌝ }
+    requires { ⌜ FiguresInRange 1000 (figuresOf r) ⌝ }
     ensures { λ n. ⌜ Filled (now (out .entry)) (reportText (figuresOf r)) (now (out .exit)) n ⌝ }
 {
     let state = r.state;

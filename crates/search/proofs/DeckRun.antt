@@ -18,7 +18,7 @@ use Rattle.query.specs.Range.{InRange}
 use Rattle.query.proofs.CutLaws.{cut-law}
 use Rattle.query.proofs.Invariant.{run-ok}
 use Rattle.query.proofs.Demand3.{lawful}
-use Rattle.query.proofs.FigureRanges.{figures-in-range}
+use Rattle.query.proofs.FigureRanges.{run-in-range}
 use Rattle.job.specs.declared.Deck.{Deck}
 use Rattle.sites.specs.DeckOf.{deckOf}
 use Rattle.lines.specs.LineRecord.{linesRecord}
@@ -39,8 +39,8 @@ module _ (deck : Query.Deck) (range : InRange deck) (full : NonEmpty (deck .area
   pub deck-steady : Steady (problem deck)
   unfolding figures figuresOf
   deck-steady = record {
-    ranged = λ n c m. record { range = figures-in-range deck range full n .cells-range c m; full = run-ok (problem deck) (lawful deck full) (cut-law (problem deck)) n .cells c m .full };
-    cost-limit = λ n. figures-in-range deck range full n .high-limit;
+    ranged = λ n c m. record { range = run-in-range deck range full n .cells-range c m; full = run-ok (problem deck) (lawful deck full) (cut-law (problem deck)) n .cells c m .full };
+    cost-limit = λ n. run-in-range deck range full n .figures-range .high-limit;
   }
 
 -- ---- a search

@@ -11,7 +11,7 @@ use lib.Signed.{mag}
 use lib.IntN.{ℤ, pos}
 use Rattle.numbers.specs.Lists.{keep, insertBy}
 use Rattle.numbers.proofs.Members.{keep-from}
-use Rattle.query.specs.Place.{Place, Rect, emptyRect}
+use Rattle.query.specs.Place.{Place, Rect, zeroRect}
 use Rattle.query.specs.Problem.{Problem}
 use Rattle.query.specs.Cut.{Line, canCut, cutLine, cutBefore, cutAfter, newCorners}
 use Rattle.query.specs.Order as Query
@@ -94,21 +94,21 @@ after-best P best c = refl
 
 module _ (sites : List Site) (vs hs : List ℤ) (c : Cell) (can : T (canCut (onLines vs hs) (rectIn c))) where
   abbrev P : Problem
-  P = siteProblem sites vs hs emptyRect
+  P = siteProblem sites vs hs zeroRect
 
   abbrev halves : Halves
   halves = halvesOf sites (cutRecord (onLines vs hs) (rectIn c)) (rectIn c)
 
   cut : cutRecord (onLines vs hs) (rectIn c) ≡ cutAt (isX (cutLine P (rectIn c) .axis)) (cutLine P (rectIn c) .at)
-  cut = rw (line-lines sites vs hs emptyRect (rectIn c)) (cut-is (onLines vs hs) (rectIn c) can (cutRecord (onLines vs hs) (rectIn c)) refl)
+  cut = rw (line-lines sites vs hs zeroRect (rectIn c)) (cut-is (onLines vs hs) (rectIn c) can (cutRecord (onLines vs hs) (rectIn c)) refl)
 
   first-cell : queryCell (halves .first) ≡ cellOf P (cutBefore (cutLine P (rectIn c) .axis) (cutLine P (rectIn c) .at) (rectIn c))
   unfolding halvesOf
-  first-cell = rw cut (ap (λ (r : Rect). queryCell (cellFor sites r)) (first-is (cutLine P (rectIn c) .axis) (cutLine P (rectIn c) .at) (rectIn c)) ∙ cell-is sites vs hs emptyRect (cutBefore (cutLine P (rectIn c) .axis) (cutLine P (rectIn c) .at) (rectIn c)))
+  first-cell = rw cut (ap (λ (r : Rect). queryCell (cellFor sites r)) (first-is (cutLine P (rectIn c) .axis) (cutLine P (rectIn c) .at) (rectIn c)) ∙ cell-is sites vs hs zeroRect (cutBefore (cutLine P (rectIn c) .axis) (cutLine P (rectIn c) .at) (rectIn c)))
 
   second-cell : queryCell (halves .second) ≡ cellOf P (cutAfter (cutLine P (rectIn c) .axis) (cutLine P (rectIn c) .at) (rectIn c))
   unfolding halvesOf
-  second-cell = rw cut (ap (λ (r : Rect). queryCell (cellFor sites r)) (second-is (cutLine P (rectIn c) .axis) (cutLine P (rectIn c) .at) (rectIn c)) ∙ cell-is sites vs hs emptyRect (cutAfter (cutLine P (rectIn c) .axis) (cutLine P (rectIn c) .at) (rectIn c)))
+  second-cell = rw cut (ap (λ (r : Rect). queryCell (cellFor sites r)) (second-is (cutLine P (rectIn c) .axis) (cutLine P (rectIn c) .at) (rectIn c)) ∙ cell-is sites vs hs zeroRect (cutAfter (cutLine P (rectIn c) .axis) (cutLine P (rectIn c) .at) (rectIn c)))
 
   first-costed : halves .«first_costs» ≡ cornerCosts sites (rectIn (halves .first))
   unfolding halvesOf
@@ -126,7 +126,7 @@ module _ (sites : List Site) (vs hs : List ℤ) (c : Cell) (can : T (canCut (onL
   unfolding halvesOf
   best-after best =
       rw (bestAfter-is (pricedOf best), corners-are (cutLine P (rectIn c) .axis) (cutLine P (rectIn c) .at) (rectIn c), cut)
-      (sym (best-two sites vs hs emptyRect best (lowCorner (isX (cutLine P (rectIn c) .axis)) (cutLine P (rectIn c) .at) (rectIn c)) (highCorner (isX (cutLine P (rectIn c) .axis)) (cutLine P (rectIn c) .at) (rectIn c))))
+      (sym (best-two sites vs hs zeroRect best (lowCorner (isX (cutLine P (rectIn c) .axis)) (cutLine P (rectIn c) .at) (rectIn c)) (highCorner (isX (cutLine P (rectIn c) .axis)) (cutLine P (rectIn c) .at) (rectIn c))))
 
   module _ (k : Costs) (rest : List Entry) (best : Spot) (order : InOrder rest) (cuttable : (e : Entry) → List·Memᴰ e rest → T (canCut (onLines vs hs) (entryCell e .rect))) where
     abbrev best′ : Spot
@@ -146,7 +146,7 @@ module _ (sites : List Site) (vs hs : List ℤ) (c : Cell) (can : T (canCut (onL
           ∙ keep-live P (pricedOf best′) (map entryCell rest) each
         where
           each : (x : Query.Cell) → List·Memᴰ x (map entryCell rest) → T (canCut P (x .rect))
-          each x m = let w = Memᴰ·of-map entryCell rest m in rw (can-lines sites vs hs emptyRect (x .rect)) (subst (λ (y : Query.Cell). T (canCut (onLines vs hs) (y .rect))) (w .2) (cuttable (w .0) (w .1)))
+          each x m = let w = Memᴰ·of-map entryCell rest m in rw (can-lines sites vs hs zeroRect (x .rect)) (subst (λ (y : Query.Cell). T (canCut (onLines vs hs) (y .rect))) (w .2) (cuttable (w .0) (w .1)))
 
       after : keep (isLive P (pricedOf best′)) (cellsAfter P (queryCell c) (map entryCell rest)) ≡ withCell P (pricedOf best′) (queryCell (halves .first)) (withCell P (pricedOf best′) (queryCell (halves .second)) (keep (isLive P (pricedOf best′)) (map entryCell rest)))
       after = rw (after-is P (queryCell c) (map entryCell rest), first-cell, second-cell) (keep-two P (pricedOf best′) (cellOf P (cutBefore (cutLine P (rectIn c) .axis) (cutLine P (rectIn c) .at) (rectIn c))) (cellOf P (cutAfter (cutLine P (rectIn c) .axis) (cutLine P (rectIn c) .at) (rectIn c))) (map entryCell rest) (cells-in-order rest .1 order))
@@ -155,11 +155,11 @@ module _ (sites : List Site) (vs hs : List ℤ) (c : Cell) (can : T (canCut (onL
       cells =
           ap (map entryCell) front
           ∙ map-with (onLines vs hs) (pricedOf best′) firstEntry es₂
-          ∙ with-lines sites vs hs emptyRect (pricedOf best′) (queryCell (halves .first)) (map entryCell es₂)
+          ∙ with-lines sites vs hs zeroRect (pricedOf best′) (queryCell (halves .first)) (map entryCell es₂)
           ∙ ap (withCell P (pricedOf best′) (queryCell (halves .first)))
           (ap (map entryCell) behind
           ∙ map-with (onLines vs hs) (pricedOf best′) secondEntry es₁
-          ∙ with-lines sites vs hs emptyRect (pricedOf best′) (queryCell (halves .second)) (map entryCell es₁)
+          ∙ with-lines sites vs hs zeroRect (pricedOf best′) (queryCell (halves .second)) (map entryCell es₁)
           ∙ ap (withCell P (pricedOf best′) (queryCell (halves .second))) kept)
           ∙ sym after
 
@@ -204,7 +204,7 @@ module _ (sites : List Site) (vs hs : List ℤ) (s : List ℤ) (t : List ℕ) (s
   pub cutting : Cutting sites vs hs c k
   cutting = record { ranged = rw ce (h .ranged); can-cut = h .can-cut (record { cell = c; costs = k }) taken; costs = h .costed .each (record { cell = c; costs = k }) taken }
 
-  pub rounded : (hv : Halves) → hv ≡ halvesOf sites (cutRecord (onLines vs hs) (rectIn c)) (rectIn c) → (b best : Spot) → b ≡ improved (st .best) (hv .low) → best ≡ improved b (hv .high) → (tail : ℕ) → Trimmed s (st .head + 1) (st .tail) (keyOf (pos (best .cost)) (best .x) (best .y)) tail → (s₁ : List ℤ) (t₁ : List ℕ) (behind : ℕ) → Added (onLines vs hs) (pricedOf best) (record { cell = hv .second; costs = hv .«second_costs» }) (st .head + 1) tail s t s₁ t₁ behind → (s₂ : List ℤ) (t₂ : List ℕ) (front : ℕ) → Added (onLines vs hs) (pricedOf best) (record { cell = hv .first; costs = hv .«first_costs» }) behind tail s₁ t₁ s₂ t₂ front → Holds sites (round (siteProblem sites vs hs emptyRect) (searchOf s t st)) (st .head - 1) s₂ t₂ (record { head = front; tail = tail; best = best; cuts = st .cuts + 1 })
+  pub rounded : (hv : Halves) → hv ≡ halvesOf sites (cutRecord (onLines vs hs) (rectIn c)) (rectIn c) → (b best : Spot) → b ≡ improved (st .best) (hv .low) → best ≡ improved b (hv .high) → (tail : ℕ) → Trimmed s (st .head + 1) (st .tail) (keyOf (pos (best .cost)) (best .x) (best .y)) tail → (s₁ : List ℤ) (t₁ : List ℕ) (behind : ℕ) → Added (onLines vs hs) (pricedOf best) (record { cell = hv .second; costs = hv .«second_costs» }) (st .head + 1) tail s t s₁ t₁ behind → (s₂ : List ℤ) (t₂ : List ℕ) (front : ℕ) → Added (onLines vs hs) (pricedOf best) (record { cell = hv .first; costs = hv .«first_costs» }) behind tail s₁ t₁ s₂ t₂ front → Holds sites (round (siteProblem sites vs hs zeroRect) (searchOf s t st)) (st .head - 1) s₂ t₂ (record { head = front; tail = tail; best = best; cuts = st .cuts + 1 })
   rounded hv hve b best be bests tail trimmed s₁ t₁ behind one s₂ t₂ front two =
       let all : best ≡ improved (improved (st .best) (halves .low)) (halves .high) = bests ∙ (λ i. improved ((be ∙ ap (λ (x : Halves). improved (st .best) (x .low)) hve) i) (hve i .high)) in
       let es₁ : entries s t (st .head + 1) (tail - (st .head + 1)) ≡ keep (λ e. precedes (cellKey (entryCell e)) (pricedKey (pricedOf best))) others = trimmed-live s (st .head + 1) (st .tail) (pricedKey (pricedOf best)) tail trimmed t (Pairwise·of-cons (subst InOrder split (h .in-order))) in
@@ -225,7 +225,7 @@ module _ (sites : List Site) (vs hs : List ℤ) (s : List ℤ) (t : List ℕ) (s
       turn : InOrder others
       turn = Pairwise·of-cons (subst InOrder split (h .in-order))
 
-      go : (best : Spot) → best ≡ improved (improved (st .best) (halves .low)) (halves .high) → (hv : Halves) → hv ≡ halves → entries s t (st .head + 1) (tail - (st .head + 1)) ≡ keep (λ e. precedes (cellKey (entryCell e)) (pricedKey (pricedOf best))) others → entries s₁ t₁ behind (tail - behind) ≡ withLive (onLines vs hs) (pricedOf best) (record { cell = hv .second; costs = hv .«second_costs» }) (entries s t (st .head + 1) (tail - (st .head + 1))) → entries s₂ t₂ front (tail - front) ≡ withLive (onLines vs hs) (pricedOf best) (record { cell = hv .first; costs = hv .«first_costs» }) (entries s₁ t₁ behind (tail - behind)) → Holds sites (round (siteProblem sites vs hs emptyRect) (searchOf s t st)) (st .head - 1) s₂ t₂ (record { head = front; tail = tail; best = best; cuts = st .cuts + 1 })
+      go : (best : Spot) → best ≡ improved (improved (st .best) (halves .low)) (halves .high) → (hv : Halves) → hv ≡ halves → entries s t (st .head + 1) (tail - (st .head + 1)) ≡ keep (λ e. precedes (cellKey (entryCell e)) (pricedKey (pricedOf best))) others → entries s₁ t₁ behind (tail - behind) ≡ withLive (onLines vs hs) (pricedOf best) (record { cell = hv .second; costs = hv .«second_costs» }) (entries s t (st .head + 1) (tail - (st .head + 1))) → entries s₂ t₂ front (tail - front) ≡ withLive (onLines vs hs) (pricedOf best) (record { cell = hv .first; costs = hv .«first_costs» }) (entries s₁ t₁ behind (tail - behind)) → Holds sites (round (siteProblem sites vs hs zeroRect) (searchOf s t st)) (st .head - 1) s₂ t₂ (record { head = front; tail = tail; best = best; cuts = st .cuts + 1 })
       go best be hv he es₁ es₂ es₃ =
           let f₁ : entries s t (st .head + 1) (tail - (st .head + 1)) ≡ keep (λ e. precedes (cellKey (entryCell e)) (pricedKey (pricedOf (improved (improved (st .best) (halves .low)) (halves .high))))) others = rw be at es₁ in
           let f₂ : entries s₁ t₁ behind (tail - behind) ≡ withLive (onLines vs hs) (pricedOf (improved (improved (st .best) (halves .low)) (halves .high))) (record { cell = halves .second; costs = halves .«second_costs» }) (entries s t (st .head + 1) (tail - (st .head + 1))) = rw (be, he) at es₂ in
@@ -240,38 +240,38 @@ module _ (sites : List Site) (vs hs : List ℤ) (s : List ℤ) (t : List ℕ) (s
 
 -- ---- a round does not look at the area
 module _ (sites : List Site) (vs hs : List ℤ) (area : Rect) where
-  line-area : (r : Rect) → cutLine (siteProblem sites vs hs emptyRect) r ≡ cutLine (siteProblem sites vs hs area) r
-  line-area r = line-lines sites vs hs emptyRect r ∙ sym (line-lines sites vs hs area r)
+  line-area : (r : Rect) → cutLine (siteProblem sites vs hs zeroRect) r ≡ cutLine (siteProblem sites vs hs area) r
+  line-area r = line-lines sites vs hs zeroRect r ∙ sym (line-lines sites vs hs area r)
 
-  live-area : (best : Priced) (c : Query.Cell) → isLive (siteProblem sites vs hs emptyRect) best c ≡ isLive (siteProblem sites vs hs area) best c
-  live-area best c = live-lines sites vs hs emptyRect best c ∙ sym (live-lines sites vs hs area best c)
+  live-area : (best : Priced) (c : Query.Cell) → isLive (siteProblem sites vs hs zeroRect) best c ≡ isLive (siteProblem sites vs hs area) best c
+  live-area best c = live-lines sites vs hs zeroRect best c ∙ sym (live-lines sites vs hs area best c)
 
-  bestOf-area : (best : Priced) (ps : List Place) → bestOf (siteProblem sites vs hs emptyRect) best ps ≡ bestOf (siteProblem sites vs hs area) best ps
+  bestOf-area : (best : Priced) (ps : List Place) → bestOf (siteProblem sites vs hs zeroRect) best ps ≡ bestOf (siteProblem sites vs hs area) best ps
   unfolding bestOf siteProblem
   bestOf-area best ps = refl
 
-  cell-area : (r : Rect) → cellOf (siteProblem sites vs hs emptyRect) r ≡ cellOf (siteProblem sites vs hs area) r
+  cell-area : (r : Rect) → cellOf (siteProblem sites vs hs zeroRect) r ≡ cellOf (siteProblem sites vs hs area) r
   unfolding siteProblem
   cell-area r = refl
 
-  best-area : (best : Priced) (c : Query.Cell) → bestAfter (siteProblem sites vs hs emptyRect) best c ≡ bestAfter (siteProblem sites vs hs area) best c
-  best-area best c = rw (after-best (siteProblem sites vs hs emptyRect) best c, after-best (siteProblem sites vs hs area) best c, line-area (c .rect)) (bestOf-area best (newCorners (cutLine (siteProblem sites vs hs area) (c .rect) .axis) (cutLine (siteProblem sites vs hs area) (c .rect) .at) (c .rect)))
+  best-area : (best : Priced) (c : Query.Cell) → bestAfter (siteProblem sites vs hs zeroRect) best c ≡ bestAfter (siteProblem sites vs hs area) best c
+  best-area best c = rw (after-best (siteProblem sites vs hs zeroRect) best c, after-best (siteProblem sites vs hs area) best c, line-area (c .rect)) (bestOf-area best (newCorners (cutLine (siteProblem sites vs hs area) (c .rect) .axis) (cutLine (siteProblem sites vs hs area) (c .rect) .at) (c .rect)))
 
-  cells-area : (c : Query.Cell) (cs : List Query.Cell) → cellsAfter (siteProblem sites vs hs emptyRect) c cs ≡ cellsAfter (siteProblem sites vs hs area) c cs
+  cells-area : (c : Query.Cell) (cs : List Query.Cell) → cellsAfter (siteProblem sites vs hs zeroRect) c cs ≡ cellsAfter (siteProblem sites vs hs area) c cs
   cells-area c cs =
-      let P = siteProblem sites vs hs emptyRect in
+      let P = siteProblem sites vs hs zeroRect in
       let Q = siteProblem sites vs hs area in
       after-is P c cs
       ∙ ap (λ (line : Line). insertBy cellBefore (cellOf P (cutBefore (line .axis) (line .at) (c .rect))) (insertBy cellBefore (cellOf P (cutAfter (line .axis) (line .at) (c .rect))) cs)) (line-area (c .rect))
       ∙ (λ i. insertBy cellBefore (cell-area (cutBefore (cutLine Q (c .rect) .axis) (cutLine Q (c .rect) .at) (c .rect)) i) (insertBy cellBefore (cell-area (cutAfter (cutLine Q (c .rect) .axis) (cutLine Q (c .rect) .at) (c .rect)) i) cs))
       ∙ sym (after-is Q c cs)
 
-  pub round-area : (s : Search) → round (siteProblem sites vs hs emptyRect) s ≡ round (siteProblem sites vs hs area) s
+  pub round-area : (s : Search) → round (siteProblem sites vs hs zeroRect) s ≡ round (siteProblem sites vs hs area) s
   round-area s = go (s .live) refl
     where
-      go : (live : List Query.Cell) → s .live ≡ live → round (siteProblem sites vs hs emptyRect) s ≡ round (siteProblem sites vs hs area) s
-      go [] e = round-none (siteProblem sites vs hs emptyRect) s e ∙ sym (round-none (siteProblem sites vs hs area) s e)
+      go : (live : List Query.Cell) → s .live ≡ live → round (siteProblem sites vs hs zeroRect) s ≡ round (siteProblem sites vs hs area) s
+      go [] e = round-none (siteProblem sites vs hs zeroRect) s e ∙ sym (round-none (siteProblem sites vs hs area) s e)
       go (c ∷ cs) e =
-          round-on (siteProblem sites vs hs emptyRect) s c cs e
-          ∙ (λ i. record { best = best-area (s .best) c i; live = (ap (λ (b : Priced). keep (isLive (siteProblem sites vs hs emptyRect) b) (cellsAfter (siteProblem sites vs hs emptyRect) c cs)) (best-area (s .best) c) ∙ keep-agree (isLive (siteProblem sites vs hs emptyRect) (bestAfter (siteProblem sites vs hs area) (s .best) c)) (isLive (siteProblem sites vs hs area) (bestAfter (siteProblem sites vs hs area) (s .best) c)) (cellsAfter (siteProblem sites vs hs emptyRect) c cs) (λ d m. live-area (bestAfter (siteProblem sites vs hs area) (s .best) c) d) ∙ ap (keep (isLive (siteProblem sites vs hs area) (bestAfter (siteProblem sites vs hs area) (s .best) c))) (cells-area c cs)) i; cuts = suc (s .cuts) })
+          round-on (siteProblem sites vs hs zeroRect) s c cs e
+          ∙ (λ i. record { best = best-area (s .best) c i; live = (ap (λ (b : Priced). keep (isLive (siteProblem sites vs hs zeroRect) b) (cellsAfter (siteProblem sites vs hs zeroRect) c cs)) (best-area (s .best) c) ∙ keep-agree (isLive (siteProblem sites vs hs zeroRect) (bestAfter (siteProblem sites vs hs area) (s .best) c)) (isLive (siteProblem sites vs hs area) (bestAfter (siteProblem sites vs hs area) (s .best) c)) (cellsAfter (siteProblem sites vs hs zeroRect) c cs) (λ d m. live-area (bestAfter (siteProblem sites vs hs area) (s .best) c) d) ∙ ap (keep (isLive (siteProblem sites vs hs area) (bestAfter (siteProblem sites vs hs area) (s .best) c))) (cells-area c cs)) i; cuts = suc (s .cuts) })
           ∙ sym (round-on (siteProblem sites vs hs area) s c cs e)

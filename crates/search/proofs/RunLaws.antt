@@ -16,7 +16,7 @@ use lib.Signed.{mag, ltZ, _≤ℤ_}
 use Rattle.numbers.specs.Lists.{leastBy}
 use Rattle.numbers.proofs.Truth.{and-left, nor-left, fails, holds, test, cond-ind}
 use Rattle.numbers.proofs.Integer.{order}
-use Rattle.query.specs.Place.{Rect, emptyRect}
+use Rattle.query.specs.Place.{Rect, zeroRect}
 use Rattle.query.specs.Problem.{Problem}
 use Rattle.query.specs.Cut.{canCut}
 use Rattle.query.specs.Order as Query
@@ -54,24 +54,24 @@ unfolding roundsFrom
 rounds-more P n s = ap (λ (m : ℕ). roundsFrom P m s) (add-one n)
 
 module _ (sites : List Site) (vs hs : List ℤ) (area : Rect) where
-  pub rounds-run : (n : ℕ) → roundsFrom (siteProblem sites vs hs emptyRect) n (start (siteProblem sites vs hs area)) ≡ run (siteProblem sites vs hs area) n
+  pub rounds-run : (n : ℕ) → roundsFrom (siteProblem sites vs hs zeroRect) n (start (siteProblem sites vs hs area)) ≡ run (siteProblem sites vs hs area) n
   unfolding roundsFrom run
   rounds-run zero = refl
-  rounds-run (suc n) = round-area sites vs hs area (roundsFrom (siteProblem sites vs hs emptyRect) n (start (siteProblem sites vs hs area))) ∙ ap (round (siteProblem sites vs hs area)) (rounds-run n)
+  rounds-run (suc n) = round-area sites vs hs area (roundsFrom (siteProblem sites vs hs zeroRect) n (start (siteProblem sites vs hs area))) ∙ ap (round (siteProblem sites vs hs area)) (rounds-run n)
 
 -- ---- the loop
 module _ (sites : List Site) (vs hs : List ℤ) where
   abbrev looped : ℕ → Search → Search
-  looped k start = roundsFrom (siteProblem sites vs hs emptyRect) k start
+  looped k start = roundsFrom (siteProblem sites vs hs zeroRect) k start
 
-  pub holds-first : (x : Search) (s : List ℤ) (t : List ℕ) (st : State) → Holds sites x 1000 s t st → Holds sites (roundsFrom (siteProblem sites vs hs emptyRect) 0 (searchOf s t st)) (1000 - 0) s t st
-  holds-first x s t st h = record { is = sym (rounds-none (siteProblem sites vs hs emptyRect) (searchOf s t st)); costed = h .costed; low-head = h .low-head; in-turn = h .in-turn; ends = h .ends }
+  pub holds-first : (x : Search) (s : List ℤ) (t : List ℕ) (st : State) → Holds sites x 1000 s t st → Holds sites (roundsFrom (siteProblem sites vs hs zeroRect) 0 (searchOf s t st)) (1000 - 0) s t st
+  holds-first x s t st h = record { is = sym (rounds-none (siteProblem sites vs hs zeroRect) (searchOf s t st)); costed = h .costed; low-head = h .low-head; in-turn = h .in-turn; ends = h .ends }
 
-  pub holds-more : (k : ℕ) (x : Search) (s s′ : List ℤ) (t t′ : List ℕ) (st st′ : State) → Holds sites (roundsFrom (siteProblem sites vs hs emptyRect) k x) (1000 - k) s t st → Holds sites (round (siteProblem sites vs hs emptyRect) (searchOf s t st)) (st .head - 1) s′ t′ st′ → Holds sites (roundsFrom (siteProblem sites vs hs emptyRect) (k + 1) x) (1000 - (k + 1)) s′ t′ st′
-  holds-more k x s s′ t t′ st st′ h g = record { is = g .is ∙ ap (round (siteProblem sites vs hs emptyRect)) (h .is) ∙ sym (rounds-more (siteProblem sites vs hs emptyRect) k x); costed = g .costed; low-head = omega (arith, h .low-head, g .low-head); in-turn = g .in-turn; ends = g .ends }
+  pub holds-more : (k : ℕ) (x : Search) (s s′ : List ℤ) (t t′ : List ℕ) (st st′ : State) → Holds sites (roundsFrom (siteProblem sites vs hs zeroRect) k x) (1000 - k) s t st → Holds sites (round (siteProblem sites vs hs zeroRect) (searchOf s t st)) (st .head - 1) s′ t′ st′ → Holds sites (roundsFrom (siteProblem sites vs hs zeroRect) (k + 1) x) (1000 - (k + 1)) s′ t′ st′
+  holds-more k x s s′ t t′ st st′ h g = record { is = g .is ∙ ap (round (siteProblem sites vs hs zeroRect)) (h .is) ∙ sym (rounds-more (siteProblem sites vs hs zeroRect) k x); costed = g .costed; low-head = omega (arith, h .low-head, g .low-head); in-turn = g .in-turn; ends = g .ends }
 
-  pub holds-run : (area : Rect) (k lowest : ℕ) (x : Search) (s : List ℤ) (t : List ℕ) (st : State) → x ≡ start (siteProblem sites vs hs area) → Holds sites (roundsFrom (siteProblem sites vs hs emptyRect) k x) lowest s t st → Holds sites (run (siteProblem sites vs hs area) k) lowest s t st
-  holds-run area k lowest x s t st e h = record { is = h .is ∙ ap (roundsFrom (siteProblem sites vs hs emptyRect) k) e ∙ rounds-run sites vs hs area k; costed = h .costed; low-head = h .low-head; in-turn = h .in-turn; ends = h .ends }
+  pub holds-run : (area : Rect) (k lowest : ℕ) (x : Search) (s : List ℤ) (t : List ℕ) (st : State) → x ≡ start (siteProblem sites vs hs area) → Holds sites (roundsFrom (siteProblem sites vs hs zeroRect) k x) lowest s t st → Holds sites (run (siteProblem sites vs hs area) k) lowest s t st
+  holds-run area k lowest x s t st e h = record { is = h .is ∙ ap (roundsFrom (siteProblem sites vs hs zeroRect) k) e ∙ rounds-run sites vs hs area k; costed = h .costed; low-head = h .low-head; in-turn = h .in-turn; ends = h .ends }
 
 -- ---- once no cell is live, rounds change nothing
 pub stays : (P : Problem) (k m : ℕ) → k ≤ m → run P k .live ≡ [] → run P m ≡ run P k

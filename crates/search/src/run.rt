@@ -12,7 +12,7 @@ ghost use Prim.Native.Nat.{_-_, _≤_};
 ghost use lib.ListN.{length, take};
 ghost use Rattle.query.specs.Search as Search;
 ghost use Rattle.query.specs.Range.{costLimit, RectInRange};
-ghost use Rattle.query.specs.Place.{x-axis, y-axis, emptyRect};
+ghost use Rattle.query.specs.Place.{x-axis, y-axis, zeroRect};
 ghost use Rattle.query.specs.Lines.{lines};
 ghost use Rattle.query.specs.Figures as Figures;
 ghost use Rattle.sites.specs.DeckOf.{deckOf};
@@ -97,7 +97,7 @@ fn round<'a>(
     st: State,
 ) -> State
     requires { ⌜ Sited (now xs) (now ys) (now visits) (now near) n × Lined (now v) nv (now h) nh × Takeable (siteRows (now xs) (now ys) (now visits) (now near) n) (take nv (now v)) (take nh (now h)) (cellsIn (now s) (now o)) (costsIn (now t) (now o)) st × Numbered (now o) ⌝ }
-    ensures { λ r. ⌜ Holds (siteRows (now (xs .entry)) (now (ys .entry)) (now (visits .entry)) (now (near .entry)) n) (Search.round (siteProblem (siteRows (now (xs .entry)) (now (ys .entry)) (now (visits .entry)) (now (near .entry)) n) (take nv (now (v .entry))) (take nh (now (h .entry))) emptyRect) (searchOf (cellsIn (now (s .entry)) (now (o .entry))) (costsIn (now (t .entry)) (now (o .entry))) st)) (st .head - 1) (cellsIn (now (s .exit)) (now (o .exit))) (costsIn (now (t .exit)) (now (o .exit))) r × Numbered (now (o .exit)) ⌝ }
+    ensures { λ r. ⌜ Holds (siteRows (now (xs .entry)) (now (ys .entry)) (now (visits .entry)) (now (near .entry)) n) (Search.round (siteProblem (siteRows (now (xs .entry)) (now (ys .entry)) (now (visits .entry)) (now (near .entry)) n) (take nv (now (v .entry))) (take nh (now (h .entry))) zeroRect) (searchOf (cellsIn (now (s .entry)) (now (o .entry))) (costsIn (now (t .entry)) (now (o .entry))) st)) (st .head - 1) (cellsIn (now (s .exit)) (now (o .exit))) (costsIn (now (t .exit)) (now (o .exit))) r × Numbered (now (o .exit)) ⌝ }
 {
     let head = st.head;
     let c = slots::cell_at(s, o, head);

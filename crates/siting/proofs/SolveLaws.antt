@@ -19,7 +19,7 @@ use Rattle.query.specs.Figures as Figures
 use Rattle.query.specs.Figures.{figures}
 use Rattle.query.specs.Space.{space}
 use Rattle.query.specs.Range.{FiguresInRange}
-use Rattle.query.proofs.FigureRanges.{figures-in-range}
+use Rattle.query.proofs.FigureRanges.{run-in-range}
 use Rattle.job.specs.Format.{Job, readJob}
 use Rattle.job.specs.Record.{jobRecord}
 use Rattle.job.specs.declared.Job as Held
@@ -34,7 +34,6 @@ use Rattle.sites.specs.declared.Sites.{Sites}
 use Rattle.pricing.proofs.RecordLaws.{made-range, made-before}
 use Rattle.report.specs.Report.{stateOf, figuresOf}
 use Rattle.report.specs.Text.{reportText}
-use Rattle.report.specs.Limits as Limits
 use Rattle.report.specs.Output.{Filled}
 use Rattle.report.specs.declared.Report.{Report}
 use Rattle.report.specs.declared.State.{State}
@@ -62,17 +61,17 @@ module _ (deck : Deck) (n lent : ℕ) (h : Solvable deck n lent) (sites : Sites)
   pub before-is : (b : ℕ) → BeforeIs (sites .visits) (sites .near) (sites .count) b → b ≡ before (deckOf deck)
   before-is b f = let range = made-range (deckOf deck) (h .range) sites e in f .is (sites .x) (sites .y) (range .x-long) (range .y-long) ∙ made-before (deckOf deck) (h .range) sites e
 
-  figures-range : FiguresInRange (deckOf deck) n
-  figures-range = figures-in-range (deckOf deck) (h .range) (h .full) n
+  figures-range : FiguresInRange n (figures (deckOf deck) n)
+  figures-range = run-in-range (deckOf deck) (h .range) (h .full) n .figures-range
 
   -- the signed fields of an answer, as the code holds them
   place-x : (f : Found) → f ≡ foundOf (run (problem (deckOf deck)) n) → toZ w64 (ofZ w64 (f .x)) ≡ f .x
   unfolding figures Figures.figuresOf foundOf
-  place-x f e = toZ-ofZ w64 (f .x) (word-fits w64 (f .x) (rw e (omega (arith, figures-range .at-range .x-range))))
+  place-x f e = toZ-ofZ w64 (f .x) (word-fits w64 (f .x) (rw e (omega (arith, figures-range .place .x-range))))
 
   place-y : (f : Found) → f ≡ foundOf (run (problem (deckOf deck)) n) → toZ w64 (ofZ w64 (f .y)) ≡ f .y
   unfolding figures Figures.figuresOf foundOf
-  place-y f e = toZ-ofZ w64 (f .y) (word-fits w64 (f .y) (rw e (omega (arith, figures-range .at-range .y-range))))
+  place-y f e = toZ-ofZ w64 (f .y) (word-fits w64 (f .y) (rw e (omega (arith, figures-range .place .y-range))))
 
   low-word : (f : Found) → f ≡ foundOf (run (problem (deckOf deck)) n) → toZ w64 (ofZ w64 (f .low)) ≡ f .low
   unfolding figures Figures.figuresOf foundOf
@@ -113,8 +112,8 @@ module _ (job : List ℕ) (j : Held.Job) (e : j ≡ jobRecord (readJob job)) (ro
     solved-figures : figuresOf r ≡ figures (spelt .job .deck) (spelt .job .rounds)
     solved-figures = ap figuresOf solved-report ∙ figures-held (figures (spelt .job .deck) (spelt .job .rounds))
 
-    pub report-limits : Limits.FiguresInRange (figuresOf r)
-    report-limits = subst Limits.FiguresInRange (sym solved-figures) (job-limits (spelt .job) (spelt .allowed))
+    pub report-limits : FiguresInRange 1000 (figuresOf r)
+    report-limits = subst (FiguresInRange 1000) (sym solved-figures) (job-limits (spelt .job) (spelt .allowed))
 
     pub respond-reported : (out out′ : List ℕ) (n : ℕ) → 5 * (rounds + 1) ≤ length cells → 128 ≤ length out → Filled out (reportText (figuresOf r)) out′ n → Responded job cells out cells′ out′ (record { answer = Answered.Report r; bytes = n })
     respond-reported out out′ n h k f = record {

@@ -4,7 +4,7 @@ use mathlib.Core.Path.{_≡_}
 use mathlib.Core.Bool.{Bool, true, false, _&&_}
 use mathlib.Core.List.{[]}
 use lib.Signed.{leZ}
-use Rattle.query.specs.Place.{Rect, NonEmpty, corner, emptyRect}
+use Rattle.query.specs.Place.{Rect, NonEmpty, corner, zeroRect}
 use Rattle.query.specs.Deck as Query
 use Rattle.query.specs.Deck.{plain}
 use Rattle.query.specs.Range.{InRange}
@@ -21,7 +21,7 @@ openedDeck deck = record { accepted = true; deck = deckRecord (deck .area) (deck
 
 unfoldable pub openedRecord : Result → Opened
 unfolding openedDeck
-openedRecord (refused why) = record { accepted = false; deck = deckRecord emptyRect [] []; sites = sitesRecord [] }
+openedRecord (refused why) = record { accepted = false; deck = deckRecord zeroRect [] []; sites = sitesRecord [] }
 openedRecord (accepted job) = openedDeck (job .deck)
 
 -- a rectangle whose coordinates are in range and whose edges are in order

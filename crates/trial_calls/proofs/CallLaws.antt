@@ -23,7 +23,7 @@ use Rattle.job_line.specs.declared.Refusal.the-variants.{TooLong, Malformed, Ou
 use Rattle.job.proofs.Meaning.{accepted-law, refused-law, allowed-in-range}
 use Rattle.job.proofs.RefusalLaws.{condition-line}
 use Rattle.report.specs.Report.{figuresOf}
-use Rattle.report.specs.Limits.{FiguresInRange}
+use Rattle.query.specs.Range.{FiguresInRange}
 use Rattle.report.specs.declared.Report.{Report}
 use Rattle.problem.specs.declared.Spot.{Spot}
 use Rattle.calls.specs.declared.Answer.{Answer}
@@ -49,21 +49,21 @@ module _ (job : List ℕ) (cells : List ℤ) (out : List ℕ) (answer : Answer) 
   answer-is left f = sym (ap (λ (l : Left). l .answer) (e ∙ f))
 
   module _ (r : Report) (a : answer ≡ Answered.Report r) where
-    limits-of : (j : Job) → readJob job ≡ accepted j → reportCall job cells out ≡ reported j cells out → FiguresInRange (figuresOf r)
+    limits-of : (j : Job) → readJob job ≡ accepted j → reportCall job cells out ≡ reported j cells out → FiguresInRange 1000 (figuresOf r)
     unfolding reported
     limits-of j g f =
         let h = job-limits j (accepted-law job j .exactly .0 g .2) in
         let same : reportRecord (figures (j .deck) (j .rounds)) ≡ r = let k = answer-is _ f in cc in
-        subst (λ (x : Report). FiguresInRange (figuresOf x)) same (record { place = h .place; high-limit = h .high-limit; low-limit = h .low-limit; before-limit = h .before-limit; rounds-limit = h .rounds-limit })
+        subst (λ (x : Report). FiguresInRange 1000 (figuresOf x)) same (record { place = h .place; high-limit = h .high-limit; low-limit = h .low-limit; before-limit = h .before-limit; rounds-limit = h .rounds-limit })
 
     not-refused : (why : Refusal) (left : Left) → reportCall job cells out ≡ left → left .answer ≡ Answered.Refused why → ⊥
     not-refused why left f g = let k = answer-is left f in let z : _≡_ {A = ℕ} 0 1 = cc in omega arith
 
     -- the report's figures are in range
-    pub limits : FiguresInRange (figuresOf r)
+    pub limits : FiguresInRange 1000 (figuresOf r)
     limits = go (readJob job) refl
       where
-        go : (x : Result) → readJob job ≡ x → FiguresInRange (figuresOf r)
+        go : (x : Result) → readJob job ≡ x → FiguresInRange 1000 (figuresOf r)
         go (refused why) g = absurd (not-refused why _ (refused-call job cells out why g) refl)
         go (accepted j) g =
             ⊎-elim (λ t. absurd (not-refused SmallSpace _ (small-space job cells out j g (ltb→lt _ _ t)) refl))
@@ -115,7 +115,7 @@ module _ {answer : Answer} (why : Refusal) (a : answer ≡ Answered.Refused why)
   refusal-answer h = rw a (number-at (answerNumbers (Answered.Refused why)) which (suc (suc (suc (suc (suc (suc (suc (which - 7)))))))) _ (omega arith) refl)
 
 -- as the code holds them
-module _ (r : Report) (h : FiguresInRange (figuresOf r)) (which : ℕ) where
+module _ (r : Report) (h : FiguresInRange 1000 (figuresOf r)) (which : ℕ) where
   pub x-figure : which ≡ 1 → toZ w64 (ofZ w64 (r .x)) ≡ getD (reportNumbers r) which least
   x-figure e = number-at (reportNumbers r) which 1 _ e (toZ-ofZ w64 (r .x) (word-fits w64 (r .x) (omega (arith, h .place .x-range))))
 

@@ -8,7 +8,7 @@ use report::State;
 ghost use mathlib.Core.Path.{_≡_};
 ghost use lib.ListN.{getD};
 ghost use Rattle.report.specs.Report.{figuresOf};
-ghost use Rattle.report.specs.Limits.{FiguresInRange};
+ghost use Rattle.query.specs.Range.{FiguresInRange};
 ghost use Rattle.calls.specs.Call.{reportCall};
 ghost use Rattle.calls.specs.Exhaustive.{exhaustiveCall};
 ghost use Rattle.trial.specs.Trial.{least};
@@ -25,7 +25,7 @@ fn state_number(state: State) -> i64
 
 // A number that a report carries: state, x, y, high, low, before, rounds; then 0 twice, for no refusal. The least number behind them.
 fn figure(r: Report, which: u64) -> i64
-    requires { ⌜ FiguresInRange (figuresOf r) ⌝ }
+    requires { ⌜ FiguresInRange 1000 (figuresOf r) ⌝ }
     ensures { λ v. ⌜ v ≡ getD (reportNumbers r) which least ⌝ }
 {
     if which == 0 {

@@ -13,7 +13,7 @@ use mir.ValLaws.{toZ-ofZ}
 use Rattle.text.specs.Ascii.{bytes}
 use Rattle.write.specs.Written.{Wrote}
 use Rattle.report.specs.declared.Report.{Report}
-use Rattle.report.specs.Limits.{FiguresInRange}
+use Rattle.query.specs.Range.{FiguresInRange}
 use Rattle.report.specs.Report.{stateOf, figuresOf}
 use Rattle.report.proofs.TextLaws.{placePart, costsPart, length-state, length-place, length-costs, length-rounds, report-filled}
 use Rattle.report.proofs.write_report.Statement.{statement}
@@ -24,10 +24,10 @@ back : (z : ℤ) → natAbs z < 2 ^ 63 → toZ w64 (ofZ w64 z) ≡ z
 back (pos n) h = toZ-ofZ w64 (pos n) (record { sfits = h })
 back (negsuc n) h = toZ-ofZ w64 (negsuc n) (record { sfits = omega arith })
 
-place-wrote : {m m′ : List ℕ} {e e′ : ℕ} (r : Report) → FiguresInRange (figuresOf r) → Wrote m e (placePart (toZ w64 (ofZ w64 (r .x))) (toZ w64 (ofZ w64 (r .y)))) m′ e′ → Wrote m e (placePart (r .x) (r .y)) m′ e′
+place-wrote : {m m′ : List ℕ} {e e′ : ℕ} (r : Report) → FiguresInRange 1000 (figuresOf r) → Wrote m e (placePart (toZ w64 (ofZ w64 (r .x))) (toZ w64 (ofZ w64 (r .y)))) m′ e′ → Wrote m e (placePart (r .x) (r .y)) m′ e′
 place-wrote r h w = rw (back (r .x) (omega (arith, h .place .x-range)), back (r .y) (omega (arith, h .place .y-range))) at w
 
-costs-wrote : {m m′ : List ℕ} {e e′ : ℕ} (r : Report) → FiguresInRange (figuresOf r) → Wrote m e (costsPart (r .high) (toZ w64 (ofZ w64 (r .low))) (r .before)) m′ e′ → Wrote m e (costsPart (r .high) (r .low) (r .before)) m′ e′
+costs-wrote : {m m′ : List ℕ} {e e′ : ℕ} (r : Report) → FiguresInRange 1000 (figuresOf r) → Wrote m e (costsPart (r .high) (toZ w64 (ofZ w64 (r .low))) (r .before)) m′ e′ → Wrote m e (costsPart (r .high) (r .low) (r .before)) m′ e′
 costs-wrote r h w = rw (back (r .low) (omega (arith, h .low-limit))) at w
 
 -- the calls that a call stands behind

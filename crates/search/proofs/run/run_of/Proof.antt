@@ -5,7 +5,7 @@ use native.Mathlib.Omega.{arith}
 use denote.Ref.{now}
 use lib.ListN.{take}
 use Rattle.query.specs.Search.{run}
-use Rattle.query.specs.Place.{emptyRect}
+use Rattle.query.specs.Place.{zeroRect}
 use Rattle.pricing.specs.Columns.{siteRows}
 use Rattle.slots.specs.Numbering.{cellsIn, costsIn, Numbered}
 use Rattle.search.specs.Run.{searchOf, Holds}
@@ -15,7 +15,7 @@ use Rattle.search.proofs.run.run_of.Statement.{statement}
 use Rattle.search.proofs.run.run_of.Tie as tie
 
 abbrev Inv-loop : tie.InvT-loop
-Inv-loop xs ys visits near n v nv h nh s₀ t₀ o₀ rounds st₀ k₀ s t o st k = (k ≤ rounds) × Holds (siteRows xs ys visits near n) (roundsFrom (siteProblem (siteRows xs ys visits near n) (take nv v) (take nh h) emptyRect) k (searchOf (cellsIn s₀ o₀) (costsIn t₀ o₀) st₀)) (1000 - k) (cellsIn s o) (costsIn t o) st × Numbered o
+Inv-loop xs ys visits near n v nv h nh s₀ t₀ o₀ rounds st₀ k₀ s t o st k = (k ≤ rounds) × Holds (siteRows xs ys visits near n) (roundsFrom (siteProblem (siteRows xs ys visits near n) (take nv v) (take nh h) zeroRect) k (searchOf (cellsIn s₀ o₀) (costsIn t₀ o₀) st₀)) (1000 - k) (cellsIn s o) (costsIn t o) st × Numbered o
 
 abbrev μ-loop : tie.MeasureT-loop
 μ-loop xs ys visits near n v nv h nh s₀ t₀ o₀ rounds st₀ k₀ s t o st k = rounds - k
