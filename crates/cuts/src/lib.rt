@@ -8,7 +8,7 @@ ghost use Rattle.numbers.specs.Integer.{halfUp, strictlyBetween};
 ghost use Rattle.numbers.specs.Lists.{keep};
 ghost use Rattle.query.specs.Cut.{middleLine};
 ghost use Rattle.lines.specs.LineRecord.{InOrder};
-ghost use Rattle.cuts.specs.CutRecord.{Edges, LineBefore, LineFrom, onLines, rectOf, cutAt, cutRecord};
+ghost use Rattle.cuts.specs.CutRecord.{Edges, LineBefore, LineFrom, onLines, rectOf, cutAt, cutRecord, firstOf};
 
 // Whether a cell can be cut, and at which line: at an x where `across` is true, else at a y. Where it cannot the others are false and 0.
 pub struct Cut {
@@ -77,6 +77,40 @@ fn cut_at(across: bool, at: i64) -> Cut
     }
 }
 
+// The cut at the line closest to the middle between `alo` and `ahi` on the first axis, if one lies inside; else the same between `blo`
+// and `bhi` on the second. The first axis is x where `across` is true.
+fn first_of(
+    a: &[i64; 514],
+    na: usize,
+    alo: i64,
+    ahi: i64,
+    b: &[i64; 514],
+    nb: usize,
+    blo: i64,
+    bhi: i64,
+    across: bool,
+) -> Cut
+    requires { ⌜ InOrder (now a) na ⌝ }
+    requires { ⌜ InOrder (now b) nb ⌝ }
+    requires { ⌜ Edges alo ahi ⌝ }
+    requires { ⌜ Edges blo bhi ⌝ }
+    ensures { λ r. ⌜ r ≡ firstOf across alo ahi (keep (strictlyBetween alo ahi) (take na (now (a .entry)))) blo bhi (keep (strictlyBetween blo bhi) (take nb (now (b .entry)))) ⌝ }
+{
+    let v = middle_line(a, na, alo, ahi);
+    if alo < v {
+        return cut_at(across, v);
+    }
+    let w = middle_line(b, nb, blo, bhi);
+    if blo < w {
+        return cut_at(!across, w);
+    }
+    Cut {
+        found: false,
+        across: false,
+        at: 0,
+    }
+}
+
 // The choice of a cut of the cell from (`xlo`, `ylo`) to (`xhi`, `yhi`): of the axes that have lines inside the one with the longer side,
 // x on equal sides, and on it the line closest to the middle.
 pub fn find_cut(
@@ -95,22 +129,9 @@ pub fn find_cut(
     requires { ⌜ Edges ylo yhi ⌝ }
     ensures { λ r. ⌜ r ≡ cutRecord (onLines (take nx (now (xs .entry))) (take ny (now (ys .entry)))) (rectOf xlo ylo xhi yhi) ⌝ }
 {
-    let x = middle_line(xs, nx, xlo, xhi);
-    let y = middle_line(ys, ny, ylo, yhi);
-    if x <= xlo {
-        if y <= ylo {
-            return Cut {
-                found: false,
-                across: false,
-                at: 0,
-            };
-        }
-        return cut_at(false, y);
+    if yhi - ylo <= xhi - xlo {
+        first_of(xs, nx, xlo, xhi, ys, ny, ylo, yhi, true)
+    } else {
+        first_of(ys, ny, ylo, yhi, xs, nx, xlo, xhi, false)
     }
-    if y <= ylo {
-        return cut_at(true, x);
-    }
-    let across = yhi - ylo <= xhi - xlo;
-    let at = if across { x } else { y };
-    cut_at(across, at)
 }

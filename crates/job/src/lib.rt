@@ -288,10 +288,10 @@ pub fn read(bytes: &[u8]) -> Job
                 Next::Refused(why) => return refuse(why),
             };
             match last_line(bytes, at, line + 1 + stops.count as u64) {
-                CountLine::Read(rounds, _) => check(area, posts, stops, rounds as u64),
-                CountLine::Refused(why) => refuse(why),
+                CountLine::Read(rounds, _) => return check(area, posts, stops, rounds as u64),
+                CountLine::Refused(why) => return refuse(why),
             }
         }
-        AreaLine::Refused(why) => refuse(why),
+        AreaLine::Refused(why) => return refuse(why),
     }
 }

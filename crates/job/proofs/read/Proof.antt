@@ -74,18 +74,6 @@ enum-known-rounds c = search needs
 check-requires : tie.Need-check-requires
 check-requires c κs = search needs
 
-enum-known-why : tie.Need-enum-known-why
-enum-known-why c = search needs
-
-refuse-requires-4 : tie.Need-refuse-requires-4
-refuse-requires-4 c κs = search needs
-
-enum-known-why-2 : tie.Need-enum-known-why-2
-enum-known-why-2 c = search needs
-
-refuse-requires-5 : tie.Need-refuse-requires-5
-refuse-requires-5 c κs = search needs
-
 returns-4 : tie.Need-returns-4
 returns-4 c =
     let l = c .before .before .before .before in
@@ -94,6 +82,12 @@ returns-4 c =
     let a = p .before .before .before .before in
     read-all (a .before .if1 .left) (a .area-line .ensures) (p .before .before .area .given .1) (p .read-posts .ensures) (s .before .before .after-posts .given .1) (s .read-stops .ensures) (l .before .before .after-stops .given .1) (l .last-line .ensures) (c .before .before .rounds .given .1) (c .check .ensures)
 
+enum-known-why : tie.Need-enum-known-why
+enum-known-why c = search needs
+
+refuse-requires-4 : tie.Need-refuse-requires-4
+refuse-requires-4 c κs = search needs
+
 returns-5 : tie.Need-returns-5
 returns-5 c =
     let l = c .before .before .before .before in
@@ -101,6 +95,12 @@ returns-5 c =
     let p = s .before .before .before .before in
     let a = p .before .before .before .before in
     c .refuse4 .ensures ∙ ap jobRecord (read-last (a .before .if1 .left) (a .area-line .ensures) (p .before .before .area .given .1) (p .read-posts .ensures) (s .before .before .after-posts .given .1) (s .read-stops .ensures) (l .before .before .after-stops .given .1) (l .last-line .ensures) (c .before .before .why .given .1))
+
+enum-known-why-2 : tie.Need-enum-known-why-2
+enum-known-why-2 c = search needs
+
+refuse-requires-5 : tie.Need-refuse-requires-5
+refuse-requires-5 c κs = search needs
 
 returns-6 : tie.Need-returns-6
 returns-6 c =
@@ -131,10 +131,10 @@ read-spec =
     last-line-requires
     enum-known-rounds
     check-requires
+    returns-4
     enum-known-why
     refuse-requires-4
+    returns-5
     enum-known-why-2
     refuse-requires-5
-    returns-4
-    returns-5
     returns-6)
