@@ -4,15 +4,11 @@ use mathlib.Core.Path.{_≡_}
 use Prim.Native.Nat.{_+_, _≤_}
 use native.Mathlib.Nat.{mul-le-mul-left}
 use native.Mathlib.Omega.{arith}
-use Rattle.numbers.proofs.Distance.{dist-sym, dist-triangle, clamp-low, clamp-high, clamp-closest}
+use Rattle.numbers.proofs.Distance.{dist-triangle, clamp-low, clamp-high, clamp-closest}
 use Rattle.query.specs.Place.{Place, Rect, In, NonEmpty}
 use Rattle.query.specs.Deck.{AxisCosts, Stop, Deck}
 use Rattle.query.specs.Travel.{travel}
 use Rattle.query.specs.Reach.{closestPoint, travelTo}
-
-pub travel-sym : (axis : AxisCosts) (p q : Place) → travel axis p q ≡ travel axis q p
-unfolding travel
-travel-sym axis p q = rw (dist-sym (p .x) (q .x), dist-sym (p .y) (q .y))
 
 pub travel-triangle : (axis : AxisCosts) (p q s : Place) → travel axis p s ≤ travel axis p q + travel axis q s
 unfolding travel

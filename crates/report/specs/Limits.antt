@@ -2,7 +2,7 @@
 -- Assumes nothing.
 use mathlib.Core.Path.{_≡_}
 use Prim.Native.Nat.{_≤_}
-use lib.IntN.{pos, negsuc, negℤ, natAbs}
+use lib.IntN.{pos, negsuc, negℤ}
 use lib.ListN.{length}
 use Rattle.query.specs.Figures.{Figures, stopped}
 use Rattle.query.specs.Range.{costLimit, FiguresInRange}

@@ -61,9 +61,6 @@ module _ (sites : List Site) (vs hs : List ℤ) (area : Rect) where
 
 -- ---- the loop
 module _ (sites : List Site) (vs hs : List ℤ) where
-  abbrev looped : ℕ → Search → Search
-  looped k start = roundsFrom (siteProblem sites vs hs zeroRect) k start
-
   pub holds-first : (x : Search) (s : List ℤ) (t : List ℕ) (st : State) → Holds sites x 1000 s t st → Holds sites (roundsFrom (siteProblem sites vs hs zeroRect) 0 (searchOf s t st)) (1000 - 0) s t st
   holds-first x s t st h = record { is = sym (rounds-none (siteProblem sites vs hs zeroRect) (searchOf s t st)); costed = h .costed; low-head = h .low-head; in-turn = h .in-turn; ends = h .ends }
 

@@ -165,7 +165,3 @@ front-stops (s ∷ ss) xs ys vs = ap (λ (l : List Stop). s ∷ l) (front-stops 
 pub deck-record : (area : Rect) (posts : List Place) (stops : List Stop) → deckOf (deckRecord area posts stops) ≡ record { axis = plain; area = area; posts = posts; stops = stops }
 unfolding deckOf deckRecord padded
 deck-record area posts stops = rw (front-places, front-stops)
-
-pub deckOf-plain : (deck : Deck) → deckOf deck .axis ≡ plain
-unfolding deckOf
-deckOf-plain deck = refl
