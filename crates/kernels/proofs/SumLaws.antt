@@ -1,7 +1,7 @@
 -- Sums over turns, and the places and rectangles of the turns.
 -- Assumes nothing.
 use mathlib.Core.Path.{_≡_, refl, sym, ap, subst, _∙_}
-use mathlib.Core.Bool.{Bool, false, cond, _&&_}
+use mathlib.Core.Bool.{Bool, false, cond}
 use mathlib.Core.List.{List}
 use Prim.Native.Nat.{ℕ, zero, suc, _+_, _*_, _%_, _≤_, _<_}
 use native.Mathlib.Nat.{mul-le-mul}
@@ -11,38 +11,40 @@ use borrow.Author.Tests.{lt-ltb, le-ltb}
 use lib.Dec.{T, ltb}
 use lib.ListN.{getD, take}
 use lib.IntN.{ℤ, pos, natAbs, _-ℤ_}
-use lib.Signed.{leZ, _≤ℤ_}
+use lib.Signed.{_≤ℤ_}
 use mir.Syntax.{w64}
 use mir.Val.{SFits, toZ, ofZ}
 use mir.ValLaws.{toZ-ofZ, toZ-pos}
-use Rattle.numbers.proofs.Truth.{and-intro}
-use Rattle.numbers.proofs.Words as Words
+use Rattle.numbers.proofs.WordTests.{back}
 use Rattle.numbers.proofs.Integer.{order, abs-range, sub-nat}
-use Rattle.query.specs.Place.{Place, x-axis, y-axis}
+use Rattle.query.specs.Place.{Place, Rect, x-axis, y-axis}
 use Rattle.query.specs.Lines.{lines}
 use Rattle.query.specs.Deck.{Deck}
-use Rattle.query.specs.Range.{PlaceInRange, costLimit}
-use Rattle.job_line.specs.Lines.{placeInRange}
+use Rattle.query.specs.Range.{RectInRange, costLimit}
 use Rattle.job.specs.Format.{Result, readJob}
-use Rattle.job.proofs.RangeLaws.{place-range}
-use Rattle.job_line.proofs.RangeTests.{held, held-is}
+use Rattle.job.specs.declared.Deck as Held
 use Rattle.pricing.specs.Columns.{Figure}
 use Rattle.lines.specs.LineRecord.{linesRecord}
-use Rattle.cuts.specs.CutRecord.{rectOf, Edges, onLines, cutRecord}
+use Rattle.cuts.specs.CutRecord.{rectOf, onLines, cutRecord}
+use Rattle.cuts.specs.declared.Cut.{Cut}
 use Rattle.numbers.proofs.Words.{difference, difference-fits}
 use Rattle.sites.specs.DeckOf.{deckOf}
 use Rattle.sites.specs.Record.{sitesRecord}
 use Rattle.sites.specs.Sites.{sitesOf}
+use Rattle.sites.specs.declared.Sites.{Sites}
 use Rattle.pricing.specs.Figures.{costOf, loadOf}
 use Rattle.sites.proofs.ReadLaws.{Spelt}
-use Rattle.pricing.proofs.RecordLaws.{rowsOf}
+use Rattle.pricing.proofs.RecordLaws.{made-cost, made-load}
 use Rattle.lines.specs.declared.Lines.{Lines}
-use Rattle.trial.specs.Opened.{openedRecord, rectAllowed, Open}
-use Rattle.trial.specs.Trial.{onJob, minusOne, least, boundOf}
+use Rattle.problem.specs.Problem.{boundOf, rowsOf, Ranged, Prepared}
+use Rattle.problem.proofs.Coordinates.{rect-back}
+use Rattle.problem.proofs.DeckProblem.{plain-axis, made-bound}
+use Rattle.trial.specs.Opened.{openedRecord, rectAllowed}
+use Rattle.trial.specs.Trial.{onJob, minusOne, least}
 use Rattle.trial.specs.declared.opened.Opened.{Opened}
 use Rattle.trial.proofs.OpenLaws.{open-refused, on-job}
-use Rattle.trial.proofs.FigureLaws.{deckOf-same, cost-same, load-same, bound-same}
-use Rattle.trial.proofs.CutLaws.{found-at}
+use Rattle.trial.proofs.RectLaws.{rect-range}
+use Rattle.trial.proofs.CutLaws.{found-cut}
 use Rattle.kernels.specs.Sums.{sumTo, side, spread, Spread, placeAt, rectAt, positive, costTurn, loadTurn, boundTurn, cutTurn, turn, kernelSum}
 
 -- ---- sums
@@ -78,24 +80,24 @@ sumTo-same f g e (suc k) = rw (e k, sumTo-same f g e k)
 pub same-sum : {f : ℕ → ℕ} (g : ℕ → ℕ) (k : ℕ) {limit n : ℕ} → ((t : ℕ) → f t ≡ g t) → Figure (sumTo f k) limit n → Figure (sumTo g k) limit n
 same-sum {f} g k e fig = record { is = fig .is ∙ sumTo-same f g e k; within = fig .within }
 
--- ---- the sums of an opened job, by the kernel's number
-abbrev SumIs : Opened → ℕ → ℕ → ℕ → Type 0
-SumIs o which k n = Figure (sumTo (turn (deckOf (o .deck)) which) k) (100000 * costLimit) n
+-- ---- the sums of a deck and its sites, by the kernel's number
+abbrev SumIs : Held.Deck → ℕ → ℕ → ℕ → Type 0
+SumIs deck which k n = Figure (sumTo (turn (deckOf deck) which) k) (100000 * costLimit) n
 
-module _ (o : Opened) (h : Open o) (which k : ℕ) {n : ℕ} where
-  pub cost-sum : which ≡ 0 → Figure (sumTo (λ t. costOf (rowsOf (o .sites)) (placeAt t)) k) (100000 * costLimit) n → SumIs o which k n
-  cost-sum e fig = rw (e, deckOf-same o h) (same-sum (costTurn (h .deck)) k (λ t. cost-same o h (placeAt t)) fig)
+module _ (deck : Held.Deck) (sites : Sites) (h : Prepared deck sites) (which k : ℕ) {n : ℕ} where
+  pub cost-sum : which ≡ 0 → Figure (sumTo (λ t. costOf (rowsOf sites) (placeAt t)) k) (100000 * costLimit) n → SumIs deck which k n
+  cost-sum e fig = rw e (same-sum (costTurn (deckOf deck)) k (λ t. made-cost (deckOf deck) (h .range) sites (h .sites-are) (plain-axis deck) (placeAt t)) fig)
 
-  pub load-sum : which ≡ 1 → Figure (sumTo (λ t. loadOf (rowsOf (o .sites)) (rectAt t)) k) (100000 * costLimit) n → SumIs o which k n
-  load-sum e fig = rw (e, deckOf-same o h) (same-sum (loadTurn (h .deck)) k (λ t. load-same o h (rectAt t)) fig)
+  pub load-sum : which ≡ 1 → Figure (sumTo (λ t. loadOf (rowsOf sites) (rectAt t)) k) (100000 * costLimit) n → SumIs deck which k n
+  load-sum e fig = rw e (same-sum (loadTurn (deckOf deck)) k (λ t. made-load (deckOf deck) (h .range) sites (h .sites-are) (plain-axis deck) (rectAt t)) fig)
 
-  pub bound-sum : which ≡ 2 → Figure (sumTo (λ t. positive (boundOf (rowsOf (o .sites)) (rectAt t))) k) (100000 * costLimit) n → SumIs o which k n
-  bound-sum e fig = rw (e, deckOf-same o h) (same-sum (boundTurn (h .deck)) k (λ t. ap positive (bound-same o h (rectAt t))) fig)
+  pub bound-sum : which ≡ 2 → Figure (sumTo (λ t. positive (boundOf (rowsOf sites) (rectAt t))) k) (100000 * costLimit) n → SumIs deck which k n
+  bound-sum e fig = rw e (same-sum (boundTurn (deckOf deck)) k (λ t. ap positive (made-bound (deckOf deck) (plain-axis deck) (h .range) sites (h .sites-are) (rectAt t))) fig)
 
-  pub cut-sum : which ≡ 3 → (v u : Lines) → v ≡ linesRecord (lines (deckOf (o .deck)) x-axis) → u ≡ linesRecord (lines (deckOf (o .deck)) y-axis) → Figure (sumTo (λ t. positive (cutRecord (onLines (take (v .count) (v .at)) (take (u .count) (u .at))) (rectAt t) .at)) k) (100000 * costLimit) n → SumIs o which k n
-  cut-sum e v u a b fig = rw (e, deckOf-same o h) (same-sum (cutTurn (h .deck)) k (λ t. ap positive (found-at o h v u (rectAt t) a b)) fig)
+  pub cut-sum : which ≡ 3 → (v u : Lines) → v ≡ linesRecord (lines (deckOf deck) x-axis) → u ≡ linesRecord (lines (deckOf deck) y-axis) → Figure (sumTo (λ t. positive (cutRecord (onLines (take (v .count) (v .at)) (take (u .count) (u .at))) (rectAt t) .at)) k) (100000 * costLimit) n → SumIs deck which k n
+  cut-sum e v u a b fig = rw e (same-sum (cutTurn (deckOf deck)) k (λ t. ap (λ (c : Cut). positive (c .at)) (found-cut deck v u (rectAt t) a b)) fig)
 
-  pub near-sum : which ≡ 4 → Figure (sumTo (λ t. getD (sitesRecord (sitesOf (deckOf (o .deck))) .near) (t % 512) 0) k) (100000 * costLimit) n → SumIs o which k n
+  pub near-sum : which ≡ 4 → Figure (sumTo (λ t. getD (sitesRecord (sitesOf (deckOf deck)) .near) (t % 512) 0) k) (100000 * costLimit) n → SumIs deck which k n
   near-sum e fig = rw e fig
 
 -- ---- what `kernel_sum` answers
@@ -147,49 +149,26 @@ spread-is t factor less h =
     let e = less-is (side t factor) less (side-most t factor) h in
     record { is = e; range = rw e (less-range (side t factor) less (side-most t factor) h) }
 
-pub spread-held : {t factor less : ℕ} {r : ℤ} → Spread t factor less r → held r ≡ spread t factor less
-spread-held {t} {factor} {less} {r} s = held-is (Words.word-fits w64 r (omega (arith, s .range))) ∙ s .is
-
-spread-range : {t factor less : ℕ} {r : ℤ} → Spread t factor less r → natAbs (spread t factor less) ≤ 20000
-spread-range s = subst (λ (z : ℤ). natAbs z ≤ 20000) (s .is) (s .range)
-
-pub place-turn : {t : ℕ} {x y : ℤ} → Spread t 7919 10000 x → Spread t 6007 10000 y → _≡_ {A = Place} (record { x = held x; y = held y }) (placeAt t)
-place-turn a b = rw (spread-held a, spread-held b)
-
-pub place-ok : {t : ℕ} {x y : ℤ} → Spread t 7919 10000 x → Spread t 6007 10000 y → PlaceInRange (record { x = held x; y = held y })
-place-ok a b = rw (spread-held a, spread-held b) (record { x-range = spread-range a; y-range = spread-range b })
+-- ---- the place and the rectangle of a turn
+pub place-turn : {t : ℕ} {x y : ℤ} → Spread t 7919 10000 x → Spread t 6007 10000 y → _≡_ {A = Place} (record { x = x; y = y }) (placeAt t)
+place-turn a b = rw (a .is, b .is)
 
 -- a low edge is not above a high one
 low-high : (m s : ℕ) → m ≤ 20000 → (pos m -ℤ pos 20000) ≤ℤ (pos s -ℤ pos 0)
 low-high m s h = omega (arith, order, sub-nat (pos m) (pos 20000), sub-nat (pos s) (pos 0))
 
 module _ {t : ℕ} {xlo ylo xhi yhi : ℤ} (a : Spread t 7919 20000 xlo) (b : Spread t 6007 20000 ylo) (c : Spread t 4409 0 xhi) (d : Spread t 3001 0 yhi) where
-  pub rect-turn : rectOf (held xlo) (held ylo) (held xhi) (held yhi) ≡ rectAt t
-  rect-turn = rw (spread-held a, spread-held b, spread-held c, spread-held d)
+  turn-is : rectOf xlo ylo xhi yhi ≡ rectAt t
+  turn-is = rw (a .is, b .is, c .is, d .is)
 
-  low-is : PlaceInRange (record { x = held xlo; y = held ylo })
-  low-is = rw (spread-held a, spread-held b) (record { x-range = spread-range a; y-range = spread-range b })
+  pub turn-range : RectInRange (rectOf xlo ylo xhi yhi)
+  turn-range = record { low-corner = record { x-range = a .range; y-range = b .range }; high-corner = record { x-range = c .range; y-range = d .range } }
 
-  high-is : PlaceInRange (record { x = held xhi; y = held yhi })
-  high-is = rw (spread-held c, spread-held d) (record { x-range = spread-range c; y-range = spread-range d })
+  pub rect-turn : rectOf (back xlo) (back ylo) (back xhi) (back yhi) ≡ rectAt t
+  rect-turn = rect-back (rectOf xlo ylo xhi yhi) turn-range ∙ turn-is
 
-  across-is : held xlo ≤ℤ held xhi
-  across-is = rw (spread-held a, spread-held c) (low-high (side t 7919) (side t 4409) (side-most t 7919))
+  turn-ranged : Ranged (rectAt t)
+  turn-ranged = record { range = subst RectInRange turn-is turn-range; full = record { across = low-high (side t 7919) (side t 4409) (side-most t 7919); deep = low-high (side t 6007) (side t 3001) (side-most t 6007) } }
 
-  deep-is : held ylo ≤ℤ held yhi
-  deep-is = rw (spread-held b, spread-held d) (low-high (side t 6007) (side t 3001) (side-most t 6007))
-
-  pub rect-ok : T (rectAllowed (rectOf (held xlo) (held ylo) (held xhi) (held yhi)))
-  unfolding rectAllowed
-  rect-ok =
-      let low = placeInRange (record { x = held xlo; y = held ylo }) in
-      let high = placeInRange (record { x = held xhi; y = held yhi }) in
-      let across = leZ (held xlo) (held xhi) in
-      let deep = leZ (held ylo) (held yhi) in
-      and-intro low (high && (across && deep)) (place-range _ .1 low-is) (and-intro high (across && deep) (place-range _ .1 high-is) (and-intro across deep (across-is .le) (deep-is .le)))
-
-  pub x-ok : Edges (held xlo) (held xhi)
-  x-ok = record { lo-range = low-is .x-range; hi-range = high-is .x-range }
-
-  pub y-ok : Edges (held ylo) (held yhi)
-  y-ok = record { lo-range = low-is .y-range; hi-range = high-is .y-range }
+  pub rect-ok : T (rectAllowed (rectOf (back xlo) (back ylo) (back xhi) (back yhi)))
+  rect-ok = subst (λ (r : Rect). T (rectAllowed r)) (sym rect-turn) (rect-range (rectAt t) .1 turn-ranged)

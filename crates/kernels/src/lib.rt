@@ -7,15 +7,14 @@ ghost use Prim.Native.Nat.{_*_, _%_, _≤_};
 ghost use lib.ListN.{getD, take};
 ghost use Rattle.query.specs.Range.{InRange, costLimit};
 ghost use Rattle.job.specs.Format.{readJob};
-ghost use Rattle.pricing.specs.Columns.{siteRows, ColumnsInRange, Figure};
+ghost use Rattle.pricing.specs.Columns.{siteRows, Figure};
 ghost use Rattle.sites.specs.DeckOf.{deckOf};
 ghost use Rattle.sites.specs.Record.{sitesRecord};
 ghost use Rattle.sites.specs.Sites.{sitesOf};
 ghost use Rattle.pricing.specs.Figures.{costOf, loadOf};
 ghost use Rattle.lines.specs.LineRecord.{InOrder};
 ghost use Rattle.cuts.specs.CutRecord.{onLines, cutRecord};
-ghost use Rattle.trial.specs.Trial.{boundOf};
-ghost use Rattle.trial.specs.Opened.{Open};
+ghost use Rattle.problem.specs.Problem.{boundOf, Sited, Prepared};
 ghost use Rattle.kernels.specs.Sums.{sumTo, Spread, placeAt, rectAt, positive, turn, kernelSum};
 
 // A number of -20,000 to 20,000 for each turn.
@@ -40,7 +39,7 @@ fn costs<'a>(
     n: usize,
     k: u64,
 ) -> u64
-    requires { ⌜ (n ≤ 512) × ColumnsInRange (now xs) (now ys) (now visits) (now near) × (k ≤ 100000) ⌝ }
+    requires { ⌜ Sited (now xs) (now ys) (now visits) (now near) n × (k ≤ 100000) ⌝ }
     ensures { λ r. ⌜ Figure (sumTo (λ t. costOf (siteRows (now (xs .entry)) (now (ys .entry)) (now (visits .entry)) (now (near .entry)) n) (placeAt t)) k) (100000 * costLimit) r ⌝ }
 {
     let mut sum: u64 = 0;
@@ -48,7 +47,8 @@ fn costs<'a>(
     while t < k {
         let x = spread(t, 7919, 10000);
         let y = spread(t, 6007, 10000);
-        sum = sum + opened::cost_in(xs, ys, visits, near, n, x, y);
+        let p = problem::priced(xs, ys, visits, near, n, x, y);
+        sum = sum + p.cost;
         t = t + 1;
     }
     sum
@@ -62,7 +62,7 @@ fn loads<'a>(
     n: usize,
     k: u64,
 ) -> u64
-    requires { ⌜ (n ≤ 512) × ColumnsInRange (now xs) (now ys) (now visits) (now near) × (k ≤ 100000) ⌝ }
+    requires { ⌜ Sited (now xs) (now ys) (now visits) (now near) n × (k ≤ 100000) ⌝ }
     ensures { λ r. ⌜ Figure (sumTo (λ t. loadOf (siteRows (now (xs .entry)) (now (ys .entry)) (now (visits .entry)) (now (near .entry)) n) (rectAt t)) k) (100000 * costLimit) r ⌝ }
 {
     let mut sum: u64 = 0;
@@ -86,7 +86,7 @@ fn bounds<'a>(
     n: usize,
     k: u64,
 ) -> u64
-    requires { ⌜ (n ≤ 512) × ColumnsInRange (now xs) (now ys) (now visits) (now near) × (k ≤ 100000) ⌝ }
+    requires { ⌜ Sited (now xs) (now ys) (now visits) (now near) n × (k ≤ 100000) ⌝ }
     ensures { λ r. ⌜ Figure (sumTo (λ t. positive (boundOf (siteRows (now (xs .entry)) (now (ys .entry)) (now (visits .entry)) (now (near .entry)) n) (rectAt t))) k) (100000 * costLimit) r ⌝ }
 {
     let mut sum: u64 = 0;
@@ -147,7 +147,7 @@ fn nears(deck: Deck, k: u64) -> u64
 
 // What a kernel gives over k turns, summed: cost, load, bounds above 0, cuts above 0, near.
 fn sum_of(o: Opened, which: u64, k: u64) -> u64
-    requires { ⌜ Open o × (which ≤ 4) × (k ≤ 100000) ⌝ }
+    requires { ⌜ Prepared (o .deck) (o .sites) × (which ≤ 4) × (k ≤ 100000) ⌝ }
     ensures { λ r. ⌜ Figure (sumTo (turn (deckOf (o .deck)) which) k) (100000 * costLimit) r ⌝ }
 {
     let s = o.sites;

@@ -6,7 +6,7 @@ use mathlib.Core.List.{List, [], _∷_, map}
 use Prim.Native.Nat.{ℕ, _+_, _-_, max, _≤_}
 use native.Mathlib.Omega.{arith}
 use lib.Dec.{eqb}
-use lib.IntN.{ℤ, pos}
+use lib.IntN.{ℤ}
 use lib.ListN.{length, take, length-map}
 use Rattle.numbers.specs.Lists.{keep}
 use Rattle.numbers.proofs.Members.{keep-length}
@@ -17,9 +17,9 @@ use Rattle.query.specs.Lines.{stopCoordinates, lines, gaps}
 use Rattle.query.specs.Problem.{problem}
 use Rattle.query.proofs.LineLaws.{lines-law}
 use Rattle.numbers.specs.Padded.{padded}
-use Rattle.lines.specs.LineRecord.{InOrder, Rows, flagged, marked, linesBetween, linesRecord}
+use Rattle.lines.specs.LineRecord.{InOrder, flagged, marked, linesBetween, linesRecord}
 use Rattle.lines.proofs.LineRecordLaws.{linesBetween-length, record-in-order}
-use Rattle.numbers.proofs.Padded.{padded-length, padded-front}
+use Rattle.numbers.proofs.Padded.{padded-front}
 
 -- ---- the lines of a deck
 pub problem-vertical : (deck : Deck) → problem deck .vertical ≡ lines deck x-axis
@@ -73,19 +73,9 @@ module _ (deck : Deck) (axis : Axis) where
   pub lines-in-order : length (deck .stops) ≤ 512 → InOrder (linesRecord (lines deck axis) .at) (linesRecord (lines deck axis) .count)
   lines-in-order h = record-in-order (lines deck axis) (lines-law deck axis .increasing) (omega (arith, lines-few))
 
-  -- arrays that hold the stops in front
-  pub padded-coordinates : take (length (deck .stops)) (padded 512 (pos 0) coordinates) ≡ coordinates
-  padded-coordinates = rw (← length-map (deck .stops) (λ stop. coordinate axis (stop .at))) (padded-front 512 (pos 0) coordinates)
-
+  -- an array that holds the flags in front
   pub padded-reached : take (length (deck .stops)) (padded 512 0 reached) ≡ reached
   padded-reached = rw (← length-map (deck .stops) (λ stop. flag (reach deck (deck .area) stop))) (padded-front 512 0 reached)
-
-  pub padded-rows : length (deck .stops) ≤ 512 → Rows (padded 512 (pos 0) coordinates) (padded 512 0 reached) (length (deck .stops))
-  padded-rows h = record {
-    within = h;
-    coords-full = omega (arith, padded-length 512 (pos 0) coordinates (omega (arith, length-map (deck .stops) (λ stop. coordinate axis (stop .at)))));
-    flags-full = omega (arith, padded-length 512 0 reached (omega (arith, length-map (deck .stops) (λ stop. flag (reach deck (deck .area) stop)))));
-  }
 
   -- what `gaps` makes of the count
   pub count-gaps : max 1 (linesRecord (lines deck axis) .count - 1) ≡ gaps deck axis

@@ -16,20 +16,20 @@ use Rattle.query.specs.Bound.{span, bound}
 use Rattle.query.specs.Reach.{load}
 use Rattle.query.specs.Lines.{lines}
 use Rattle.query.specs.Problem.{Problem, problem}
-use Rattle.query.specs.Range.{RectInRange}
+use Rattle.query.specs.Range.{RectInRange, InRange}
 use Rattle.query.proofs.BoundLaws.{bound-is, cornerSum-is}
 use Rattle.query.proofs.Ranges.{figure-limits}
 use Rattle.job.specs.declared.Deck.{Deck}
 use Rattle.sites.specs.DeckOf.{places, stopsOf, deckOf}
-use Rattle.sites.specs.Sites.{sitesOf}
+use Rattle.sites.specs.Sites.{Site, sitesOf}
 use Rattle.sites.specs.Record.{sitesRecord}
 use Rattle.sites.specs.declared.Sites.{Sites}
 use Rattle.sites.proofs.DeckLaws.{DeckColumns}
 use Rattle.sites.proofs.TravelLaws.{narrow}
 use Rattle.pricing.specs.Figures.{costOf, loadOf, flagsOf}
 use Rattle.pricing.specs.Columns.{FlagsAre}
-use Rattle.pricing.proofs.SiteLaws.{siteOf, sitesOf-map, cost-law, load-law, flags-law}
-use Rattle.pricing.proofs.RecordLaws.{record-rows, sites-range}
+use Rattle.pricing.proofs.SiteLaws.{cost-law, load-law, flags-law}
+use Rattle.pricing.proofs.RecordLaws.{made-rows, made-range, made-most, made-cost}
 use Rattle.lines.specs.LineRecord.{Rows, marked, linesBetween, linesRecord}
 use Rattle.lines.specs.declared.Lines.{Lines}
 use Rattle.lines.proofs.LineRecordLaws.{record-front}
@@ -39,10 +39,14 @@ use Rattle.numbers.proofs.WordTests.{back, fitting}
 use Rattle.problem.specs.Problem.{boundOf, siteProblem, Sited, Lined, rectIn, unbounded, Ranged, rowsOf, InColumns, Reaching, Prepared}
 use Rattle.problem.proofs.Coordinates.{near-back, rect-narrow}
 
--- ---- the area
+-- ---- the area and the axis costs
 pub area-back : (deck : Deck) → mag (deck .xlo) < 2 ^ 63 → mag (deck .ylo) < 2 ^ 63 → mag (deck .xhi) < 2 ^ 63 → mag (deck .yhi) < 2 ^ 63 → _≡_ {A = Cell} (record { xlo = back (deck .xlo); ylo = back (deck .ylo); xhi = back (deck .xhi); yhi = back (deck .yhi); bound = pos 0 }) (unbounded (deckOf deck .area))
 unfolding deckOf
 area-back deck a b c d = λ i. record { xlo = fitting (deck .xlo) a i; ylo = fitting (deck .ylo) b i; xhi = fitting (deck .xhi) c i; yhi = fitting (deck .yhi) d i; bound = pos 0 }
+
+pub plain-axis : (deck : Deck) → deckOf deck .axis ≡ plain
+unfolding deckOf
+plain-axis deck = refl
 
 -- ---- which sites reach it
 pub flags-are : (sites : Sites) (r : Rect) (flags : List ℕ) → RectInRange r → InColumns sites → FlagsAre (sites .x) (sites .y) (sites .near) (sites .count) (record { xlo = narrow (r .xlo); ylo = narrow (r .ylo); xhi = narrow (r .xhi); yhi = narrow (r .yhi) }) flags → flags ≡ flagsOf (rowsOf sites) r
@@ -78,14 +82,10 @@ module _ (deck : Deck) (columns : DeckColumns deck) where
   stops-count : length (deckOf deck .stops) ≡ deck .stops
   stops-count = omega (arith, ap length coords-x, length-map (deckOf deck .stops) (λ stop. coordinate x-axis (stop .at)), length-take (deck .stops) (deck .«stop_x»), columns .stops, columns .stop-x)
 
-  axis-plain : deckOf deck .axis ≡ plain
-  unfolding deckOf
-  axis-plain = refl
-
   module _ (area : Cell) (flags : List ℕ) (h : Reaching deck area flags) where
     flags-front : (axis : Axis) → take (deck .stops) flags ≡ reached (deckOf deck) axis
     flags-front axis =
-        ap (take (deck .stops)) (h .flags-are ∙ flags-law (deckOf deck) axis-plain (deckOf deck .area))
+        ap (take (deck .stops)) (h .flags-are ∙ flags-law (deckOf deck) (plain-axis deck) (deckOf deck .area))
         ∙ ap (λ (n : ℕ). take n (padded 512 0 (reached (deckOf deck) axis))) (sym stops-count)
         ∙ padded-reached (deckOf deck) axis
 
@@ -102,50 +102,43 @@ module _ (deck : Deck) (columns : DeckColumns deck) where
         (ap (λ (r : Rect). linesBetween (r .ylo) (r .yhi) (marked (deck .«stop_y») flags (deck .stops))) (h .area-is) ∙ lines-marked (deckOf deck) y-axis (deck .«stop_y») flags (deck .stops) coords-y (flags-front y-axis)))
 
 -- ---- the problem
-module _ (deck : Query.Deck) (e : deck .axis ≡ plain) where
-  boundOf-is : (r : Rect) → boundOf (sitesOf deck) r ≡ halfUp (pos (max (costOf (sitesOf deck) (record { x = r .xlo; y = r .ylo }) + costOf (sitesOf deck) (record { x = r .xhi; y = r .yhi })) (costOf (sitesOf deck) (record { x = r .xlo; y = r .yhi }) + costOf (sitesOf deck) (record { x = r .xhi; y = r .ylo }))) -ℤ pos (span plain r * loadOf (sitesOf deck) r))
-  unfolding boundOf
-  boundOf-is r = refl
+pub boundOf-is : (sites : List Site) (r : Rect) → boundOf sites r ≡ halfUp (pos (max (costOf sites (record { x = r .xlo; y = r .ylo }) + costOf sites (record { x = r .xhi; y = r .yhi })) (costOf sites (record { x = r .xlo; y = r .yhi }) + costOf sites (record { x = r .xhi; y = r .ylo }))) -ℤ pos (span plain r * loadOf sites r))
+unfolding boundOf
+boundOf-is sites r = refl
 
+module _ (deck : Query.Deck) (e : deck .axis ≡ plain) where
   bound-law : (r : Rect) → boundOf (sitesOf deck) r ≡ bound deck r
   bound-law r =
-      boundOf-is r
+      boundOf-is (sitesOf deck) r
       ∙ (λ i. halfUp (pos (max (cost-law deck e (record { x = r .xlo; y = r .ylo }) i + cost-law deck e (record { x = r .xhi; y = r .yhi }) i) (cost-law deck e (record { x = r .xlo; y = r .yhi }) i + cost-law deck e (record { x = r .xhi; y = r .ylo }) i)) -ℤ pos (span (sym e i) r * load-law deck e r i)))
       ∙ ap (λ (m : ℕ). halfUp (pos m -ℤ pos (span (deck .axis) r * load deck r))) (sym (cornerSum-is deck r))
       ∙ sym (bound-is deck r)
+
+  -- the bound by a record of the deck's sites
+  pub made-bound : InRange deck → (sites : Sites) → sites ≡ sitesRecord (sitesOf deck) → (r : Rect) → boundOf (rowsOf sites) r ≡ bound deck r
+  made-bound range sites f r = ap (λ (l : List Site). boundOf l r) (made-rows deck range sites f) ∙ bound-law r
 
   pub deck-problem : siteProblem (sitesOf deck) (lines deck x-axis) (lines deck y-axis) (deck .area) ≡ problem deck
   unfolding siteProblem problem
   deck-problem = λ i. record { area = deck .area; vertical = lines deck x-axis; horizontal = lines deck y-axis; price = λ p. cost-law deck e p i; bound = λ r. bound-law r i }
 
 -- ---- a deck and its sites
-plain-axis : (deck : Deck) → deckOf deck .axis ≡ plain
-unfolding deckOf
-plain-axis deck = refl
-
 -- the problem that the code holds: the rows of its sites, and its lines
 abbrev pub codedProblem : Sites → Cell → Lines → Lines → Problem
 codedProblem sites area v h = siteProblem (rowsOf sites) (take (v .count) (v .at)) (take (h .count) (h .at)) (rectIn area)
 
 module _ (deck : Deck) (sites : Sites) (prepared : Prepared deck sites) where
   rows-are : rowsOf sites ≡ sitesOf (deckOf deck)
-  rows-are = ap rowsOf (prepared .sites-are) ∙ record-rows (sitesOf (deckOf deck))
-
-  count-is : sites .count ≡ length (sitesOf (deckOf deck))
-  unfolding sitesRecord
-  count-is = ap (λ (r : Sites). r .count) (prepared .sites-are)
-
-  sites-few : length (sitesOf (deckOf deck)) ≤ 512
-  sites-few = rw (sitesOf-map (deckOf deck)) (omega (arith, length-map (deckOf deck .stops) (siteOf (deckOf deck)), prepared .range .most-stops))
+  rows-are = made-rows (deckOf deck) (prepared .range) sites (prepared .sites-are)
 
   pub columns-range : InColumns sites
-  columns-range = rw (prepared .sites-are) (sites-range (deckOf deck) (prepared .range))
+  columns-range = made-range (deckOf deck) (prepared .range) sites (prepared .sites-are)
 
   pub sites-count : sites .count ≤ 512
-  sites-count = omega (arith, count-is, sites-few)
+  sites-count = made-most (deckOf deck) (prepared .range) sites (prepared .sites-are)
 
   pub deck-sited : Sited (sites .x) (sites .y) (sites .visits) (sites .near) (sites .count)
-  deck-sited = record { count = sites-count; range = columns-range; cost-limit = λ p. rw (rows-are, cost-law (deckOf deck) (plain-axis deck) p) (figure-limits (deckOf deck) (prepared .range) .cost-limit p) }
+  deck-sited = record { count = sites-count; range = columns-range; cost-limit = λ p. rw (made-cost (deckOf deck) (prepared .range) sites (prepared .sites-are) (plain-axis deck) p) (figure-limits (deckOf deck) (prepared .range) .cost-limit p) }
 
   module _ (area : Cell) (area-is : rectIn area ≡ deckOf deck .area) where
     pub area-ranged : Ranged (rectIn area)

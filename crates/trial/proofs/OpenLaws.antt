@@ -1,13 +1,17 @@
 -- A job that was opened: what the record says of the bytes, and of the deck that they spell.
 -- Assumes nothing.
-use mathlib.Core.Path.{_≡_, refl, sym, ap, _∙_}
+use mathlib.Core.Path.{_≡_, refl, sym, ap, subst, _∙_}
 use mathlib.Core.Bool.{Bool, true, false, cond}
 use mathlib.Core.List.{List, []}
 use Prim.Native.Nat.{ℕ, _≤_}
 use native.Mathlib.Omega.{arith}
+use Rattle.query.specs.Place.{NonEmpty}
+use Rattle.query.specs.Deck as Query
+use Rattle.query.specs.Range.{InRange}
 use Rattle.job.specs.Format.{Job, Result, refused, accepted, readJob}
 use Rattle.job.specs.Record.{jobRecord}
 use Rattle.job.specs.declared.Job as Held
+use Rattle.job.specs.declared.Deck.{Deck}
 use Rattle.job_line.specs.declared.Refusal.{Refusal}
 use Rattle.job.specs.declared.Outcome.the-variants.{Accepted}
 use Rattle.job.proofs.Meaning.{accepted-law}
@@ -15,8 +19,9 @@ use Rattle.sites.specs.DeckOf.{deckOf}
 use Rattle.sites.specs.Sites.{sitesOf}
 use Rattle.sites.specs.Record.{sitesRecord}
 use Rattle.sites.specs.declared.Sites.{Sites}
-use Rattle.sites.proofs.ReadLaws.{differ, Spelt, read-accepted, read-deck, read-rounds, spelt-range, read-deckOf}
-use Rattle.trial.specs.Opened.{openedDeck, openedRecord, Open}
+use Rattle.sites.proofs.ReadLaws.{differ, Spelt, read-accepted, read-deck, read-rounds, read-deckOf, read-full, sites-ask}
+use Rattle.problem.specs.Problem.{Prepared}
+use Rattle.trial.specs.Opened.{openedDeck, openedRecord}
 use Rattle.trial.specs.Trial.{onJob}
 use Rattle.trial.specs.declared.opened.Opened.{Opened}
 
@@ -36,7 +41,7 @@ pub opened-refused : (bytes : List ℕ) (j : Held.Job) (why : Refusal) → j ≡
 unfolding openedRecord jobRecord
 opened-refused bytes j why e f = rw (e, f)
 
--- ---- what `open` answers
+-- ---- what `open_job` answers
 module _ (bytes : List ℕ) (o : Opened) (e : o ≡ openedRecord (readJob bytes)) where
   pub open-accepted : o .accepted ≡ true → Spelt bytes
   unfolding openedRecord
@@ -46,12 +51,32 @@ module _ (bytes : List ℕ) (o : Opened) (e : o ≡ openedRecord (readJob bytes)
       go (refused why) p q = differ (sym f ∙ ap (λ (k : Opened). k .accepted) q)
       go (accepted job) p q = record { job = job; read = p; allowed = accepted-law bytes job .exactly .0 p .2 }
 
-  pub open-record : (s : Spelt bytes) → o ≡ openedDeck (s .job .deck)
+  open-record : (s : Spelt bytes) → o ≡ openedDeck (s .job .deck)
   unfolding openedRecord
   open-record s = e ∙ ap openedRecord (s .read)
 
-  abbrev pub open-is : (s : Spelt bytes) → Open o
-  open-is s = record { deck = s .job .deck; range = spelt-range s; full = s .allowed .area-full; plain-axis = s .allowed .writable .plain-axis; is = open-record s }
+  pub open-sites : (s : Spelt bytes) → o .sites ≡ sitesRecord (sitesOf (s .job .deck))
+  unfolding openedDeck
+  open-sites s = ap (λ (k : Opened). k .sites) (open-record s)
+
+  module _ (s : Spelt bytes) where
+    deck-read : o .deck ≡ jobRecord (readJob bytes) .deck
+    unfolding openedDeck
+    deck-read = ap (λ (k : Opened). k .deck) (open-record s) ∙ sym (read-deck bytes (jobRecord (readJob bytes)) refl s)
+
+    pub open-deck : deckOf (o .deck) ≡ s .job .deck
+    open-deck = ap deckOf deck-read ∙ read-deckOf s (jobRecord (readJob bytes)) refl
+
+    pub open-prepared : Prepared (o .deck) (o .sites)
+    open-prepared =
+        let (range, posts, stops) = sites-ask s (jobRecord (readJob bytes)) refl in
+        record {
+          sites-are = open-sites s ∙ ap (λ (deck : Query.Deck). sitesRecord (sitesOf deck)) (sym open-deck);
+          range = subst (λ (d : Deck). InRange (deckOf d)) (sym deck-read) range;
+          full = subst (λ (d : Deck). NonEmpty (deckOf d .area)) (sym deck-read) (read-full s (jobRecord (readJob bytes)) refl);
+          posts = subst (λ (d : Deck). d .posts ≤ 64) (sym deck-read) posts;
+          stops = subst (λ (d : Deck). d .stops ≤ 512) (sym deck-read) stops;
+        }
 
   pub open-refused : {A : Type 0} (none : A) (f : Job → A) → o .accepted ≡ false → none ≡ onJob none f (readJob bytes)
   unfolding openedRecord openedDeck

@@ -2,70 +2,35 @@
 -- Assumes nothing.
 use mathlib.Core.Path.{_≡_, sym, ap, _∙_}
 use mathlib.Core.Bool.{Bool, true, false, _&&_}
-use Prim.Native.Nat.{_≤_}
-use native.Mathlib.Omega.{arith}
+use mathlib.Core.Logic.{_↔_}
 use lib.Dec.{T}
-use lib.IntN.{ℤ, natAbs}
+use lib.IntN.{ℤ}
 use lib.Signed.{leZ, _≤ℤ_}
-use mir.Syntax.{w32, w64}
-use mir.Val.{SFits, toZ, ofZ}
-use Rattle.numbers.proofs.Truth.{and-left, and-right}
-use Rattle.query.specs.Place.{Place}
-use Rattle.query.specs.Range.{PlaceInRange}
+use mir.Syntax.{w64}
+use mir.Val.{SFits}
+use Rattle.numbers.proofs.Truth.{and-iff}
+use Rattle.query.specs.Place.{Place, Rect, corner}
 use Rattle.job_line.specs.Lines.{placeInRange}
 use Rattle.job.proofs.RangeLaws.{place-range}
 use Rattle.job_line.proofs.RangeTests.{held, held-is}
-use Rattle.pricing.specs.Columns.{EdgesInRange}
-use Rattle.sites.specs.Ranges.{Near180000}
-use Rattle.cuts.specs.CutRecord.{rectOf, Edges}
-use Rattle.sites.proofs.WordLaws.{narrowed, narrow-fits}
+use Rattle.cuts.specs.CutRecord.{rectOf}
+use Rattle.problem.specs.Problem.{Ranged}
 use Rattle.trial.specs.Opened.{rectAllowed}
 
-pub record RectIs (xlo ylo xhi yhi : ℤ) : Type 0 where
-  pub low : PlaceInRange (record { x = xlo; y = ylo })
-  pub high : PlaceInRange (record { x = xhi; y = yhi })
-  pub across : xlo ≤ℤ xhi
-  pub deep : ylo ≤ℤ yhi
+-- the test holds of the rectangles that are in range and not empty, and of no others
+in-order : (a b : ℤ) → T (leZ a b) ↔ (a ≤ℤ b)
+in-order a b = (λ t. record { le = t }, λ h. h .le)
 
-pub allowed-is : (xlo ylo xhi yhi : ℤ) → T (rectAllowed (rectOf xlo ylo xhi yhi)) → RectIs xlo ylo xhi yhi
+pub rect-range : (r : Rect) → T (rectAllowed r) ↔ Ranged r
 unfolding rectAllowed
-allowed-is xlo ylo xhi yhi t =
-    let low = placeInRange (record { x = xlo; y = ylo }) in
-    let high = placeInRange (record { x = xhi; y = yhi }) in
-    let t1 = and-right low (high && (leZ xlo xhi && leZ ylo yhi)) t in
-    let t2 = and-right high (leZ xlo xhi && leZ ylo yhi) t1 in
-    record {
-      low = place-range (record { x = xlo; y = ylo }) .0 (and-left low (high && (leZ xlo xhi && leZ ylo yhi)) t);
-      high = place-range (record { x = xhi; y = yhi }) .0 (and-left high (leZ xlo xhi && leZ ylo yhi) t1);
-      across = record { le = and-left (leZ xlo xhi) (leZ ylo yhi) t2 };
-      deep = record { le = and-right (leZ xlo xhi) (leZ ylo yhi) t2 };
-    }
-
--- a coordinate in range, narrowed from 64 bits to 32
-abbrev pub word : ℤ → ℤ
-word z = toZ w32 (ofZ w32 (toZ w64 (ofZ w64 z)))
-
-pub word-is : (z : ℤ) → natAbs z ≤ 20000 → word z ≡ z
-word-is z h = narrowed z (omega arith)
-
-pub word-fits : (z : ℤ) → natAbs z ≤ 20000 → SFits w32 (toZ w64 (ofZ w64 z))
-word-fits z h = narrow-fits z (omega arith)
-
-pub place-words : (x y : ℤ) → PlaceInRange (record { x = x; y = y }) → Near180000 (word x) (word y)
-place-words x y h = rw (word-is x (h .x-range), word-is y (h .y-range)) (record { x-range = let g = h .x-range in omega arith; y-range = let g = h .y-range in omega arith })
-
-module _ {xlo ylo xhi yhi : ℤ} (r : RectIs xlo ylo xhi yhi) where
-  pub edge-words : EdgesInRange (word xlo) (word ylo) (word xhi) (word yhi)
-  edge-words = record { low = place-words xlo ylo (r .low); high = place-words xhi yhi (r .high); across = rw (word-is xlo (r .low .x-range), word-is xhi (r .high .x-range)) (r .across); deep = rw (word-is ylo (r .low .y-range), word-is yhi (r .high .y-range)) (r .deep) }
-
-  pub rect-words : rectOf (word xlo) (word ylo) (word xhi) (word yhi) ≡ rectOf xlo ylo xhi yhi
-  rect-words = rw (word-is xlo (r .low .x-range), word-is ylo (r .low .y-range), word-is xhi (r .high .x-range), word-is yhi (r .high .y-range))
-
-  pub x-edges : Edges xlo xhi
-  x-edges = record { lo-range = r .low .x-range; hi-range = r .high .x-range }
-
-  pub y-edges : Edges ylo yhi
-  y-edges = record { lo-range = r .low .y-range; hi-range = r .high .y-range }
+rect-range r =
+    let high : Place = record { x = r .xhi; y = r .yhi } in
+    let order = and-iff (leZ (r .xlo) (r .xhi)) (leZ (r .ylo) (r .yhi)) (in-order (r .xlo) (r .xhi)) (in-order (r .ylo) (r .yhi)) in
+    let three = and-iff (placeInRange high) (leZ (r .xlo) (r .xhi) && leZ (r .ylo) (r .yhi)) (place-range high) order in
+    let four = and-iff (placeInRange (corner r)) (placeInRange high && (leZ (r .xlo) (r .xhi) && leZ (r .ylo) (r .yhi))) (place-range (corner r)) three in (
+      λ t. let (l, (h, (x, y))) = four .0 t in record { range = record { low-corner = l; high-corner = h }; full = record { across = x; deep = y } },
+      λ h. four .1 (h .range .low-corner, (h .range .high-corner, (h .full .across, h .full .deep))),
+    )
 
 -- ---- the test of a rectangle, part by part
 module _ (xlo ylo xhi yhi : ℤ) where

@@ -1,13 +1,10 @@
 -- A job that was read, with the sites of its deck, as the code holds it; and what is asked of a place or rectangle that is priced.
 -- Assumes nothing.
-use mathlib.Core.Path.{_≡_}
 use mathlib.Core.Bool.{Bool, true, false, _&&_}
 use mathlib.Core.List.{[]}
 use lib.Signed.{leZ}
-use Rattle.query.specs.Place.{Rect, NonEmpty, corner, zeroRect}
+use Rattle.query.specs.Place.{Rect, corner, zeroRect}
 use Rattle.query.specs.Deck as Query
-use Rattle.query.specs.Deck.{plain}
-use Rattle.query.specs.Range.{InRange}
 use Rattle.job_line.specs.Lines.{placeInRange}
 use Rattle.job.specs.Format.{Result, refused, accepted}
 use Rattle.job.specs.Record.{deckRecord}
@@ -28,11 +25,3 @@ openedRecord (accepted job) = openedDeck (job .deck)
 unfoldable pub rectAllowed : Rect → Bool
 unfolding placeInRange
 rectAllowed r = placeInRange (corner r) && (placeInRange (record { x = r .xhi; y = r .yhi }) && (leZ (r .xlo) (r .xhi) && leZ (r .ylo) (r .yhi)))
-
--- what the functions over an accepted job ask: it is the record of some deck in range with a point in its area
-pub record Open (o : Opened) : Type 0 where
-  pub deck : Query.Deck
-  pub range : InRange deck
-  pub full : NonEmpty (deck .area)
-  pub plain-axis : deck .axis ≡ plain
-  pub is : o ≡ openedDeck deck

@@ -1,12 +1,11 @@
 -- What each function for tests answers, of a job's bytes: a figure of the deck that they spell.
 -- Assumes nothing.
-use Prim.Native.Nat.{ℕ, _+_, _*_, max}
+use Prim.Native.Nat.{ℕ}
 use mathlib.Core.Bool.{Bool, cond, _&&_}
 use mathlib.Core.List.{List, [], _∷_, map, _++_}
 use lib.Dec.{ltb}
-use lib.IntN.{ℤ, pos, negsuc, _-ℤ_}
+use lib.IntN.{ℤ, pos, negsuc}
 use lib.ListN.{length, getD, drop}
-use Rattle.numbers.specs.Integer.{dist, halfUp}
 use Rattle.query.specs.Place.{Place, Rect, corner, Axis, x-axis, y-axis}
 use Rattle.query.specs.Travel.{near}
 use Rattle.query.specs.Cost.{cost, before}
@@ -19,8 +18,6 @@ use Rattle.job_line.specs.Refusal.{numberOf, lineOf}
 use Rattle.job_line.specs.declared.Refusal.{Refusal}
 use Rattle.job_line.specs.Lines.{placeInRange}
 use Rattle.job.specs.Format.{Job, Result, refused, accepted}
-use Rattle.sites.specs.Sites.{Site}
-use Rattle.pricing.specs.Figures.{costOf, loadOf}
 use Rattle.trial.specs.Opened.{rectAllowed}
 
 -- a figure of an accepted job, and none where the job is refused
@@ -94,7 +91,3 @@ pub record Written : Type 0 where
 -- Where the job is refused or the output too short the result is -1, and the output is as it was
 abbrev pub linesWritten : Bool → List ℤ → Result → Written
 linesWritten across out r = onJob (record { result = minusOne; out = out }) (λ job. let ls = lines (job .deck) (axisOf across) in cond (ltb (length out) (length ls)) (record { result = minusOne; out = out }) (record { result = pos (length ls); out = ls ++ drop (length ls) out })) r
-
--- ---- the bound over sites
-abbrev pub boundOf : List Site → Rect → ℤ
-boundOf sites r = halfUp (pos (max (costOf sites (record { x = r .xlo; y = r .ylo }) + costOf sites (record { x = r .xhi; y = r .yhi })) (costOf sites (record { x = r .xlo; y = r .yhi }) + costOf sites (record { x = r .xhi; y = r .ylo }))) -ℤ pos ((dist (r .xlo) (r .xhi) + dist (r .ylo) (r .yhi)) * loadOf sites r))

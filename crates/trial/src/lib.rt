@@ -111,7 +111,8 @@ fn cost(job: &[u8], x: i64, y: i64) -> i64
     }
     let s = o.sites;
     let n = s.count;
-    opened::cost_in(&s.x, &s.y, &s.visits, &s.near, n, x, y) as i64
+    let p = problem::priced(&s.x, &s.y, &s.visits, &s.near, n, x, y);
+    p.cost as i64
 }
 
 // The load of a rectangle; -1 where the job is refused, or the rectangle is out of range or empty.

@@ -6,20 +6,20 @@ use lines::Lines;
 use numbers::abs_diff;
 use sites::Sites;
 ghost use mathlib.Core.Path.{_≡_};
-ghost use Prim.Native.Nat.{_≤_};
 ghost use lib.Dec.{T};
 ghost use Rattle.query.specs.Lines.{lines};
 ghost use Rattle.query.specs.Problem.{problem};
-ghost use Rattle.query.specs.Range.{PlaceInRange, costLimit, loadLimit};
+ghost use Rattle.query.specs.Range.{loadLimit};
 ghost use Rattle.job_line.specs.Lines.{coordinateInRange, placeInRange};
 ghost use Rattle.job.specs.Format.{readJob};
 ghost use Rattle.sites.specs.DeckOf.{deckOf};
 ghost use Rattle.lines.specs.LineRecord.{linesRecord};
 ghost use Rattle.cuts.specs.CutRecord.{rectOf, cutRecord};
-ghost use Rattle.pricing.specs.Columns.{siteRows, ColumnsInRange, Figure};
-ghost use Rattle.pricing.specs.Figures.{costOf, loadOf};
-ghost use Rattle.trial.specs.Opened.{openedRecord, rectAllowed, Open};
-ghost use Rattle.trial.specs.Trial.{boundOf, axisOf};
+ghost use Rattle.pricing.specs.Columns.{siteRows, Figure};
+ghost use Rattle.pricing.specs.Figures.{loadOf};
+ghost use Rattle.problem.specs.Problem.{boundOf, Sited, Prepared};
+ghost use Rattle.trial.specs.Opened.{openedRecord, rectAllowed};
+ghost use Rattle.trial.specs.Trial.{axisOf};
 
 // A job that was read, and the sites of its deck; none where it is refused.
 pub struct Opened {
@@ -93,21 +93,6 @@ pub fn rect_allowed(xlo: i64, ylo: i64, xhi: i64, yhi: i64) -> bool
 
 // ---- figures over columns of sites
 
-pub fn cost_in<'a>(
-    xs: &'a [i32; 512],
-    ys: &'a [i32; 512],
-    visits: &'a [u32; 512],
-    near: &'a [u32; 512],
-    n: usize,
-    x: i64,
-    y: i64,
-) -> u64
-    requires { ⌜ (n ≤ 512) × ColumnsInRange (now xs) (now ys) (now visits) (now near) × PlaceInRange (record { x = x; y = y }) ⌝ }
-    ensures { λ r. ⌜ Figure (costOf (siteRows (now (xs .entry)) (now (ys .entry)) (now (visits .entry)) (now (near .entry)) n) (record { x = x; y = y })) costLimit r ⌝ }
-{
-    pricing::cost(xs, ys, visits, near, n, x as i32, y as i32)
-}
-
 pub fn load_in<'a>(
     xs: &'a [i32; 512],
     ys: &'a [i32; 512],
@@ -119,7 +104,7 @@ pub fn load_in<'a>(
     xhi: i64,
     yhi: i64,
 ) -> u64
-    requires { ⌜ (n ≤ 512) × ColumnsInRange (now xs) (now ys) (now visits) (now near) × T (rectAllowed (rectOf xlo ylo xhi yhi)) ⌝ }
+    requires { ⌜ Sited (now xs) (now ys) (now visits) (now near) n × T (rectAllowed (rectOf xlo ylo xhi yhi)) ⌝ }
     ensures { λ r. ⌜ Figure (loadOf (siteRows (now (xs .entry)) (now (ys .entry)) (now (visits .entry)) (now (near .entry)) n) (rectOf xlo ylo xhi yhi)) loadLimit r ⌝ }
 {
     pricing::load(
@@ -146,19 +131,19 @@ pub fn bound_in<'a>(
     xhi: i64,
     yhi: i64,
 ) -> i64
-    requires { ⌜ (n ≤ 512) × ColumnsInRange (now xs) (now ys) (now visits) (now near) × T (rectAllowed (rectOf xlo ylo xhi yhi)) ⌝ }
+    requires { ⌜ Sited (now xs) (now ys) (now visits) (now near) n × T (rectAllowed (rectOf xlo ylo xhi yhi)) ⌝ }
     ensures { λ r. ⌜ r ≡ boundOf (siteRows (now (xs .entry)) (now (ys .entry)) (now (visits .entry)) (now (near .entry)) n) (rectOf xlo ylo xhi yhi) ⌝ }
 {
-    let c00 = cost_in(xs, ys, visits, near, n, xlo, ylo);
-    let c01 = cost_in(xs, ys, visits, near, n, xlo, yhi);
-    let c10 = cost_in(xs, ys, visits, near, n, xhi, ylo);
-    let c11 = cost_in(xs, ys, visits, near, n, xhi, yhi);
+    let c00 = problem::priced(xs, ys, visits, near, n, xlo, ylo);
+    let c01 = problem::priced(xs, ys, visits, near, n, xlo, yhi);
+    let c10 = problem::priced(xs, ys, visits, near, n, xhi, ylo);
+    let c11 = problem::priced(xs, ys, visits, near, n, xhi, yhi);
     let load = load_in(xs, ys, visits, near, n, xlo, ylo, xhi, yhi);
     pricing::bound(
-        c00,
-        c01,
-        c10,
-        c11,
+        c00.cost,
+        c01.cost,
+        c10.cost,
+        c11.cost,
         abs_diff(xlo, xhi) + abs_diff(ylo, yhi),
         load,
     )
@@ -166,35 +151,22 @@ pub fn bound_in<'a>(
 
 // The lines of the area along an axis: at an x where `across` is true.
 pub fn lines_of(o: Opened, across: bool) -> Lines
-    requires { ⌜ Open o ⌝ }
+    requires { ⌜ Prepared (o .deck) (o .sites) ⌝ }
     ensures { λ r. ⌜ r ≡ linesRecord (lines (deckOf (o .deck)) (axisOf across)) ⌝ }
 {
     let d = o.deck;
     let s = o.sites;
-    let n = s.count;
-    let xlo = d.xlo;
-    let ylo = d.ylo;
-    let xhi = d.xhi;
-    let yhi = d.yhi;
-    let flags = pricing::reach_flags(
-        &s.x,
-        &s.y,
-        &s.near,
-        n,
-        xlo as i32,
-        ylo as i32,
-        xhi as i32,
-        yhi as i32,
-    );
+    let area = problem::area_of(d);
+    let flags = problem::flags_of(area, s);
     if across {
-        lines::find_lines(&d.stop_x, &flags, n, xlo, xhi)
+        problem::vertical(d, area, flags)
     } else {
-        lines::find_lines(&d.stop_y, &flags, n, ylo, yhi)
+        problem::horizontal(d, area, flags)
     }
 }
 
 pub fn cut_of(o: Opened, xlo: i64, ylo: i64, xhi: i64, yhi: i64) -> Cut
-    requires { ⌜ Open o × T (rectAllowed (rectOf xlo ylo xhi yhi)) ⌝ }
+    requires { ⌜ Prepared (o .deck) (o .sites) × T (rectAllowed (rectOf xlo ylo xhi yhi)) ⌝ }
     ensures { λ r. ⌜ r ≡ cutRecord (problem (deckOf (o .deck))) (rectOf xlo ylo xhi yhi) ⌝ }
 {
     let v = lines_of(o, true);

@@ -26,6 +26,7 @@ use Rattle.report.specs.Report.{figuresOf}
 use Rattle.query.specs.Range.{FiguresInRange}
 use Rattle.report.specs.declared.Report.{Report}
 use Rattle.problem.specs.declared.Spot.{Spot}
+use Rattle.problem.proofs.Coordinates.{near-back}
 use Rattle.calls.specs.declared.Answer.{Answer}
 use Rattle.calls.specs.declared.Answer.the-variants as Answered
 use Rattle.calls.specs.declared.Cheapest.{Cheapest}
@@ -117,10 +118,10 @@ module _ {answer : Answer} (why : Refusal) (a : answer ≡ Answered.Refused why)
 -- as the code holds them
 module _ (r : Report) (h : FiguresInRange 1000 (figuresOf r)) (which : ℕ) where
   pub x-figure : which ≡ 1 → toZ w64 (ofZ w64 (r .x)) ≡ getD (reportNumbers r) which least
-  x-figure e = number-at (reportNumbers r) which 1 _ e (toZ-ofZ w64 (r .x) (word-fits w64 (r .x) (omega (arith, h .place .x-range))))
+  x-figure e = number-at (reportNumbers r) which 1 _ e (near-back (r .x) (h .place .x-range))
 
   pub y-figure : which ≡ 2 → toZ w64 (ofZ w64 (r .y)) ≡ getD (reportNumbers r) which least
-  y-figure e = number-at (reportNumbers r) which 2 _ e (toZ-ofZ w64 (r .y) (word-fits w64 (r .y) (omega (arith, h .place .y-range))))
+  y-figure e = number-at (reportNumbers r) which 2 _ e (near-back (r .y) (h .place .y-range))
 
   pub high-figure : which ≡ 3 → toZ w64 (r .high) ≡ getD (reportNumbers r) which least
   high-figure e = number-at (reportNumbers r) which 3 _ e (toZ-pos w64 (r .high) (omega (arith, h .high-limit)))
@@ -170,10 +171,10 @@ no-spot-figure s which h = number-at (spotNumbers s) which (suc (suc (suc (suc (
 -- as the code holds them
 module _ (s : Spot) (h : SpotInRange s) (which : ℕ) where
   pub spot-x : which ≡ 0 → toZ w64 (ofZ w64 (s .x)) ≡ getD (spotNumbers s) which least
-  spot-x e = number-at (spotNumbers s) which 0 _ e (toZ-ofZ w64 (s .x) (word-fits w64 (s .x) (omega (arith, h .x-range))))
+  spot-x e = number-at (spotNumbers s) which 0 _ e (near-back (s .x) (h .x-range))
 
   pub spot-y : which ≡ 1 → toZ w64 (ofZ w64 (s .y)) ≡ getD (spotNumbers s) which least
-  spot-y e = number-at (spotNumbers s) which 1 _ e (toZ-ofZ w64 (s .y) (word-fits w64 (s .y) (omega (arith, h .y-range))))
+  spot-y e = number-at (spotNumbers s) which 1 _ e (near-back (s .y) (h .y-range))
 
   pub spot-cost : which ≡ 2 → toZ w64 (s .cost) ≡ getD (spotNumbers s) which least
   spot-cost e = number-at (spotNumbers s) which 2 _ e (toZ-pos w64 (s .cost) (omega (arith, h .cost-limit)))

@@ -5,7 +5,7 @@ use Prim.Native.Nat.{_-_}
 use mir.Syntax.{w64}
 use mir.ValLaws.{toZ-ofZ}
 use Rattle.pricing.specs.Columns.{siteRows}
-use Rattle.trial.specs.Trial.{boundOf}
+use Rattle.problem.specs.Problem.{boundOf}
 use Rattle.kernels.specs.Sums.{rectAt, positive}
 use Rattle.kernels.proofs.SumLaws.{Summed, summed-none, summed-more, summed-all, rect-turn, rect-ok}
 use borrow.Author.Needs.{needs}
@@ -35,7 +35,7 @@ spread-requires-4 : tie.Need-spread-requires-4 Inv-loop μ-loop
 spread-requires-4 c κs = (omega arith, omega arith)
 
 bound-in-requires : tie.Need-bound-in-requires Inv-loop μ-loop
-bound-in-requires c κs = let s = c .before .before .before .before .before .before in (s .pre .0, s .pre .1, rect-ok (c .before .before .before .spread .ensures) (c .before .before .spread2 .ensures) (c .before .spread3 .ensures) (c .spread4 .ensures))
+bound-in-requires c κs = let s = c .before .before .before .before .before .before in (s .pre .0, rect-ok (c .before .before .before .spread .ensures) (c .before .before .spread2 .ensures) (c .before .spread3 .ensures) (c .spread4 .ensures))
 
 positive-requires : tie.Need-positive-requires Inv-loop μ-loop
 positive-requires c κs = search needs
@@ -44,7 +44,7 @@ loop-again : tie.Need-loop-again Inv-loop μ-loop
 loop-again c = let l = c .before .before .before .before .before .before .before in summed-more _ (l .loop .inv) (c .before .before .before .before .before .before .loop-test .taken) (c .positive .ensures .is ∙ ap positive (toZ-ofZ w64 _ (record { sfits = c .before .bound-in .ok }) ∙ c .before .bound-in .ensures ∙ ap (boundOf _) (rect-turn (c .before .before .before .before .before .spread .ensures) (c .before .before .before .before .spread2 .ensures) (c .before .before .before .spread3 .ensures) (c .before .before .spread4 .ensures)))) (c .positive .ensures .within)
 
 add-sum : tie.Need-add-sum Inv-loop μ-loop
-add-sum c = let next = loop-again c in omega (arith, next .most, next .within, c .before .before .before .before .before .before .before .before .pre .2)
+add-sum c = let next = loop-again c in omega (arith, next .most, next .within, c .before .before .before .before .before .before .before .before .pre .1)
 
 add-t : tie.Need-add-t Inv-loop μ-loop
 add-t c = omega arith
@@ -53,7 +53,7 @@ loop-less : tie.Need-loop-less Inv-loop μ-loop
 loop-less c = omega arith
 
 returns : tie.Need-returns Inv-loop μ-loop
-returns c = summed-all (c .before .loop .inv) (c .loop-test .left) (c .before .before .pre .2) (omega arith)
+returns c = summed-all (c .before .loop .inv) (c .loop-test .left) (c .before .before .pre .1) (omega arith)
 
 pub bounds-spec : {M : Type 1} → statement M
 bounds-spec = tie.close (tie.spec Inv-loop μ-loop loop-holds spread-requires spread-requires-2 spread-requires-3 spread-requires-4 bound-in-requires positive-requires add-sum add-t loop-less loop-again returns)

@@ -5,8 +5,10 @@ use Prim.Native.Nat.{_-_}
 use Rattle.query.specs.Range.{costLimit}
 use Rattle.pricing.specs.Columns.{siteRows}
 use Rattle.pricing.specs.Figures.{costOf}
+use Rattle.problem.proofs.Coordinates.{near-places}
+use Rattle.trial.proofs.FigureLaws.{priced-figure}
 use Rattle.kernels.specs.Sums.{placeAt}
-use Rattle.kernels.proofs.SumLaws.{Summed, summed-none, summed-more, summed-all, place-turn, place-ok}
+use Rattle.kernels.proofs.SumLaws.{Summed, summed-none, summed-more, summed-all, place-turn}
 use native.Mathlib.Omega.{arith}
 use Rattle.kernels.proofs.costs.Statement.{statement}
 use Rattle.kernels.proofs.costs.Tie as tie
@@ -26,14 +28,19 @@ spread-requires c κs = (omega arith, omega arith)
 spread-requires-2 : tie.Need-spread-requires-2 Inv-loop μ-loop
 spread-requires-2 c κs = (omega arith, omega arith)
 
-cost-in-requires : tie.Need-cost-in-requires Inv-loop μ-loop
-cost-in-requires c κs = let s = c .before .before .before .before in (s .pre .0, s .pre .1, place-ok (c .before .spread .ensures) (c .spread2 .ensures))
+priced-requires : tie.Need-priced-requires Inv-loop μ-loop
+priced-requires c κs = let s = c .before .before .before .before in (s .pre .0, near-places (c .before .spread .result) (c .spread2 .result) (c .before .spread .ensures .range) (c .spread2 .ensures .range))
 
 loop-again : tie.Need-loop-again Inv-loop μ-loop
-loop-again c = let l = c .before .before .before .before in summed-more _ (l .loop .inv) (c .before .before .before .loop-test .taken) (c .cost-in .ensures .is ∙ ap (costOf _) (place-turn (c .before .before .spread .ensures) (c .before .spread2 .ensures))) (c .cost-in .ensures .within)
+loop-again c =
+    let l = c .before .before .before .before .before in
+    let x = c .before .before .before .spread .ensures in
+    let y = c .before .before .spread2 .ensures in
+    let figure = priced-figure (l .before .pre .0) (c .before .before .before .spread .result) (c .before .before .spread2 .result) (x .range) (y .range) (c .before .priced .ensures) in
+    summed-more _ (l .loop .inv) (c .before .before .before .before .loop-test .taken) (figure .is ∙ ap (costOf _) (place-turn x y)) (figure .within)
 
 add-sum : tie.Need-add-sum Inv-loop μ-loop
-add-sum c = let next = loop-again c in omega (arith, next .most, next .within, c .before .before .before .before .before .pre .2)
+add-sum c = let next = loop-again c in omega (arith, next .most, next .within, c .before .before .before .before .before .before .pre .1)
 
 add-t : tie.Need-add-t Inv-loop μ-loop
 add-t c = omega arith
@@ -42,7 +49,7 @@ loop-less : tie.Need-loop-less Inv-loop μ-loop
 loop-less c = omega arith
 
 returns : tie.Need-returns Inv-loop μ-loop
-returns c = summed-all (c .before .loop .inv) (c .loop-test .left) (c .before .before .pre .2) (omega arith)
+returns c = summed-all (c .before .loop .inv) (c .loop-test .left) (c .before .before .pre .1) (omega arith)
 
 pub costs-spec : {M : Type 1} → statement M
-costs-spec = tie.close (tie.spec Inv-loop μ-loop loop-holds spread-requires spread-requires-2 cost-in-requires add-sum add-t loop-less loop-again returns)
+costs-spec = tie.close (tie.spec Inv-loop μ-loop loop-holds spread-requires spread-requires-2 priced-requires add-sum add-t loop-less loop-again returns)

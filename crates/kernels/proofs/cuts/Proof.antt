@@ -7,8 +7,9 @@ use mir.Syntax.{w64}
 use mir.ValLaws.{toZ-ofZ}
 use Rattle.cuts.specs.CutRecord.{onLines, cutRecord}
 use Rattle.cuts.specs.declared.Cut.{Cut}
+use Rattle.problem.proofs.Coordinates.{edges-x, edges-y}
 use Rattle.kernels.specs.Sums.{rectAt, positive}
-use Rattle.kernels.proofs.SumLaws.{Summed, summed-none, summed-more, summed-all, rect-turn, x-ok, y-ok}
+use Rattle.kernels.proofs.SumLaws.{Summed, summed-none, summed-more, summed-all, rect-turn, turn-range}
 use borrow.Author.Needs.{needs}
 use native.Mathlib.Omega.{arith}
 use Rattle.kernels.proofs.cuts.Statement.{statement}
@@ -36,7 +37,7 @@ spread-requires-4 : tie.Need-spread-requires-4 Inv-loop μ-loop
 spread-requires-4 c κs = (omega arith, omega arith)
 
 find-cut-requires : tie.Need-find-cut-requires Inv-loop μ-loop
-find-cut-requires c κs = let s = c .before .before .before .before .before .before in (s .pre .0, (s .pre .1, (x-ok (c .before .before .before .spread .ensures) (c .before .before .spread2 .ensures) (c .before .spread3 .ensures) (c .spread4 .ensures), y-ok (c .before .before .before .spread .ensures) (c .before .before .spread2 .ensures) (c .before .spread3 .ensures) (c .spread4 .ensures))))
+find-cut-requires c κs = let s = c .before .before .before .before .before .before in let r = turn-range (c .before .before .before .spread .ensures) (c .before .before .spread2 .ensures) (c .before .spread3 .ensures) (c .spread4 .ensures) in (s .pre .0, (s .pre .1, (edges-x _ r, edges-y _ r)))
 
 positive-requires : tie.Need-positive-requires Inv-loop μ-loop
 positive-requires c κs = search needs

@@ -5,9 +5,7 @@ use denote.Ref.{now}
 use native.Mathlib.Omega.{arith}
 use Rattle.job.specs.Format.{readJob}
 use Rattle.sites.proofs.ReadLaws.{Spelt}
-use Rattle.trial.specs.Opened.{Open}
-use Rattle.trial.proofs.OpenLaws.{open-accepted, open-is}
-use Rattle.trial.proofs.FigureLaws.{deckOf-same}
+use Rattle.trial.proofs.OpenLaws.{open-accepted, open-prepared, open-deck}
 use Rattle.kernels.proofs.SumLaws.{kernel-none, kernel-refused, too-many, kernel-answer}
 use borrow.Author.Needs.{needs}
 use Rattle.kernels.proofs.kernel_sum.Statement.{statement}
@@ -16,9 +14,6 @@ use Rattle.kernels.proofs.kernel_sum.Tie as tie
 -- the job is accepted
 spelt : (c : tie.Else2) → Spelt (now (c .before .before .before .before .before .args .job))
 spelt c = open-accepted _ _ (c .before .before .open-job .ensures) (not-false _ (c .if2 .left))
-
-abbrev opens : (c : tie.Else2) → Open (c .before .before .open-job .result)
-opens c = open-is _ _ (c .before .before .open-job .ensures) (spelt c)
 
 returns : tie.Need-returns
 returns c = let s = c .before .before in kernel-none (s .args .which) (s .args .k) (readJob (now (s .args .job))) (c .if1 .taken)
@@ -33,13 +28,13 @@ returns-3 : tie.Need-returns-3
 returns-3 c = let s = c .before .before .before .before .before .before in too-many (s .args .which) (s .args .k) (c .before .before .before .before .if1 .left) (spelt (c .before)) (omega (arith, c .if3 .taken))
 
 sum-of-requires : tie.Need-sum-of-requires
-sum-of-requires c κs = (opens (c .before), c .before .before .before .before .if1 .left, c .if3 .left)
+sum-of-requires c κs = (open-prepared _ _ (c .before .before .before .open-job .ensures) (spelt (c .before)), c .before .before .before .before .if1 .left, c .if3 .left)
 
 cast-result : tie.Need-cast-result
 cast-result c = omega (arith, c .sum-of .ensures .within)
 
 returns-4 : tie.Need-returns-4
-returns-4 c = let d = c .before .before in kernel-answer _ _ (c .before .before .before .before .before .if1 .left) (spelt d) (deckOf-same _ (opens d)) (c .before .if3 .left) (c .sum-of .ensures)
+returns-4 c = let d = c .before .before in kernel-answer _ _ (c .before .before .before .before .before .if1 .left) (spelt d) (open-deck _ _ (d .before .before .open-job .ensures) (spelt d)) (c .before .if3 .left) (c .sum-of .ensures)
 
 pub kernel-sum-spec : {M : Type 1} → statement M
 kernel-sum-spec =

@@ -33,13 +33,13 @@ spread-requires-4 : tie.Need-spread-requires-4 Inv-loop μ-loop
 spread-requires-4 c κs = (omega arith, omega arith)
 
 load-in-requires : tie.Need-load-in-requires Inv-loop μ-loop
-load-in-requires c κs = let s = c .before .before .before .before .before .before in (s .pre .0, s .pre .1, rect-ok (c .before .before .before .spread .ensures) (c .before .before .spread2 .ensures) (c .before .spread3 .ensures) (c .spread4 .ensures))
+load-in-requires c κs = let s = c .before .before .before .before .before .before in (s .pre .0, rect-ok (c .before .before .before .spread .ensures) (c .before .before .spread2 .ensures) (c .before .spread3 .ensures) (c .spread4 .ensures))
 
 loop-again : tie.Need-loop-again Inv-loop μ-loop
 loop-again c = let l = c .before .before .before .before .before .before in summed-more _ (l .loop .inv) (c .before .before .before .before .before .loop-test .taken) (c .load-in .ensures .is ∙ ap (loadOf _) (rect-turn (c .before .before .before .before .spread .ensures) (c .before .before .before .spread2 .ensures) (c .before .before .spread3 .ensures) (c .before .spread4 .ensures))) (c .load-in .ensures .within)
 
 add-sum : tie.Need-add-sum Inv-loop μ-loop
-add-sum c = let next = loop-again c in omega (arith, next .most, next .within, c .before .before .before .before .before .before .before .pre .2)
+add-sum c = let next = loop-again c in omega (arith, next .most, next .within, c .before .before .before .before .before .before .before .pre .1)
 
 add-t : tie.Need-add-t Inv-loop μ-loop
 add-t c = omega arith
@@ -48,7 +48,7 @@ loop-less : tie.Need-loop-less Inv-loop μ-loop
 loop-less c = omega arith
 
 returns : tie.Need-returns Inv-loop μ-loop
-returns c = summed-all (c .before .loop .inv) (c .loop-test .left) (c .before .before .pre .2) (omega arith)
+returns c = summed-all (c .before .loop .inv) (c .loop-test .left) (c .before .before .pre .1) (omega arith)
 
 pub loads-spec : {M : Type 1} → statement M
 loads-spec = tie.close (tie.spec Inv-loop μ-loop loop-holds spread-requires spread-requires-2 spread-requires-3 spread-requires-4 load-in-requires add-sum add-t loop-less loop-again returns)

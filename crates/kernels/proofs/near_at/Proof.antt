@@ -1,10 +1,10 @@
 -- `kernels::near_at` meets its contract.
 -- Assumes nothing.
-use mathlib.Core.Path.{ap, subst, sym}
+use mathlib.Core.Path.{ap}
 use Prim.Native.Nat.{_%_}
 use lib.ListN.{getD}
 use Rattle.sites.specs.declared.Sites.{Sites}
-use Rattle.pricing.proofs.RecordLaws.{sites-range, InColumns}
+use Rattle.pricing.proofs.RecordLaws.{made-range}
 use borrow.Author.Needs.{needs}
 use Rattle.kernels.proofs.near_at.Statement.{statement}
 use Rattle.kernels.proofs.near_at.Tie as tie
@@ -27,7 +27,7 @@ returns c =
     let at = s .args .t % 512 in
     record {
       is = ap (λ (k : Sites). getD (k .near) at 0) (c .before .of-deck .ensures);
-      within = subst InColumns (sym (c .before .of-deck .ensures)) (sites-range _ (s .pre .0)) .near-range at;
+      within = made-range _ (s .pre .0) _ (c .before .of-deck .ensures) .near-range at;
     }
 
 pub near-at-spec : {M : Type 1} → statement M

@@ -9,11 +9,13 @@ use denote.Ref.{now}
 use Rattle.numbers.proofs.Words.{is-true}
 use Rattle.query.specs.Place.{Rect}
 use Rattle.cuts.specs.CutRecord.{rectOf}
-use Rattle.trial.specs.Opened.{rectAllowed, Open}
+use Rattle.problem.specs.Problem.{Prepared}
+use Rattle.trial.specs.Opened.{rectAllowed}
 use Rattle.sites.proofs.ReadLaws.{Spelt}
-use Rattle.trial.proofs.OpenLaws.{open-accepted, open-is, open-refused, outside}
+use Rattle.trial.proofs.OpenLaws.{open-accepted, open-prepared, open-refused, outside}
 use Rattle.trial.proofs.RectLaws.{Fits4, rect-held, tested-rect}
-use Rattle.trial.proofs.FigureLaws.{columns, count-few, load-answer}
+use Rattle.problem.proofs.DeckProblem.{deck-sited}
+use Rattle.trial.proofs.FigureLaws.{load-answer}
 use borrow.Author.Needs.{needs}
 use native.Mathlib.Omega.{arith}
 use Rattle.trial.proofs.load.Statement.{statement}
@@ -23,8 +25,8 @@ use Rattle.trial.proofs.load.Tie as tie
 spelt : (c : tie.Else1) → Spelt (now (c .before .before .before .before .args .job))
 spelt c = open-accepted _ _ (c .before .before .open-job .ensures) (not-false _ (c .if1 .left))
 
-abbrev opens : (c : tie.Else1) → Open (c .before .before .open-job .result)
-opens c = open-is _ _ (c .before .before .open-job .ensures) (spelt c)
+ready : (c : tie.Else1) → Prepared (c .before .before .open-job .result .deck) (c .before .before .open-job .result .sites)
+ready c = open-prepared _ _ (c .before .before .open-job .ensures) (spelt c)
 
 -- the rectangle is allowed, or not
 fits : (c : tie.Start) → Fits4 (c .args .xlo) (c .args .ylo) (c .args .xhi) (c .args .yhi)
@@ -49,7 +51,7 @@ returns-2 : tie.Need-returns-2
 returns-2 c = outside _ _ _ (readJob (now (c .before .before .before .before .before .before .args .job))) (off c)
 
 load-in-requires : tie.Need-load-in-requires
-load-in-requires c κs = let d = c .before .before .before .before .before .before in (count-few _ (opens (d .before .before)), columns _ (opens (d .before .before)), subst (λ (r : Rect). T (rectAllowed r)) (sym (rect-held (fits (d .before .before .before .before .before .before)))) (is-true _ (on d)))
+load-in-requires c κs = let d = c .before .before .before .before .before .before in (deck-sited _ _ (ready (d .before .before)), subst (λ (r : Rect). T (rectAllowed r)) (sym (rect-held (fits (d .before .before .before .before .before .before)))) (is-true _ (on d)))
 
 cast-result : tie.Need-cast-result
 cast-result c = omega (arith, c .load-in .ensures .within)
