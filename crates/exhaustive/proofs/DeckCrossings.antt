@@ -22,7 +22,7 @@ use Rattle.query.proofs.LineLaws.{lines-law, lines-range}
 use Rattle.job.specs.declared.Deck.{Deck}
 use Rattle.sites.specs.DeckOf.{deckOf}
 use Rattle.pricing.specs.Figures.{beforeOf, flagsOf}
-use Rattle.pricing.specs.Columns.{PaidInRange, Figure, BeforeIs}
+use Rattle.pricing.specs.Columns.{PaidInRange, Figure, BeforeIs, rowsOf, InColumns}
 use Rattle.lines.specs.LineRecord.{linesRecord}
 use Rattle.sites.specs.declared.Sites.{Sites}
 use Rattle.lines.specs.declared.Lines.{Lines}
@@ -32,7 +32,7 @@ use Rattle.lines.proofs.DeckLines.{lines-in-order}
 use Rattle.pricing.proofs.RecordLaws.{paid-range}
 use Rattle.slots.specs.declared.Cell.{Cell}
 use Rattle.problem.specs.declared.Spot.{Spot}
-use Rattle.problem.specs.Problem.{Prepared, Sited, pricedOf, spotOf, rectIn, Near20000, Ranged, rowsOf, InColumns, Reaching}
+use Rattle.problem.specs.Problem.{Prepared, Sited, pricedOf, spotOf, rectIn, Near20000, Ranged, Reaching}
 use Rattle.numbers.proofs.WordTests.{back}
 use Rattle.problem.proofs.Coordinates.{near-places, spot-back}
 use Rattle.problem.proofs.DeckProblem.{columns-range, sites-count, deck-sited, area-ranged, reaching, coded-is}

@@ -32,7 +32,7 @@ use Rattle.job_line.specs.declared.PostLine.the-variants as P
 use Rattle.job_line.specs.declared.StopLine as Answer
 use Rattle.job_line.specs.declared.StopLine.the-variants as S
 use Rattle.job.specs.declared.Next.the-variants.{At, Refused}
-use Rattle.job_line.proofs.RangeTests.{held, held-is}
+use Rattle.numbers.proofs.WordTests.{back, back-is}
 
 -- ---- the reading that is left
 module _ {A : Type 0} (one : Reader A) where
@@ -95,9 +95,9 @@ module _ {s : List ℕ} {start count first : ℕ} where
       pub posts-refused : {why : Refusal} → r ≡ P.Refused why → PostsAt s first (postLines count first (drop start s)) (record { next = Refused why; count = i; x = x; y = y })
       posts-refused e = record { places = f .places; hold = record { count-is = f .filling .long; x-is = f .x-is; y-is = f .y-is }; few = omega arith; is = filling-fault (f .filling) h (subst (PostAt s at (first + i)) e post .is) }
 
-      pub posts-more : {px py : ℤ} {next : ℕ} → r ≡ P.Read px py next → SFits w64 px → SFits w64 py → PostsFilled s start count first (set x i (held px)) (set y i (held py)) next (i + 1)
+      pub posts-more : {px py : ℤ} {next : ℕ} → r ≡ P.Read px py next → SFits w64 px → SFits w64 py → PostsFilled s start count first (set x i (back px)) (set y i (back py)) next (i + 1)
       posts-more {px} {py} e fx fy =
-          rw (held-is fx, held-is fy)
+          rw (back-is fx, back-is fy)
           (record {
             places = f .places ++ (here ∷ []);
             filling = filling-more (f .filling) h (subst (PostAt s at (first + i)) e post .is);
@@ -129,9 +129,9 @@ module _ {s : List ℕ} {start count first : ℕ} where
       pub stops-refused : {why : Refusal} → r ≡ S.Refused why → StopsAt s first (stopLines count first (drop start s)) (record { next = Refused why; count = i; x = x; y = y; visits = visits })
       stops-refused e = record { lines = f .lines; hold = record { count-is = f .filling .long; x-is = f .x-is; y-is = f .y-is; visits-is = f .visits-is }; few = omega arith; is = filling-fault (f .filling) h (subst (StopAt s at (first + i)) e stop .is) }
 
-      pub stops-more : {sx sy : ℤ} {v next : ℕ} → r ≡ S.Read sx sy v next → SFits w64 sx → SFits w64 sy → StopsFilled s start count first (set x i (held sx)) (set y i (held sy)) (set visits i v) next (i + 1)
+      pub stops-more : {sx sy : ℤ} {v next : ℕ} → r ≡ S.Read sx sy v next → SFits w64 sx → SFits w64 sy → StopsFilled s start count first (set x i (back sx)) (set y i (back sy)) (set visits i v) next (i + 1)
       stops-more {sx} {sy} {v} e fx fy =
-          rw (held-is fx, held-is fy)
+          rw (back-is fx, back-is fy)
           (record {
             lines = f .lines ++ (here ∷ []);
             filling = filling-more (f .filling) h (subst (StopAt s at (first + i)) e stop .is);

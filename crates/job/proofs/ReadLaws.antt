@@ -34,17 +34,17 @@ use Rattle.job.specs.declared.Job.{Job}
 use Rattle.job.specs.declared.Outcome.the-variants.{Accepted}
 use Rattle.job_line.specs.declared.Refusal.{Refusal}
 use Rattle.job_line.specs.declared.Refusal.the-variants.{TooLong, EmptyArea, NoPosts, NoStops}
-use Rattle.job_line.proofs.RangeTests.{held, held-is}
+use Rattle.numbers.proofs.WordTests.{back, back-is}
 
 -- ---- refusal 4
 module _ {a : Area} (xlo : SFits w64 (a .xlo)) (ylo : SFits w64 (a .ylo)) (xhi : SFits w64 (a .xhi)) (yhi : SFits w64 (a .yhi)) where
-  pub empty-across : ltZ (held (a .xhi)) (held (a .xlo)) ≡ true → true ≡ emptyArea (areaOf a)
+  pub empty-across : ltZ (back (a .xhi)) (back (a .xlo)) ≡ true → true ≡ emptyArea (areaOf a)
   unfolding emptyArea
-  empty-across e = rw (rw (held-is xhi, held-is xlo) at e)
+  empty-across e = rw (rw (back-is xhi, back-is xlo) at e)
 
-  pub empty-deep : ltZ (held (a .xhi)) (held (a .xlo)) ≡ false → ltZ (held (a .yhi)) (held (a .ylo)) ≡ emptyArea (areaOf a)
+  pub empty-deep : ltZ (back (a .xhi)) (back (a .xlo)) ≡ false → ltZ (back (a .yhi)) (back (a .ylo)) ≡ emptyArea (areaOf a)
   unfolding emptyArea
-  empty-deep e = rw (rw (held-is xhi, held-is xlo) at e, held-is yhi, held-is ylo)
+  empty-deep e = rw (rw (back-is xhi, back-is xlo) at e, back-is yhi, back-is ylo)
 
 -- ---- refusals 4, 5 and 6, in this order
 module _ {A : Type 0} where
@@ -117,8 +117,8 @@ module _ {area : Area} {posts : Posts} {stops : Stops} (rounds : ℕ) {t : Bool}
         unfolding checked
         job-accepted {places} {lines} p s = rw (← is-empty, off, some-elements places (λ z. some-posts (p .count-is ∙ z)), some-elements (map stopOf lines) (λ z. some-stops (s .count-is ∙ sym (length-map lines stopOf) ∙ z)))
 
-        pub checked-accepted : SFits w64 (area .xlo) → SFits w64 (area .ylo) → SFits w64 (area .xhi) → SFits w64 (area .yhi) → CheckedAt area posts stops rounds (jobOfParts (held (area .xlo)) (held (area .ylo)) (held (area .xhi)) (held (area .yhi)) posts stops rounds)
-        checked-accepted xlo ylo xhi yhi = record { is = λ p s. rw (held-is xlo, held-is ylo, held-is xhi, held-is yhi) (parts-are rounds p s) ∙ ap jobRecord (job-accepted p s) }
+        pub checked-accepted : SFits w64 (area .xlo) → SFits w64 (area .ylo) → SFits w64 (area .xhi) → SFits w64 (area .yhi) → CheckedAt area posts stops rounds (jobOfParts (back (area .xlo)) (back (area .ylo)) (back (area .xhi)) (back (area .yhi)) posts stops rounds)
+        checked-accepted xlo ylo xhi yhi = record { is = λ p s. rw (back-is xlo, back-is ylo, back-is xhi, back-is yhi) (parts-are rounds p s) ∙ ap jobRecord (job-accepted p s) }
 
 -- ---- the lines of a job, part by part
 -- one reading after another

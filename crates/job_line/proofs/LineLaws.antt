@@ -30,7 +30,8 @@ use Rattle.job_line.specs.declared.AreaLine.the-variants as A
 use Rattle.job_line.specs.declared.CountLine.the-variants as C
 use Rattle.job_line.specs.declared.PostLine.the-variants as P
 use Rattle.job_line.specs.declared.StopLine.the-variants as S
-use Rattle.job_line.proofs.RangeTests.{held, held-is, and-second}
+use Rattle.job_line.proofs.RangeTests.{and-second}
+use Rattle.numbers.proofs.WordTests.{back, back-is}
 
 -- ---- bytes and keys
 -- the text after a byte or a key that is there
@@ -94,10 +95,10 @@ module _ {s : List ℕ} {at : ℕ} {r : ParsedNumber} (number-at : NumberAt s at
     unfolding bind
     field-off off = record { is = rw (field-is, ← number-read .is, byte-off is-byte off); within = tt }
 
-    pub field-on : t ≡ true → FieldAt s at end (Read (held z) (next + 1))
+    pub field-on : t ≡ true → FieldAt s at end (Read (back z) (next + 1))
     unfolding bind
     field-on on =
-        rw (held-is (nine-digits z (number-read .within .0)))
+        rw (back-is (nine-digits z (number-read .within .0)))
         (record { is = rw (field-is, ← number-read .is, byte-on is-byte on); within = (number-read .within .0, omega (arith, byte-there is-byte on)) })
 
 -- what a field that was read is
@@ -167,15 +168,15 @@ module _ {s : List ℕ} {at : ℕ} (n : ℕ) {t : Bool} (is-key : Starts s at (b
         unfolding bind bytes
         post-form = rw (post-is, key-on is-key on, field-reads field-x x-is, field-reads field-y y-is)
 
-        module _ {t′ : Bool} (range : t′ ≡ placeInRange (record { x = held x; y = held y })) where
+        module _ {t′ : Bool} (range : t′ ≡ placeInRange (record { x = back x; y = back y })) where
           post-range : placeInRange (record { x = x; y = y }) ≡ t′
-          post-range = sym (rw (held-is (field-fits field-x x-is), held-is (field-fits field-y y-is)) at range)
+          post-range = sym (rw (back-is (field-fits field-x x-is), back-is (field-fits field-y y-is)) at range)
 
           pub post-out : t′ ≡ false → PostAt s at n (P.Refused (OutOfRange n))
           post-out off = record { is = line-out postLine placeInRange n post-form (post-range ∙ off); within = tt }
 
-          pub post-in : t′ ≡ true → PostAt s at n (P.Read (held x) (held y) next)
-          post-in on = rw (held-is (field-fits field-x x-is), held-is (field-fits field-y y-is)) (record { is = line-in postLine placeInRange n post-form (post-range ∙ on); within = field-inside field-y y-is })
+          pub post-in : t′ ≡ true → PostAt s at n (P.Read (back x) (back y) next)
+          post-in on = rw (back-is (field-fits field-x x-is), back-is (field-fits field-y y-is)) (record { is = line-in postLine placeInRange n post-form (post-range ∙ on); within = field-inside field-y y-is })
 
 -- ---- `stop=x,y,visits`
 stop-is : (bs : List ℕ) → stopLine bs ≡ bind (key (bytes "stop=") bs) (λ k. bind (field comma (k .1)) (λ x. bind (field comma (x .1)) (λ y. bind (field newline (y .1)) (λ v. some (record { at = record { x = x .0; y = y .0 }; visits = v .0 }, v .1)))))
@@ -213,19 +214,19 @@ module _ {s : List ℕ} {at : ℕ} (n : ℕ) {t : Bool} (is-key : Starts s at (b
           unfolding bind bytes
           stop-form = rw (stop-is, key-on is-key on, field-reads field-x x-is, field-reads field-y y-is, field-reads field-v v-is)
 
-          module _ {t′ : Bool} (range : t′ ≡ stopInRange (record { at = record { x = held x; y = held y }; visits = held v })) where
+          module _ {t′ : Bool} (range : t′ ≡ stopInRange (record { at = record { x = back x; y = back y }; visits = back v })) where
             stop-range : stopInRange (record { at = record { x = x; y = y }; visits = v }) ≡ t′
-            stop-range = sym (rw (held-is (field-fits field-x x-is), held-is (field-fits field-y y-is), held-is (field-fits field-v v-is)) at range)
+            stop-range = sym (rw (back-is (field-fits field-x x-is), back-is (field-fits field-y y-is), back-is (field-fits field-v v-is)) at range)
 
             pub stop-out : t′ ≡ false → StopAt s at n (S.Refused (OutOfRange n))
             stop-out off = record { is = line-out stopLine stopInRange n stop-form (stop-range ∙ off); within = tt }
 
             -- visits in range are not negative, so that they are their own size
-            pub stop-cast : t′ ≡ true → T (nonNeg (held v)) × Fits w64 (natAbs (held v))
-            stop-cast on = rw (held-is (field-fits field-v v-is)) (visits-nonNeg _ v (stop-range ∙ on), record { fits = omega (arith, field-small field-v v-is) })
+            pub stop-cast : t′ ≡ true → T (nonNeg (back v)) × Fits w64 (natAbs (back v))
+            stop-cast on = rw (back-is (field-fits field-v v-is)) (visits-nonNeg _ v (stop-range ∙ on), record { fits = omega (arith, field-small field-v v-is) })
 
-            pub stop-in : t′ ≡ true → StopAt s at n (S.Read (held x) (held y) (natAbs (held v)) next)
-            stop-in on = rw (held-is (field-fits field-x x-is), held-is (field-fits field-y y-is), held-is (field-fits field-v v-is)) (record { is = rw (pos-natAbs v (visits-nonNeg _ v (stop-range ∙ on))) (line-in stopLine stopInRange n stop-form (stop-range ∙ on)); within = field-inside field-v v-is })
+            pub stop-in : t′ ≡ true → StopAt s at n (S.Read (back x) (back y) (natAbs (back v)) next)
+            stop-in on = rw (back-is (field-fits field-x x-is), back-is (field-fits field-y y-is), back-is (field-fits field-v v-is)) (record { is = rw (pos-natAbs v (visits-nonNeg _ v (stop-range ∙ on))) (line-in stopLine stopInRange n stop-form (stop-range ∙ on)); within = field-inside field-v v-is })
 
 -- ---- `area=xlo,ylo,xhi,yhi`
 area-is : (bs : List ℕ) → areaLine bs ≡ bind (key (bytes "area=") bs) (λ k. bind (field comma (k .1)) (λ xlo. bind (field comma (xlo .1)) (λ ylo. bind (field comma (ylo .1)) (λ xhi. bind (field newline (xhi .1)) (λ yhi. some (record { xlo = xlo .0; ylo = ylo .0; xhi = xhi .0; yhi = yhi .0 }, yhi .1))))))
@@ -262,15 +263,15 @@ module _ {s : List ℕ} {at : ℕ} (n : ℕ) {t : Bool} (is-key : Starts s at (b
             unfolding bind bytes
             area-form = rw (area-is, key-on is-key on, field-reads field₁ is₁, field-reads field₂ is₂, field-reads field₃ is₃, field-reads field₄ is₄)
 
-            module _ {t′ : Bool} (range : t′ ≡ areaInRange (record { xlo = held xlo; ylo = held ylo; xhi = held xhi; yhi = held yhi })) where
+            module _ {t′ : Bool} (range : t′ ≡ areaInRange (record { xlo = back xlo; ylo = back ylo; xhi = back xhi; yhi = back yhi })) where
               area-range : areaInRange (record { xlo = xlo; ylo = ylo; xhi = xhi; yhi = yhi }) ≡ t′
-              area-range = sym (rw (held-is (field-fits field₁ is₁), held-is (field-fits field₂ is₂), held-is (field-fits field₃ is₃), held-is (field-fits field₄ is₄)) at range)
+              area-range = sym (rw (back-is (field-fits field₁ is₁), back-is (field-fits field₂ is₂), back-is (field-fits field₃ is₃), back-is (field-fits field₄ is₄)) at range)
 
               pub area-out : t′ ≡ false → AreaAt s at n (A.Refused (OutOfRange n))
               area-out off = record { is = line-out areaLine areaInRange n area-form (area-range ∙ off); within = tt }
 
-              pub area-in : t′ ≡ true → AreaAt s at n (A.Read (record { xlo = held xlo; ylo = held ylo; xhi = held xhi; yhi = held yhi }) next)
-              area-in on = rw (held-is (field-fits field₁ is₁), held-is (field-fits field₂ is₂), held-is (field-fits field₃ is₃), held-is (field-fits field₄ is₄)) (record { is = line-in areaLine areaInRange n area-form (area-range ∙ on); within = field-inside field₄ is₄ })
+              pub area-in : t′ ≡ true → AreaAt s at n (A.Read (record { xlo = back xlo; ylo = back ylo; xhi = back xhi; yhi = back yhi }) next)
+              area-in on = rw (back-is (field-fits field₁ is₁), back-is (field-fits field₂ is₂), back-is (field-fits field₃ is₃), back-is (field-fits field₄ is₄)) (record { is = line-in areaLine areaInRange n area-form (area-range ∙ on); within = field-inside field₄ is₄ })
 
 -- ---- `posts=n`, `stops=n`, `rounds=n`
 count-is : (k bs : List ℕ) → countForm k bs ≡ bind (key k bs) (λ r. field newline (r .1))
@@ -311,20 +312,20 @@ module _ {s : List ℕ} {at : ℕ} {k : List ℕ} (most n : ℕ) {t : Bool} (is-
       unfolding bind
       count-form = rw (count-is, key-on is-key on, field-reads field-z z-is)
 
-      pub count-below : ltZ (held z) (pos 0) ≡ true → CountAt s at k most n (C.Refused (OutOfRange n))
-      count-below e = record { is = line-out (countForm k) (upTo most) n count-form (count-negative most z (rw (held-is (field-fits field-z z-is)) at e)); within = tt }
+      pub count-below : ltZ (back z) (pos 0) ≡ true → CountAt s at k most n (C.Refused (OutOfRange n))
+      count-below e = record { is = line-out (countForm k) (upTo most) n count-form (count-negative most z (rw (back-is (field-fits field-z z-is)) at e)); within = tt }
 
-      module _ (e : ltZ (held z) (pos 0) ≡ false) where
+      module _ (e : ltZ (back z) (pos 0) ≡ false) where
         natural : T (nonNeg z)
-        natural = nonNeg-of z (rw (held-is (field-fits field-z z-is)) at e)
+        natural = nonNeg-of z (rw (back-is (field-fits field-z z-is)) at e)
 
-        pub count-cast : T (nonNeg (held z)) × Fits w64 (natAbs (held z))
-        count-cast = rw (held-is (field-fits field-z z-is)) (natural, record { fits = omega (arith, field-small field-z z-is) })
+        pub count-cast : T (nonNeg (back z)) × Fits w64 (natAbs (back z))
+        count-cast = rw (back-is (field-fits field-z z-is)) (natural, record { fits = omega (arith, field-small field-z z-is) })
 
-        pub count-above : most < natAbs (held z) → CountAt s at k most n (C.Refused (OutOfRange n))
-        count-above h = record { is = line-out (countForm k) (upTo most) n count-form (count-over most z natural (rw (held-is (field-fits field-z z-is)) at h)); within = tt }
+        pub count-above : most < natAbs (back z) → CountAt s at k most n (C.Refused (OutOfRange n))
+        count-above h = record { is = line-out (countForm k) (upTo most) n count-form (count-over most z natural (rw (back-is (field-fits field-z z-is)) at h)); within = tt }
 
-        pub count-read : natAbs (held z) ≤ most → CountAt s at k most n (C.Read (natAbs (held z)) next)
+        pub count-read : natAbs (back z) ≤ most → CountAt s at k most n (C.Read (natAbs (back z)) next)
         count-read h =
-            let h = rw (held-is (field-fits field-z z-is)) at h in
-            rw (held-is (field-fits field-z z-is)) (record { is = rw (pos-natAbs z natural) (line-in (countForm k) (upTo most) n count-form (count-within most z natural h)); within = (h, field-inside field-z z-is) })
+            let h = rw (back-is (field-fits field-z z-is)) at h in
+            rw (back-is (field-fits field-z z-is)) (record { is = rw (pos-natAbs z natural) (line-in (countForm k) (upTo most) n count-form (count-within most z natural h)); within = (h, field-inside field-z z-is) })

@@ -23,7 +23,7 @@ use Rattle.query.specs.Deck.{Deck}
 use Rattle.query.specs.Range.{RectInRange, costLimit}
 use Rattle.job.specs.Format.{Result, readJob}
 use Rattle.job.specs.declared.Deck as Held
-use Rattle.pricing.specs.Columns.{Figure}
+use Rattle.pricing.specs.Columns.{Figure, rowsOf}
 use Rattle.lines.specs.LineRecord.{linesRecord}
 use Rattle.cuts.specs.CutRecord.{rectOf, onLines, cutRecord}
 use Rattle.cuts.specs.declared.Cut.{Cut}
@@ -36,7 +36,7 @@ use Rattle.pricing.specs.Figures.{costOf, loadOf}
 use Rattle.sites.proofs.ReadLaws.{Spelt}
 use Rattle.pricing.proofs.RecordLaws.{made-cost, made-load}
 use Rattle.lines.specs.declared.Lines.{Lines}
-use Rattle.problem.specs.Problem.{boundOf, rowsOf, Ranged, Prepared}
+use Rattle.problem.specs.Problem.{boundOf, Ranged, Prepared}
 use Rattle.problem.proofs.Coordinates.{rect-back}
 use Rattle.problem.proofs.DeckProblem.{plain-axis, made-bound}
 use Rattle.trial.specs.Opened.{openedRecord, rectAllowed}

@@ -1,7 +1,6 @@
 -- The record of a deck's sites: its rows are the sites, and its columns are in range where the deck is.
 -- Assumes nothing.
 use mathlib.Core.Path.{_≡_, refl, sym, ap, subst, _∙_}
-use mathlib.Core.Bool.{cond}
 use mathlib.Core.List.{List, [], _∷_, _++_, map, List·Memᴰ, Memᴰ·of-map}
 use Prim.Native.Nat.{ℕ, _≤_}
 use native.Mathlib.Omega.{arith}
@@ -15,12 +14,12 @@ use Rattle.query.specs.Range.{InRange}
 use Rattle.query.proofs.Ranges.{figure-limits}
 use Rattle.numbers.specs.Padded.{padded}
 use Rattle.sites.specs.Sites.{Site, sitesOf}
-use Rattle.pricing.specs.Figures.{costOf, beforeOf, loadOf, flagsOf}
-use Rattle.pricing.specs.Columns.{rows, siteRows, SiteInRange, ColumnsInRange, PaidInRange, ReachInRange}
+use Rattle.pricing.specs.Figures.{costOf, beforeOf, loadOf}
+use Rattle.pricing.specs.Columns.{rows, siteRows, SiteInRange, ColumnsInRange, PaidInRange, ReachInRange, rowsOf, InColumns}
 use Rattle.sites.specs.Record.{sitesRecord}
 use Rattle.sites.specs.declared.Sites.{Sites}
 use Rattle.numbers.proofs.Padded.{padded-length, padded-each}
-use Rattle.pricing.proofs.SiteLaws.{siteOf, sitesOf-map, cost-law, before-law, load-law, flags-law}
+use Rattle.pricing.proofs.SiteLaws.{siteOf, sitesOf-map, cost-law, before-law, load-law}
 
 -- ---- rows
 rows-front : (sites : List Site) (xs ys : List ℤ) (vs ns : List ℕ) → take (length sites) (rows (map (λ s. s .at .x) sites ++ xs) (map (λ s. s .at .y) sites ++ ys) (map (λ s. s .visits) sites ++ vs) (map (λ s. s .near) sites ++ ns)) ≡ sites
@@ -29,17 +28,11 @@ rows-front [] xs ys vs ns = refl
 rows-front (s ∷ sites) xs ys vs ns = ap (λ (l : List Site). s ∷ l) (rows-front sites xs ys vs ns)
 
 -- the rows that a record of sites counts
-abbrev pub rowsOf : Sites → List Site
-rowsOf r = siteRows (r .x) (r .y) (r .visits) (r .near) (r .count)
-
 pub record-rows : (sites : List Site) → rowsOf (sitesRecord sites) ≡ sites
 unfolding sitesRecord siteRows padded
 record-rows sites = rows-front sites _ _ _ _
 
 -- ---- ranges
-abbrev pub InColumns : Sites → Type 0
-InColumns r = ColumnsInRange (r .x) (r .y) (r .visits) (r .near)
-
 module _ {A : Type 0} (sites : List Site) (z : A) (f : Site → A) where
   column-long : length sites ≤ 512 → length (padded 512 z (map f sites)) ≡ 512
   column-long h = padded-length 512 z (map f sites) (omega (arith, length-map sites f))
@@ -96,9 +89,6 @@ module _ (deck : Deck) (range : InRange deck) (r : Sites) (e : r ≡ sitesRecord
 
     pub made-load : (rect : Rect) → loadOf (rowsOf r) rect ≡ load deck rect
     made-load rect = ap (λ (sites : List Site). loadOf sites rect) made-rows ∙ load-law deck plainly rect
-
-    pub made-flags : (rect : Rect) → flagsOf (rowsOf r) rect ≡ padded 512 0 (map (λ stop. cond (reach deck rect stop) 1 0) (deck .stops))
-    made-flags rect = ap (λ (sites : List Site). flagsOf sites rect) made-rows ∙ flags-law deck plainly rect
 
 -- ---- what `before` and the test of reach ask of columns in range
 module _ {xs ys : List ℤ} {vs ns : List ℕ} (range : ColumnsInRange xs ys vs ns) where

@@ -11,6 +11,7 @@ use Rattle.numbers.specs.Integer.{dist}
 use Rattle.query.specs.Place.{Rect}
 use Rattle.query.specs.Range.{travelLimit, loadLimit, costLimit}
 use Rattle.sites.specs.Sites.{Site}
+use Rattle.sites.specs.declared.Sites.{Sites}
 use Rattle.sites.specs.Ranges.{Near180000}
 use Rattle.pricing.specs.Figures.{beforeOf, flagsOf}
 
@@ -36,6 +37,13 @@ pub record ColumnsInRange (xs ys : List ℤ) (vs ns : List ℕ) : Type 0 where
   pub y-range : (i : ℕ) → natAbs (getD ys i (pos 0)) ≤ 180000
   pub visits-range : (i : ℕ) → getD vs i 0 ≤ 65535
   pub near-range : (i : ℕ) → getD ns i 0 ≤ 720000
+
+-- the rows that a record of sites counts, and its columns in range
+abbrev pub rowsOf : Sites → List Site
+rowsOf r = siteRows (r .x) (r .y) (r .visits) (r .near) (r .count)
+
+abbrev pub InColumns : Sites → Type 0
+InColumns r = ColumnsInRange (r .x) (r .y) (r .visits) (r .near)
 
 -- the two columns that `before` reads
 pub record PaidInRange (vs ns : List ℕ) : Type 0 where

@@ -8,7 +8,6 @@ ghost use lib.Dec.{ltb};
 ghost use lib.IntN.{pos, natAbs, _-ℤ_};
 ghost use lib.Signed.{_≤ℤ_};
 ghost use Rattle.numbers.specs.Integer.{dist, clamp, halfUp};
-ghost use Rattle.query.specs.Place.{Place, Rect};
 ghost use Rattle.query.specs.Range.{loadLimit, costLimit};
 ghost use Rattle.sites.specs.Ranges.{Near180000};
 ghost use Rattle.pricing.specs.Figures.{costOf, loadOf};

@@ -27,7 +27,7 @@ use Rattle.sites.specs.declared.Sites.{Sites}
 use Rattle.sites.proofs.DeckLaws.{DeckColumns}
 use Rattle.sites.proofs.TravelLaws.{narrow}
 use Rattle.pricing.specs.Figures.{costOf, loadOf, flagsOf}
-use Rattle.pricing.specs.Columns.{FlagsAre}
+use Rattle.pricing.specs.Columns.{FlagsAre, rowsOf, InColumns}
 use Rattle.pricing.proofs.SiteLaws.{cost-law, load-law, flags-law}
 use Rattle.pricing.proofs.RecordLaws.{made-rows, made-range, made-most, made-cost}
 use Rattle.lines.specs.LineRecord.{Rows, marked, linesBetween, linesRecord}
@@ -36,7 +36,7 @@ use Rattle.lines.proofs.LineRecordLaws.{record-front}
 use Rattle.lines.proofs.DeckLines.{coordinates, reached, lines-marked, lines-in-order, padded-reached}
 use Rattle.slots.specs.declared.Cell.{Cell}
 use Rattle.numbers.proofs.WordTests.{back, fitting}
-use Rattle.problem.specs.Problem.{boundOf, siteProblem, Sited, Lined, rectIn, unbounded, Ranged, rowsOf, InColumns, Reaching, Prepared}
+use Rattle.problem.specs.Problem.{boundOf, siteProblem, Sited, Lined, rectIn, unbounded, Ranged, Reaching, Prepared}
 use Rattle.problem.proofs.Coordinates.{near-back, rect-narrow}
 
 -- ---- the area and the axis costs

@@ -71,13 +71,6 @@ pub record Ranged (r : Rect) : Type 0 where
   pub range : RectInRange r
   pub full : NonEmpty r
 
--- the rows that a record of sites counts, and its columns in range
-abbrev pub rowsOf : Sites → List Site
-rowsOf r = siteRows (r .x) (r .y) (r .visits) (r .near) (r .count)
-
-abbrev pub InColumns : Sites → Type 0
-InColumns r = ColumnsInRange (r .x) (r .y) (r .visits) (r .near)
-
 -- what the lines of a deck ask: its area, and which of its stops reach it
 pub record Reaching (deck : Deck) (area : Cell) (flags : List ℕ) : Type 0 where
   pub posts : deck .posts ≤ 64

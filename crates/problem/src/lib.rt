@@ -9,9 +9,9 @@ ghost use Rattle.query.specs.Place.{x-axis, y-axis};
 ghost use Rattle.query.specs.Lines.{lines};
 ghost use Rattle.sites.specs.DeckOf.{deckOf};
 ghost use Rattle.pricing.specs.Figures.{flagsOf};
-ghost use Rattle.pricing.specs.Columns.{siteRows};
+ghost use Rattle.pricing.specs.Columns.{siteRows, rowsOf, InColumns};
 ghost use Rattle.lines.specs.LineRecord.{linesRecord};
-ghost use Rattle.problem.specs.Problem.{Sited, spotOf, spotAt, rectIn, unbounded, Near20000, Ranged, rowsOf, InColumns, Reaching};
+ghost use Rattle.problem.specs.Problem.{Sited, spotOf, spotAt, rectIn, unbounded, Near20000, Ranged, Reaching};
 
 // A place with its cost.
 pub struct Spot {

@@ -30,7 +30,8 @@ use Rattle.search.specs.declared.run.Found.{Found}
 use Rattle.slots.specs.Numbering.{Numbered, cellsIn}
 use Rattle.search.specs.Run.{searchOf, Holds, Steady, foundOf, Searched}
 use Rattle.problem.proofs.DeckProblem.{codedProblem, coded-is}
-use Rattle.problem.specs.Problem.{Prepared, rectIn, rowsOf}
+use Rattle.problem.specs.Problem.{Prepared, rectIn}
+use Rattle.pricing.specs.Columns.{rowsOf}
 use Rattle.cells.proofs.Numbers.{order-numbers}
 use Rattle.search.proofs.RunLaws.{cells-are, holds-any}
 

@@ -11,12 +11,11 @@ ghost use Rattle.numbers.specs.Integer.{dist};
 ghost use Rattle.query.specs.Deck.{plain};
 ghost use Rattle.query.specs.Bound as Bound;
 ghost use Rattle.query.specs.Range.{costLimit, loadLimit, RectInRange};
-ghost use Rattle.query.specs.Lines.{lines};
 ghost use Rattle.pricing.specs.Figures.{loadOf};
 ghost use Rattle.pricing.specs.Columns.{siteRows, Figure};
 ghost use Rattle.cuts.specs.CutRecord.{Edges, onLines, cutRecord};
 ghost use Rattle.search.specs.Run.{cornerCosts, cellFor, improved, lowCorner, highCorner, firstRect, secondRect, firstCosts, secondCosts, halvesOf, Cutting, CutInRange};
-ghost use Rattle.problem.specs.Problem.{Sited, Lined, pricedOf, spotOf, rectIn, Near20000, Ranged};
+ghost use Rattle.problem.specs.Problem.{Sited, Lined, pricedOf, spotOf, rectIn, Ranged};
 
 // What a cut makes of a cell: its two new corners, and its two parts with the costs of their corners.
 pub struct Halves {

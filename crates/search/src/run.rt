@@ -12,18 +12,14 @@ ghost use Prim.Native.Nat.{_-_, _≤_};
 ghost use lib.ListN.{length, take};
 ghost use Rattle.query.specs.Search as Search;
 ghost use Rattle.query.specs.Range.{costLimit, RectInRange};
-ghost use Rattle.query.specs.Place.{x-axis, y-axis, zeroRect};
-ghost use Rattle.query.specs.Lines.{lines};
+ghost use Rattle.query.specs.Place.{zeroRect};
 ghost use Rattle.query.specs.Figures as Figures;
-ghost use Rattle.sites.specs.DeckOf.{deckOf};
-ghost use Rattle.pricing.specs.Figures.{flagsOf};
 ghost use Rattle.pricing.specs.Columns.{siteRows};
-ghost use Rattle.lines.specs.LineRecord.{linesRecord};
 ghost use Rattle.cuts.specs.CutRecord.{onLines};
 ghost use Rattle.slots.specs.Slot.{queryCell};
 ghost use Rattle.slots.specs.Numbering.{cellsIn, costsIn, Numbered};
 ghost use Rattle.search.specs.Run.{cornerCosts, CostsInRange, bestCorner, Addable, Added, searchOf, Takeable, Holds, Steady, Answerable, foundOf, Ready, Searched};
-ghost use Rattle.problem.specs.Problem.{siteProblem, Sited, Lined, pricedOf, rectIn, unbounded, Ranged, spotAt, rowsOf, InColumns, Reaching};
+ghost use Rattle.problem.specs.Problem.{siteProblem, Sited, Lined, pricedOf, rectIn, Ranged};
 
 // A search while it runs: where its live cells stand in the order, the best place so far and the cuts made.
 pub struct State {

@@ -19,7 +19,7 @@ use Rattle.query.specs.Problem.{problem}
 use Rattle.query.specs.Cut.{canCut, cutLine}
 use Rattle.job.specs.Format.{Result, refused, accepted, readJob}
 use Rattle.job.specs.declared.Deck.{Deck}
-use Rattle.job_line.proofs.RangeTests.{held}
+use Rattle.numbers.proofs.WordTests.{back}
 use Rattle.sites.specs.DeckOf.{deckOf}
 use Rattle.lines.specs.LineRecord.{linesRecord, InOrder}
 use Rattle.cuts.specs.CutRecord.{rectOf, onLines, cutAt, isX, cutRecord}
@@ -49,7 +49,7 @@ axis-number : (axis : Axis) → axisNumber axis ≡ cond (isX axis) (pos 1) (pos
 axis-number x-axis = refl
 axis-number y-axis = refl
 
-module _ {bytes : List ℕ} {o : Opened} (e : o ≡ openedRecord (readJob bytes)) (s : Spelt bytes) {xlo ylo xhi yhi : ℤ} (fits : Fits4 xlo ylo xhi yhi) (on : rectAllowed (rectOf xlo ylo xhi yhi) ≡ true) {cut : Cut} (found : cut ≡ cutRecord (problem (deckOf (o .deck))) (rectOf (held xlo) (held ylo) (held xhi) (held yhi))) where
+module _ {bytes : List ℕ} {o : Opened} (e : o ≡ openedRecord (readJob bytes)) (s : Spelt bytes) {xlo ylo xhi yhi : ℤ} (fits : Fits4 xlo ylo xhi yhi) (on : rectAllowed (rectOf xlo ylo xhi yhi) ≡ true) {cut : Cut} (found : cut ≡ cutRecord (problem (deckOf (o .deck))) (rectOf (back xlo) (back ylo) (back xhi) (back yhi))) where
   abbrev rect : Rect
   rect = rectOf xlo ylo xhi yhi
 

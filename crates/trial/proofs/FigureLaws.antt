@@ -24,16 +24,15 @@ use Rattle.query.specs.Bound.{span, bound}
 use Rattle.query.specs.Range.{costLimit, loadLimit}
 use Rattle.job_line.specs.Lines.{placeInRange}
 use Rattle.job.specs.Format.{readJob}
-use Rattle.job_line.proofs.RangeTests.{held}
 use Rattle.sites.specs.Sites.{sitesOf}
 use Rattle.pricing.specs.Figures.{costOf, loadOf}
-use Rattle.pricing.specs.Columns.{siteRows, Figure, BeforeIs}
+use Rattle.pricing.specs.Columns.{siteRows, Figure, BeforeIs, rowsOf, InColumns}
 use Rattle.cuts.specs.CutRecord.{rectOf}
 use Rattle.sites.specs.Record.{sitesRecord}
 use Rattle.sites.specs.declared.Sites.{Sites}
 use Rattle.pricing.proofs.RecordLaws.{made-range, made-count, made-before, made-cost, made-load}
 use Rattle.pricing.proofs.SiteLaws.{siteOf, sitesOf-map}
-use Rattle.problem.specs.Problem.{boundOf, Sited, spotOf, rowsOf, InColumns}
+use Rattle.problem.specs.Problem.{boundOf, Sited, spotOf}
 use Rattle.problem.specs.declared.Spot.{Spot}
 use Rattle.problem.proofs.Coordinates.{spot-back}
 use Rattle.problem.proofs.DeckProblem.{made-bound}
@@ -62,12 +61,12 @@ module _ {bytes : List ℕ} {o : Opened} (e : o ≡ openedRecord (readJob bytes)
       toZ-pos w64 n (omega (arith, fig .within)) ∙ ap pos (fig .is ∙ made-cost (s .job .deck) (spelt-range s) (o .sites) (open-sites bytes o e s) plainly at)
       ∙ inside minusOne (placeInRange at) (λ job. pos (cost (job .deck) at)) s t
 
-  pub load-answer : {xlo ylo xhi yhi : ℤ} {n : ℕ} → Fits4 xlo ylo xhi yhi → rectAllowed (rectOf xlo ylo xhi yhi) ≡ true → Figure (loadOf (rowsOf (o .sites)) (rectOf (held xlo) (held ylo) (held xhi) (held yhi))) loadLimit n → toZ w64 n ≡ loadFigure (rectOf xlo ylo xhi yhi) (readJob bytes)
+  pub load-answer : {xlo ylo xhi yhi : ℤ} {n : ℕ} → Fits4 xlo ylo xhi yhi → rectAllowed (rectOf xlo ylo xhi yhi) ≡ true → Figure (loadOf (rowsOf (o .sites)) (rectOf (back xlo) (back ylo) (back xhi) (back yhi))) loadLimit n → toZ w64 n ≡ loadFigure (rectOf xlo ylo xhi yhi) (readJob bytes)
   load-answer {xlo} {ylo} {xhi} {yhi} {n} f t fig =
       toZ-pos w64 n (omega (arith, fig .within)) ∙ ap pos (fig .is ∙ ap (loadOf (rowsOf (o .sites))) (rect-held f) ∙ made-load (s .job .deck) (spelt-range s) (o .sites) (open-sites bytes o e s) plainly (rectOf xlo ylo xhi yhi))
       ∙ inside minusOne (rectAllowed (rectOf xlo ylo xhi yhi)) (λ job. pos (load (job .deck) (rectOf xlo ylo xhi yhi))) s t
 
-  pub bound-answer : {xlo ylo xhi yhi b : ℤ} → Fits4 xlo ylo xhi yhi → rectAllowed (rectOf xlo ylo xhi yhi) ≡ true → b ≡ boundOf (rowsOf (o .sites)) (rectOf (held xlo) (held ylo) (held xhi) (held yhi)) → b ≡ boundFigure (rectOf xlo ylo xhi yhi) (readJob bytes)
+  pub bound-answer : {xlo ylo xhi yhi b : ℤ} → Fits4 xlo ylo xhi yhi → rectAllowed (rectOf xlo ylo xhi yhi) ≡ true → b ≡ boundOf (rowsOf (o .sites)) (rectOf (back xlo) (back ylo) (back xhi) (back yhi)) → b ≡ boundFigure (rectOf xlo ylo xhi yhi) (readJob bytes)
   bound-answer {xlo} {ylo} {xhi} {yhi} f t is =
       is ∙ ap (boundOf (rowsOf (o .sites))) (rect-held f) ∙ made-bound (s .job .deck) plainly (spelt-range s) (o .sites) (open-sites bytes o e s) (rectOf xlo ylo xhi yhi)
       ∙ inside least (rectAllowed (rectOf xlo ylo xhi yhi)) (λ job. bound (job .deck) (rectOf xlo ylo xhi yhi)) s t

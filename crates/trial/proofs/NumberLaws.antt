@@ -16,7 +16,7 @@ use borrow.Author.Tests.{ltb-true}
 use Rattle.query.specs.Place.{Rect}
 use Rattle.job.specs.Format.{Job, Result, refused, accepted}
 use Rattle.job_line.specs.declared.Refusal.{Refusal}
-use Rattle.job_line.proofs.RangeTests.{held, held-is}
+use Rattle.numbers.proofs.WordTests.{back, back-is}
 use Rattle.sites.proofs.ReadLaws.{differ}
 use Rattle.trial.specs.Trial.{minusOne, least, refusalNumbers, readingNumbers, nearFigure, nearAt, deckFigures}
 
@@ -74,11 +74,11 @@ natural-near (pos i) r e = refl
 natural-near (negsuc i) r e = differ e
 
 module _ {z : ℤ} (f : SFits w64 z) where
-  pub near-negative : (r : Result) → ltZ (held z) (pos 0) ≡ true → minusOne ≡ nearAt z r
-  near-negative r e = negative-none z r (rw (held-is f) at e)
+  pub near-negative : (r : Result) → ltZ (back z) (pos 0) ≡ true → minusOne ≡ nearAt z r
+  near-negative r e = negative-none z r (rw (back-is f) at e)
 
-  pub near-cast : ltZ (held z) (pos 0) ≡ false → T (nonNeg (held z)) × Fits w64 (natAbs (held z))
-  near-cast e = rw (held-is f) (natural-cast z f (rw (held-is f) at e))
+  pub near-cast : ltZ (back z) (pos 0) ≡ false → T (nonNeg (back z)) × Fits w64 (natAbs (back z))
+  near-cast e = rw (back-is f) (natural-cast z f (rw (back-is f) at e))
 
-  pub near-natural : (r : Result) → ltZ (held z) (pos 0) ≡ false → nearFigure (natAbs (held z)) r ≡ nearAt z r
-  near-natural r e = rw (held-is f) (natural-near z r (rw (held-is f) at e))
+  pub near-natural : (r : Result) → ltZ (back z) (pos 0) ≡ false → nearFigure (natAbs (back z)) r ≡ nearAt z r
+  near-natural r e = rw (back-is f) (natural-near z r (rw (back-is f) at e))

@@ -12,7 +12,7 @@ use Rattle.numbers.proofs.Truth.{and-iff}
 use Rattle.query.specs.Place.{Place, Rect, corner}
 use Rattle.job_line.specs.Lines.{placeInRange}
 use Rattle.job.proofs.RangeLaws.{place-range}
-use Rattle.job_line.proofs.RangeTests.{held, held-is}
+use Rattle.numbers.proofs.WordTests.{back, back-is}
 use Rattle.cuts.specs.CutRecord.{rectOf}
 use Rattle.problem.specs.Problem.{Ranged}
 use Rattle.trial.specs.Opened.{rectAllowed}
@@ -63,14 +63,14 @@ pub record Fits4 (xlo ylo xhi yhi : ℤ) : Type 0 where
   pub right : SFits w64 xhi
   pub back : SFits w64 yhi
 
-pub place-held : {x y : ℤ} → SFits w64 x → SFits w64 y → _≡_ {A = Place} (record { x = held x; y = held y }) (record { x = x; y = y })
-place-held f g = rw (held-is f, held-is g)
+pub place-held : {x y : ℤ} → SFits w64 x → SFits w64 y → _≡_ {A = Place} (record { x = back x; y = back y }) (record { x = x; y = y })
+place-held f g = rw (back-is f, back-is g)
 
-pub rect-held : {xlo ylo xhi yhi : ℤ} → Fits4 xlo ylo xhi yhi → rectOf (held xlo) (held ylo) (held xhi) (held yhi) ≡ rectOf xlo ylo xhi yhi
-rect-held f = rw (held-is (f .left), held-is (f .front), held-is (f .right), held-is (f .back))
+pub rect-held : {xlo ylo xhi yhi : ℤ} → Fits4 xlo ylo xhi yhi → rectOf (back xlo) (back ylo) (back xhi) (back yhi) ≡ rectOf xlo ylo xhi yhi
+rect-held f = rw (back-is (f .left), back-is (f .front), back-is (f .right), back-is (f .back))
 
-pub tested-place : {x y : ℤ} {r t : Bool} → SFits w64 x → SFits w64 y → r ≡ placeInRange (record { x = held x; y = held y }) → r ≡ t → placeInRange (record { x = x; y = y }) ≡ t
+pub tested-place : {x y : ℤ} {r t : Bool} → SFits w64 x → SFits w64 y → r ≡ placeInRange (record { x = back x; y = back y }) → r ≡ t → placeInRange (record { x = x; y = y }) ≡ t
 tested-place f g e t = sym (e ∙ ap placeInRange (place-held f g)) ∙ t
 
-pub tested-rect : {xlo ylo xhi yhi : ℤ} {r t : Bool} → Fits4 xlo ylo xhi yhi → r ≡ rectAllowed (rectOf (held xlo) (held ylo) (held xhi) (held yhi)) → r ≡ t → rectAllowed (rectOf xlo ylo xhi yhi) ≡ t
+pub tested-rect : {xlo ylo xhi yhi : ℤ} {r t : Bool} → Fits4 xlo ylo xhi yhi → r ≡ rectAllowed (rectOf (back xlo) (back ylo) (back xhi) (back yhi)) → r ≡ t → rectAllowed (rectOf xlo ylo xhi yhi) ≡ t
 tested-rect f e t = sym (e ∙ ap rectAllowed (rect-held f)) ∙ t

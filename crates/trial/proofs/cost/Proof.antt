@@ -9,8 +9,8 @@ use Rattle.query.specs.Range.{PlaceInRange, costLimit}
 use Rattle.job_line.specs.Lines.{placeInRange}
 use Rattle.job.specs.Format.{readJob}
 use Rattle.job.proofs.RangeLaws.{place-range}
-use Rattle.problem.specs.Problem.{Prepared, rowsOf}
-use Rattle.pricing.specs.Columns.{Figure}
+use Rattle.problem.specs.Problem.{Prepared}
+use Rattle.pricing.specs.Columns.{Figure, rowsOf}
 use Rattle.pricing.specs.Figures.{costOf}
 use Rattle.sites.proofs.ReadLaws.{Spelt}
 use Rattle.trial.proofs.OpenLaws.{open-accepted, open-prepared, open-refused, outside}

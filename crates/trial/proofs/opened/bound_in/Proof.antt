@@ -11,7 +11,7 @@ use Rattle.numbers.specs.Integer.{dist}
 use Rattle.numbers.proofs.Distance.{dist-most}
 use Rattle.query.specs.Place.{Rect}
 use Rattle.query.specs.Range.{RectInRange, costLimit}
-use Rattle.job_line.proofs.RangeTests.{held-is}
+use Rattle.numbers.proofs.WordTests.{back-is}
 use Rattle.sites.specs.Sites.{Site}
 use Rattle.pricing.specs.Figures.{costOf, loadOf}
 use Rattle.pricing.specs.Columns.{siteRows, Figure}
@@ -36,10 +36,10 @@ sites c = siteRows (now (c .args .xs)) (now (c .args .ys)) (now (c .args .visits
 
 -- the sides
 width : (c : tie.After-abs-diff2) → c .before .abs-diff .result ≡ dist (c .before .before .before .before .before .before .before .args .xlo) (c .before .before .before .before .before .before .before .args .xhi)
-width c = let s = c .before .before .before .before .before .before .before in rw (held-is (s .fits .xlo), held-is (s .fits .xhi)) at (c .before .abs-diff .ensures)
+width c = let s = c .before .before .before .before .before .before .before in rw (back-is (s .fits .xlo), back-is (s .fits .xhi)) at (c .before .abs-diff .ensures)
 
 height : (c : tie.After-abs-diff2) → c .abs-diff2 .result ≡ dist (c .before .before .before .before .before .before .before .args .ylo) (c .before .before .before .before .before .before .before .args .yhi)
-height c = let s = c .before .before .before .before .before .before .before in rw (held-is (s .fits .ylo), held-is (s .fits .yhi)) at (c .abs-diff2 .ensures)
+height c = let s = c .before .before .before .before .before .before .before in rw (back-is (s .fits .ylo), back-is (s .fits .yhi)) at (c .abs-diff2 .ensures)
 
 short : (c : tie.After-abs-diff2) → c .before .abs-diff .result + c .abs-diff2 .result ≤ 80000
 short c = let s = c .before .before .before .before .before .before .before in omega (arith, width c, height c, dist-most 20000 (s .args .xlo) (s .args .xhi) (range s .low-corner .x-range) (range s .high-corner .x-range), dist-most 20000 (s .args .ylo) (s .args .yhi) (range s .low-corner .y-range) (range s .high-corner .y-range))
@@ -73,10 +73,10 @@ load-in-requires : tie.Need-load-in-requires
 load-in-requires c κs = let s = c .before .before .before .before in (s .pre .0, subst (λ (r : Rect). T (rectAllowed r)) (sym (rect-back (rect s) (range s))) (s .pre .1))
 
 abs-diff-requires : tie.Need-abs-diff-requires
-abs-diff-requires c κs = let s = c .before .before .before .before .before in rw (held-is (s .fits .xlo), held-is (s .fits .xhi)) (omega (arith, range s .low-corner .x-range), omega (arith, range s .high-corner .x-range))
+abs-diff-requires c κs = let s = c .before .before .before .before .before in rw (back-is (s .fits .xlo), back-is (s .fits .xhi)) (omega (arith, range s .low-corner .x-range), omega (arith, range s .high-corner .x-range))
 
 abs-diff-requires-2 : tie.Need-abs-diff-requires-2
-abs-diff-requires-2 c κs = let s = c .before .before .before .before .before .before in rw (held-is (s .fits .ylo), held-is (s .fits .yhi)) (omega (arith, range s .low-corner .y-range), omega (arith, range s .high-corner .y-range))
+abs-diff-requires-2 c κs = let s = c .before .before .before .before .before .before in rw (back-is (s .fits .ylo), back-is (s .fits .yhi)) (omega (arith, range s .low-corner .y-range), omega (arith, range s .high-corner .y-range))
 
 add-bound : tie.Need-add-bound
 add-bound c = omega (arith, short c)
