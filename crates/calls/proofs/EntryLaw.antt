@@ -12,11 +12,11 @@ use lib.Signed.{nonNeg}
 use lib.ListN.{length, drop, replicate, length-replicate}
 use Rattle.numbers.proofs.Truth.{test}
 use Rattle.query.specs.Figures.{Figures, figures}
-use Rattle.job_line.specs.Refusal.{numberOf}
+use Rattle.refusal.specs.Refusal.{numberOf}
 use Rattle.job.specs.Format.{Job, Result, refused, accepted, readJob}
 use Rattle.job.proofs.Meaning.{accepted-law}
-use Rattle.job_line.specs.declared.Refusal.{Refusal}
-use Rattle.job_line.specs.declared.Refusal.the-variants.{TooLong, Malformed, OutOfRange, EmptyArea, NoPosts, NoStops, SmallSpace, ShortOutput}
+use Rattle.refusal.specs.declared.Refusal.{Refusal}
+use Rattle.refusal.specs.declared.Refusal.the-variants.{TooLong, Malformed, OutOfRange, EmptyArea, NoPosts, NoStops, SmallSpace, ShortOutput}
 use Rattle.report.specs.Report.{figuresOf}
 use Rattle.report.specs.Text.{reportText}
 use Rattle.report.specs.declared.Report.{Report}

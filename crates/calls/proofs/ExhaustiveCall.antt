@@ -17,7 +17,7 @@ use Rattle.job.specs.Format.{Job, Result, refused, accepted, readJob}
 use Rattle.job.proofs.Meaning.{accepted-law, refused-law}
 use Rattle.job.specs.declared.Job as Held
 use Rattle.job.specs.declared.Outcome.the-variants.{Refused}
-use Rattle.job_line.specs.declared.Refusal.{Refusal}
+use Rattle.refusal.specs.declared.Refusal.{Refusal}
 use Rattle.report.specs.declared.Report.{Report}
 use Rattle.problem.specs.declared.Spot.{Spot}
 use Rattle.calls.specs.declared.Cheapest.{Cheapest}

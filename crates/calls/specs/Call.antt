@@ -9,8 +9,8 @@ use lib.ListN.{length, drop}
 use Rattle.query.specs.Figures.{Figures, figures, State, done, stopped}
 use Rattle.query.specs.Space.{space}
 use Rattle.job.specs.Format.{Job, Result, refused, accepted, readJob}
-use Rattle.job_line.specs.declared.Refusal.{Refusal}
-use Rattle.job_line.specs.declared.Refusal.the-variants.{SmallSpace, ShortOutput}
+use Rattle.refusal.specs.declared.Refusal.{Refusal}
+use Rattle.refusal.specs.declared.Refusal.the-variants.{SmallSpace, ShortOutput}
 use Rattle.report.specs.Text.{reportText}
 use Rattle.report.specs.declared.Report.{Report}
 use Rattle.report.specs.declared.State as Code

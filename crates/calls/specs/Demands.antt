@@ -16,12 +16,12 @@ use Rattle.query.specs.Figures.{figures}
 use Rattle.query.specs.Space.{space}
 use Rattle.query.specs.History.{cutsMade}
 use Rattle.query.specs.Demand3.{Beaten, Demand3}
-use Rattle.job_line.specs.Refusal.{numberOf}
+use Rattle.refusal.specs.Refusal.{numberOf}
 use Rattle.job.specs.Format.{Job, accepted, readJob}
 use Rattle.job.specs.Spelling.{spell, Allowed}
 use Rattle.job.specs.Meaning as Meaning
-use Rattle.job_line.specs.declared.Refusal.{Refusal}
-use Rattle.job_line.specs.declared.Refusal.the-variants.{TooLong, Malformed, OutOfRange, EmptyArea, NoPosts, NoStops, SmallSpace, ShortOutput}
+use Rattle.refusal.specs.declared.Refusal.{Refusal}
+use Rattle.refusal.specs.declared.Refusal.the-variants.{TooLong, Malformed, OutOfRange, EmptyArea, NoPosts, NoStops, SmallSpace, ShortOutput}
 use Rattle.report.specs.Text.{reportText}
 use Rattle.report.specs.declared.Report.{Report}
 use Rattle.report.specs.declared.State.the-variants.{Done, Stopped}

@@ -4,7 +4,7 @@ use Prim.Native.Nat.{ℕ}
 use mathlib.Core.List.{List}
 use lib.IntN.{ℤ, pos, negℤ}
 use lib.ListN.{length, replicate}
-use Rattle.job_line.specs.Refusal.{numberOf}
+use Rattle.refusal.specs.Refusal.{numberOf}
 use Rattle.report.specs.Report.{figuresOf}
 use Rattle.report.specs.Text.{reportText}
 use Rattle.calls.specs.declared.Answer.{Answer}

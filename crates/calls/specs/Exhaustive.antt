@@ -12,7 +12,7 @@ use Rattle.query.specs.Exhaustive as Query
 use Rattle.query.specs.Demand3.{Beaten}
 use Rattle.job.specs.Format.{Job, Result, refused, accepted, readJob}
 use Rattle.job.specs.Meaning as Meaning
-use Rattle.job_line.specs.declared.Refusal.{Refusal}
+use Rattle.refusal.specs.declared.Refusal.{Refusal}
 use Rattle.report.specs.declared.Report.{Report}
 use Rattle.report.specs.declared.State.the-variants.{Done}
 use Rattle.problem.specs.declared.Spot.{Spot}

@@ -1,6 +1,6 @@
 // What the calls of the siting tool answer. specs/ defines each call, and the customer's demands of them; proofs/ proves these.
-use job_line::Refusal;
 use problem::Spot;
+use refusal::Refusal;
 use report::Report;
 
 // Each answer is either a report, itself done or stopped, or one refusal.

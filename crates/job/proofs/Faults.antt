@@ -16,8 +16,8 @@ use Rattle.job_line.specs.OneLine.{Reading, fault, got, Reader, line, lineResul
 use Rattle.job.specs.Reader.{andThen, _>>=_, return, repeated, end}
 use Rattle.job.specs.Format.{Job, jobOf, jobLines}
 use Rattle.job.specs.Meaning.{Kind, area, posts, post, stops, stop, rounds, Held, formOf, rangeOf, dueAfter, Good, top, one-more, FirstMalformed, no-form, too-much, FirstOutOfRange, Condition}
-use Rattle.job_line.specs.declared.Refusal.{Refusal}
-use Rattle.job_line.specs.declared.Refusal.the-variants.{Malformed, OutOfRange}
+use Rattle.refusal.specs.declared.Refusal.{Refusal}
+use Rattle.refusal.specs.declared.Refusal.the-variants.{Malformed, OutOfRange}
 use Rattle.job.proofs.FormLaws.{textOf, form-spells, form-whole, form-local}
 use Rattle.job.proofs.RangeLaws.{range-small}
 use Rattle.job.proofs.ReaderLaws.{not-got, lineOf}

@@ -21,8 +21,8 @@ use Rattle.job_line.specs.OneLine.{Reading, fault, got}
 use Rattle.job.specs.Format.{Job, jobLines, Result, refused, accepted, emptyArea, checked, resultOf, readJob}
 use Rattle.job.specs.Spelling.{spell, Writable, Allowed}
 use Rattle.job.specs.Meaning.{AcceptedLaw, SpellingLaw, top, Spelled, Condition, RefusedLaw}
-use Rattle.job_line.specs.declared.Refusal.{Refusal}
-use Rattle.job_line.specs.declared.Refusal.the-variants.{TooLong, Malformed, OutOfRange, EmptyArea, NoPosts, NoStops, SmallSpace, ShortOutput}
+use Rattle.refusal.specs.declared.Refusal.{Refusal}
+use Rattle.refusal.specs.declared.Refusal.the-variants.{TooLong, Malformed, OutOfRange, EmptyArea, NoPosts, NoStops, SmallSpace, ShortOutput}
 use Rattle.job.proofs.JobLaws.{job-got, job-gets, spell-length}
 use Rattle.job.proofs.Faults.{Faults, allDue, job-faults, first-fault, malformed-faults, range-faults}
 

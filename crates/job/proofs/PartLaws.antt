@@ -21,8 +21,8 @@ use Rattle.numbers.specs.Padded.{padded}
 use Rattle.numbers.proofs.Padded.{padded-map}
 use Rattle.job_line.specs.Reading.{countForm, countIn, CountAt, PostAt, StopAt}
 use Rattle.job.specs.Parts.{postLines, stopLines, allPosts, allStops, lastLine, PostsAt, StopsAt, LastAt}
-use Rattle.job_line.specs.declared.Refusal.{Refusal}
-use Rattle.job_line.specs.declared.Refusal.the-variants.{Malformed}
+use Rattle.refusal.specs.declared.Refusal.{Refusal}
+use Rattle.refusal.specs.declared.Refusal.the-variants.{Malformed}
 use Rattle.job_line.specs.declared.CountLine.{CountLine}
 use Rattle.job_line.specs.declared.CountLine.the-variants as C
 use Rattle.job.specs.declared.Posts.{Posts}

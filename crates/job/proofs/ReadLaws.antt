@@ -32,8 +32,8 @@ use Rattle.job.specs.declared.Posts.{Posts}
 use Rattle.job.specs.declared.Stops.{Stops}
 use Rattle.job.specs.declared.Job.{Job}
 use Rattle.job.specs.declared.Outcome.the-variants.{Accepted}
-use Rattle.job_line.specs.declared.Refusal.{Refusal}
-use Rattle.job_line.specs.declared.Refusal.the-variants.{TooLong, EmptyArea, NoPosts, NoStops}
+use Rattle.refusal.specs.declared.Refusal.{Refusal}
+use Rattle.refusal.specs.declared.Refusal.the-variants.{TooLong, EmptyArea, NoPosts, NoStops}
 use Rattle.numbers.proofs.WordTests.{back, back-is}
 
 -- ---- refusal 4

@@ -14,8 +14,8 @@ use Rattle.numbers.proofs.Members.{each-cons}
 use Rattle.job_line.specs.OneLine.{Reading, fault, got, Reader, line, lineResult}
 use Rattle.job.specs.Reader.{andThen, _>>=_, repeated, end}
 use Rattle.job.specs.Meaning.{Kind, Held, formOf, rangeOf}
-use Rattle.job_line.specs.declared.Refusal.{Refusal}
-use Rattle.job_line.specs.declared.Refusal.the-variants.{OutOfRange}
+use Rattle.refusal.specs.declared.Refusal.{Refusal}
+use Rattle.refusal.specs.declared.Refusal.the-variants.{OutOfRange}
 use Rattle.job.proofs.FormLaws.{textOf, form-spells}
 use Rattle.job.proofs.RangeLaws.{range-small}
 

@@ -9,10 +9,10 @@ use lib.ListN.{length, length-append}
 use Rattle.numbers.proofs.Joined.{flatten-snoc}
 use Rattle.job_line.specs.Lines.{areaLine, countLine, postLine, stopLine}
 use Rattle.job.specs.Format.{refused, readJob}
-use Rattle.job_line.specs.Refusal.{numberOf, lineOf}
+use Rattle.refusal.specs.Refusal.{numberOf, lineOf}
 use Rattle.job.specs.Meaning.{Kind, area, posts, post, stops, stop, rounds, Held, formOf, Good, top, one-more, FirstMalformed, no-form, too-much, Condition}
-use Rattle.job_line.specs.declared.Refusal.{Refusal}
-use Rattle.job_line.specs.declared.Refusal.the-variants.{TooLong, Malformed, OutOfRange, EmptyArea, NoPosts, NoStops, SmallSpace, ShortOutput}
+use Rattle.refusal.specs.declared.Refusal.{Refusal}
+use Rattle.refusal.specs.declared.Refusal.the-variants.{TooLong, Malformed, OutOfRange, EmptyArea, NoPosts, NoStops, SmallSpace, ShortOutput}
 use Rattle.job.proofs.Meaning.{refused-law}
 
 pub number-most : (why : Refusal) → numberOf why ≤ 8

@@ -13,8 +13,8 @@ use Rattle.query.specs.Deck.{Stop, Deck, plain}
 use Rattle.job_line.specs.Lines.{StopLine, areaLine, countLine, postLine, stopLine, placeInRange, areaInRange, stopInRange, upTo}
 use Rattle.job_line.specs.OneLine.{Reading, fault, got, Reader, line}
 use Rattle.job.specs.Reader.{_>>=_, _>>_, return, repeated, end}
-use Rattle.job_line.specs.declared.Refusal.{Refusal}
-use Rattle.job_line.specs.declared.Refusal.the-variants.{TooLong, EmptyArea, NoPosts, NoStops}
+use Rattle.refusal.specs.declared.Refusal.{Refusal}
+use Rattle.refusal.specs.declared.Refusal.the-variants.{TooLong, EmptyArea, NoPosts, NoStops}
 
 -- a job: a deck and the number of rounds
 pub record Job : Type 0 where

@@ -14,8 +14,8 @@ use Rattle.job_line.specs.Form.{Form}
 use Rattle.job_line.specs.Lines.{StopLine, areaLine, countLine, postLine, stopLine, placeInRange, areaInRange, stopInRange, upTo}
 use Rattle.job.specs.Format.{Job, refused, accepted, readJob, emptyArea}
 use Rattle.job.specs.Spelling.{spell, Writable, Allowed}
-use Rattle.job_line.specs.declared.Refusal.{Refusal}
-use Rattle.job_line.specs.declared.Refusal.the-variants.{TooLong, Malformed, OutOfRange, EmptyArea, NoPosts, NoStops, SmallSpace, ShortOutput}
+use Rattle.refusal.specs.declared.Refusal.{Refusal}
+use Rattle.refusal.specs.declared.Refusal.the-variants.{TooLong, Malformed, OutOfRange, EmptyArea, NoPosts, NoStops, SmallSpace, ShortOutput}
 
 -- demand 2: "A job is read as exactly the deck that it spells"
 pub record AcceptedLaw (bytes : List ℕ) (job : Job) : Type 0 where

@@ -3,7 +3,7 @@
 use Prim.Native.Nat.{ℕ, zero, suc}
 use mathlib.Core.List.{List, [], _∷_, _++_}
 use Rattle.job_line.specs.OneLine.{Reading, fault, got, Reader}
-use Rattle.job_line.specs.declared.Refusal.the-variants.{Malformed}
+use Rattle.refusal.specs.declared.Refusal.the-variants.{Malformed}
 
 abbrev pub andThen : {A B : Type 0} → Reading A → (A → Reader B) → Reading B
 andThen (fault why) next = fault why

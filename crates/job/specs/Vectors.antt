@@ -6,7 +6,7 @@ use lib.ListN.{replicate}
 use Rattle.query.specs.Marked.{deckA}
 use Rattle.text.specs.Ascii.{bytes}
 use Rattle.job.specs.Format.{refused, accepted, readJob}
-use Rattle.job_line.specs.declared.Refusal.the-variants.{TooLong, Malformed, OutOfRange, EmptyArea, NoPosts, NoStops}
+use Rattle.refusal.specs.declared.Refusal.the-variants.{TooLong, Malformed, OutOfRange, EmptyArea, NoPosts, NoStops}
 
 pub record Vectors : Type 0 where
   pub case-A : readJob (bytes "area=2,2,8,8\nposts=1\npost=0,0\nstops=2\nstop=4,3,2\nstop=8,12,1\nrounds=10\n") ≡ accepted (record { deck = deckA; rounds = 10 })

@@ -25,7 +25,7 @@ use Rattle.job_line.specs.Form.{Form, byte, key, field}
 use Rattle.job_line.specs.Lines.{areaLine, postLine, stopLine, placeInRange, areaInRange, stopInRange, upTo}
 use Rattle.job_line.specs.OneLine.{fault, got, line}
 use Rattle.job_line.specs.Reading.{countForm, FieldAt, AreaAt, CountAt, PostAt, StopAt}
-use Rattle.job_line.specs.declared.Refusal.the-variants.{Malformed, OutOfRange}
+use Rattle.refusal.specs.declared.Refusal.the-variants.{Malformed, OutOfRange}
 use Rattle.job_line.specs.declared.AreaLine.the-variants as A
 use Rattle.job_line.specs.declared.CountLine.the-variants as C
 use Rattle.job_line.specs.declared.PostLine.the-variants as P

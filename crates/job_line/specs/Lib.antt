@@ -1,4 +1,3 @@
-pub mod Refusal
 pub mod Form
 pub mod Lines
 pub mod OneLine

@@ -5,8 +5,8 @@ use mathlib.Core.Bool.{Bool, cond}
 use mathlib.Core.List.{List}
 use mathlib.Core.Option.{Option, none, some}
 use Rattle.job_line.specs.Form.{Form}
-use Rattle.job_line.specs.declared.Refusal.{Refusal}
-use Rattle.job_line.specs.declared.Refusal.the-variants.{Malformed, OutOfRange}
+use Rattle.refusal.specs.declared.Refusal.{Refusal}
+use Rattle.refusal.specs.declared.Refusal.the-variants.{Malformed, OutOfRange}
 
 -- a refusal, or what was read, the number of the next line and the text from there on
 pub data Reading (A : Type 0) : Type 0 where

@@ -1,22 +1,11 @@
 // One line of a job: what it holds and the place after it, or the refusal of a line without its form or of a value out of range.
 
+use refusal::Refusal;
 use text::ParsedNumber;
 ghost use mathlib.Core.Path.{_≡_};
 ghost use Rattle.numbers.specs.Integer.{between};
 ghost use Rattle.job_line.specs.Lines.{coordinateInRange, placeInRange, areaInRange, stopInRange};
 ghost use Rattle.job_line.specs.Reading.{areaOf, placeOf, stopLineOf, FieldAt, AreaAt, CountAt, PostAt, StopAt};
-
-// Why a call is refused. `numberOf` and `lineOf` of specs/Refusal.antt give document 01's number and line for each.
-pub enum Refusal {
-    TooLong,
-    Malformed(u64),
-    OutOfRange(u64),
-    EmptyArea,
-    NoPosts,
-    NoStops,
-    SmallSpace,
-    ShortOutput,
-}
 
 // An area and a place as a line has them.
 pub struct Area {

@@ -7,7 +7,7 @@ use lib.ListN.{length, length-append}
 use Rattle.query.specs.Figures.{Figures}
 use Rattle.text.specs.Ascii.{bytes}
 use Rattle.text.proofs.DigitCounts.{length-spellNat}
-use Rattle.job_line.specs.Refusal.{lineOf}
+use Rattle.refusal.specs.Refusal.{lineOf}
 use Rattle.report.specs.Text.{reportText}
 use Rattle.query.specs.Range.{FiguresInRange}
 use Rattle.report.specs.Limits.{ReportFits}

@@ -15,8 +15,8 @@ use Rattle.write.specs.Written.{Wrote}
 use Rattle.text.proofs.DigitCounts.{length-spellNat, length-spellNat-below, length-spellInt-below}
 use Rattle.write.proofs.SpellLaws.{length-spellInt}
 use Rattle.write.proofs.WrittenLaws.{written-front, wrote-both}
-use Rattle.job_line.specs.Refusal.{numberOf, lineOf}
-use Rattle.job_line.specs.declared.Refusal.{Refusal}
+use Rattle.refusal.specs.Refusal.{numberOf, lineOf}
+use Rattle.refusal.specs.declared.Refusal.{Refusal}
 use Rattle.job.proofs.RefusalLaws.{number-most}
 use Rattle.report.specs.Text.{stateText, reportText, refusalText}
 use Rattle.report.specs.Output.{Filled}

@@ -6,7 +6,7 @@ use lib.IntN.{pos, negsuc, negℤ}
 use lib.ListN.{length}
 use Rattle.query.specs.Figures.{Figures, stopped}
 use Rattle.query.specs.Range.{costLimit, FiguresInRange}
-use Rattle.job_line.specs.declared.Refusal.{Refusal}
+use Rattle.refusal.specs.declared.Refusal.{Refusal}
 use Rattle.report.specs.Text.{reportText, refusalText}
 
 -- figures at the ends of their ranges

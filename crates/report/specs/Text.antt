@@ -5,8 +5,8 @@ use mathlib.Core.List.{List, [], _∷_, flatten}
 use Rattle.query.specs.Figures.{Figures, State, done, stopped}
 use Rattle.text.specs.Ascii.{bytes, comma}
 use Rattle.text.specs.Decimal.{spellNat, spellInt}
-use Rattle.job_line.specs.Refusal.{numberOf, lineOf}
-use Rattle.job_line.specs.declared.Refusal.{Refusal}
+use Rattle.refusal.specs.Refusal.{numberOf, lineOf}
+use Rattle.refusal.specs.declared.Refusal.{Refusal}
 
 -- 01 "state is `done` or `stopped`"
 abbrev pub stateText : State → List ℕ

@@ -4,7 +4,7 @@ use mathlib.Core.Path.{_≡_}
 use Rattle.query.specs.Figures.{figures}
 use Rattle.query.specs.Marked.{deckA}
 use Rattle.text.specs.Ascii.{bytes}
-use Rattle.job_line.specs.declared.Refusal.the-variants.{TooLong, Malformed}
+use Rattle.refusal.specs.declared.Refusal.the-variants.{TooLong, Malformed}
 use Rattle.report.specs.Text.{reportText, refusalText}
 
 pub record Vectors : Type 0 where

@@ -1,13 +1,11 @@
 // The text of a report and of a refusal.
-use job_line::Refusal;
+use refusal::Refusal;
 ghost use Prim.Native.Nat.{_+_, _≤_};
-ghost use mathlib.Core.Path.{_≡_};
 ghost use mathlib.Core.List.{[], _∷_, _++_};
 ghost use lib.ListN.{length};
 ghost use Rattle.text.specs.Ascii.{bytes, comma};
 ghost use Rattle.text.specs.Decimal.{spellNat, spellInt};
 ghost use Rattle.write.specs.Written.{Wrote};
-ghost use Rattle.job_line.specs.Refusal.{numberOf, lineOf};
 ghost use Rattle.report.specs.Report.{stateOf, figuresOf};
 ghost use Rattle.report.specs.Text.{stateText, reportText, refusalText};
 ghost use Rattle.query.specs.Range.{FiguresInRange};
@@ -91,44 +89,13 @@ pub fn write_report(out: &mut [u8], r: Report) -> usize
     write::put(out, end, b"\n")
 }
 
-// Document 01's number of a refusal, and its line.
-pub fn number_of(why: Refusal) -> u64
-    ensures { λ n. ⌜ n ≡ numberOf why ⌝ }
-{
-    match why {
-        Refusal::TooLong => 1,
-        Refusal::Malformed(_) => 2,
-        Refusal::OutOfRange(_) => 3,
-        Refusal::EmptyArea => 4,
-        Refusal::NoPosts => 5,
-        Refusal::NoStops => 6,
-        Refusal::SmallSpace => 7,
-        Refusal::ShortOutput => 8,
-    }
-}
-
-pub fn line_of(why: Refusal) -> u64
-    ensures { λ n. ⌜ n ≡ lineOf why ⌝ }
-{
-    match why {
-        Refusal::TooLong => 0,
-        Refusal::Malformed(line) => line,
-        Refusal::OutOfRange(line) => line,
-        Refusal::EmptyArea => 0,
-        Refusal::NoPosts => 0,
-        Refusal::NoStops => 0,
-        Refusal::SmallSpace => 0,
-        Refusal::ShortOutput => 0,
-    }
-}
-
 // The two lines of a refusal at the start of `out`, and their length.
 pub fn write_refusal(out: &mut [u8], why: Refusal) -> usize
     requires { ⌜ 64 ≤ length (now out) ⌝ }
     ensures { λ n. ⌜ Filled (now (out .entry)) (refusalText why) (now (out .exit)) n ⌝ }
 {
-    let number = number_of(why);
-    let line = line_of(why);
+    let number = refusal::number_of(why);
+    let line = refusal::line_of(why);
     let next = put_key_nat(out, 0, b"refused=", number);
     let next = put_key_nat(out, next, b"\nline=", line);
     write::put(out, next, b"\n")

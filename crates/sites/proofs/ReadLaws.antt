@@ -13,7 +13,7 @@ use Rattle.job.specs.Format.{Job, Result, refused, accepted, readJob}
 use Rattle.job.specs.Spelling.{Allowed}
 use Rattle.job.specs.Record.{deckRecord, jobRecord}
 use Rattle.job.specs.declared.Job as Held
-use Rattle.job_line.specs.declared.Refusal.{Refusal}
+use Rattle.refusal.specs.declared.Refusal.{Refusal}
 use Rattle.job.specs.declared.Outcome.{Outcome}
 use Rattle.job.specs.declared.Outcome.the-variants.{Accepted, Refused}
 use Rattle.job.proofs.Meaning.{accepted-law, allowed-in-range}

@@ -16,9 +16,9 @@ use Rattle.numbers.proofs.Integer.{order, sub-nat}
 use Rattle.numbers.proofs.Words.{difference, difference-fits}
 use Rattle.job.proofs.RefusalLaws.{number-most}
 use Rattle.query.specs.Figures.{figures}
-use Rattle.job_line.specs.Refusal.{numberOf}
+use Rattle.refusal.specs.Refusal.{numberOf}
 use Rattle.job.specs.Format.{refused}
-use Rattle.job_line.specs.declared.Refusal.{Refusal}
+use Rattle.refusal.specs.declared.Refusal.{Refusal}
 use Rattle.report.specs.Report.{figuresOf}
 use Rattle.report.specs.Text.{reportText, refusalText}
 use Rattle.report.specs.Output.{Filled}

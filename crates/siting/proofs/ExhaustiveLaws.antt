@@ -10,7 +10,7 @@ use Rattle.job.specs.Format.{Job, refused, accepted, readJob}
 use Rattle.job.specs.Record.{jobRecord}
 use Rattle.job.specs.declared.Job as Held
 use Rattle.job.specs.declared.Outcome.the-variants.{Accepted, Refused}
-use Rattle.job_line.specs.declared.Refusal.{Refusal}
+use Rattle.refusal.specs.declared.Refusal.{Refusal}
 use Rattle.sites.specs.DeckOf.{deckOf}
 use Rattle.sites.specs.Sites.{sitesOf}
 use Rattle.sites.specs.Record.{sitesRecord}

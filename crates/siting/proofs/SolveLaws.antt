@@ -25,7 +25,7 @@ use Rattle.job.specs.Record.{jobRecord}
 use Rattle.job.specs.declared.Job as Held
 use Rattle.job.specs.declared.Deck.{Deck}
 use Rattle.job.specs.declared.Outcome.the-variants.{Accepted}
-use Rattle.job_line.specs.declared.Refusal.{Refusal}
+use Rattle.refusal.specs.declared.Refusal.{Refusal}
 use Rattle.sites.specs.DeckOf.{deckOf}
 use Rattle.sites.specs.Sites.{sitesOf}
 use Rattle.sites.specs.Record.{sitesRecord}

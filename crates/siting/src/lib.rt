@@ -4,8 +4,8 @@ use calls::Cheapest;
 use calls::Text;
 use job::Deck;
 use job::Outcome;
-use job_line::Refusal;
 use problem::Spot;
+use refusal::Refusal;
 use report::Report;
 use report::State;
 use search::run;
@@ -103,7 +103,7 @@ pub extern "C" fn siting_report(job: &[u8], out: &mut [u8]) -> i64
     let answer = given.answer;
     match answer {
         Answer::Report(_) => given.bytes as i64,
-        Answer::Refused(why) => -(report::number_of(why) as i64),
+        Answer::Refused(why) => -(refusal::number_of(why) as i64),
     }
 }
 

@@ -15,7 +15,7 @@ use mir.Val.{Fits, SFits}
 use borrow.Author.Tests.{ltb-true}
 use Rattle.query.specs.Place.{Rect}
 use Rattle.job.specs.Format.{Job, Result, refused, accepted}
-use Rattle.job_line.specs.declared.Refusal.{Refusal}
+use Rattle.refusal.specs.declared.Refusal.{Refusal}
 use Rattle.numbers.proofs.WordTests.{back, back-is}
 use Rattle.sites.proofs.ReadLaws.{differ}
 use Rattle.trial.specs.Trial.{minusOne, least, refusalNumbers, readingNumbers, nearFigure, nearAt, deckFigures}

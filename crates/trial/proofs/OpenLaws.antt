@@ -12,7 +12,7 @@ use Rattle.job.specs.Format.{Job, Result, refused, accepted, readJob}
 use Rattle.job.specs.Record.{jobRecord}
 use Rattle.job.specs.declared.Job as Held
 use Rattle.job.specs.declared.Deck.{Deck}
-use Rattle.job_line.specs.declared.Refusal.{Refusal}
+use Rattle.refusal.specs.declared.Refusal.{Refusal}
 use Rattle.job.specs.declared.Outcome.the-variants.{Accepted}
 use Rattle.job.proofs.Meaning.{accepted-law}
 use Rattle.sites.specs.DeckOf.{deckOf}

@@ -14,8 +14,8 @@ use Rattle.query.specs.Bound.{bound}
 use Rattle.query.specs.Lines.{lines}
 use Rattle.query.specs.Problem.{problem}
 use Rattle.query.specs.Cut.{canCut, cutLine}
-use Rattle.job_line.specs.Refusal.{numberOf, lineOf}
-use Rattle.job_line.specs.declared.Refusal.{Refusal}
+use Rattle.refusal.specs.Refusal.{numberOf, lineOf}
+use Rattle.refusal.specs.declared.Refusal.{Refusal}
 use Rattle.job_line.specs.Lines.{placeInRange}
 use Rattle.job.specs.Format.{Job, Result, refused, accepted}
 use Rattle.trial.specs.Opened.{rectAllowed}

@@ -3,12 +3,12 @@
 pub mod opened;
 
 use job::Outcome;
-use job_line::Refusal;
+use refusal::Refusal;
 ghost use mathlib.Core.Path.{_≡_};
 ghost use mathlib.Core.List.{_++_};
 ghost use Prim.Native.Nat.{_≤_};
 ghost use lib.ListN.{length, getD, take, drop};
-ghost use Rattle.job_line.specs.Refusal.{lineOf};
+ghost use Rattle.refusal.specs.Refusal.{lineOf};
 ghost use Rattle.job.specs.Format.{readJob};
 ghost use Rattle.cuts.specs.CutRecord.{rectOf};
 ghost use Rattle.trial.specs.Trial.{
@@ -34,10 +34,10 @@ pub fn refusal_figure(why: Refusal, which: u64) -> i64
     ensures { λ r. ⌜ r ≡ getD (refusalNumbers why) which least ⌝ }
 {
     if which == 0 {
-        return report::number_of(why) as i64;
+        return refusal::number_of(why) as i64;
     }
     if which == 1 {
-        return report::line_of(why) as i64;
+        return refusal::line_of(why) as i64;
     }
     -9223372036854775808
 }

@@ -16,10 +16,10 @@ use Rattle.numbers.proofs.Words.{word-fits}
 use Rattle.query.specs.Figures.{figures}
 use Rattle.query.proofs.Ranges.{figure-limits}
 use Rattle.query.proofs.FigureRanges.{point-in-range}
-use Rattle.job_line.specs.Refusal.{lineOf}
+use Rattle.refusal.specs.Refusal.{lineOf}
 use Rattle.job.specs.Format.{Job, Result, refused, accepted, readJob}
-use Rattle.job_line.specs.declared.Refusal.{Refusal}
-use Rattle.job_line.specs.declared.Refusal.the-variants.{TooLong, Malformed, OutOfRange, EmptyArea, NoPosts, NoStops, SmallSpace, ShortOutput}
+use Rattle.refusal.specs.declared.Refusal.{Refusal}
+use Rattle.refusal.specs.declared.Refusal.the-variants.{TooLong, Malformed, OutOfRange, EmptyArea, NoPosts, NoStops, SmallSpace, ShortOutput}
 use Rattle.job.proofs.Meaning.{accepted-law, refused-law, allowed-in-range}
 use Rattle.job.proofs.RefusalLaws.{condition-line}
 use Rattle.report.specs.Report.{figuresOf}

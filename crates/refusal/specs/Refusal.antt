@@ -1,8 +1,8 @@
 -- Document 01, "Turned down": the number and the line of each reason for a refusal.
 -- Assumes nothing.
 use Prim.Native.Nat.{ℕ}
-use Rattle.job_line.specs.declared.Refusal.{Refusal}
-use Rattle.job_line.specs.declared.Refusal.the-variants.{TooLong, Malformed, OutOfRange, EmptyArea, NoPosts, NoStops, SmallSpace, ShortOutput}
+use Rattle.refusal.specs.declared.Refusal.{Refusal}
+use Rattle.refusal.specs.declared.Refusal.the-variants.{TooLong, Malformed, OutOfRange, EmptyArea, NoPosts, NoStops, SmallSpace, ShortOutput}
 
 abbrev pub numberOf : Refusal → ℕ
 numberOf TooLong = 1
