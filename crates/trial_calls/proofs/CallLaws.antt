@@ -179,7 +179,7 @@ module _ (s : Spot) (h : SpotInRange s) (which : ℕ) where
   pub spot-cost : which ≡ 2 → toZ w64 (s .cost) ≡ getD (spotNumbers s) which least
   spot-cost e = number-at (spotNumbers s) which 2 _ e (toZ-pos w64 (s .cost) (omega (arith, h .cost-limit)))
 
--- ---- the numbers of a refused walk
+-- ---- the numbers of a refused exhaustive call
 no-spot : (why : Refusal) (which : ℕ) → which < 3 → least ≡ getD (cheapestNumbers (Cheapest.Refused why)) which least
 no-spot why zero h = refl
 no-spot why (suc zero) h = refl
