@@ -1,4 +1,4 @@
--- How large the number and the line of a refusal can be.
+-- How large the line of a refusal can be.
 -- Assumes nothing.
 use mathlib.Core.Path.{_≡_, refl, sym, ap, _∙_}
 use mathlib.Core.List.{List, [], _∷_, _++_, flatten}
@@ -9,21 +9,11 @@ use lib.ListN.{length, length-append}
 use Rattle.numbers.proofs.Joined.{flatten-snoc}
 use Rattle.job_line.specs.Lines.{areaLine, countLine, postLine, stopLine}
 use Rattle.job.specs.Format.{refused, readJob}
-use Rattle.refusal.specs.Refusal.{numberOf, lineOf}
+use Rattle.refusal.specs.Refusal.{lineOf}
 use Rattle.job.specs.Meaning.{Kind, area, posts, post, stops, stop, rounds, Held, formOf, Good, top, one-more, FirstMalformed, no-form, too-much, Condition}
 use Rattle.refusal.specs.declared.Refusal.{Refusal}
 use Rattle.refusal.specs.declared.Refusal.the-variants.{TooLong, Malformed, OutOfRange, EmptyArea, NoPosts, NoStops, SmallSpace, ShortOutput}
 use Rattle.job.proofs.Meaning.{refused-law}
-
-pub number-most : (why : Refusal) → numberOf why ≤ 8
-number-most TooLong = omega arith
-number-most (Malformed line) = omega arith
-number-most (OutOfRange line) = omega arith
-number-most EmptyArea = omega arith
-number-most NoPosts = omega arith
-number-most NoStops = omega arith
-number-most SmallSpace = omega arith
-number-most ShortOutput = omega arith
 
 -- ---- the line: each line before it has a byte
 no-bytes : (k : Kind) → formOf k [] ≡ none

@@ -1,4 +1,4 @@
--- One turn of each pass of `price`: what the code computes of a row, read from words, is the site's part of the figure.
+-- One turn of each pass of pricing: what the code computes of a row, read from words, is the site's part of the figure.
 -- Assumes nothing.
 use mathlib.Core.Path.{_≡_, refl, _∙_}
 use mathlib.Core.Bool.{cond}

@@ -17,7 +17,7 @@ use Rattle.write.proofs.SpellLaws.{length-spellInt}
 use Rattle.write.proofs.WrittenLaws.{written-front, wrote-both}
 use Rattle.refusal.specs.Refusal.{numberOf, lineOf}
 use Rattle.refusal.specs.declared.Refusal.{Refusal}
-use Rattle.job.proofs.RefusalLaws.{number-most}
+use Rattle.refusal.proofs.Numbers.{number-most}
 use Rattle.report.specs.Text.{stateText, reportText, refusalText}
 use Rattle.report.specs.Output.{Filled}
 

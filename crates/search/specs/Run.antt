@@ -36,7 +36,7 @@ use Rattle.slots.specs.Slot.{Entry, entryCell, cellAt}
 use Rattle.cells.specs.Space.{entries, entryBefore}
 use Rattle.cells.specs.Steps.{InOrder}
 
--- ---- places and cells as the code holds them
+-- ---- cells with the costs of their corners, and the better of two places
 -- the costs of the corners of a rectangle, and its cell
 abbrev pub cornerCosts : List Site → Rect → Costs
 cornerCosts sites r = record { c00 = costOf sites (record { x = r .xlo; y = r .ylo }); c01 = costOf sites (record { x = r .xlo; y = r .yhi }); c10 = costOf sites (record { x = r .xhi; y = r .ylo }); c11 = costOf sites (record { x = r .xhi; y = r .yhi }) }

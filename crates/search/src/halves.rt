@@ -1,4 +1,4 @@
-// Priced places, cells with their bounds, and the two halves that a cut makes of a cell.
+// The better of two places, cells with their bounds, and the two halves that a cut makes of a cell.
 use cuts::Cut;
 use problem::Spot;
 use slots::Cell;

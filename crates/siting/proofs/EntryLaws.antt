@@ -14,7 +14,7 @@ use lib.ListN.{length, drop, replicate}
 use Rattle.numbers.specs.Padded.{padded}
 use Rattle.numbers.proofs.Integer.{order, sub-nat}
 use Rattle.numbers.proofs.Words.{difference, difference-fits}
-use Rattle.job.proofs.RefusalLaws.{number-most}
+use Rattle.refusal.proofs.Numbers.{number-most}
 use Rattle.query.specs.Figures.{figures}
 use Rattle.refusal.specs.Refusal.{numberOf}
 use Rattle.job.specs.Format.{refused}

@@ -1,7 +1,7 @@
 -- `siting::siting_report` meets its contract.
 -- Assumes nothing.
 use native.Mathlib.Omega.{arith}
-use Rattle.job.proofs.RefusalLaws.{number-most}
+use Rattle.refusal.proofs.Numbers.{number-most}
 use Rattle.siting.proofs.EntryLaws.{minus-fits, entry-report, entry-refused}
 use borrow.Author.Needs.{needs}
 use Rattle.siting.proofs.siting_report.Statement.{statement}

@@ -5,7 +5,7 @@ use native.Mathlib.Omega.{arith}
 use lib.IntN.{pos}
 use mir.Syntax.{w64}
 use mir.ValLaws.{toZ-pos}
-use Rattle.job.proofs.RefusalLaws.{number-most}
+use Rattle.refusal.proofs.Numbers.{number-most}
 use Rattle.trial.specs.Trial.{refusalNumbers}
 use Rattle.trial.proofs.NumberLaws.{number-at, no-refusal-number}
 use borrow.Author.Needs.{needs}
