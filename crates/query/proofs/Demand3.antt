@@ -76,7 +76,7 @@ module _ (deck : Deck) (full : NonEmpty (deck .area)) where
   unfolding run round
   one-more-high n = FigureLaws.high-falls (problem deck) (lawful deck full) (cut-law (problem deck)) (run (problem deck) n) (run (problem deck) n .live) (ok n)
 
-  pub demand-3 : (n : ℕ) → Demand3 deck n
+  pub demand-3 : (n : ℕ) → Demand3 deck n (figures deck n)
   unfolding figures figuresOf problem
   demand-3 n = record {
     in-area = ok n .best-ok .inside;
