@@ -4,48 +4,40 @@ use Prim.Native.Nat.{ℕ, _+_, _*_}
 use mathlib.Core.Bool.{cond}
 use mathlib.Core.List.{List, _++_}
 use lib.Dec.{ltb}
-use lib.IntN.{ℤ}
-use lib.ListN.{length, drop}
-use Rattle.query.specs.Figures.{Figures, figures, State, done, stopped}
+use lib.IntN.{ℤ, pos}
+use lib.ListN.{length, drop, replicate}
+use Rattle.query.specs.Figures.{Figures, figures}
 use Rattle.query.specs.Space.{space}
 use Rattle.job.specs.Format.{Job, Result, refused, accepted, readJob}
 use Rattle.refusal.specs.declared.Refusal.{Refusal}
 use Rattle.refusal.specs.declared.Refusal.the-variants.{SmallSpace, ShortOutput}
 use Rattle.report.specs.Text.{reportText}
-use Rattle.report.specs.declared.Report.{Report}
-use Rattle.report.specs.declared.State as Code
-use Rattle.report.specs.declared.State.the-variants.{Done, Stopped}
-use Rattle.calls.specs.declared.Answer.{Answer}
-use Rattle.calls.specs.declared.Answer.the-variants as Answered
+use Rattle.calls.specs.Answers.{AnswerOf, gives, refusal}
 
 -- an answer, with the cell space and the output as the call leaves them
 pub record Left : Type 0 where
-  pub answer : Answer
+  pub answer : AnswerOf Figures
   pub cells : List ℤ
   pub out : List ℕ
 
-abbrev pub stateRecord : State → Code.State
-stateRecord done = Done
-stateRecord stopped = Stopped
-
--- the figures as the code's report carries them
-abbrev pub reportRecord : Figures → Report
-reportRecord f = record { state = stateRecord (f .state); x = f .at .x; y = f .at .y; high = f .high; low = f .low; before = f .before; rounds = f .rounds }
-
 -- 01 "Every row changes nothing lent"
 abbrev pub turnedDown : Refusal → List ℤ → List ℕ → Left
-turnedDown why cells out = record { answer = Answered.Refused why; cells = cells; out = out }
+turnedDown why cells out = record { answer = refusal why; cells = cells; out = out }
 
 -- 01 "A report fills the first bytes of the output; later bytes keep their values"
 unfoldable pub overwritten : List ℕ → List ℕ → List ℕ
 overwritten text out = text ++ drop (length text) out
 
+-- the figures of a job's report
+abbrev pub jobFigures : Job → Figures
+jobFigures job = figures (job .deck) (job .rounds)
+
 unfoldable pub reported : Job → List ℤ → List ℕ → Left
 unfolding figures space reportText overwritten
 reported job cells out = record {
-  answer = Answered.Report (reportRecord (figures (job .deck) (job .rounds)));
+  answer = gives (jobFigures job);
   cells = space (job .deck) (job .rounds) (length cells);
-  out = overwritten (reportText (figures (job .deck) (job .rounds))) out;
+  out = overwritten (reportText (jobFigures job)) out;
 }
 
 -- 01 refusals 7 and 8, "all before any place is priced"
@@ -58,3 +50,7 @@ answered (accepted job) cells out = cond (ltb (length cells) (5 * (job .rounds +
 unfoldable pub reportCall : List ℕ → List ℤ → List ℕ → Left
 unfolding readJob answered
 reportCall job cells out = answered (readJob job) cells out
+
+-- the cell space that the C entry and the program have of their own: 5 × 1,001 numbers, enough for every job
+abbrev pub ownSpace : List ℤ
+ownSpace = replicate 5005 (pos 0)

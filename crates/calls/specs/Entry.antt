@@ -3,13 +3,11 @@
 use Prim.Native.Nat.{ℕ}
 use mathlib.Core.List.{List}
 use lib.IntN.{ℤ, pos, negℤ}
-use lib.ListN.{length, replicate}
-use Rattle.refusal.specs.Refusal.{numberOf}
-use Rattle.report.specs.Report.{figuresOf}
+use lib.ListN.{length}
+use Rattle.query.specs.Figures.{Figures}
 use Rattle.report.specs.Text.{reportText}
-use Rattle.calls.specs.declared.Answer.{Answer}
-use Rattle.calls.specs.declared.Answer.the-variants.{Report, Refused}
-use Rattle.calls.specs.Call.{Left, reportCall}
+use Rattle.calls.specs.Answers.{AnswerOf, gives, refuses}
+use Rattle.calls.specs.Call.{Left, reportCall, ownSpace}
 
 -- the entry's result, and the output as it leaves it
 pub record Returned : Type 0 where
@@ -17,15 +15,15 @@ pub record Returned : Type 0 where
   pub out : List ℕ
 
 -- 01 "its signed result is the bytes written, or minus the refusal number, and it gives no line"
-unfoldable pub resultOf : Answer → ℤ
+unfoldable pub resultOf : AnswerOf Figures → ℤ
 unfolding reportText
-resultOf (Report r) = pos (length (reportText (figuresOf r)))
-resultOf (Refused why) = negℤ (pos (numberOf why))
+resultOf (gives f) = pos (length (reportText f))
+resultOf (refuses number line) = negℤ (pos number)
 
 abbrev pub returned : Left → Returned
 returned left = record { result = resultOf (left .answer); out = left .out }
 
--- 01 "The C entry has cell space of its own and never gives 7": 5 × 1,001 numbers
+-- 01 "The C entry has cell space of its own"
 unfoldable pub entry : List ℕ → List ℕ → Returned
 unfolding reportCall resultOf
-entry job out = returned (reportCall job (replicate 5005 (pos 0)) out)
+entry job out = returned (reportCall job ownSpace out)

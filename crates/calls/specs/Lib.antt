@@ -1,5 +1,10 @@
+pub mod Answers
 pub mod Call
 pub mod Entry
 pub mod Program
 pub mod Exhaustive
 pub mod Demands
+pub mod EntryLaw
+pub mod ProgramLaw
+pub mod ExhaustiveCallLaw
+pub mod RefusalTable

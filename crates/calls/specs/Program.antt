@@ -2,26 +2,24 @@
 -- Assumes nothing.
 use Prim.Native.Nat.{ℕ}
 use mathlib.Core.List.{List}
-use lib.IntN.{pos}
 use lib.ListN.{length, replicate}
 use Rattle.numbers.specs.Padded.{padded}
-use Rattle.report.specs.Report.{figuresOf}
+use Rattle.query.specs.Figures.{Figures}
 use Rattle.report.specs.Text.{reportText, refusalText}
-use Rattle.calls.specs.declared.Answer.{Answer}
-use Rattle.calls.specs.declared.Answer.the-variants.{Report, Refused}
 use Rattle.calls.specs.declared.Text.{Text}
-use Rattle.calls.specs.Call.{reportCall}
+use Rattle.calls.specs.Answers.{AnswerOf, gives, refuses}
+use Rattle.calls.specs.Call.{reportCall, ownSpace}
 
 -- 01 "prints the report, or the two lines refused=n and line=n"
-unfoldable pub textOf : Answer → List ℕ
+unfoldable pub textOf : AnswerOf Figures → List ℕ
 unfolding reportText refusalText
-textOf (Report r) = reportText (figuresOf r)
-textOf (Refused why) = refusalText why
+textOf (gives f) = reportText f
+textOf (refuses number line) = refusalText number line
 
 -- for the input job. The program lends cell space and output enough for every job
 unfoldable pub answerText : List ℕ → List ℕ
 unfolding reportCall textOf
-answerText job = textOf (reportCall job (replicate 5005 (pos 0)) (replicate 128 0) .answer)
+answerText job = textOf (reportCall job ownSpace (replicate 128 0) .answer)
 
 -- a text as the code holds it
 unfoldable pub textRecord : List ℕ → Text

@@ -1,4 +1,4 @@
--- How large the line of a refusal can be.
+-- How large the line and the number of a refusal can be that reading gives.
 -- Assumes nothing.
 use mathlib.Core.Path.{_≡_, refl, sym, ap, _∙_}
 use mathlib.Core.List.{List, [], _∷_, _++_, flatten}
@@ -9,7 +9,7 @@ use lib.ListN.{length, length-append}
 use Rattle.numbers.proofs.Joined.{flatten-snoc}
 use Rattle.job_line.specs.Lines.{areaLine, countLine, postLine, stopLine}
 use Rattle.job.specs.Format.{refused, readJob}
-use Rattle.refusal.specs.Refusal.{lineOf}
+use Rattle.refusal.specs.Refusal.{numberOf, lineOf}
 use Rattle.job.specs.Meaning.{Kind, area, posts, post, stops, stop, rounds, Held, formOf, Good, top, one-more, FirstMalformed, no-form, too-much, Condition}
 use Rattle.refusal.specs.declared.Refusal.{Refusal}
 use Rattle.refusal.specs.declared.Refusal.the-variants.{TooLong, Malformed, OutOfRange, EmptyArea, NoPosts, NoStops, SmallSpace, ShortOutput}
@@ -55,6 +55,17 @@ condition-line bytes NoPosts c = omega arith
 condition-line bytes NoStops c = omega arith
 condition-line bytes SmallSpace c = omega arith
 condition-line bytes ShortOutput c = omega arith
+
+-- 1 to 6
+pub condition-number : (bytes : List ℕ) (why : Refusal) → Condition why bytes → numberOf why ≤ 6
+condition-number bytes TooLong c = omega arith
+condition-number bytes (Malformed n) c = omega arith
+condition-number bytes (OutOfRange n) c = omega arith
+condition-number bytes EmptyArea c = omega arith
+condition-number bytes NoPosts c = omega arith
+condition-number bytes NoStops c = omega arith
+condition-number bytes SmallSpace c = absurd c
+condition-number bytes ShortOutput c = absurd c
 
 pub line-most : (bytes : List ℕ) (why : Refusal) → readJob bytes ≡ refused why → lineOf why ≤ 16385
 line-most bytes why e = condition-line bytes why (refused-law bytes why .exactly .0 e)

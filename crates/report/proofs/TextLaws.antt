@@ -1,21 +1,24 @@
 -- The text of a report and of a refusal in parts, as the functions write them, and the lengths of the parts.
 -- Assumes nothing.
-use mathlib.Core.Path.{_≡_, _∙_}
-use Prim.Native.Nat.{ℕ, _+_, _≤_, zero-le}
+use mathlib.Core.Path.{_≡_, refl, sym, ap, _∙_}
+use Prim.Native.Nat.{ℕ, _+_, _≤_, _<_, _^_, zero-le}
 use native.Mathlib.Nat.{zero-add}
 use native.Mathlib.Omega.{arith}
 use mathlib.Core.List.{List, [], _∷_, _++_, flatten, append-assoc, append-nil}
-use lib.ListN.{length, length-append}
-use lib.IntN.{ℤ, natAbs}
+use mathlib.Core.Option.{Option, none, some}
+use lib.ListN.{length, length-append, getD, drop}
+use lib.IntN.{ℤ, pos, natAbs}
 use Rattle.query.specs.Figures.{Figures, State, done, stopped}
 use Rattle.query.specs.Range.{costLimit}
 use Rattle.text.specs.Ascii.{bytes, comma}
 use Rattle.text.specs.Decimal.{spellNat, spellInt}
+use Rattle.text.specs.Numeral.{digits, natural}
 use Rattle.write.specs.Written.{Wrote}
+use Rattle.text.proofs.NumeralLaws.{natural-spelled}
 use Rattle.text.proofs.DigitCounts.{length-spellNat, length-spellNat-below, length-spellInt-below}
 use Rattle.write.proofs.SpellLaws.{length-spellInt}
 use Rattle.write.proofs.WrittenLaws.{written-front, wrote-both}
-use Rattle.refusal.specs.Refusal.{numberOf, lineOf}
+use Rattle.refusal.specs.Refusal.{numberOf}
 use Rattle.refusal.specs.declared.Refusal.{Refusal}
 use Rattle.refusal.proofs.Numbers.{number-most}
 use Rattle.report.specs.Text.{stateText, reportText, refusalText}
@@ -50,9 +53,29 @@ join-refusal : (a b c d e : List ℕ) → flatten (a ∷ b ∷ c ∷ d ∷ e ∷
 unfolding flatten
 join-refusal a b c d e = simp (append-assoc, append-nil)
 
-pub refusal-parts : (why : Refusal) → refusalText why ≡ (bytes "refused=" ++ spellNat (numberOf why)) ++ (bytes "\nline=" ++ spellNat (lineOf why)) ++ bytes "\n"
+pub refusal-parts : (number line : ℕ) → refusalText number line ≡ (bytes "refused=" ++ spellNat number) ++ (bytes "\nline=" ++ spellNat line) ++ bytes "\n"
 unfolding refusalText
-refusal-parts why = join-refusal (bytes "refused=") (spellNat (numberOf why)) (bytes "\nline=") (spellNat (lineOf why)) (bytes "\n")
+refusal-parts number line = join-refusal (bytes "refused=") (spellNat number) (bytes "\nline=") (spellNat line) (bytes "\n")
+
+-- a report and a refusal start with other letters, and a refusal's text tells its number
+pub report-no-refusal : (f : Figures) (number line : ℕ) → reportText f ≡ refusalText number line → ⊥
+unfolding reportText refusalText
+report-no-refusal f number line e = let z : _≡_ {A = ℕ} 115 114 = ap (λ (text : List ℕ). getD text 0 0) e in omega arith
+
+refusal-behind : (number line : ℕ) → drop 8 (refusalText number line) ≡ spellNat number ++ flatten (bytes "\nline=" ∷ spellNat line ∷ bytes "\n" ∷ [])
+unfolding refusalText
+refusal-behind number line = refl
+
+number-read : (number line : ℕ) → number < 10 ^ 9 → natural (drop 8 (refusalText number line)) ≡ some (pos number, flatten (bytes "\nline=" ∷ spellNat line ∷ bytes "\n" ∷ []))
+unfolding flatten bytes digits
+number-read number line h = ap natural (refusal-behind number line) ∙ natural-spelled number _ h refl
+
+abbrev numberIn : Option (ℤ × List ℕ) → ℤ
+numberIn none = pos 0
+numberIn (some r) = r .0
+
+pub refusal-number : (number line number′ line′ : ℕ) → number < 10 ^ 9 → number′ < 10 ^ 9 → refusalText number line ≡ refusalText number′ line′ → number ≡ number′
+refusal-number number line number′ line′ h h′ e = ap natAbs (ap numberIn (sym (number-read number line h) ∙ ap (λ (text : List ℕ). natural (drop 8 text)) e ∙ number-read number′ line′ h′))
 
 -- ---- their lengths
 pub length-five : (a b c d e : List ℕ) → length (a ++ b ++ c ++ d ++ e) ≡ length a + length b + length c + length d + length e
@@ -102,11 +125,11 @@ report-filled f s p c r n =
     filled (reportText f) (rw report-parts (wrote-both (wrote-both (wrote-both (wrote-both s p zero-le) c zero-le) r zero-le) n zero-le))
 
 pub refusal-filled :
-    {out m₁ m₂ after : List ℕ} {e₁ e₂ end : ℕ} (why : Refusal) (number line : ℕ) →
-    number ≡ numberOf why →
-    line ≡ lineOf why →
-    Wrote out 0 (bytes "refused=" ++ spellNat number) m₁ e₁ →
-    Wrote m₁ e₁ (bytes "\nline=" ++ spellNat line) m₂ e₂ →
+    {out m₁ m₂ after : List ℕ} {e₁ e₂ end number line : ℕ} (n l : ℕ) →
+    n ≡ number →
+    l ≡ line →
+    Wrote out 0 (bytes "refused=" ++ spellNat n) m₁ e₁ →
+    Wrote m₁ e₁ (bytes "\nline=" ++ spellNat l) m₂ e₂ →
     Wrote m₂ e₂ (bytes "\n") after end →
-    Filled out (refusalText why) after end
-refusal-filled why number line p q v w n = filled (refusalText why) (rw (refusal-parts, ← p, ← q) (wrote-both (wrote-both v w zero-le) n zero-le))
+    Filled out (refusalText number line) after end
+refusal-filled {number = number} {line = line} n l p q v w e = filled (refusalText number line) (rw (refusal-parts, ← p, ← q) (wrote-both (wrote-both v w zero-le) e zero-le))

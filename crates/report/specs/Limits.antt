@@ -6,6 +6,7 @@ use lib.IntN.{pos, negsuc, negℤ}
 use lib.ListN.{length}
 use Rattle.query.specs.Figures.{Figures, stopped}
 use Rattle.query.specs.Range.{costLimit, FiguresInRange}
+use Rattle.refusal.specs.Refusal.{numberOf, lineOf}
 use Rattle.refusal.specs.declared.Refusal.{Refusal}
 use Rattle.report.specs.Text.{reportText, refusalText}
 
@@ -18,4 +19,4 @@ pub record ReportFits : Type 0 where
   pub report-fits : (f : Figures) → FiguresInRange 1000 f → length (reportText f) ≤ 128
   pub report-longest : (f : Figures) → FiguresInRange 1000 f → length (reportText f) ≤ 105
   pub report-widest : length (reportText widest) ≡ 105
-  pub refusal-longest : (why : Refusal) → length (refusalText why) ≤ 36
+  pub refusal-longest : (why : Refusal) → length (refusalText (numberOf why) (lineOf why)) ≤ 36

@@ -5,8 +5,6 @@ use mathlib.Core.List.{List, [], _∷_, flatten}
 use Rattle.query.specs.Figures.{Figures, State, done, stopped}
 use Rattle.text.specs.Ascii.{bytes, comma}
 use Rattle.text.specs.Decimal.{spellNat, spellInt}
-use Rattle.refusal.specs.Refusal.{numberOf, lineOf}
-use Rattle.refusal.specs.declared.Refusal.{Refusal}
 
 -- 01 "state is `done` or `stopped`"
 abbrev pub stateText : State → List ℕ
@@ -25,7 +23,7 @@ reportText f = flatten (
     ∷ bytes "\nrounds=" ∷ spellNat (f .rounds)
     ∷ bytes "\n" ∷ [])
 
--- 01 "the two lines refused=n and line=n"
-unfoldable pub refusalText : Refusal → List ℕ
+-- 01 "the two lines refused=n and line=n": of a refusal's number and line
+unfoldable pub refusalText : ℕ → ℕ → List ℕ
 unfolding flatten bytes spellNat
-refusalText why = flatten (bytes "refused=" ∷ spellNat (numberOf why) ∷ bytes "\nline=" ∷ spellNat (lineOf why) ∷ bytes "\n" ∷ [])
+refusalText number line = flatten (bytes "refused=" ∷ spellNat number ∷ bytes "\nline=" ∷ spellNat line ∷ bytes "\n" ∷ [])

@@ -3,6 +3,7 @@ use refusal::Refusal;
 ghost use Prim.Native.Nat.{_+_, _≤_};
 ghost use mathlib.Core.List.{[], _∷_, _++_};
 ghost use lib.ListN.{length};
+ghost use Rattle.refusal.specs.Refusal.{numberOf, lineOf};
 ghost use Rattle.text.specs.Ascii.{bytes, comma};
 ghost use Rattle.text.specs.Decimal.{spellNat, spellInt};
 ghost use Rattle.write.specs.Written.{Wrote};
@@ -92,7 +93,7 @@ pub fn write_report(out: &mut [u8], r: Report) -> usize
 // The two lines of a refusal at the start of `out`, and their length.
 pub fn write_refusal(out: &mut [u8], why: Refusal) -> usize
     requires { ⌜ 64 ≤ length (now out) ⌝ }
-    ensures { λ n. ⌜ Filled (now (out .entry)) (refusalText why) (now (out .exit)) n ⌝ }
+    ensures { λ n. ⌜ Filled (now (out .entry)) (refusalText (numberOf why) (lineOf why)) (now (out .exit)) n ⌝ }
 {
     let number = refusal::number_of(why);
     let line = refusal::line_of(why);

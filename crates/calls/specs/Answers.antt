@@ -1,0 +1,31 @@
+-- Document 01, "Where each form belongs": the paper's number, line and values for each case of the answers' enums.
+-- Assumes nothing.
+use Prim.Native.Nat.{ℕ}
+use Rattle.query.specs.Figures.{Figures}
+use Rattle.query.specs.Order.{Priced}
+use Rattle.refusal.specs.Refusal.{numberOf, lineOf}
+use Rattle.refusal.specs.declared.Refusal.{Refusal}
+use Rattle.report.specs.Report.{figuresOf}
+use Rattle.problem.specs.Problem.{pricedOf}
+use Rattle.calls.specs.declared.Answer.{Answer}
+use Rattle.calls.specs.declared.Answer.the-variants as Answered
+use Rattle.calls.specs.declared.Cheapest.{Cheapest}
+use Rattle.calls.specs.declared.Cheapest.the-variants as Cheapest
+
+-- what is asked for, or a refusal by its number and its line
+pub data AnswerOf (A : Type 0) : Type 0 where
+  gives : A → AnswerOf A
+  refuses : ℕ → ℕ → AnswerOf A
+
+abbrev pub refusal : {A : Type 0} → Refusal → AnswerOf A
+refusal why = refuses (numberOf why) (lineOf why)
+
+-- 01 "Each answer is either a report, itself done or stopped, or one refusal with its line"
+abbrev pub reportAnswer : Answer → AnswerOf Figures
+reportAnswer (Answered.Report r) = gives (figuresOf r)
+reportAnswer (Answered.Refused why) = refusal why
+
+-- 01 "the place and cost of the cheapest", or one refusal
+abbrev pub cheapestAnswer : Cheapest → AnswerOf Priced
+cheapestAnswer (Cheapest.At spot) = gives (pricedOf spot)
+cheapestAnswer (Cheapest.Refused why) = refusal why
