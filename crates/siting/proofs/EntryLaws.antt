@@ -16,7 +16,7 @@ use Rattle.numbers.proofs.Integer.{order, sub-nat}
 use Rattle.numbers.proofs.Words.{difference, difference-fits}
 use Rattle.refusal.proofs.Numbers.{number-most}
 use Rattle.query.specs.Figures.{figures}
-use Rattle.refusal.specs.Refusal.{numberOf}
+use Rattle.refusal.specs.Refusal.{numberOf, lineOf}
 use Rattle.job.specs.Format.{refused}
 use Rattle.refusal.specs.declared.Refusal.{Refusal}
 use Rattle.report.specs.Report.{figuresOf}
@@ -28,13 +28,11 @@ use Rattle.report.specs.declared.Report.{Report}
 use Rattle.calls.specs.declared.Answer.{Answer}
 use Rattle.calls.specs.declared.Answer.the-variants as Answered
 use Rattle.siting.specs.declared.Response.{Response}
-use Rattle.calls.specs.Call.{Left}
+use Rattle.calls.specs.Answers.{reportAnswer}
+use Rattle.calls.specs.Call.{Left, ownSpace}
 use Rattle.calls.specs.Entry.{resultOf, returned, entry}
 use Rattle.calls.specs.Program.{textOf, answerText, textRecord}
 use Rattle.siting.specs.Parts.{textWritten, Responded}
-
-abbrev zeros : List ℤ
-zeros = replicate 5005 (pos 0)
 
 -- ---- refusal numbers as signed words
 pub minus-fits : (why : Refusal) (n : ℕ) → n ≡ numberOf why → SFits w64 (toZ w64 0 -ℤ toZ w64 n)
@@ -50,18 +48,18 @@ minus-number why =
     toZ-ofZ w64 (toZ w64 0 -ℤ toZ w64 n) (minus-fits why n refl) ∙ difference 0 n (omega arith) (omega (arith, number-most why)) ∙ zero-minus n
 
 -- ---- the C entry
-module _ (job out : List ℕ) (cells : List ℤ) (out′ : List ℕ) (r : Response) (s : Responded job zeros out cells out′ r) where
-  entry-is : record { result = resultOf (r .answer); out = out′ } ≡ entry job out
+module _ (job out : List ℕ) (cells : List ℤ) (out′ : List ℕ) (r : Response) (s : Responded job ownSpace out cells out′ r) where
+  entry-is : record { result = resultOf (reportAnswer (r .answer)); out = out′ } ≡ entry job out
   unfolding entry
   entry-is = ap returned (s .left)
 
   pub entry-report : (x : Report) → r .answer ≡ Answered.Report x → record { result = toZ w64 (r .bytes); out = out′ } ≡ entry job out
   unfolding resultOf
-  entry-report x e = ap (λ (z : ℤ). record { result = z; out = out′ }) (toZ-pos w64 (r .bytes) (omega (arith, s .few)) ∙ ap pos (s .filled .number ∙ ap (λ (a : Answer). length (textWritten a)) e) ∙ ap resultOf (sym e)) ∙ entry-is
+  entry-report x e = ap (λ (z : ℤ). record { result = z; out = out′ }) (toZ-pos w64 (r .bytes) (omega (arith, s .few)) ∙ ap pos (s .filled .number ∙ ap (λ (a : Answer). length (textWritten a)) e) ∙ ap (λ (a : Answer). resultOf (reportAnswer a)) (sym e)) ∙ entry-is
 
   pub entry-refused : (why : Refusal) → r .answer ≡ Answered.Refused why → (n : ℕ) → n ≡ numberOf why → record { result = toZ w64 (ofZ w64 (toZ w64 0 -ℤ toZ w64 n)); out = out′ } ≡ entry job out
   unfolding resultOf
-  entry-refused why e n f = ap (λ (z : ℤ). record { result = z; out = out′ }) (rw f (minus-number why) ∙ ap resultOf (sym e)) ∙ entry-is
+  entry-refused why e n f = ap (λ (z : ℤ). record { result = z; out = out′ }) (rw f (minus-number why) ∙ ap (λ (a : Answer). resultOf (reportAnswer a)) (sym e)) ∙ entry-is
 
 -- ---- the program's text
 padded-is : (text : List ℕ) → length text ≤ 128 → text ++ drop (length text) (replicate 128 0) ≡ padded 128 0 text
@@ -72,8 +70,8 @@ held : {out : List ℕ} {n : ℕ} (text : List ℕ) → Filled (replicate 128 0)
 unfolding textRecord
 held text f h = rw (f .number, f .content) (ap (λ (l : List ℕ). record { length = length text; bytes = l }) (padded-is text h))
 
-module _ (job : List ℕ) (cells : List ℤ) (out : List ℕ) (r : Response) (s : Responded job zeros (replicate 128 0) cells out r) where
-  text-is : answerText job ≡ textOf (r .answer)
+module _ (job : List ℕ) (cells : List ℤ) (out : List ℕ) (r : Response) (s : Responded job ownSpace (replicate 128 0) cells out r) where
+  text-is : answerText job ≡ textOf (reportAnswer (r .answer))
   unfolding answerText
   text-is = ap (λ (l : Left). textOf (l .answer)) (sym (s .left))
 
@@ -82,10 +80,10 @@ module _ (job : List ℕ) (cells : List ℤ) (out : List ℕ) (r : Response) (s 
   text-report x e =
       let text = reportText (figuresOf x) in
       let f : Filled (replicate 128 0) text out (r .bytes) = subst (λ (a : Answer). Filled (replicate 128 0) (textWritten a) out (r .bytes)) e (s .filled) in
-      held text f (omega (arith, s .few, f .number)) ∙ sym (ap textRecord (text-is ∙ ap textOf e))
+      held text f (omega (arith, s .few, f .number)) ∙ sym (ap textRecord (text-is ∙ ap (λ (a : Answer). textOf (reportAnswer a)) e))
 
-  pub text-refused : (why : Refusal) → r .answer ≡ Answered.Refused why → (out′ : List ℕ) (n : ℕ) → Filled out (refusalText why) out′ n → record { length = n; bytes = out′ } ≡ textRecord (answerText job)
+  pub text-refused : (why : Refusal) → r .answer ≡ Answered.Refused why → (out′ : List ℕ) (n : ℕ) → Filled out (refusalText (numberOf why) (lineOf why)) out′ n → record { length = n; bytes = out′ } ≡ textRecord (answerText job)
   unfolding textOf
   text-refused why e out′ n f =
       let g : Filled (replicate 128 0) [] out (r .bytes) = subst (λ (a : Answer). Filled (replicate 128 0) (textWritten a) out (r .bytes)) e (s .filled) in
-      held (refusalText why) (subst (λ (o : List ℕ). Filled o (refusalText why) out′ n) (g .content) f) (omega (arith, report-fits .refusal-longest why)) ∙ sym (ap textRecord (text-is ∙ ap textOf e))
+      held (refusalText (numberOf why) (lineOf why)) (subst (λ (o : List ℕ). Filled o (refusalText (numberOf why) (lineOf why)) out′ n) (g .content) f) (omega (arith, report-fits .refusal-longest why)) ∙ sym (ap textRecord (text-is ∙ ap (λ (a : Answer). textOf (reportAnswer a)) e))

@@ -17,14 +17,11 @@ use Rattle.sites.specs.Record.{sitesRecord}
 use Rattle.sites.specs.declared.Sites.{Sites}
 use Rattle.problem.specs.Problem.{pricedOf, Prepared}
 use Rattle.problem.specs.declared.Spot.{Spot}
-use Rattle.calls.specs.declared.Cheapest.{Cheapest}
 use Rattle.calls.specs.declared.Cheapest.the-variants as Cheapest
-use Rattle.calls.specs.Exhaustive.{spotRecord, exhaustiveCall}
+use Rattle.calls.specs.Answers.{gives, cheapestAnswer}
+use Rattle.calls.specs.Exhaustive.{exhaustiveCall}
 use Rattle.sites.proofs.ReadLaws.{read-accepted, read-refused, read-deckOf, read-full, sites-ask}
 use Rattle.calls.proofs.ExhaustiveCall.{call-accepted, call-refused}
-
-spot-is : (s : Spot) (p : Priced) → pricedOf s ≡ p → s ≡ spotRecord p
-spot-is s p e = ap spotRecord e
 
 module _ (job : List ℕ) (j : Held.Job) (e : j ≡ jobRecord (readJob job)) where
   -- what `cheapest` asks
@@ -34,10 +31,10 @@ module _ (job : List ℕ) (j : Held.Job) (e : j ≡ jobRecord (readJob job)) whe
       let (range, posts, stops) = sites-ask s j e in
       record { sites-are = f; range = range; full = read-full s j e; posts = posts; stops = stops }
 
-  pub exhaustive-found : (rounds : ℕ) → j .outcome ≡ Accepted rounds → (s : Spot) → pricedOf s ≡ Query.exhaustive (deckOf (j .deck)) → Cheapest.At s ≡ exhaustiveCall job
+  pub exhaustive-found : (rounds : ℕ) → j .outcome ≡ Accepted rounds → (s : Spot) → pricedOf s ≡ Query.exhaustive (deckOf (j .deck)) → cheapestAnswer (Cheapest.At s) ≡ exhaustiveCall job
   exhaustive-found rounds o s f =
       let t = read-accepted job j e rounds o in
-      ap Cheapest.At (spot-is s (Query.exhaustive (t .job .deck)) (f ∙ ap Query.exhaustive (read-deckOf t j e))) ∙ sym (call-accepted job (t .job) (t .read))
+      ap (λ (p : Priced). gives p) (f ∙ ap Query.exhaustive (read-deckOf t j e)) ∙ sym (call-accepted job (t .job) (t .read))
 
-  pub exhaustive-refused : (why : Refusal) → j .outcome ≡ Refused why → Cheapest.Refused why ≡ exhaustiveCall job
+  pub exhaustive-refused : (why : Refusal) → j .outcome ≡ Refused why → cheapestAnswer (Cheapest.Refused why) ≡ exhaustiveCall job
   exhaustive-refused why o = sym (call-refused job why (read-refused job j e why o))

@@ -42,18 +42,18 @@ use Rattle.search.specs.Run.{isDone, foundOf, Searched}
 use Rattle.search.specs.declared.run.Found.{Found}
 use Rattle.calls.specs.declared.Answer.the-variants as Answered
 use Rattle.siting.specs.declared.Response.{Response}
-use Rattle.calls.specs.Call.{stateRecord, reportRecord, turnedDown, overwritten, reported, reportCall}
+use Rattle.calls.specs.Answers.{gives}
+use Rattle.calls.specs.Call.{turnedDown, overwritten, reported, reportCall}
 use Rattle.siting.specs.Parts.{stateFor, Solvable, Solved, refusedResponse, Responded}
 use Rattle.sites.proofs.ReadLaws.{Spelt, read-accepted, read-rounds, read-deckOf, read-full, sites-ask}
-use Rattle.calls.proofs.Held.{figures-held}
 use Rattle.calls.proofs.Demands.{job-limits, call-accepted}
 
 -- ---- solve
-state-is : (cells : List Query.Cell) → stateFor (isDone cells) ≡ stateRecord (Figures.stateOf cells)
+state-is : (cells : List Query.Cell) → stateOf (stateFor (isDone cells)) ≡ Figures.stateOf cells
 state-is [] = refl
 state-is (c ∷ cs) = refl
 
-found-report : (deck : Deck) (n : ℕ) (f : Found) (state : State) (b : ℕ) → f ≡ foundOf (run (problem (deckOf deck)) n) → state ≡ stateFor (f .done) → b ≡ before (deckOf deck) → record { state = state; x = f .x; y = f .y; high = f .high; low = f .low; before = b; rounds = f .cuts } ≡ reportRecord (figures (deckOf deck) n)
+found-report : (deck : Deck) (n : ℕ) (f : Found) (state : State) (b : ℕ) → f ≡ foundOf (run (problem (deckOf deck)) n) → state ≡ stateFor (f .done) → b ≡ before (deckOf deck) → figuresOf (record { state = state; x = f .x; y = f .y; high = f .high; low = f .low; before = b; rounds = f .cuts }) ≡ figures (deckOf deck) n
 unfolding figures Figures.figuresOf foundOf
 found-report deck n f state b e s h = rw (s, e, h, state-is (run (problem (deckOf deck)) n .live))
 
@@ -84,7 +84,7 @@ module _ (deck : Deck) (n lent : ℕ) (h : Solvable deck n lent) (sites : Sites)
 pub respond-refused : (job : List ℕ) (cells : List ℤ) (out : List ℕ) (why : Refusal) → reportCall job cells out ≡ turnedDown why cells out → (r : Response) → r ≡ refusedResponse why → Responded job cells out cells out r
 respond-refused job cells out why e r f = subst (Responded job cells out cells out) (sym f) (record { left = sym e; filled = record { number = refl; content = refl }; few = omega arith })
 
-reported-is : (job : Job) (cells cells′ : List ℤ) (out out′ : List ℕ) (r : Report) (text : List ℕ) → r ≡ reportRecord (figures (job .deck) (job .rounds)) → cells′ ≡ space (job .deck) (job .rounds) (length cells) → text ≡ reportText (figures (job .deck) (job .rounds)) → out′ ≡ text ++ drop (length text) out → record { answer = Answered.Report r; cells = cells′; out = out′ } ≡ reported job cells out
+reported-is : (job : Job) (cells cells′ : List ℤ) (out out′ : List ℕ) (r : Report) (text : List ℕ) → figuresOf r ≡ figures (job .deck) (job .rounds) → cells′ ≡ space (job .deck) (job .rounds) (length cells) → text ≡ reportText (figures (job .deck) (job .rounds)) → out′ ≡ text ++ drop (length text) out → record { answer = gives (figuresOf r); cells = cells′; out = out′ } ≡ reported job cells out
 unfolding reported overwritten
 reported-is job cells cells′ out out′ r text e f g h = rw (h, g, f, e)
 
@@ -103,14 +103,11 @@ module _ (job : List ℕ) (j : Held.Job) (e : j ≡ jobRecord (readJob job)) (ro
   solvable lent h = let (range, posts, stops) = sites-ask spelt j e in record { range = range; full = read-full spelt j e; posts = posts; stops = stops; rounds-limit = rounds-limit; room = h }
 
   module _ (cells cells′ : List ℤ) (r : Report) (s : Solved (j .deck) rounds cells cells′ r) where
-    solved-report : r ≡ reportRecord (figures (spelt .job .deck) (spelt .job .rounds))
-    solved-report = s .report ∙ ap (λ (deck : Deck.Deck). reportRecord (figures deck rounds)) (read-deckOf spelt j e) ∙ ap (λ (n : ℕ). reportRecord (figures (spelt .job .deck) n)) rounds-same
+    solved-figures : figuresOf r ≡ figures (spelt .job .deck) (spelt .job .rounds)
+    solved-figures = s .report ∙ ap (λ (deck : Deck.Deck). figures deck rounds) (read-deckOf spelt j e) ∙ ap (λ (n : ℕ). figures (spelt .job .deck) n) rounds-same
 
     solved-cells : cells′ ≡ space (spelt .job .deck) (spelt .job .rounds) (length cells)
     solved-cells = s .cells ∙ ap (λ (deck : Deck.Deck). space deck rounds (length cells)) (read-deckOf spelt j e) ∙ ap (λ (n : ℕ). space (spelt .job .deck) n (length cells)) rounds-same
-
-    solved-figures : figuresOf r ≡ figures (spelt .job .deck) (spelt .job .rounds)
-    solved-figures = ap figuresOf solved-report ∙ figures-held (figures (spelt .job .deck) (spelt .job .rounds))
 
     pub report-limits : FiguresInRange 1000 (figuresOf r)
     report-limits = subst (FiguresInRange 1000) (sym solved-figures) (job-limits (spelt .job) (spelt .allowed))
@@ -118,7 +115,7 @@ module _ (job : List ℕ) (j : Held.Job) (e : j ≡ jobRecord (readJob job)) (ro
     pub respond-reported : (out out′ : List ℕ) (n : ℕ) → 5 * (rounds + 1) ≤ length cells → 128 ≤ length out → Filled out (reportText (figuresOf r)) out′ n → Responded job cells out cells′ out′ (record { answer = Answered.Report r; bytes = n })
     respond-reported out out′ n h k f = record {
       left =
-          reported-is (spelt .job) cells cells′ out out′ r (reportText (figuresOf r)) solved-report solved-cells (ap reportText solved-figures) (f .content)
+          reported-is (spelt .job) cells cells′ out out′ r (reportText (figuresOf r)) solved-figures solved-cells (ap reportText solved-figures) (f .content)
           ∙ sym (call-accepted job cells out (spelt .job) (record { read = spelt .read; space = omega (arith, rounds-same, h); output = k }));
       filled = f;
       few = omega (arith, f .number, report-fits .report-fits (figuresOf r) report-limits);

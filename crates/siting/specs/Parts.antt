@@ -22,7 +22,8 @@ use Rattle.report.specs.declared.State.the-variants.{Done, Stopped}
 use Rattle.calls.specs.declared.Answer.{Answer}
 use Rattle.calls.specs.declared.Answer.the-variants as Answered
 use Rattle.siting.specs.declared.Response.{Response}
-use Rattle.calls.specs.Call.{reportRecord, reportCall}
+use Rattle.calls.specs.Answers.{reportAnswer}
+use Rattle.calls.specs.Call.{reportCall}
 
 abbrev pub stateFor : Bool → State
 stateFor isDone = cond isDone Done Stopped
@@ -38,7 +39,7 @@ pub record Solvable (deck : Deck) (rounds lent : ℕ) : Type 0 where
 
 -- its report, and what the cell space then holds
 pub record Solved (deck : Deck) (rounds : ℕ) (before after : List ℤ) (r : Report) : Type 0 where
-  pub report : r ≡ reportRecord (figures (deckOf deck) rounds)
+  pub report : figuresOf r ≡ figures (deckOf deck) rounds
   pub cells : after ≡ space (deckOf deck) rounds (length before)
 
 -- the text that an answer writes
@@ -51,6 +52,6 @@ refusedResponse why = record { answer = Answered.Refused why; bytes = 0 }
 
 -- the answer of the call, what it leaves of the memory that it is lent, and the bytes that it writes
 pub record Responded (job : List ℕ) (cells : List ℤ) (out : List ℕ) (cells′ : List ℤ) (out′ : List ℕ) (r : Response) : Type 0 where
-  pub left : record { answer = r .answer; cells = cells′; out = out′ } ≡ reportCall job cells out
+  pub left : record { answer = reportAnswer (r .answer); cells = cells′; out = out′ } ≡ reportCall job cells out
   pub filled : Filled out (textWritten (r .answer)) out′ (r .bytes)
   pub few : r .bytes ≤ 128

@@ -12,6 +12,7 @@ use search::run;
 ghost use Prim.Native.Nat.{_≤_};
 ghost use mathlib.Core.Path.{_≡_};
 ghost use lib.ListN.{length};
+ghost use Rattle.calls.specs.Answers.{reportAnswer, cheapestAnswer};
 ghost use Rattle.calls.specs.Call.{reportCall};
 ghost use Rattle.calls.specs.Entry.{entry};
 ghost use Rattle.calls.specs.Program.{answerText, textRecord};
@@ -87,7 +88,7 @@ fn respond(job: &[u8], cells: &mut [i64], out: &mut [u8]) -> Response
 
 // The report of a job, with its text in the output and its live cells in the cell space, or the refusal that applies first.
 pub fn report(job: &[u8], cells: &mut [i64], out: &mut [u8]) -> Answer
-    ensures { λ r. ⌜ record { answer = r; cells = now (cells .exit); out = now (out .exit) } ≡ reportCall (now (job .entry)) (now (cells .entry)) (now (out .entry)) ⌝ }
+    ensures { λ r. ⌜ record { answer = reportAnswer r; cells = now (cells .exit); out = now (out .exit) } ≡ reportCall (now (job .entry)) (now (cells .entry)) (now (out .entry)) ⌝ }
 {
     let given = respond(job, cells, out);
     given.answer
@@ -109,7 +110,7 @@ pub extern "C" fn siting_report(job: &[u8], out: &mut [u8]) -> i64
 
 // The cheapest crossing of lines, the earliest among equals, or the refusal of the job. Its rounds are not used.
 pub fn exhaustive(job: &[u8]) -> Cheapest
-    ensures { λ r. ⌜ r ≡ exhaustiveCall (now (job .entry)) ⌝ }
+    ensures { λ r. ⌜ cheapestAnswer r ≡ exhaustiveCall (now (job .entry)) ⌝ }
 {
     let j = job::read(job);
     let outcome = j.outcome;

@@ -5,17 +5,13 @@ use Prim.Native.Nat.{ℕ, _≤_}
 use mathlib.Core.List.{List, [], _∷_}
 use lib.IntN.{ℤ, pos, natAbs}
 use lib.ListN.{getD}
+use Rattle.query.specs.Order.{Priced}
+use Rattle.query.specs.Figures.{Figures, State, done, stopped}
 use Rattle.query.specs.Range.{costLimit}
-use Rattle.report.specs.declared.Report as Report
-use Rattle.report.specs.declared.State.{State}
-use Rattle.report.specs.declared.State.the-variants.{Done, Stopped}
 use Rattle.problem.specs.declared.Spot.{Spot}
-use Rattle.calls.specs.declared.Answer.{Answer}
-use Rattle.calls.specs.declared.Answer.the-variants.{Report, Refused}
-use Rattle.calls.specs.declared.Cheapest.{Cheapest}
-use Rattle.calls.specs.declared.Cheapest.the-variants as Cheapest
+use Rattle.calls.specs.Answers.{AnswerOf, gives, refuses}
 use Rattle.calls.specs.Call.{Left}
-use Rattle.trial.specs.Trial.{least, refusalNumbers}
+use Rattle.trial.specs.Trial.{least}
 
 -- a result, with the cell space and the output as the call leaves them
 pub record Called : Type 0 where
@@ -23,24 +19,24 @@ pub record Called : Type 0 where
   pub cells : List ℤ
   pub out : List ℕ
 
-abbrev pub called : (Answer → ℤ) → Left → Called
+abbrev pub called : (AnswerOf Figures → ℤ) → Left → Called
 called f left = record { result = f (left .answer); cells = left .cells; out = left .out }
 
 abbrev pub stateNumber : State → ℤ
-stateNumber Done = pos 0
-stateNumber Stopped = pos 1
+stateNumber done = pos 0
+stateNumber stopped = pos 1
 
 -- what a report carries, and 0 for the number and the line of a refusal
-abbrev pub reportNumbers : Report.Report → List ℤ
-reportNumbers r = stateNumber (r .state) ∷ r .x ∷ r .y ∷ pos (r .high) ∷ r .low ∷ pos (r .before) ∷ pos (r .rounds) ∷ pos 0 ∷ pos 0 ∷ []
+abbrev pub reportNumbers : Figures → List ℤ
+reportNumbers f = stateNumber (f .state) ∷ f .at .x ∷ f .at .y ∷ pos (f .high) ∷ f .low ∷ pos (f .before) ∷ pos (f .rounds) ∷ pos 0 ∷ pos 0 ∷ []
 
 -- the same numbers of an answer: a refusal has only the last two
-abbrev pub answerNumbers : Answer → List ℤ
-answerNumbers (Report r) = reportNumbers r
-answerNumbers (Refused why) = least ∷ least ∷ least ∷ least ∷ least ∷ least ∷ least ∷ refusalNumbers why
+abbrev pub answerNumbers : AnswerOf Figures → List ℤ
+answerNumbers (gives f) = reportNumbers f
+answerNumbers (refuses number line) = least ∷ least ∷ least ∷ least ∷ least ∷ least ∷ least ∷ pos number ∷ pos line ∷ []
 
 -- number `which` of them, counted from 0; the least number where there is none
-abbrev pub figureFor : ℕ → Answer → ℤ
+abbrev pub figureFor : ℕ → AnswerOf Figures → ℤ
 figureFor which answer = getD (answerNumbers answer) which least
 
 -- ---- the call `exhaustive`
@@ -50,14 +46,14 @@ pub record SpotInRange (s : Spot) : Type 0 where
   pub cost-limit : s .cost ≤ costLimit
 
 -- x, y and cost of the cheapest crossing, and 0 for the number and the line of a refusal
-abbrev pub spotNumbers : Spot → List ℤ
-spotNumbers s = s .x ∷ s .y ∷ pos (s .cost) ∷ pos 0 ∷ pos 0 ∷ []
+abbrev pub spotNumbers : Priced → List ℤ
+spotNumbers p = p .at .x ∷ p .at .y ∷ pos (p .cost) ∷ pos 0 ∷ pos 0 ∷ []
 
 -- the same numbers of an answer: a refusal has only the last two
-abbrev pub cheapestNumbers : Cheapest → List ℤ
-cheapestNumbers (Cheapest.At s) = spotNumbers s
-cheapestNumbers (Cheapest.Refused why) = least ∷ least ∷ least ∷ refusalNumbers why
+abbrev pub cheapestNumbers : AnswerOf Priced → List ℤ
+cheapestNumbers (gives p) = spotNumbers p
+cheapestNumbers (refuses number line) = least ∷ least ∷ least ∷ pos number ∷ pos line ∷ []
 
 -- number `which` of them, counted from 0; the least number where there is none
-abbrev pub cheapestFigure : ℕ → Cheapest → ℤ
+abbrev pub cheapestFigure : ℕ → AnswerOf Priced → ℤ
 cheapestFigure which answer = getD (cheapestNumbers answer) which least

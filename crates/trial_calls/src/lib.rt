@@ -7,7 +7,8 @@ use report::Report;
 use report::State;
 ghost use mathlib.Core.Path.{_≡_};
 ghost use lib.ListN.{getD};
-ghost use Rattle.report.specs.Report.{figuresOf};
+ghost use Rattle.report.specs.Report.{stateOf, figuresOf};
+ghost use Rattle.problem.specs.Problem.{pricedOf};
 ghost use Rattle.query.specs.Range.{FiguresInRange};
 ghost use Rattle.calls.specs.Call.{reportCall};
 ghost use Rattle.calls.specs.Exhaustive.{exhaustiveCall};
@@ -15,7 +16,7 @@ ghost use Rattle.trial.specs.Trial.{least};
 ghost use Rattle.trial_calls.specs.Calls.{called, stateNumber, reportNumbers, figureFor, SpotInRange, spotNumbers, cheapestFigure};
 
 fn state_number(state: State) -> i64
-    ensures { λ r. ⌜ r ≡ stateNumber state ⌝ }
+    ensures { λ r. ⌜ r ≡ stateNumber (stateOf state) ⌝ }
 {
     match state {
         State::Done => 0,
@@ -26,7 +27,7 @@ fn state_number(state: State) -> i64
 // A number that a report carries: state, x, y, high, low, before, rounds; then 0 twice, for no refusal. The least number behind them.
 fn figure(r: Report, which: u64) -> i64
     requires { ⌜ FiguresInRange 1000 (figuresOf r) ⌝ }
-    ensures { λ v. ⌜ v ≡ getD (reportNumbers r) which least ⌝ }
+    ensures { λ v. ⌜ v ≡ getD (reportNumbers (figuresOf r)) which least ⌝ }
 {
     if which == 0 {
         let state = r.state;
@@ -77,7 +78,7 @@ pub extern "C" fn trial_report(job: &[u8], cells: &mut [i64], out: &mut [u8], wh
 // A number that goes with the cheapest crossing: x, y, cost; then 0 twice, for no refusal. The least number behind them.
 fn spot_figure(s: Spot, which: u64) -> i64
     requires { ⌜ SpotInRange s ⌝ }
-    ensures { λ v. ⌜ v ≡ getD (spotNumbers s) which least ⌝ }
+    ensures { λ v. ⌜ v ≡ getD (spotNumbers (pricedOf s)) which least ⌝ }
 {
     if which == 0 {
         return s.x;

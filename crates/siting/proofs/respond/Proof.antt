@@ -1,6 +1,6 @@
 -- `siting::respond` meets its contract: each way out is that of the call's definition.
 -- Assumes nothing.
-use Rattle.calls.proofs.Demands.{refused-call, small-space, short-output}
+use Rattle.calls.proofs.Demands.{refused-call, space-call, output-call}
 use Rattle.sites.proofs.ReadLaws.{read-refused}
 use Rattle.siting.proofs.SolveLaws.{respond-refused, spelt, rounds-same, rounds-limit, solvable, report-limits, respond-reported}
 use native.Mathlib.Omega.{arith}
@@ -33,13 +33,13 @@ refuse-requires-2 : tie.Need-refuse-requires-2
 refuse-requires-2 c κs = search needs
 
 returns-2 : tie.Need-returns-2
-returns-2 c = let m = c .before .before .before in let s = spelt _ _ (m .before .before .before .read .ensures) _ (m .outcome .given .1) in respond-refused _ _ _ _ (small-space _ _ _ (s .job) (s .read) (omega (arith, rounds-same _ _ (m .before .before .before .read .ensures) _ (m .outcome .given .1), c .before .if1 .taken))) _ (c .refuse2 .ensures)
+returns-2 c = let m = c .before .before .before in let s = spelt _ _ (m .before .before .before .read .ensures) _ (m .outcome .given .1) in respond-refused _ _ _ _ (space-call _ _ _ (s .job) (s .read) (omega (arith, rounds-same _ _ (m .before .before .before .read .ensures) _ (m .outcome .given .1), c .before .if1 .taken))) _ (c .refuse2 .ensures)
 
 refuse-requires-3 : tie.Need-refuse-requires-3
 refuse-requires-3 c κs = search needs
 
 returns-3 : tie.Need-returns-3
-returns-3 c = let m = c .before .before .before .before in let s = spelt _ _ (m .before .before .before .read .ensures) _ (m .outcome .given .1) in respond-refused _ _ _ _ (short-output _ _ _ (s .job) (s .read) (omega (arith, rounds-same _ _ (m .before .before .before .read .ensures) _ (m .outcome .given .1), c .before .before .if1 .left)) (omega (arith, c .before .if2 .taken))) _ (c .refuse3 .ensures)
+returns-3 c = let m = c .before .before .before .before in let s = spelt _ _ (m .before .before .before .read .ensures) _ (m .outcome .given .1) in respond-refused _ _ _ _ (output-call _ _ _ (s .job) (s .read) (omega (arith, rounds-same _ _ (m .before .before .before .read .ensures) _ (m .outcome .given .1), c .before .before .if1 .left)) (omega (arith, c .before .if2 .taken))) _ (c .refuse3 .ensures)
 
 solve-requires : tie.Need-solve-requires
 solve-requires c κs = let m = c .before .before .before .before in solvable _ _ (m .before .before .before .read .ensures) _ (m .outcome .given .1) _ (omega (arith, c .before .before .if1 .left))

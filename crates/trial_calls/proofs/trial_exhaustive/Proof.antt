@@ -4,6 +4,8 @@
 use mir.Syntax.{w64}
 use mir.ValLaws.{toZ-ofZ}
 use mathlib.Core.Path.{sym, ap, _∙_}
+use Rattle.calls.specs.declared.Cheapest.{Cheapest}
+use Rattle.calls.specs.Answers.{cheapestAnswer}
 use Rattle.trial_calls.specs.Calls.{cheapestFigure}
 use Rattle.trial_calls.proofs.CallLaws.{spot-limits, exhaustive-line, no-cheapest-number, refusal-cheapest}
 use borrow.Author.Needs.{needs}
@@ -18,7 +20,7 @@ enum-known-answer : tie.Need-enum-known-answer
 enum-known-answer c = search needs
 
 spot-figure-requires : tie.Need-spot-figure-requires
-spot-figure-requires c κs = spot-limits _ _ _ (c .before .before .before .exhaustive .ensures) (c .before .answer .given .1)
+spot-figure-requires c κs = spot-limits _ _ (c .before .before .before .exhaustive .ensures) _ (c .before .answer .given .1)
 
 enum-known-answer-2 : tie.Need-enum-known-answer-2
 enum-known-answer-2 c = search needs
@@ -27,10 +29,10 @@ returns : tie.Need-returns
 returns c = no-cheapest-number _ (c .before .before .answer2 .given .1) (c .before .before .before .before .before .before .args .which) (omega (arith, c .if1 .taken)) ∙ ap (cheapestFigure _) (c .before .before .before .before .exhaustive .ensures)
 
 refusal-figure-requires : tie.Need-refusal-figure-requires
-refusal-figure-requires c κs = exhaustive-line _ _ _ (c .before .before .before .before .exhaustive .ensures) (c .before .before .answer2 .given .1)
+refusal-figure-requires c κs = exhaustive-line _ _ (c .before .before .before .before .exhaustive .ensures) _ (c .before .before .answer2 .given .1)
 
 returns-2 : tie.Need-returns-2
-returns-2 c = toZ-ofZ w64 _ (record { sfits = c .spot-figure .ok }) ∙ c .spot-figure .ensures ∙ sym (ap (cheapestFigure _) (c .before .before .answer .given .1)) ∙ ap (cheapestFigure _) (c .before .before .before .before .exhaustive .ensures)
+returns-2 c = toZ-ofZ w64 _ (record { sfits = c .spot-figure .ok }) ∙ c .spot-figure .ensures ∙ sym (ap (λ (a : Cheapest). cheapestFigure (c .before .before .before .before .before .before .args .which) (cheapestAnswer a)) (c .before .before .answer .given .1)) ∙ ap (cheapestFigure _) (c .before .before .before .before .exhaustive .ensures)
 
 returns-3 : tie.Need-returns-3
 returns-3 c = toZ-ofZ w64 _ (record { sfits = c .refusal-figure .ok }) ∙ c .refusal-figure .ensures ∙ refusal-cheapest _ (c .before .before .before .answer2 .given .1) (c .before .before .before .before .before .before .before .args .which) (c .before .if1 .left) ∙ ap (cheapestFigure _) (c .before .before .before .before .before .exhaustive .ensures)
