@@ -5,3 +5,4 @@ pub mod EntryLaw
 pub mod ProgramLaw
 pub mod ExhaustiveCall
 pub mod RefusalTable
+pub mod CaseA

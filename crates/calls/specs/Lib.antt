@@ -8,3 +8,4 @@ pub mod EntryLaw
 pub mod ProgramLaw
 pub mod ExhaustiveCallLaw
 pub mod RefusalTable
+pub mod CaseA
