@@ -55,6 +55,7 @@ pub record RefusalTable : Type 0 where
   pub ends-early : asked (ended (take 6 caseA)) ≡ (2, 7)
   pub too-much : asked (ended (caseA ++ ("rounds=10" ∷ []))) ≡ (2, 8)
   pub no-end : asked (ended (take 6 caseA) ++ bytes "rounds=10") ≡ (2, 7)
+  pub no-end-beyond : asked (ended (take 6 caseA) ++ bytes "rounds=1001") ≡ (2, 7)
   -- 3: well formed, a value out of range. The ends of each range, and the numbers beyond them
   pub area-ends : changed 1 ("area=-20000,-20000,20000,20000" ∷ "area=-20000,-20000,-20000,-20000" ∷ "area=20000,20000,20000,20000" ∷ []) ≡ replicate 3 (0, 0)
   pub area-below : changed 1 ("area=-20001,2,8,8" ∷ "area=2,-20001,8,8" ∷ "area=2,2,-20001,8" ∷ "area=2,2,8,-20001" ∷ []) ≡ replicate 4 (3, 1)
@@ -63,6 +64,7 @@ pub record RefusalTable : Type 0 where
   pub post-beyond : changed 3 ("post=-20001,0" ∷ "post=20001,0" ∷ "post=0,-20001" ∷ "post=0,20001" ∷ []) ≡ replicate 4 (3, 3)
   pub stop-ends : changed 6 ("stop=-20000,20000,1" ∷ "stop=20000,-20000,65535" ∷ []) ≡ replicate 2 (0, 0)
   pub stop-beyond : changed 6 ("stop=-20001,0,1" ∷ "stop=20001,0,1" ∷ "stop=0,-20001,1" ∷ "stop=0,20001,1" ∷ []) ≡ replicate 4 (3, 6)
+  pub nine-digits : changed 6 ("stop=-999999999,0,1" ∷ "stop=0,0,999999999" ∷ []) ≡ replicate 2 (3, 6)
   pub visits-beyond : changed 6 ("stop=8,12,0" ∷ "stop=8,12,-1" ∷ "stop=8,12,65536" ∷ []) ≡ replicate 3 (3, 6)
   pub posts-beyond : changed 2 ("posts=-1" ∷ "posts=65" ∷ []) ≡ replicate 2 (3, 2)
   pub posts-64 : asked (manyPosts "posts=64" 64) ≡ (0, 0)
