@@ -1,6 +1,6 @@
 -- Lists: what document 01 needs of them beyond the library's `map`, `foldl`, `foldr`, `length` and `_++_`.
 -- Assumes nothing.
-use Prim.Native.Nat.{ℕ, _+_}
+use Prim.Native.Nat.{ℕ, suc, _+_}
 use mathlib.Core.Bool.{Bool, true, false, cond}
 use mathlib.Core.List.{List, [], _∷_, map, foldl}
 use mathlib.Core.List as L
@@ -30,6 +30,11 @@ module _ {ℓ} {A : Type ℓ} where
   unfoldable pub insertBy : (A → A → Bool) → A → List A → List A
   insertBy before x [] = x ∷ []
   insertBy before x (y ∷ ys) = let later = y ∷ insertBy before x ys in cond (before x y) (x ∷ y ∷ ys) later
+
+  -- how many of them then stand before x
+  unfoldable pub placeBy : (A → A → Bool) → A → List A → ℕ
+  placeBy before x [] = 0
+  placeBy before x (y ∷ ys) = let later = suc (placeBy before x ys) in cond (before x y) 0 later
 
 -- v at its place in an increasing list, unless it is there already
 unfoldable pub insertOnce : ℤ → List ℤ → List ℤ

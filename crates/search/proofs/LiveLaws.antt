@@ -33,14 +33,14 @@ use Rattle.cells.proofs.SpaceLaws.{keep-insert-in, keep-insert-out, keep-agree,
 module _ (P : Problem) (best : Priced) (e : Entry) (head tail : ℕ) (s : List ℤ) (t : List ℕ) where
   pub added-none : (r : Bool) → r ≡ isLive P best (entryCell e) → r ≡ false → Added P best e head tail s t s t head
   unfolding withLive
-  added-none r f g = let dead : isLive P best (entryCell e) ≡ false = sym f ∙ g in record { down = omega arith; by-one = omega arith; entries-are = λ order. rw dead }
+  added-none r f g = let dead : isLive P best (entryCell e) ≡ false = sym f ∙ g in record { down = omega arith; by-one = omega arith; entries-are = rw dead }
 
-  pub added-one : (s′ : List ℤ) (t′ : List ℕ) (r : Bool) → r ≡ isLive P best (entryCell e) → r ≡ true → 1 ≤ head → head ≤ tail → (InOrder (entries s t head (tail - head)) → entries s′ t′ (head - 1) (tail - head + 1) ≡ insertBy entryBefore e (entries s t head (tail - head))) → Added P best e head tail s t s′ t′ (head - 1)
+  pub added-one : (s′ : List ℤ) (t′ : List ℕ) (r : Bool) → r ≡ isLive P best (entryCell e) → r ≡ true → 1 ≤ head → head ≤ tail → entries s′ t′ (head - 1) (tail - head + 1) ≡ insertBy entryBefore e (entries s t head (tail - head)) → Added P best e head tail s t s′ t′ (head - 1)
   unfolding withLive
   added-one s′ t′ r f g h k q =
       let live : isLive P best (entryCell e) ≡ true = sym f ∙ g in
       let count : tail - (head - 1) ≡ tail - head + 1 = omega arith in
-      record { down = omega arith; by-one = omega arith; entries-are = λ order. rw (live, count) (q order) }
+      record { down = omega arith; by-one = omega arith; entries-are = rw (live, count) q }
 
 and-right : (b : Bool) → b ≡ b && true
 and-right true = refl
@@ -93,7 +93,7 @@ module _ (P : Problem) (best : Priced) where
   pub keep-live : (cs : List Query.Cell) → ((c : Query.Cell) → List·Memᴰ c cs → T (canCut P (c .rect))) → keep (λ c. precedes (cellKey c) (pricedKey best)) cs ≡ keep (isLive P best) cs
   keep-live cs h = keep-agree (λ c. precedes (cellKey c) (pricedKey best)) (isLive P best) cs (λ c m. live-precedes P best c (holds (canCut P (c .rect)) (h c m)) (precedes (cellKey c) (pricedKey best)) refl)
 
-  pub with-in-order : (e : Entry) (es : List Entry) → InOrder es → InOrder (withLive P best e es)
+  with-in-order : (e : Entry) (es : List Entry) → InOrder es → InOrder (withLive P best e es)
   unfolding withLive
   with-in-order e es order = go (isLive P best (entryCell e))
     where
@@ -108,6 +108,10 @@ module _ (P : Problem) (best : Priced) where
       go : (b : Bool) → List·Memᴰ f (cond b (insertBy entryBefore e es) es) → (f ≡ e) ⊎ List·Memᴰ f es
       go true m = insertBy-cases entryBefore e es m
       go false m = inr m
+
+-- entries in order are so with one more
+pub added-in-order : (P : Problem) (best : Priced) (e : Entry) (head tail : ℕ) (s s′ : List ℤ) (t t′ : List ℕ) (r : ℕ) → Added P best e head tail s t s′ t′ r → InOrder (entries s t head (tail - head)) → InOrder (entries s′ t′ r (tail - r))
+added-in-order P best e head tail s s′ t t′ r added order = rw (added .entries-are) (with-in-order P best e (entries s t head (tail - head)) order)
 
 pub single : (P : Problem) (best : Priced) (x : Query.Cell) → withCell P best x [] ≡ keep (isLive P best) (x ∷ [])
 unfolding withCell keep insertBy

@@ -2,7 +2,7 @@
 -- Assumes nothing.
 use mathlib.Core.Path.{_≡_, refl, sym, ap, subst, _∙_}
 use mathlib.Core.Logic.{⊎-elim}
-use mathlib.Core.List.{List, [], _∷_, map, List·Memᴰ, List·Memᴰ·head, List·Memᴰ·tail, List·Memᴰ·not-nil, Pairwise·nil, Pairwise·of-cons, Memᴰ·of-map}
+use mathlib.Core.List.{List, [], _∷_, map, List·Memᴰ, List·Memᴰ·head, List·Memᴰ·tail, List·Memᴰ·not-nil, Memᴰ·of-map}
 use Prim.Native.Nat.{ℕ, suc, _+_, _-_, _^_, _≤_, _<_}
 use native.Mathlib.Numerals.{add-one}
 use native.Mathlib.Omega.{arith}
@@ -35,10 +35,10 @@ use Rattle.search.specs.Run.{cornerCosts, cellFor, improved, bestCorner,
 use Rattle.problem.specs.Problem.{siteProblem, pricedOf, rectIn, Ranged}
 use Rattle.numbers.proofs.WordTests.{back, fitting}
 use Rattle.cells.proofs.Trims.{trimmed-live}
-use Rattle.cells.proofs.SpaceLaws.{keep-agree, cells-keep, cells-in-order, keep-in-order, entries-first, entries-none}
+use Rattle.cells.proofs.SpaceLaws.{keep-agree, cells-keep, cells-in-order, rest-in-order, entries-first, entries-none}
 use Rattle.search.proofs.StepLaws.{improved-limit}
 use Rattle.search.proofs.CutParts.{first-is, second-is, corners-are, cut-is, first-range, second-range}
-use Rattle.search.proofs.LiveLaws.{withCell, keep-two, map-with, keep-live, with-in-order, with-cases, single, can-lines, line-lines, live-lines, with-lines, cell-is, best-two, start-best}
+use Rattle.search.proofs.LiveLaws.{withCell, keep-two, map-with, keep-live, with-cases, single, can-lines, line-lines, live-lines, with-lines, cell-is, best-two, start-best}
 
 -- ---- a start
 pub search-is : (s : List ℤ) (t : List ℕ) (st : State) → searchOf s t st ≡ record { best = pricedOf (st .best); live = map entryCell (entries s t (st .head) (st .tail - st .head)); cuts = st .cuts }
@@ -62,7 +62,7 @@ started sites vs hs c area k best s s′ t t′ head costs best-is cell added = 
     bests = ap pricedOf (best-is ∙ ap (bestCorner (rectIn area)) costs) ∙ start-best sites vs hs (rectIn area)
 
     one : entries s′ t′ head (1001 - head) ≡ withLive (onLines vs hs) (pricedOf best) e []
-    one = added .entries-are (subst InOrder (sym (entries-none s t 1001)) Pairwise·nil) ∙ ap (withLive (onLines vs hs) (pricedOf best) e) (entries-none s t 1001)
+    one = added .entries-are ∙ ap (withLive (onLines vs hs) (pricedOf best) e) (entries-none s t 1001)
 
     cells : map entryCell (entries s′ t′ head (1001 - head)) ≡ keep (isLive P (startBest P)) (cellOf P (rectIn area) ∷ [])
     cells =
@@ -207,11 +207,8 @@ module _ (sites : List Site) (vs hs : List ℤ) (s : List ℤ) (t : List ℕ) (s
   pub rounded : (hv : Halves) → hv ≡ halvesOf sites (cutRecord (onLines vs hs) (rectIn c)) (rectIn c) → (b best : Spot) → b ≡ improved (st .best) (hv .low) → best ≡ improved b (hv .high) → (tail : ℕ) → Trimmed s (st .head + 1) (st .tail) (keyOf (pos (best .cost)) (best .x) (best .y)) tail → (s₁ : List ℤ) (t₁ : List ℕ) (behind : ℕ) → Added (onLines vs hs) (pricedOf best) (record { cell = hv .second; costs = hv .«second_costs» }) (st .head + 1) tail s t s₁ t₁ behind → (s₂ : List ℤ) (t₂ : List ℕ) (front : ℕ) → Added (onLines vs hs) (pricedOf best) (record { cell = hv .first; costs = hv .«first_costs» }) behind tail s₁ t₁ s₂ t₂ front → Holds sites (round (siteProblem sites vs hs zeroRect) (searchOf s t st)) (st .head - 1) s₂ t₂ (record { head = front; tail = tail; best = best; cuts = st .cuts + 1 })
   rounded hv hve b best be bests tail trimmed s₁ t₁ behind one s₂ t₂ front two =
       let all : best ≡ improved (improved (st .best) (halves .low)) (halves .high) = bests ∙ (λ i. improved ((be ∙ ap (λ (x : Halves). improved (st .best) (x .low)) hve) i) (hve i .high)) in
-      let es₁ : entries s t (st .head + 1) (tail - (st .head + 1)) ≡ keep (λ e. precedes (cellKey (entryCell e)) (pricedKey (pricedOf best))) others = trimmed-live s (st .head + 1) (st .tail) (pricedKey (pricedOf best)) tail trimmed t (Pairwise·of-cons (subst InOrder split (h .in-order))) in
-      let order₁ : InOrder (entries s t (st .head + 1) (tail - (st .head + 1))) = subst InOrder (sym es₁) (keep-in-order (λ e. precedes (cellKey (entryCell e)) (pricedKey (pricedOf best))) others turn) in
-      let es₂ = one .entries-are order₁ in
-      let order₂ : InOrder (entries s₁ t₁ behind (tail - behind)) = subst InOrder (sym es₂) (with-in-order (onLines vs hs) (pricedOf best) (record { cell = hv .second; costs = hv .«second_costs» }) (entries s t (st .head + 1) (tail - (st .head + 1))) order₁) in
-      go best all hv hve es₁ es₂ (two .entries-are order₂)
+      let es₁ : entries s t (st .head + 1) (tail - (st .head + 1)) ≡ keep (λ e. precedes (cellKey (entryCell e)) (pricedKey (pricedOf best))) others = trimmed-live s (st .head + 1) (st .tail) (pricedKey (pricedOf best)) tail trimmed t turn in
+      go best all hv hve es₁ (one .entries-are) (two .entries-are)
     where
       halves : Halves
       halves = halvesOf sites (cutRecord (onLines vs hs) (rectIn c)) (rectIn c)
@@ -223,7 +220,7 @@ module _ (sites : List Site) (vs hs : List ℤ) (s : List ℤ) (t : List ℕ) (s
       cuttable e m = h .can-cut e (other e m)
 
       turn : InOrder others
-      turn = Pairwise·of-cons (subst InOrder split (h .in-order))
+      turn = rest-in-order s t (st .head) (st .tail) (h .some) (h .in-order)
 
       go : (best : Spot) → best ≡ improved (improved (st .best) (halves .low)) (halves .high) → (hv : Halves) → hv ≡ halves → entries s t (st .head + 1) (tail - (st .head + 1)) ≡ keep (λ e. precedes (cellKey (entryCell e)) (pricedKey (pricedOf best))) others → entries s₁ t₁ behind (tail - behind) ≡ withLive (onLines vs hs) (pricedOf best) (record { cell = hv .second; costs = hv .«second_costs» }) (entries s t (st .head + 1) (tail - (st .head + 1))) → entries s₂ t₂ front (tail - front) ≡ withLive (onLines vs hs) (pricedOf best) (record { cell = hv .first; costs = hv .«first_costs» }) (entries s₁ t₁ behind (tail - behind)) → Holds sites (round (siteProblem sites vs hs zeroRect) (searchOf s t st)) (st .head - 1) s₂ t₂ (record { head = front; tail = tail; best = best; cuts = st .cuts + 1 })
       go best be hv he es₁ es₂ es₃ =

@@ -16,7 +16,7 @@ use Rattle.query.specs.Order.{Priced, better}
 use Rattle.query.specs.Search.{Search, isLive, run}
 use Rattle.query.specs.Figures as Figures
 use Rattle.query.specs.Space.{space}
-use Rattle.query.specs.Range.{RectInRange, InRange, costLimit}
+use Rattle.query.specs.Range.{RectInRange, costLimit}
 use Rattle.job.specs.declared.Deck.{Deck}
 use Rattle.sites.specs.DeckOf.{deckOf}
 use Rattle.sites.specs.Sites.{Site}
@@ -110,19 +110,20 @@ unfoldable pub withLive : Problem → Priced → Entry → List Entry → List E
 unfolding isLive insertBy entryBefore
 withLive P best e es = cond (isLive P best (entryCell e)) (insertBy entryBefore e es) es
 
--- where an entry more may go
-pub record Addable (head tail : ℕ) (c : Cell) (best : Spot) : Type 0 where
+-- where an entry more may go: among entries in order
+pub record Addable (s : List ℤ) (t : List ℕ) (head tail : ℕ) (c : Cell) (best : Spot) : Type 0 where
   pub room : 1 ≤ head
   pub in-turn : head ≤ tail
   pub ends : tail ≤ 1001
+  pub in-order : InOrder (entries s t head (tail - head))
   pub ranged : RectInRange (rectIn c)
   pub cost-limit : best .cost ≤ costLimit
 
--- the entries from r on are those from head on, where these are in order, and e, if it is live
+-- the entries from r on are those from head on and e, if it is live
 pub record Added (P : Problem) (best : Priced) (e : Entry) (head tail : ℕ) (s : List ℤ) (t : List ℕ) (s′ : List ℤ) (t′ : List ℕ) (r : ℕ) : Type 0 where
   pub down : r ≤ head
   pub by-one : head ≤ r + 1
-  pub entries-are : InOrder (entries s t head (tail - head)) → entries s′ t′ r (tail - r) ≡ withLive P best e (entries s t head (tail - head))
+  pub entries-are : entries s′ t′ r (tail - r) ≡ withLive P best e (entries s t head (tail - head))
 
 -- each has the costs of its corners
 pub record Costed (sites : List Site) (es : List Entry) : Type 0 where

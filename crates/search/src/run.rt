@@ -51,7 +51,7 @@ fn is_live(v: &[i64; 514], nv: usize, h: &[i64; 514], nh: usize, c: Cell, best: 
     false
 }
 
-// One more entry among those from head up to tail, if its cell is live. Where they then start.
+// One more entry among those from head up to tail, which are in order, if its cell is live. Where they then start.
 fn add<'a>(
     v: &'a [i64; 514],
     nv: usize,
@@ -66,7 +66,7 @@ fn add<'a>(
     k: Costs,
     best: Spot,
 ) -> usize
-    requires { ⌜ Lined (now v) nv (now h) nh × Addable head tail c best × Numbered (now o) ⌝ }
+    requires { ⌜ Lined (now v) nv (now h) nh × Addable (cellsIn (now s) (now o)) (costsIn (now t) (now o)) head tail c best × Numbered (now o) ⌝ }
     ensures { λ r. ⌜ Added (onLines (take nv (now (v .entry))) (take nh (now (h .entry)))) (pricedOf best) (record { cell = c; costs = k }) head tail (cellsIn (now (s .entry)) (now (o .entry))) (costsIn (now (t .entry)) (now (o .entry))) (cellsIn (now (s .exit)) (now (o .exit))) (costsIn (now (t .exit)) (now (o .exit))) r × Numbered (now (o .exit)) ⌝ }
 {
     if is_live(v, nv, h, nh, c, best) {

@@ -10,7 +10,7 @@ is-live-requires : tie.Need-is-live-requires
 is-live-requires c κs = (c .pre .0, c .pre .1 .ranged, c .pre .1 .cost-limit)
 
 insert-requires : tie.Need-insert-requires
-insert-requires c κs = let s = c .before .before .before .before .before in (s .pre .2, (s .pre .1 .room, (s .pre .1 .in-turn, s .pre .1 .ends)))
+insert-requires c κs = let s = c .before .before .before .before .before in (s .pre .2, (s .pre .1 .room, (s .pre .1 .in-turn, (s .pre .1 .ends, s .pre .1 .in-order))))
 
 sub-result : tie.Need-sub-result
 sub-result c = omega (arith, c .before .before .before .before .before .before .pre .1 .room)

@@ -8,6 +8,9 @@ use Rattle.query.specs.Range.{RectInRange, costLimit}
 use Rattle.pricing.specs.Columns.{siteRows}
 use Rattle.search.specs.Run.{Cutting}
 use Rattle.problem.specs.Problem.{rectIn}
+use Rattle.cells.proofs.SpaceLaws.{rest-in-order}
+use Rattle.cells.proofs.Trims.{trimmed-in-order}
+use Rattle.search.proofs.LiveLaws.{added-in-order}
 use Rattle.search.proofs.RoundLaws.{cutting, rounded, halves-limit, halves-ranged, limit-of, trim-key}
 use Rattle.search.proofs.run.round.Statement.{statement}
 use Rattle.search.proofs.run.round.Tie as tie
@@ -56,14 +59,16 @@ add-requires : tie.Need-add-requires
 add-requires c κs =
     let s = c .before .before .before .before .before .before .before .before .before .before .before .before .before .before .before .before .before .before .before .before .before in
     let cut = c .before .before .before .trim .ensures in
-    (s .pre .1, record { room = omega arith; in-turn = cut .from-head; ends = omega (arith, cut .to-tail, s .pre .2 .ends); ranged = ranges (c .before .before .before .before .before .before .before .before .before .before .before .before .before .before) .1; cost-limit = second-limit (c .before .before .before .before .before .before .before .before .before .before .before .before) }, s .pre .3)
+    let turn = trimmed-in-order _ _ _ _ _ cut _ (rest-in-order _ _ _ _ (s .pre .2 .some) (s .pre .2 .in-order)) in
+    (s .pre .1, record { room = omega arith; in-turn = cut .from-head; ends = omega (arith, cut .to-tail, s .pre .2 .ends); in-order = turn; ranged = ranges (c .before .before .before .before .before .before .before .before .before .before .before .before .before .before) .1; cost-limit = second-limit (c .before .before .before .before .before .before .before .before .before .before .before .before) }, s .pre .3)
 
 add-requires-2 : tie.Need-add-requires-2
 add-requires-2 c κs =
     let s = c .before .before .before .before .before .before .before .before .before .before .before .before .before .before .before .before .before .before .before .before .before .before .before .before .before in
     let cut = c .before .before .before .before .before .before .before .trim .ensures in
+    let turn = trimmed-in-order _ _ _ _ _ cut _ (rest-in-order _ _ _ _ (s .pre .2 .some) (s .pre .2 .in-order)) in
     let one = c .before .before .before .add .ensures in
-    (s .pre .1, record { room = omega (arith, one .0 .by-one, s .pre .2 .room); in-turn = omega (arith, one .0 .down, cut .from-head); ends = omega (arith, cut .to-tail, s .pre .2 .ends); ranged = ranges (c .before .before .before .before .before .before .before .before .before .before .before .before .before .before .before .before .before .before) .0; cost-limit = second-limit (c .before .before .before .before .before .before .before .before .before .before .before .before .before .before .before .before) }, one .1)
+    (s .pre .1, record { room = omega (arith, one .0 .by-one, s .pre .2 .room); in-turn = omega (arith, one .0 .down, cut .from-head); ends = omega (arith, cut .to-tail, s .pre .2 .ends); in-order = added-in-order _ _ _ _ _ _ _ _ _ _ (one .0) turn; ranged = ranges (c .before .before .before .before .before .before .before .before .before .before .before .before .before .before .before .before .before .before) .0; cost-limit = second-limit (c .before .before .before .before .before .before .before .before .before .before .before .before .before .before .before .before) }, one .1)
 
 add-t40 : tie.Need-add-t40
 add-t40 c = omega (arith, c .before .before .before .before .before .before .before .before .before .before .before .before .before .before .before .before .before .before .before .before .before .before .before .before .before .before .before .pre .2 .few)

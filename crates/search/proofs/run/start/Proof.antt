@@ -1,6 +1,7 @@
 -- `search::run::start` meets its contract: the area's entry is added if it is live.
 -- Assumes nothing.
 use native.Mathlib.Omega.{arith}
+use Rattle.cells.proofs.SpaceLaws.{none-in-order}
 use Rattle.search.proofs.RoundLaws.{started}
 use Rattle.search.proofs.StepLaws.{costs-limit, cell-range, best-limit}
 use Rattle.search.proofs.run.start.Statement.{statement}
@@ -18,7 +19,7 @@ bounded-requires c κs = let s = c .before .before in (s .pre .0, s .pre .2, c .
 add-requires : tie.Need-add-requires
 add-requires c κs =
     let s = c .before .before .before .before .before .before in
-    (s .pre .1, record { room = omega arith; in-turn = omega arith; ends = omega arith; ranged = cell-range _ _ _ (c .before .before .before .bounded .ensures) (s .pre .2 .range); cost-limit = best-limit _ _ _ (costs-limit _ (s .pre .0 .cost-limit) _ _ (c .before .before .before .before .before .corners .ensures)) (c .before .before .before .before .best-corner .ensures) }, s .pre .3)
+    (s .pre .1, record { room = omega arith; in-turn = omega arith; ends = omega arith; in-order = none-in-order _ _ _; ranged = cell-range _ _ _ (c .before .before .before .bounded .ensures) (s .pre .2 .range); cost-limit = best-limit _ _ _ (costs-limit _ (s .pre .0 .cost-limit) _ _ (c .before .before .before .before .before .corners .ensures)) (c .before .before .before .before .best-corner .ensures) }, s .pre .3)
 
 returns : tie.Need-returns
 returns c = (started _ _ _ _ (c .before .before .before .before .before .before .before .args .area) _ _ _ _ _ _ _ (c .before .before .before .before .before .before .corners .ensures) (c .before .before .before .before .before .best-corner .ensures) (c .before .before .before .before .bounded .ensures) (c .add .ensures .0), c .add .ensures .1)
