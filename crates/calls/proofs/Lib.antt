@@ -6,3 +6,4 @@ pub mod ProgramLaw
 pub mod ExhaustiveCall
 pub mod RefusalTable
 pub mod CaseA
+pub mod Theorems

@@ -9,3 +9,4 @@ pub mod ProgramLaw
 pub mod ExhaustiveCallLaw
 pub mod RefusalTable
 pub mod CaseA
+pub mod Theorems

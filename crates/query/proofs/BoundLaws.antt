@@ -1,4 +1,5 @@
 -- The bound of a rectangle is at most the cost of each of its points, and at most the bound of each rectangle within it.
+-- Halves are upwards.
 -- Assumes nothing.
 use mathlib.Core.Path.{_≡_, refl}
 use Prim.Native.Nat.{ℕ, _+_, _*_, _≤_, max}
@@ -7,7 +8,7 @@ use native.Mathlib.Omega.{arith}
 use lib.IntN.{ℤ, pos, _-ℤ_}
 use lib.Signed.{_≤ℤ_}
 use Rattle.numbers.specs.Integer.{dist, halfUp}
-use Rattle.numbers.proofs.Integer.{order, half-sub-mono, half-sub-le}
+use Rattle.numbers.proofs.Integer.{order, add-nat, half-nat, half-sub-mono, half-sub-le}
 use Rattle.numbers.proofs.Distance.{dist-sym, dist-split}
 use Rattle.query.specs.Place.{Place, Rect, In, NonEmpty}
 use Rattle.query.specs.Deck.{AxisCosts, Deck}
@@ -15,6 +16,7 @@ use Rattle.query.specs.Travel.{travel}
 use Rattle.query.specs.Cost.{cost}
 use Rattle.query.specs.Reach.{load}
 use Rattle.query.specs.Bound.{span, cornerSum, bound}
+use Rattle.query.specs.Laws.{HalfLaw, BoundLaw}
 use Rattle.query.proofs.Lipschitz.{lipschitz, load-mono}
 
 -- a rectangle's corners: left or right, and front or back
@@ -82,3 +84,9 @@ below deck r p h = omega (arith, order, part deck r (point p) (omega (arith, ord
   where
     at-point : bound deck (point p) ≤ℤ pos (cost deck p)
     at-point = rw (bound-is deck (point p)) (half-sub-le (cornerSum deck (point p)) (slack deck (point p)) (cost deck p) (omega (arith, cornerSum-is deck (point p))))
+
+pub bound-law : (deck : Deck) (r : Rect) → BoundLaw deck r
+bound-law deck r = record { below = below deck r; part = part deck r }
+
+pub half-law : (z : ℤ) → HalfLaw z
+half-law z = record { enough = omega (arith, order, add-nat (halfUp z) (halfUp z), half-nat z); at-most-one-more = omega (arith, order, add-nat (halfUp z) (halfUp z), add-nat z (pos 1), half-nat z) }

@@ -1,4 +1,5 @@
--- What is counted: a run of n rounds makes n cuts unless it is done, keeps at most n + 1 live cells, and its count is that of its cuts.
+-- What is counted: a round makes one cut unless none is live, so that a run of n rounds makes n cuts unless it is done; it keeps at most
+-- n + 1 live cells, and its count is that of its cuts.
 -- Assumes nothing.
 use mathlib.Core.Path.{_≡_, refl, ap, subst, _∙_}
 use mathlib.Core.List.{List, [], _∷_}
@@ -12,6 +13,7 @@ use Rattle.query.specs.Problem.{Problem}
 use Rattle.query.specs.Order.{Cell}
 use Rattle.query.specs.Search.{Search, isLive, cellOf, startBest, start, cellsAfter, bestAfter, roundOn, round, run}
 use Rattle.query.specs.History.{cutOf, cutsMade}
+use Rattle.query.specs.Laws.{RoundLaw}
 use Rattle.query.proofs.CellsAfter.{after-is}
 
 module _ (P : Problem) where
@@ -30,6 +32,21 @@ module _ (P : Problem) where
   unfolding run round start
   live-cuts zero t = refl
   live-cuts (suc n) t = let u = round-live (run P n) (run P n .live) refl t in round-cuts (run P n) (run P n .live) u ∙ ap suc (live-cuts n u)
+
+  -- a round makes one cut exactly if some cell is live
+  round-live-cuts : (s : Search) (live : List Cell) → roundOn P s live .cuts ≡ suc (s .cuts) → T (nonEmpty live)
+  unfolding roundOn
+  round-live-cuts s [] e = absurd (omega arith)
+  round-live-cuts s (c ∷ others) e = tt
+
+  no-round : (s : Search) (live : List Cell) → live ≡ [] → roundOn P s live ≡ s
+  unfolding roundOn
+  no-round s [] e = refl
+  no-round s (c ∷ others) e = cc
+
+  pub round-law : (n : ℕ) → RoundLaw P n
+  unfolding run round
+  round-law n = record { one-cut = (round-cuts (run P n) (run P n .live), round-live-cuts (run P n) (run P n .live)); no-cut = no-round (run P n) (run P n .live) }
 
   -- at most one live cell more than there were cuts, so at most n + 1 after n rounds
   after-length : (c : Cell) (others : List Cell) → length (cellsAfter P c others) ≡ suc (suc (length others))

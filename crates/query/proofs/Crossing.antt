@@ -18,13 +18,13 @@ use Rattle.query.specs.Deck.{Deck}
 use Rattle.query.specs.Cost.{cost}
 use Rattle.query.specs.Lines.{lines}
 use Rattle.query.specs.Order.{Priced, better}
-use Rattle.query.specs.Laws.{edge-low, edge-high, of-stop}
+use Rattle.query.specs.Laws.{edge-low, edge-high, of-stop, AsGood}
 use Rattle.query.proofs.KeyOrder.{better-strict, not-earlier, not-better}
-use Rattle.query.proofs.Axes.{along, moved, moved-self, moved-in}
+use Rattle.query.proofs.Axes.{for-both, along, moved, moved-self, moved-in}
 use Rattle.query.proofs.LineLaws.{lines-law}
 use Rattle.query.proofs.Chord.{Free, chord}
 
-abbrev pub priced : Deck → Place → Priced
+abbrev priced : Deck → Place → Priced
 priced deck p = record { at = p; cost = cost deck p }
 
 -- two numbers of a kind around c, no further off than lo₀ and hi₀, with none of the list strictly between them
@@ -113,9 +113,9 @@ module _ (deck : Deck) (axis : Axis) (p : Place) (within : In (deck .area) p) wh
       (around (λ v. List·Memᴰ v (lines deck axis)) (coordinate axis p) (low-edge axis (deck .area)) (high-edge axis (deck .area)) (lines deck axis) (lines-law deck axis .named (low-edge axis (deck .area)) .1 (edge-low refl)) (lines-law deck axis .named (high-edge axis (deck .area)) .1 (edge-high refl)) (along within axis .0) (along within axis .1) (λ v m. m))
 
 -- 000, Theorem 2: some crossing of two lines is as good as p, ties by which is earlier included
-pub crossing : (deck : Deck) (p : Place) → In (deck .area) p → (q : Place) × In (deck .area) q × List·Memᴰ (q .x) (lines deck x-axis) × List·Memᴰ (q .y) (lines deck y-axis) × T (not (better (priced deck p) (priced deck q)))
+pub crossing : (deck : Deck) (p : Place) → In (deck .area) p → (q : Place) × AsGood deck p q
 crossing deck p within =
     let (v, on-v, within-v, v-as-good) = slide deck x-axis p within in
     let (w, on-w, within-w, w-as-good) = slide deck y-axis (moved x-axis v p) within-v in
     let q : Place = record { x = v; y = w } in
-    (q, within-w, on-v, on-w, better-strict .chain (priced deck q) (priced deck (moved x-axis v p)) (priced deck p) w-as-good v-as-good)
+    (q, record { in-area = within-w; on-lines = for-both (λ axis. List·Memᴰ (coordinate axis q) (lines deck axis)) on-v on-w; not-worse = better-strict .chain (priced deck q) (priced deck (moved x-axis v p)) (priced deck p) w-as-good v-as-good })

@@ -2,22 +2,21 @@
 -- Assumes nothing.
 use mathlib.Core.Path.{_≡_, refl}
 use mathlib.Core.Logic.{_↔_}
-use mathlib.Core.List.{List, [], _∷_, List·Memᴰ}
+use mathlib.Core.List.{List, [], _∷_}
 use Prim.Native.Nat.{ℕ, suc, _-_, _*_, _≤_}
 use native.Mathlib.Omega.{arith}
 use lib.Dec.{T}
 use lib.Signed.{_≤ℤ_}
 use Rattle.numbers.specs.Lists.{nonEmpty}
-use Rattle.query.specs.Place.{NonEmpty, x-axis, y-axis, coordinate, low-edge, high-edge}
+use Rattle.query.specs.Place.{NonEmpty, x-axis, y-axis, low-edge, high-edge}
 use Rattle.query.specs.Deck.{Deck}
 use Rattle.query.specs.Lines.{gaps}
-use Rattle.query.specs.Problem.{problem, linesAlong}
+use Rattle.query.specs.Problem.{problem}
 use Rattle.query.specs.Order.{Cell}
 use Rattle.query.specs.Search.{round, run}
 use Rattle.query.specs.Figures.{done, stopped, stateOf, high, low, figuresOf, figures}
 use Rattle.query.specs.Laws.{edge-low, edge-high}
 use Rattle.query.specs.Demand3.{Demand3}
-use Rattle.query.proofs.Axes.{for-both}
 use Rattle.query.proofs.BoundLaws as BoundLaws
 use Rattle.query.proofs.LineLaws.{lines-along, lines-law, gaps-law}
 use Rattle.query.proofs.CutLaws.{cut-law}
@@ -39,7 +38,7 @@ lawful deck full = record {
   increasing = λ axis. rw (lines-along deck axis) (lines-law deck axis .increasing);
   below = BoundLaws.below deck;
   part = BoundLaws.part deck;
-  crossing = λ p h. let (q, within, on-x, on-y, as-good) = Crossing.crossing deck p h in (q, within, for-both (λ axis. List·Memᴰ (coordinate axis q) (linesAlong (problem deck) axis)) on-x on-y, as-good);
+  crossing = λ p h. let (q, good) = Crossing.crossing deck p h in (q, good .in-area, λ axis. rw (lines-along deck axis) (good .on-lines axis), good .not-worse);
 }
 
 module _ (deck : Deck) (full : NonEmpty (deck .area)) where

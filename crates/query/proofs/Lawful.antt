@@ -4,7 +4,7 @@
 use mathlib.Core.Bool.{not}
 use mathlib.Core.List.{List·Memᴰ, Pairwise}
 use lib.Dec.{T}
-use lib.IntN.{ℤ, pos}
+use lib.IntN.{pos}
 use lib.Signed.{_≤ℤ_, _<ℤ_}
 use Rattle.query.specs.Place.{Place, Rect, In, NonEmpty, Axis, coordinate, low-edge, high-edge}
 use Rattle.query.specs.Problem.{Problem, linesAlong}

@@ -26,3 +26,4 @@ pub mod SpaceLaws
 pub mod ExhaustiveLaws
 pub mod Ranges
 pub mod FigureRanges
+pub mod QueryTheorems

@@ -1,10 +1,12 @@
 -- The rows beside the marked decks, by computation.
 use mathlib.Core.Path.{refl}
+use lib.Dec.{ltb→lt}
 use Rattle.numbers.specs.Integer.{halfUp}
 use Rattle.query.specs.Lines.{gaps}
 use Rattle.query.specs.Figures.{figures}
 use Rattle.query.specs.Space.{space}
 use Rattle.query.specs.Exhaustive.{exhaustive}
+use Rattle.query.specs.Demand3.{further-right}
 use Rattle.query.specs.Rows.{Rows}
 
 pub rows : Rows
@@ -17,6 +19,10 @@ rows = record {
   gaps-A-deep = refl;
   gaps-B-across = refl;
   gaps-C-across = refl;
+  limit-reached = refl;
+  high-falls = ltb→lt 16 18 tt;
+  low-rises = record { lt = tt };
+  further-right = further-right refl (record { lt = tt });
   equal = refl;
   level = refl;
   reach = refl;

@@ -1,9 +1,9 @@
 -- The search keeps the live cells of the partition, in the order in which rounds take them.
 -- Assumes nothing.
-use mathlib.Core.Path.{_≡_, refl, sym, subst}
+use mathlib.Core.Path.{_≡_, refl, sym, ap, subst}
 use mathlib.Core.Bool.{Bool, not}
-use mathlib.Core.Logic.{_⊎_, ⊎-elim}
-use mathlib.Core.List.{List, [], _∷_, _++_, List·Memᴰ, List·Memᴰ·head, List·Memᴰ·tail, List·Memᴰ·append-cases, Memᴰ·append-left, Memᴰ·append-right, append-nil, Pairwise, Pairwise·nil, rel-of-pairwise-cons, Pairwise·of-cons}
+use mathlib.Core.Logic.{⊎-elim}
+use mathlib.Core.List.{List, [], _∷_, _++_, List·Memᴰ, List·Memᴰ·head, List·Memᴰ·tail, List·Memᴰ·append-cases, Memᴰ·append-left, Memᴰ·append-right, append-nil, Pairwise·nil, rel-of-pairwise-cons, Pairwise·of-cons}
 use Prim.Native.Nat.{ℕ, zero, suc}
 use lib.Dec.{T, T-prop}
 use Rattle.numbers.specs.Lists.{keep}
@@ -12,32 +12,29 @@ use Rattle.numbers.proofs.Members.{keep-test, keep-all, keep-sorted, insertBy-s
 use Rattle.query.specs.Place.{Place, In}
 use Rattle.query.specs.Problem.{Problem}
 use Rattle.query.specs.Cut.{canCut, cutLine, newCorners}
-use Rattle.query.specs.Order.{Priced, Cell, precedes, pricedKey, cellKey, better, cellBefore}
+use Rattle.query.specs.Order.{Priced, Cell, precedes, pricedKey, cellKey, better, cellBefore, CellsInOrder}
 use Rattle.query.specs.Search.{Search, isLive, cellOf, startBest, start, cellsAfter, bestAfter, roundOn, round, run}
 use Rattle.query.specs.Partition.{cutUp, notLive, dead, partition}
+use Rattle.query.specs.History.{cutOf, cutsMade}
 use Rattle.query.specs.Laws.{TakenLaw, PartitionLaw}
 use Rattle.query.proofs.KeyOrder.{precedes-strict, better-strict, cellBefore-strict}
 use Rattle.query.proofs.Best.{bestOf-old}
 use Rattle.query.proofs.CellsAfter.{Within, after-within}
 
--- cells in the order in which rounds take them
-abbrev InOrder : List Cell → Type 0
-InOrder cells = Pairwise (λ c d. T (not (cellBefore d c))) cells
-
-kept-in-order : (p : Cell → Bool) (cells : List Cell) → InOrder cells → InOrder (keep p cells)
+kept-in-order : (p : Cell → Bool) (cells : List Cell) → CellsInOrder cells → CellsInOrder (keep p cells)
 kept-in-order p cells s = keep-sorted (λ c d. T (not (cellBefore d c))) (λ c d. T-prop (not (cellBefore d c))) p cells s
 
 module _ (P : Problem) where
-  after-in-order : (c : Cell) (others : List Cell) → InOrder others → InOrder (cellsAfter P c others)
+  after-in-order : (c : Cell) (others : List Cell) → CellsInOrder others → CellsInOrder (cellsAfter P c others)
   unfolding cellsAfter
   after-in-order c others s = insertBy-sorted cellBefore cellBefore-strict _ _ (insertBy-sorted cellBefore cellBefore-strict _ others s)
 
-  round-in-order : (s : Search) (live : List Cell) → s .live ≡ live → InOrder live → InOrder (roundOn P s live .live)
+  round-in-order : (s : Search) (live : List Cell) → s .live ≡ live → CellsInOrder live → CellsInOrder (roundOn P s live .live)
   unfolding roundOn
-  round-in-order s [] e o = subst InOrder (sym e) o
+  round-in-order s [] e o = subst CellsInOrder (sym e) o
   round-in-order s (c ∷ others) e o = kept-in-order (isLive P (bestAfter P (s .best) c)) (cellsAfter P c others) (after-in-order c others (Pairwise·of-cons o))
 
-  pub run-in-order : (n : ℕ) → InOrder (run P n .live)
+  pub run-in-order : (n : ℕ) → CellsInOrder (run P n .live)
   unfolding run round start
   run-in-order zero = kept-in-order (isLive P (startBest P)) (cellOf P (P .area) ∷ []) (insertBy-sorted cellBefore cellBefore-strict (cellOf P (P .area)) [] Pairwise·nil)
   run-in-order (suc n) = round-in-order (run P n) (run P n .live) refl (run-in-order n)
@@ -107,9 +104,14 @@ module _ (P : Problem) where
   partition-law n = record { live-are-live = live-are-live n; dead-are-not = dead-are-not n; covers = covers n }
 
   -- ---- the cell that a round takes
-  pub taken-law : (n : ℕ) (c : Cell) (others : List Cell) → run P n .live ≡ c ∷ others → TakenLaw P n c others
-  taken-law n c others e = record { is-live = live-are-live n c (subst (List·Memᴰ c) (sym e) (List·Memᴰ·head refl)); is-first = λ d m. first d (subst (List·Memᴰ d) e m) }
+  pub taken-law : (n : ℕ) (c : Cell) (others : List Cell) → run P n .live ≡ c ∷ others → TakenLaw P n c
+  unfolding cutsMade cutOf
+  taken-law n c others e = record {
+    is-cut = ap (λ (live : List Cell). cutsMade P n ++ cutOf P live) e;
+    is-live = live-are-live n c (subst (List·Memᴰ c) (sym e) (List·Memᴰ·head refl));
+    is-first = λ d m. first d (subst (List·Memᴰ d) e m);
+  }
     where
       first : (d : Cell) → List·Memᴰ d (c ∷ others) → T (not (cellBefore d c))
       first d (List·Memᴰ·head q) = subst (λ (d : Cell). T (not (cellBefore d c))) (sym q) (irrefl cellBefore-strict c)
-      first d (List·Memᴰ·tail m) = rel-of-pairwise-cons (subst InOrder e (run-in-order n)) ∣ m ∣₁
+      first d (List·Memᴰ·tail m) = rel-of-pairwise-cons (subst CellsInOrder e (run-in-order n)) ∣ m ∣₁

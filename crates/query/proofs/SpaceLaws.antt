@@ -13,6 +13,7 @@ use Rattle.query.specs.Search.{run}
 use Rattle.query.specs.Space.{cellNumbers, allNumbers, filled, space}
 use Rattle.query.specs.Laws.{SpaceLaw}
 use Rattle.query.proofs.Counts.{live-count}
+use Rattle.query.proofs.SearchLaws.{run-in-order}
 
 pub allNumbers-length : (cells : List Cell) → length (allNumbers cells) ≡ 5 * length cells
 unfolding allNumbers
@@ -25,7 +26,7 @@ filled-length lent numbers h = omega (arith, length-append numbers (replicate (l
 
 pub space-law : (deck : Deck) (n : ℕ) → SpaceLaw deck n
 unfolding space
-space-law deck n = record { live-cells = count; numbers = room; whole = λ lent h. filled-length lent (allNumbers (run (problem deck) n .live)) (omega (arith, room)) }
+space-law deck n = record { in-order = run-in-order (problem deck) n; live-cells = count; numbers = room; whole = λ lent h. filled-length lent (allNumbers (run (problem deck) n .live)) (omega (arith, room)) }
   where
     count : length (run (problem deck) n .live) ≤ n + 1
     count = live-count (problem deck) n

@@ -1,6 +1,5 @@
 -- Travel: triangle, the closest point of a rectangle, and a rectangle's span through one of its points.
 -- Assumes nothing.
-use mathlib.Core.Path.{_≡_}
 use Prim.Native.Nat.{_+_, _≤_}
 use native.Mathlib.Nat.{mul-le-mul-left}
 use native.Mathlib.Omega.{arith}

@@ -1,5 +1,5 @@
 -- Demand 3, one field for each clause, of the figures f that a report of a deck carries after at most n rounds.
--- It holds of `figures deck n`, for every deck with a non-empty area and every n (Theorems.antt).
+-- It holds of `figures deck n`, for every deck with a non-empty area and every n (QueryTheorems.antt).
 -- Assumes nothing.
 use Prim.Native.Nat.{ℕ, suc, _-_, _*_, _≤_, _<_}
 use mathlib.Core.Path.{_≡_}

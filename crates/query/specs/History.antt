@@ -12,11 +12,15 @@ pub record Cut : Type 0 where
   pub cell : Rect
   pub line : Line
 
+-- how a cell is cut
+abbrev pub cellCut : Problem → Cell → Cut
+cellCut P c = record { cell = c .rect; line = cutLine P (c .rect) }
+
 -- the cut of a round that finds these live cells: of the first, and none where no cell is live
 unfoldable pub cutOf : Problem → List Cell → List Cut
 unfolding cutLine
 cutOf P [] = []
-cutOf P (c ∷ others) = record { cell = c .rect; line = cutLine P (c .rect) } ∷ []
+cutOf P (c ∷ others) = cellCut P c ∷ []
 
 -- the cuts of the first n rounds
 unfoldable pub cutsMade : Problem → ℕ → List Cut

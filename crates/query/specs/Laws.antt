@@ -1,28 +1,35 @@
--- What a reader may hold the definitions to, in plain terms. Each is proved for all of its parameters: `near-law` and `travelTo-law` in
--- proofs/NearLaws, `lines-law` and `gaps-law` in LineLaws, `cut-law` in CutLaws, `taken-law` and `partition-law` in SearchLaws,
--- `space-law` in SpaceLaws.
+-- What a reader may hold the definitions to, in plain terms. QueryTheorems.antt states for which parameters each holds.
 -- Assumes nothing.
-use Prim.Native.Nat.{ℕ, _+_, _*_, _≤_}
+use Prim.Native.Nat.{ℕ, suc, _+_, _*_, _≤_}
 use mathlib.Core.Path.{_≡_}
 use mathlib.Core.Bool.{not}
 use mathlib.Core.Logic.{_↔_}
-use mathlib.Core.List.{List, List·Memᴰ, Pairwise}
+use mathlib.Core.List.{[], _∷_, _++_, List·Memᴰ, Pairwise}
 use lib.Dec.{T}
-use lib.IntN.{ℤ}
+use lib.IntN.{ℤ, pos, _+ℤ_}
 use lib.ListN.{length}
 use lib.Signed.{_≤ℤ_, _<ℤ_}
+use Rattle.numbers.specs.Integer.{halfUp}
 use Rattle.numbers.specs.Lists.{nonEmpty}
-use Rattle.query.specs.Place.{Place, Rect, In, NonEmpty, Axis, x-axis, y-axis, coordinate, low-edge, high-edge}
+use Rattle.query.specs.Place.{Place, Rect, In, NonEmpty, Axis, x-axis, y-axis, coordinate, low-edge, high-edge, corner}
 use Rattle.query.specs.Deck.{Stop, Deck}
 use Rattle.query.specs.Travel.{travel, near}
+use Rattle.query.specs.Cost.{cost}
 use Rattle.query.specs.Reach.{travelTo, reach}
 use Rattle.query.specs.Lines.{lines, gaps}
+use Rattle.query.specs.Bound.{bound}
 use Rattle.query.specs.Problem.{Problem, problem, linesAlong}
 use Rattle.query.specs.Cut.{inside, canCut, side, offMiddle, cutLine}
-use Rattle.query.specs.Order.{Cell, cellBefore}
+use Rattle.query.specs.Order.{Cell, better, cellBefore, CellsInOrder}
 use Rattle.query.specs.Search.{isLive, run}
 use Rattle.query.specs.Space.{allNumbers, space}
 use Rattle.query.specs.Partition.{dead, partition}
+use Rattle.query.specs.History.{cellCut, cutsMade}
+
+-- twice the half of z is z or one more: it is halved towards plus infinity
+pub record HalfLaw (z : ℤ) : Type 0 where
+  pub enough : z ≤ℤ (halfUp z +ℤ halfUp z)
+  pub at-most-one-more : (halfUp z +ℤ halfUp z) ≤ℤ (z +ℤ pos 1)
 
 -- near is the travel to some post, and at most the travel to every post
 pub record NearLaw (deck : Deck) (stop : Stop) : Type 0 where
@@ -33,6 +40,11 @@ pub record NearLaw (deck : Deck) (stop : Stop) : Type 0 where
 pub record TravelToLaw (deck : Deck) (r : Rect) (stop : Stop) : Type 0 where
   pub some-point : NonEmpty r → (p : Place) × In r p × (travelTo deck r stop ≡ travel (deck .axis) (stop .at) p)
   pub every-point : (p : Place) → In r p → travelTo deck r stop ≤ travel (deck .axis) (stop .at) p
+
+-- the bound of a rectangle is at most the cost of each of its points (Theorem 4 of 000), and at most the bound of each rectangle in it
+pub record BoundLaw (deck : Deck) (r : Rect) : Type 0 where
+  pub below : (p : Place) → In r p → bound deck r ≤ℤ pos (cost deck p)
+  pub part : (q : Rect) → NonEmpty q → In r (corner q) → In r (record { x = q .xhi; y = q .yhi }) → bound deck r ≤ℤ bound deck q
 
 -- v is a coordinate that document 01 names for a line: an edge of the area, or a stop's within reach of it and in its range
 pub data Named (deck : Deck) (axis : Axis) (v : ℤ) : Type 0 where
@@ -49,6 +61,12 @@ pub record LinesLaw (deck : Deck) (axis : Axis) : Type 0 where
 pub record GapsLaw (deck : Deck) (axis : Axis) : Type 0 where
   pub at-least-one : 1 ≤ gaps deck axis
   pub inside-and-one : NonEmpty (deck .area) → gaps deck axis ≡ length (inside (problem deck) axis (deck .area)) + 1
+
+-- q is a crossing of lines in the area that is as good as p: cheaper, or as cheap and not later (Theorem 2 of 000, with the order "earlier")
+pub record AsGood (deck : Deck) (p q : Place) : Type 0 where
+  pub in-area : In (deck .area) q
+  pub on-lines : (axis : Axis) → List·Memᴰ (coordinate axis q) (lines deck axis)
+  pub not-worse : T (not (better (record { at = p; cost = cost deck p }) (record { at = q; cost = cost deck q })))
 
 -- line v lies strictly inside r along an axis
 pub record Inside (P : Problem) (axis : Axis) (r : Rect) (v : ℤ) : Type 0 where
@@ -70,8 +88,15 @@ pub record CutLaw (P : Problem) (r : Rect) : Type 0 where
   pub can-be-cut : T (canCut P r) ↔ ((axis : Axis) × (v : ℤ) × Inside P axis r v)
   pub cut-line : T (canCut P r) → CutLineLaw P r
 
--- the cell that round n + 1 takes, c, is live, and no live cell comes before it by (bound, xlo, ylo)
-pub record TakenLaw (P : Problem) (n : ℕ) (c : Cell) (others : List Cell) : Type 0 where
+-- round n + 1 makes one cut if some cell is live, and only then; where none is live, the search stays as it is
+pub record RoundLaw (P : Problem) (n : ℕ) : Type 0 where
+  pub one-cut : T (nonEmpty (run P n .live)) ↔ (run P (suc n) .cuts ≡ suc (run P n .cuts))
+  pub no-cut : run P n .live ≡ [] → run P (suc n) ≡ run P n
+
+-- the cell that round n + 1 takes, c: its cut follows those of the first n rounds, it is live, and no live cell comes before it by
+-- (bound, xlo, ylo)
+pub record TakenLaw (P : Problem) (n : ℕ) (c : Cell) : Type 0 where
+  pub is-cut : cutsMade P (suc n) ≡ cutsMade P n ++ (cellCut P c ∷ [])
   pub is-live : T (isLive P (run P n .best) c)
   pub is-first : (d : Cell) → List·Memᴰ d (run P n .live) → T (not (cellBefore d c))
 
@@ -82,8 +107,10 @@ pub record PartitionLaw (P : Problem) (n : ℕ) : Type 0 where
   pub dead-are-not : (c : Cell) → List·Memᴰ c (dead P n) → T (not (isLive P (run P n .best) c))
   pub covers : (p : Place) → In (P .area) p → (c : Cell) × List·Memᴰ c (partition P n) × In (c .rect) p
 
--- after n rounds at most n + 1 cells are live, so that 5 × (n + 1) numbers of cell space always suffice, and are all written
+-- after n rounds at most n + 1 cells are live, so that 5 × (n + 1) numbers of cell space always suffice, and are all written;
+-- the cells in it are ordered by bound, then by (xlo, ylo)
 pub record SpaceLaw (deck : Deck) (n : ℕ) : Type 0 where
+  pub in-order : CellsInOrder (run (problem deck) n .live)
   pub live-cells : length (run (problem deck) n .live) ≤ n + 1
   pub numbers : length (allNumbers (run (problem deck) n .live)) ≤ 5 * (n + 1)
   pub whole : (lent : ℕ) → 5 * (n + 1) ≤ lent → length (space deck n lent) ≡ lent

@@ -13,10 +13,11 @@ pub mod Figures
 pub mod Space
 pub mod Exhaustive
 pub mod Partition
-pub mod Laws
 pub mod History
+pub mod Laws
 pub mod Demand3
 pub mod ExhaustiveLaw
 pub mod Range
 pub mod Marked
 pub mod Rows
+pub mod QueryTheorems

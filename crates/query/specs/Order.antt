@@ -1,7 +1,9 @@
 -- Document 01, "Lines, cells and bounds": figures of priced places and cells, compared first by the figure and then by which place is earlier.
 -- Assumes nothing.
 use Prim.Native.Nat.{ℕ}
-use mathlib.Core.Bool.{Bool, _&&_, _||_}
+use mathlib.Core.Bool.{Bool, not, _&&_, _||_}
+use mathlib.Core.List.{List, Pairwise}
+use lib.Dec.{T}
 use lib.IntN.{ℤ, pos}
 use lib.Signed.{ltZ}
 use Rattle.numbers.specs.Integer.{eqZ}
@@ -42,3 +44,7 @@ better p q = precedes (pricedKey p) (pricedKey q)
 unfoldable pub cellBefore : Cell → Cell → Bool
 unfolding precedes
 cellBefore c d = precedes (cellKey c) (cellKey d)
+
+-- cells in the order in which rounds take them: none goes before one that stands in front of it
+abbrev pub CellsInOrder : List Cell → Type 0
+CellsInOrder cells = Pairwise (λ c d. T (not (cellBefore d c))) cells

@@ -1,10 +1,12 @@
 -- Rows beside the eight marked decks: figures of small decks, each chosen so that a rule told wrongly gives another figure.
 -- The figures are those of a program written from document 01 alone; `proofs/Rows.antt` proves that the definitions give them.
 -- Assumes nothing.
+use Prim.Native.Nat.{_-_, _*_, _<_}
 use mathlib.Core.Path.{_≡_}
 use mathlib.Core.List.{[], _∷_, _++_, map}
 use lib.IntN.{pos, negsuc}
 use lib.ListN.{replicate}
+use lib.Signed.{_<ℤ_}
 use Rattle.numbers.specs.Integer.{halfUp}
 use Rattle.query.specs.Place.{x-axis, y-axis}
 use Rattle.query.specs.Deck.{Deck, plain}
@@ -12,6 +14,7 @@ use Rattle.query.specs.Lines.{gaps}
 use Rattle.query.specs.Figures.{figures, done, stopped}
 use Rattle.query.specs.Space.{space}
 use Rattle.query.specs.Exhaustive.{exhaustive}
+use Rattle.query.specs.Demand3.{Beaten}
 use Rattle.query.specs.Marked.{at, rect, stop, report, deckA, deckB, deckC, deckD}
 
 -- a cell whose bound equals the best cost holds an earlier place of that cost: 1,0 is priced first and costs 5, as 0,3 does
@@ -72,6 +75,12 @@ pub record Rows : Type 0 where
   pub gaps-A-deep : gaps deckA y-axis ≡ 2
   pub gaps-B-across : gaps deckB x-axis ≡ 1
   pub gaps-C-across : gaps deckC x-axis ≡ 1
+  -- demand 3 says no more than holds: the cut limit is reached, a high falls, a low rises, and a place that costs the same and is
+  -- further right is beaten
+  pub limit-reached : figures deckA 3 .rounds ≡ gaps deckA x-axis * gaps deckA y-axis - 1
+  pub high-falls : figures deckA 1 .high < figures deckA 0 .high
+  pub low-rises : figures deckA 1 .low <ℤ figures deckA 2 .low
+  pub further-right : Beaten deckB (at 0 0) (at 10 0)
   -- when a cell is live
   pub equal : figures deckEqual 10 ≡ report done (at 0 3) 5 (pos 5) 9 4
   pub level : figures deckLevel 10 ≡ report done (at 1 1) 11 (pos 11) 32 1

@@ -238,9 +238,9 @@ fn low_of<'a>(s: &'a [i64; 5005], o: &'a [u16; 1001], st: State) -> i64
     if st.tail <= head {
         return high;
     }
-    let c = slots::cell_at(s, o, head);
-    if c.bound < high {
-        return c.bound;
+    let first = slots::cell_at(s, o, head);
+    if first.bound < high {
+        return first.bound;
     }
     high
 }

@@ -37,7 +37,7 @@ loop-again : tie.Need-loop-again Inv-loop μ-loop
 loop-again c = (
   omega arith,
   simp length-set (c .before .before .loop .inv .1),
-  wrote-turn _ _ _ (c .before .before .loop .inv .2) (c .before .before .before .pre) (c .before .loop-test .taken),
+  wrote-turn _ _ _ (c .before .before .loop .inv .2) (c .before .before .before .pre) (omega arith),
 )
 
 add-result : tie.Need-add-result Inv-loop μ-loop
@@ -47,7 +47,7 @@ same-length : tie.Need-same-length Inv-loop μ-loop
 same-length c = c .before .loop .inv .1
 
 returns : tie.Need-returns Inv-loop μ-loop
-returns c = wrote-all _ _ _ (c .before .loop .inv .2) (c .loop-test .left)
+returns c = wrote-all _ _ _ (c .before .loop .inv .2) (omega arith)
 
 pub put-spec : {M : Type 1} → statement M
 put-spec =

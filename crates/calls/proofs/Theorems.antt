@@ -1,0 +1,29 @@
+-- The theorems of specs/Theorems.antt.
+-- Assumes nothing.
+use Rattle.query.proofs.QueryTheorems.{query-theorems}
+use Rattle.job.proofs.Meaning.{spelling-law}
+use Rattle.job.proofs.Vectors as JobVectors
+use Rattle.report.proofs.Fits.{report-fits}
+use Rattle.report.proofs.Vectors as ReportVectors
+use Rattle.calls.specs.Theorems.{Theorems}
+use Rattle.calls.proofs.Demands.{demands}
+use Rattle.calls.proofs.EntryLaw.{entry-law}
+use Rattle.calls.proofs.ProgramLaw.{program-law}
+use Rattle.calls.proofs.ExhaustiveCall.{exhaustive-call-law}
+use Rattle.calls.proofs.RefusalTable.{refusal-table}
+use Rattle.calls.proofs.CaseA.{case-A}
+
+pub theorems : Theorems
+theorems = record {
+  demands = demands;
+  entry = entry-law;
+  program = program-law;
+  exhaustive = exhaustive-call-law;
+  spelling = spelling-law;
+  report-fits = report-fits;
+  refusal-table = refusal-table;
+  case-A = case-A;
+  job-vectors = JobVectors.vectors;
+  report-vectors = ReportVectors.vectors;
+  rules = query-theorems;
+}

@@ -1,0 +1,35 @@
+-- All that is proved of the calls and of the rules, with its quantifiers and hypotheses. proofs/Theorems.antt proves it: `theorems : Theorems`.
+-- That the code computes the definitions is said by the contracts of crates/siting/src/lib.rt.
+-- Assumes nothing.
+use Prim.Native.Nat.{ℕ}
+use mathlib.Core.List.{List}
+use lib.IntN.{ℤ}
+use Rattle.query.specs.QueryTheorems.{QueryTheorems}
+use Rattle.job.specs.Format.{Job}
+use Rattle.job.specs.Meaning.{SpellingLaw}
+use Rattle.job.specs.Vectors as JobVectors
+use Rattle.report.specs.Limits.{ReportFits}
+use Rattle.report.specs.Vectors as ReportVectors
+use Rattle.calls.specs.Demands.{Demands}
+use Rattle.calls.specs.EntryLaw.{EntryLaw}
+use Rattle.calls.specs.ProgramLaw.{ProgramLaw}
+use Rattle.calls.specs.ExhaustiveCallLaw.{ExhaustiveCallLaw}
+use Rattle.calls.specs.RefusalTable.{RefusalTable}
+use Rattle.calls.specs.CaseA.{CaseA}
+
+pub record Theorems : Type 0 where
+  -- for every file, however garbled, and all that is lent
+  pub demands : (job : List ℕ) (cells : List ℤ) (out : List ℕ) → Demands job cells out
+  pub entry : (job out : List ℕ) → EntryLaw job out
+  pub program : (job : List ℕ) → ProgramLaw job
+  pub exhaustive : (job : List ℕ) → ExhaustiveCallLaw job
+  -- no two allowed jobs are spelled alike, and 128 bytes hold every report
+  pub spelling : (job : Job) → SpellingLaw job
+  pub report-fits : ReportFits
+  -- what document 01 works out
+  pub refusal-table : RefusalTable
+  pub case-A : CaseA
+  pub job-vectors : JobVectors.Vectors
+  pub report-vectors : ReportVectors.Vectors
+  -- the rules, for every deck and every number of rounds
+  pub rules : QueryTheorems
