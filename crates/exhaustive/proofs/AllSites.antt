@@ -12,8 +12,8 @@ use Rattle.numbers.proofs.Words.{word-fits}
 use Rattle.query.specs.Place.{Place}
 use Rattle.pricing.specs.Figures.{costOf, beforeOf}
 use Rattle.pricing.specs.Columns.{siteRows, SiteInRange, ColumnsInRange}
-use Rattle.sites.proofs.WordLaws.{coordinate}
-use Rattle.sites.proofs.TravelLaws.{far, travel-plain}
+use Rattle.deck.proofs.WordLaws.{coordinate}
+use Rattle.deck.proofs.TravelLaws.{far, travel-plain}
 use Rattle.pricing.proofs.SiteLaws.{paidBy, paidNow, costOf-sum, beforeOf-sum}
 use Rattle.pricing.proofs.ColumnLaws.{siteAt, sum-none, sum-more, has-row, row-range}
 use Rattle.numbers.proofs.WordTests.{back}

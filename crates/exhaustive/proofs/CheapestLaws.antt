@@ -8,7 +8,7 @@ use lib.Dec.{T, ltb}
 use lib.Signed.{mag}
 use Rattle.numbers.proofs.Truth.{holds, fails}
 use Rattle.query.specs.Place.{Place}
-use Rattle.sites.specs.Sites.{Site}
+use Rattle.deck.specs.Sites.{Site}
 use Rattle.problem.specs.declared.Spot.{Spot}
 use Rattle.problem.specs.Problem.{spotOf}
 use Rattle.numbers.proofs.WordTests.{back, fitting}

@@ -9,7 +9,7 @@ use lib.IntN.{ℤ, pos}
 use lib.ListN.{getD, take, drop, replicate, length-replicate, length-take, drop-of-length-le}
 use lib.Seq.{drop-cons, getD-take, length-take-le}
 use Rattle.query.specs.Range.{costLimit}
-use Rattle.sites.specs.Sites.{Site}
+use Rattle.deck.specs.Sites.{Site}
 use Rattle.pricing.specs.Figures.{beforeOf}
 use Rattle.pricing.specs.Columns.{Figure}
 use Rattle.problem.specs.declared.Spot.{Spot}

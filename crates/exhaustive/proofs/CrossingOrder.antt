@@ -19,7 +19,7 @@ use Rattle.query.specs.Order.{Priced, precedes, better}
 use Rattle.query.specs.Search.{bestOf}
 use Rattle.query.specs.Exhaustive.{crossings, cheapestCrossing}
 use Rattle.query.proofs.KeyOrder.{not-earlier}
-use Rattle.sites.specs.Sites.{Site}
+use Rattle.deck.specs.Sites.{Site}
 use Rattle.pricing.specs.Figures.{costOf}
 use Rattle.problem.specs.declared.Spot.{Spot}
 use Rattle.problem.specs.Problem.{siteProblem, pricedOf, spotOf}

@@ -19,12 +19,12 @@ use Rattle.query.specs.Exhaustive.{cheapestCrossing, exhaustive}
 use Rattle.query.specs.Range.{InRange, costLimit}
 use Rattle.query.proofs.KeyOrder.{not-earlier}
 use Rattle.query.proofs.LineLaws.{lines-law, lines-range}
-use Rattle.job.specs.declared.Deck.{Deck}
-use Rattle.sites.specs.DeckOf.{deckOf}
+use Rattle.deck.specs.declared.Deck.{Deck}
+use Rattle.deck.specs.DeckOf.{deckOf}
 use Rattle.pricing.specs.Figures.{beforeOf, flagsOf}
 use Rattle.pricing.specs.Columns.{PaidInRange, Figure, BeforeIs, rowsOf, InColumns}
 use Rattle.lines.specs.LineRecord.{linesRecord}
-use Rattle.sites.specs.declared.Sites.{Sites}
+use Rattle.deck.specs.declared.Sites.{Sites}
 use Rattle.lines.specs.declared.Lines.{Lines}
 use Rattle.lines.proofs.Indexed.{member-at}
 use Rattle.lines.proofs.LineRecordLaws.{record-front}

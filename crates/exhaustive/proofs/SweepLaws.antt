@@ -8,7 +8,7 @@ use native.Mathlib.Omega.{arith}
 use lib.IntN.{ℤ, pos, natAbs}
 use lib.ListN.{getD, take, drop, length-take, drop-of-length-le}
 use lib.Seq.{drop-cons, getD-take, length-take-le}
-use Rattle.sites.specs.Sites.{Site}
+use Rattle.deck.specs.Sites.{Site}
 use Rattle.pricing.specs.Figures.{costOf, beforeOf}
 use Rattle.problem.specs.declared.Spot.{Spot}
 use Rattle.problem.specs.Problem.{spotOf, spotAt}

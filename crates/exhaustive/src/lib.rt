@@ -1,9 +1,9 @@
 // The exhaustive search: the cheapest crossing of a deck's lines. Along one vertical line the cost is a sum of ramps (specs/Ramps.antt),
 // so that the costs of all its crossings follow from prefix sums, with no pass over the sites for each.
-use job::Deck;
+use deck::Deck;
 use numbers::abs_diff;
 use problem::Spot;
-use sites::Sites;
+use deck::Sites;
 ghost use mathlib.Core.Path.{_≡_};
 ghost use mathlib.Core.List.{flatMap};
 ghost use Prim.Native.Nat.{_+_, _*_, _≤_};
@@ -11,7 +11,7 @@ ghost use lib.IntN.{natAbs};
 ghost use lib.ListN.{length, take};
 ghost use Rattle.query.specs.Range.{costLimit};
 ghost use Rattle.query.specs.Exhaustive.{exhaustive};
-ghost use Rattle.sites.specs.DeckOf.{deckOf};
+ghost use Rattle.deck.specs.DeckOf.{deckOf};
 ghost use Rattle.pricing.specs.Figures.{beforeOf};
 ghost use Rattle.pricing.specs.Columns.{siteRows, SiteInRange, Figure};
 ghost use Rattle.lines.specs.LineRecord.{FirstAtLeast};

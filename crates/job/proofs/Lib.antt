@@ -8,3 +8,4 @@ pub mod Meaning
 pub mod PartLaws
 pub mod ReadLaws
 pub mod RefusalLaws
+pub mod ReadDeck

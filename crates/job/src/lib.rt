@@ -1,5 +1,6 @@
 // The job format: a job's bytes are read as the deck and rounds that they spell, or refused at their first fault.
 
+use deck::Deck;
 use job_line::Area;
 use job_line::AreaLine;
 use job_line::CountLine;
@@ -13,21 +14,6 @@ ghost use Rattle.job_line.specs.Reading.{areaOf};
 ghost use Rattle.job.specs.Format.{emptyArea, readJob, refused};
 ghost use Rattle.job.specs.Record.{jobRecord};
 ghost use Rattle.job.specs.Parts.{postLines, stopLines, PostsAt, StopsAt, allPosts, allStops, LastAt, CheckedAt};
-
-// A deck, one array a field. The first `posts` and `stops` elements of the arrays count; the others are 0.
-pub struct Deck {
-    pub xlo: i64,
-    pub ylo: i64,
-    pub xhi: i64,
-    pub yhi: i64,
-    pub posts: usize,
-    pub post_x: [i64; 64],
-    pub post_y: [i64; 64],
-    pub stops: usize,
-    pub stop_x: [i64; 512],
-    pub stop_y: [i64; 512],
-    pub visits: [u64; 512],
-}
 
 pub enum Outcome {
     Accepted(u64),

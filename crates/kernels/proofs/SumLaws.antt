@@ -28,12 +28,12 @@ use Rattle.lines.specs.LineRecord.{linesRecord}
 use Rattle.cuts.specs.CutRecord.{rectOf, onLines, cutRecord}
 use Rattle.cuts.specs.declared.Cut.{Cut}
 use Rattle.numbers.proofs.Words.{difference, difference-fits}
-use Rattle.sites.specs.DeckOf.{deckOf}
-use Rattle.sites.specs.Record.{sitesRecord}
-use Rattle.sites.specs.Sites.{sitesOf}
-use Rattle.sites.specs.declared.Sites.{Sites}
+use Rattle.deck.specs.DeckOf.{deckOf}
+use Rattle.deck.specs.Record.{sitesRecord}
+use Rattle.deck.specs.Sites.{sitesOf}
+use Rattle.deck.specs.declared.Sites.{Sites}
 use Rattle.pricing.specs.Figures.{costOf, loadOf}
-use Rattle.sites.proofs.ReadLaws.{Spelt}
+use Rattle.job.proofs.ReadDeck.{Spelt}
 use Rattle.pricing.proofs.RecordLaws.{made-cost, made-load}
 use Rattle.lines.specs.declared.Lines.{Lines}
 use Rattle.problem.specs.Problem.{boundOf, Ranged, Prepared}

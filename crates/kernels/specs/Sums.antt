@@ -15,8 +15,8 @@ use Rattle.query.specs.Reach.{load}
 use Rattle.query.specs.Bound.{bound}
 use Rattle.query.specs.Problem.{problem}
 use Rattle.job.specs.Format.{Result}
-use Rattle.sites.specs.Sites.{sitesOf}
-use Rattle.sites.specs.Record.{sitesRecord}
+use Rattle.deck.specs.Sites.{sitesOf}
+use Rattle.deck.specs.Record.{sitesRecord}
 use Rattle.cuts.specs.CutRecord.{cutRecord}
 use Rattle.trial.specs.Trial.{onJob, minusOne, least}
 

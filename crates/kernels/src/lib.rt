@@ -1,5 +1,5 @@
 // The kernels of pricing over many places and rectangles, for the benchmarks: the job is read once and the loop runs here.
-use job::Deck;
+use deck::Deck;
 use trial::opened;
 use trial::opened::Opened;
 ghost use mathlib.Core.Path.{_≡_};
@@ -8,9 +8,9 @@ ghost use lib.ListN.{getD, take};
 ghost use Rattle.query.specs.Range.{InRange, costLimit};
 ghost use Rattle.job.specs.Format.{readJob};
 ghost use Rattle.pricing.specs.Columns.{siteRows, Figure};
-ghost use Rattle.sites.specs.DeckOf.{deckOf};
-ghost use Rattle.sites.specs.Record.{sitesRecord};
-ghost use Rattle.sites.specs.Sites.{sitesOf};
+ghost use Rattle.deck.specs.DeckOf.{deckOf};
+ghost use Rattle.deck.specs.Record.{sitesRecord};
+ghost use Rattle.deck.specs.Sites.{sitesOf};
 ghost use Rattle.pricing.specs.Figures.{costOf, loadOf};
 ghost use Rattle.lines.specs.LineRecord.{InOrder};
 ghost use Rattle.cuts.specs.CutRecord.{onLines, cutRecord};
@@ -126,7 +126,7 @@ fn near_at(deck: Deck, t: u64) -> u64
     requires { ⌜ InRange (deckOf deck) × (deck .posts ≤ 64) × (deck .stops ≤ 512) ⌝ }
     ensures { λ r. ⌜ Figure (getD (sitesRecord (sitesOf (deckOf deck)) .near) (t % 512) 0) 720000 r ⌝ }
 {
-    let s = sites::of_deck(deck);
+    let s = deck::of_deck(deck);
     let near = s.near;
     let i = (t % 512) as usize;
     near[i] as u64

@@ -8,7 +8,7 @@ use native.Mathlib.Omega.{arith}
 use lib.IntN.{ℤ, pos}
 use lib.ListN.{length, getD, take, length-take}
 use Rattle.numbers.specs.Lists.{sumOf}
-use Rattle.sites.specs.Sites.{Site}
+use Rattle.deck.specs.Sites.{Site}
 use Rattle.pricing.specs.Columns.{rows, siteRows, ColumnsInRange, SiteInRange}
 
 -- row i

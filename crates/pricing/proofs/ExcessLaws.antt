@@ -16,8 +16,8 @@ use Rattle.numbers.proofs.Integer.{order, dist-nat}
 use Rattle.numbers.proofs.Distance.{dist-sym, dist-most}
 use Rattle.numbers.proofs.Words.{word-fits, gap-above}
 use Rattle.pricing.specs.Columns.{EdgesInRange, excessOf}
-use Rattle.sites.specs.Ranges.{Near180000}
-use Rattle.sites.proofs.WordLaws.{sum-is, coordinate}
+use Rattle.deck.specs.Ranges.{Near180000}
+use Rattle.deck.proofs.WordLaws.{sum-is, coordinate}
 
 excess-yes : (a b : ℤ) → ltZ b a ≡ true → excessOf a b ≡ dist b a
 unfolding excessOf

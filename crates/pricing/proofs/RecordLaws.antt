@@ -13,11 +13,11 @@ use Rattle.query.specs.Reach.{reach, load}
 use Rattle.query.specs.Range.{InRange}
 use Rattle.query.proofs.Ranges.{figure-limits}
 use Rattle.numbers.specs.Padded.{padded}
-use Rattle.sites.specs.Sites.{Site, sitesOf}
+use Rattle.deck.specs.Sites.{Site, sitesOf}
 use Rattle.pricing.specs.Figures.{costOf, beforeOf, loadOf}
 use Rattle.pricing.specs.Columns.{rows, siteRows, SiteInRange, ColumnsInRange, PaidInRange, ReachInRange, rowsOf, InColumns}
-use Rattle.sites.specs.Record.{sitesRecord}
-use Rattle.sites.specs.declared.Sites.{Sites}
+use Rattle.deck.specs.Record.{sitesRecord}
+use Rattle.deck.specs.declared.Sites.{Sites}
 use Rattle.numbers.proofs.Padded.{padded-length, padded-each}
 use Rattle.pricing.proofs.SiteLaws.{siteOf, sitesOf-map, cost-law, before-law, load-law}
 

@@ -13,7 +13,7 @@ use Rattle.query.specs.Cost.{cost, before}
 use Rattle.query.specs.Reach.{travelTo, reach, load}
 use Rattle.query.proofs.CostLaws.{cost-sum, load-sum}
 use Rattle.numbers.specs.Padded.{padded}
-use Rattle.sites.specs.Sites.{Site, sitesOf}
+use Rattle.deck.specs.Sites.{Site, sitesOf}
 use Rattle.pricing.specs.Figures.{costOf, beforeOf, reaches, loadOf, flagsOf}
 
 -- a site's part of the cost of a place, of `before`, and of the load of a rectangle, and its flag

@@ -16,12 +16,12 @@ use Rattle.numbers.proofs.Truth.{cond-ind}
 use Rattle.query.specs.Place.{Place, Rect}
 use Rattle.query.specs.Reach.{closestPoint}
 use Rattle.numbers.specs.Padded.{padded}
-use Rattle.sites.specs.Sites.{Site}
+use Rattle.deck.specs.Sites.{Site}
 use Rattle.pricing.specs.Figures.{reaches}
 use Rattle.pricing.specs.Columns.{siteRows, ColumnsInRange, PaidInRange, ReachInRange, EdgesInRange, BeforeIs, FlagsAre}
-use Rattle.sites.specs.Ranges.{Near180000}
-use Rattle.sites.proofs.WordLaws.{coordinate}
-use Rattle.sites.proofs.TravelLaws.{travel-plain, place-word}
+use Rattle.deck.specs.Ranges.{Near180000}
+use Rattle.deck.proofs.WordLaws.{coordinate}
+use Rattle.deck.proofs.TravelLaws.{travel-plain, place-word}
 use Rattle.pricing.proofs.ExcessLaws.{away}
 use Rattle.pricing.proofs.SiteLaws.{paidBy, paidNow, borneBy, flagBy, beforeOf-sum, flagsOf-map}
 use Rattle.numbers.proofs.Padded.{padded-none, padded-more}

@@ -10,9 +10,9 @@ use lib.ListN.{length, getD, take}
 use Rattle.numbers.specs.Integer.{dist}
 use Rattle.query.specs.Place.{Rect}
 use Rattle.query.specs.Range.{travelLimit, loadLimit, costLimit}
-use Rattle.sites.specs.Sites.{Site}
-use Rattle.sites.specs.declared.Sites.{Sites}
-use Rattle.sites.specs.Ranges.{Near180000}
+use Rattle.deck.specs.Sites.{Site}
+use Rattle.deck.specs.declared.Sites.{Sites}
+use Rattle.deck.specs.Ranges.{Near180000}
 use Rattle.pricing.specs.Figures.{beforeOf, flagsOf}
 
 unfoldable pub rows : List ℤ → List ℤ → List ℕ → List ℕ → List Site

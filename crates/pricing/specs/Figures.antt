@@ -11,7 +11,7 @@ use Rattle.query.specs.Deck.{plain}
 use Rattle.query.specs.Travel.{travel}
 use Rattle.query.specs.Reach.{closestPoint}
 use Rattle.numbers.specs.Padded.{padded}
-use Rattle.sites.specs.Sites.{Site}
+use Rattle.deck.specs.Sites.{Site}
 
 unfoldable pub costOf : List Site → Place → ℕ
 unfolding sumOf travel

@@ -1,6 +1,6 @@
 // The price of a place or a rectangle, over columns of sites: one pass each, in 32-bit columns, so that the passes can be vectorised.
 use numbers::half_up;
-use sites::travelled;
+use deck::travelled;
 ghost use mathlib.Core.Path.{_≡_};
 ghost use mathlib.Core.Bool.{cond};
 ghost use Prim.Native.Nat.{_+_, _*_, _≤_, min, max};
@@ -9,7 +9,7 @@ ghost use lib.IntN.{pos, natAbs, _-ℤ_};
 ghost use lib.Signed.{_≤ℤ_};
 ghost use Rattle.numbers.specs.Integer.{dist, clamp, halfUp};
 ghost use Rattle.query.specs.Range.{loadLimit, costLimit};
-ghost use Rattle.sites.specs.Ranges.{Near180000};
+ghost use Rattle.deck.specs.Ranges.{Near180000};
 ghost use Rattle.pricing.specs.Figures.{costOf, loadOf};
 ghost use Rattle.pricing.specs.Columns.{siteRows, ColumnsInRange, SiteInRange, PaidInRange, ReachInRange, BoundInRange, EdgesInRange, excessOf, Figure, BeforeIs, FlagsAre};
 

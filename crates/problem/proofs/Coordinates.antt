@@ -11,13 +11,13 @@ use mir.ValLaws.{toZ-ofZ}
 use Rattle.numbers.proofs.Words.{word-fits}
 use Rattle.query.specs.Place.{Rect}
 use Rattle.query.specs.Range.{RectInRange}
-use Rattle.sites.specs.Sites.{Site}
-use Rattle.sites.specs.Ranges.{Near180000}
+use Rattle.deck.specs.Sites.{Site}
+use Rattle.deck.specs.Ranges.{Near180000}
 use Rattle.pricing.specs.Figures.{costOf}
 use Rattle.pricing.specs.Columns.{EdgesInRange}
 use Rattle.cuts.specs.CutRecord.{Edges}
-use Rattle.sites.proofs.WordLaws.{narrow-fits, narrowed}
-use Rattle.sites.proofs.TravelLaws.{narrow, narrow-place}
+use Rattle.deck.proofs.WordLaws.{narrow-fits, narrowed}
+use Rattle.deck.proofs.TravelLaws.{narrow, narrow-place}
 use Rattle.numbers.proofs.WordTests.{back}
 use Rattle.problem.specs.declared.Spot.{Spot}
 use Rattle.problem.specs.Problem.{spotOf, Near20000, Ranged}

@@ -19,13 +19,13 @@ use Rattle.query.specs.Problem.{Problem, problem}
 use Rattle.query.specs.Range.{RectInRange, InRange}
 use Rattle.query.proofs.BoundLaws.{bound-is, cornerSum-is}
 use Rattle.query.proofs.Ranges.{figure-limits}
-use Rattle.job.specs.declared.Deck.{Deck}
-use Rattle.sites.specs.DeckOf.{places, stopsOf, deckOf}
-use Rattle.sites.specs.Sites.{Site, sitesOf}
-use Rattle.sites.specs.Record.{sitesRecord}
-use Rattle.sites.specs.declared.Sites.{Sites}
-use Rattle.sites.proofs.DeckLaws.{DeckColumns}
-use Rattle.sites.proofs.TravelLaws.{narrow}
+use Rattle.deck.specs.declared.Deck.{Deck}
+use Rattle.deck.specs.DeckOf.{places, stopsOf, deckOf}
+use Rattle.deck.specs.Sites.{Site, sitesOf}
+use Rattle.deck.specs.Record.{sitesRecord}
+use Rattle.deck.specs.declared.Sites.{Sites}
+use Rattle.deck.proofs.DeckLaws.{DeckColumns}
+use Rattle.deck.proofs.TravelLaws.{narrow}
 use Rattle.pricing.specs.Figures.{costOf, loadOf, flagsOf}
 use Rattle.pricing.specs.Columns.{FlagsAre, rowsOf, InColumns}
 use Rattle.pricing.proofs.SiteLaws.{cost-law, load-law, flags-law}

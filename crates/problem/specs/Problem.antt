@@ -11,11 +11,11 @@ use Rattle.query.specs.Bound.{span}
 use Rattle.query.specs.Problem.{Problem}
 use Rattle.query.specs.Order.{Priced}
 use Rattle.query.specs.Range.{RectInRange, InRange, costLimit}
-use Rattle.job.specs.declared.Deck.{Deck}
-use Rattle.sites.specs.DeckOf.{deckOf}
-use Rattle.sites.specs.Sites.{Site, sitesOf}
-use Rattle.sites.specs.Record.{sitesRecord}
-use Rattle.sites.specs.declared.Sites.{Sites}
+use Rattle.deck.specs.declared.Deck.{Deck}
+use Rattle.deck.specs.DeckOf.{deckOf}
+use Rattle.deck.specs.Sites.{Site, sitesOf}
+use Rattle.deck.specs.Record.{sitesRecord}
+use Rattle.deck.specs.declared.Sites.{Sites}
 use Rattle.pricing.specs.Figures.{costOf, loadOf, flagsOf}
 use Rattle.pricing.specs.Columns.{siteRows, ColumnsInRange}
 use Rattle.lines.specs.LineRecord as Lines

@@ -1,13 +1,13 @@
 // The problem of a deck as both searches take it: its area, its lines, and places with their costs.
-use job::Deck;
+use deck::Deck;
 use lines::Lines;
-use sites::Sites;
+use deck::Sites;
 use slots::Cell;
 ghost use mathlib.Core.Path.{_≡_};
 ghost use Prim.Native.Nat.{_≤_};
 ghost use Rattle.query.specs.Place.{x-axis, y-axis};
 ghost use Rattle.query.specs.Lines.{lines};
-ghost use Rattle.sites.specs.DeckOf.{deckOf};
+ghost use Rattle.deck.specs.DeckOf.{deckOf};
 ghost use Rattle.pricing.specs.Figures.{flagsOf};
 ghost use Rattle.pricing.specs.Columns.{siteRows, rowsOf, InColumns};
 ghost use Rattle.lines.specs.LineRecord.{linesRecord};

@@ -15,7 +15,7 @@ use Rattle.query.specs.Problem.{Problem}
 use Rattle.query.specs.Cut.{canCut, cutLine, cutBefore, cutAfter, newCorners}
 use Rattle.query.specs.Range.{RectInRange}
 use Rattle.query.proofs.CutLaws.{cut-law}
-use Rattle.sites.specs.Sites.{Site}
+use Rattle.deck.specs.Sites.{Site}
 use Rattle.pricing.specs.Figures.{costOf}
 use Rattle.cuts.specs.CutRecord.{isX, cutAt, cutRecord}
 use Rattle.cuts.specs.declared.Cut.{Cut}

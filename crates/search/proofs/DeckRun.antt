@@ -19,10 +19,10 @@ use Rattle.query.proofs.CutLaws.{cut-law}
 use Rattle.query.proofs.Invariant.{run-ok}
 use Rattle.query.proofs.Demand3.{lawful}
 use Rattle.query.proofs.FigureRanges.{run-in-range}
-use Rattle.job.specs.declared.Deck.{Deck}
-use Rattle.sites.specs.DeckOf.{deckOf}
+use Rattle.deck.specs.declared.Deck.{Deck}
+use Rattle.deck.specs.DeckOf.{deckOf}
 use Rattle.lines.specs.LineRecord.{linesRecord}
-use Rattle.sites.specs.declared.Sites.{Sites}
+use Rattle.deck.specs.declared.Sites.{Sites}
 use Rattle.lines.specs.declared.Lines.{Lines}
 use Rattle.slots.specs.declared.Cell.{Cell}
 use Rattle.search.specs.declared.run.State.{State}

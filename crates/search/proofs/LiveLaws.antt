@@ -18,7 +18,7 @@ use Rattle.query.specs.Order as Query
 use Rattle.query.specs.Order.{Priced, precedes, pricedKey, cellKey, better, cellBefore}
 use Rattle.query.specs.Search.{isLive, pricedAt, cellOf, bestOf, otherCorners, startBest}
 use Rattle.query.proofs.KeyOrder.{cellBefore-strict}
-use Rattle.sites.specs.Sites.{Site}
+use Rattle.deck.specs.Sites.{Site}
 use Rattle.cuts.specs.CutRecord.{onLines}
 use Rattle.cuts.proofs.CutRecordLaws.{canCut-lines, cutLine-lines}
 use Rattle.problem.specs.declared.Spot.{Spot}

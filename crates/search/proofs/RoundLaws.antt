@@ -19,7 +19,7 @@ use Rattle.query.specs.Order.{Priced, precedes, pricedKey, cellKey, cellBefore}
 use Rattle.query.specs.Range.{RectInRange, costLimit}
 use Rattle.query.specs.Search.{Search, isLive, cellOf, bestOf, startBest, start, cellsAfter, bestAfter, roundOn, round}
 use Rattle.query.proofs.CellsAfter.{after-is}
-use Rattle.sites.specs.Sites.{Site}
+use Rattle.deck.specs.Sites.{Site}
 use Rattle.pricing.specs.Figures.{costOf}
 use Rattle.cuts.specs.CutRecord.{onLines, isX, cutAt, cutRecord}
 use Rattle.cuts.specs.declared.Cut.{Cut}

@@ -25,7 +25,7 @@ use Rattle.query.specs.Search.{Search, isLive, start, roundOn, round, run}
 use Rattle.query.specs.Figures as Figures
 use Rattle.query.proofs.SearchLaws.{run-in-order, partition-law}
 use Rattle.query.proofs.Counts.{cuts-most, live-count}
-use Rattle.sites.specs.Sites.{Site}
+use Rattle.deck.specs.Sites.{Site}
 use Rattle.slots.specs.declared.Cell.{Cell}
 use Rattle.search.specs.declared.run.State.{State}
 use Rattle.search.specs.declared.run.Found.{Found}

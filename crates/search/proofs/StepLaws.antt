@@ -19,12 +19,12 @@ use Rattle.query.specs.Deck.{plain}
 use Rattle.query.specs.Bound.{span}
 use Rattle.query.specs.Range.{RectInRange, costLimit, loadLimit}
 use Rattle.query.specs.Order.{precedes, better}
-use Rattle.sites.specs.Sites.{Site}
+use Rattle.deck.specs.Sites.{Site}
 use Rattle.pricing.specs.Figures.{costOf, loadOf}
 use Rattle.pricing.specs.Columns.{BoundInRange, Figure}
 use Rattle.cuts.specs.CutRecord.{Edges}
 use Rattle.cuts.specs.declared.Cut.{Cut}
-use Rattle.sites.proofs.TravelLaws.{narrow}
+use Rattle.deck.proofs.TravelLaws.{narrow}
 use Rattle.slots.specs.declared.Cell.{Cell}
 use Rattle.slots.specs.declared.Costs.{Costs}
 use Rattle.problem.specs.declared.Spot.{Spot}

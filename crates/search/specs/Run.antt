@@ -17,13 +17,13 @@ use Rattle.query.specs.Search.{Search, isLive, run}
 use Rattle.query.specs.Figures as Figures
 use Rattle.query.specs.Space.{space}
 use Rattle.query.specs.Range.{RectInRange, costLimit}
-use Rattle.job.specs.declared.Deck.{Deck}
-use Rattle.sites.specs.DeckOf.{deckOf}
-use Rattle.sites.specs.Sites.{Site}
+use Rattle.deck.specs.declared.Deck.{Deck}
+use Rattle.deck.specs.DeckOf.{deckOf}
+use Rattle.deck.specs.Sites.{Site}
 use Rattle.pricing.specs.Figures.{costOf}
 use Rattle.lines.specs.LineRecord as Lines
 use Rattle.cuts.specs.CutRecord.{onLines}
-use Rattle.sites.specs.declared.Sites.{Sites}
+use Rattle.deck.specs.declared.Sites.{Sites}
 use Rattle.cuts.specs.declared.Cut.{Cut}
 use Rattle.slots.specs.declared.Cell.{Cell}
 use Rattle.slots.specs.declared.Costs.{Costs}

@@ -11,16 +11,16 @@ use Rattle.job.specs.Record.{jobRecord}
 use Rattle.job.specs.declared.Job as Held
 use Rattle.job.specs.declared.Outcome.the-variants.{Accepted, Refused}
 use Rattle.refusal.specs.declared.Refusal.{Refusal}
-use Rattle.sites.specs.DeckOf.{deckOf}
-use Rattle.sites.specs.Sites.{sitesOf}
-use Rattle.sites.specs.Record.{sitesRecord}
-use Rattle.sites.specs.declared.Sites.{Sites}
+use Rattle.deck.specs.DeckOf.{deckOf}
+use Rattle.deck.specs.Sites.{sitesOf}
+use Rattle.deck.specs.Record.{sitesRecord}
+use Rattle.deck.specs.declared.Sites.{Sites}
 use Rattle.problem.specs.Problem.{pricedOf, Prepared}
 use Rattle.problem.specs.declared.Spot.{Spot}
 use Rattle.calls.specs.declared.Cheapest.the-variants as Cheapest
 use Rattle.calls.specs.Answers.{gives, cheapestAnswer}
 use Rattle.calls.specs.Exhaustive.{exhaustiveCall}
-use Rattle.sites.proofs.ReadLaws.{read-accepted, read-refused, read-deckOf, read-full, sites-ask}
+use Rattle.job.proofs.ReadDeck.{read-accepted, read-refused, read-deckOf, read-full, sites-ask}
 use Rattle.calls.proofs.ExhaustiveCall.{call-accepted, call-refused}
 
 module _ (job : List ℕ) (j : Held.Job) (e : j ≡ jobRecord (readJob job)) where

@@ -23,14 +23,14 @@ use Rattle.query.proofs.FigureRanges.{run-in-range}
 use Rattle.job.specs.Format.{Job, readJob}
 use Rattle.job.specs.Record.{jobRecord}
 use Rattle.job.specs.declared.Job as Held
-use Rattle.job.specs.declared.Deck.{Deck}
+use Rattle.deck.specs.declared.Deck.{Deck}
 use Rattle.job.specs.declared.Outcome.the-variants.{Accepted}
 use Rattle.refusal.specs.declared.Refusal.{Refusal}
-use Rattle.sites.specs.DeckOf.{deckOf}
-use Rattle.sites.specs.Sites.{sitesOf}
-use Rattle.sites.specs.Record.{sitesRecord}
+use Rattle.deck.specs.DeckOf.{deckOf}
+use Rattle.deck.specs.Sites.{sitesOf}
+use Rattle.deck.specs.Record.{sitesRecord}
 use Rattle.pricing.specs.Columns.{BeforeIs}
-use Rattle.sites.specs.declared.Sites.{Sites}
+use Rattle.deck.specs.declared.Sites.{Sites}
 use Rattle.pricing.proofs.RecordLaws.{made-range, made-before}
 use Rattle.report.specs.Report.{stateOf, figuresOf}
 use Rattle.report.specs.Text.{reportText}
@@ -45,7 +45,7 @@ use Rattle.siting.specs.declared.Response.{Response}
 use Rattle.calls.specs.Answers.{gives}
 use Rattle.calls.specs.Call.{turnedDown, overwritten, reported, reportCall}
 use Rattle.siting.specs.Parts.{stateFor, Solvable, Solved, refusedResponse, Responded}
-use Rattle.sites.proofs.ReadLaws.{Spelt, read-accepted, read-rounds, read-deckOf, read-full, sites-ask}
+use Rattle.job.proofs.ReadDeck.{Spelt, read-accepted, read-rounds, read-deckOf, read-full, sites-ask}
 use Rattle.calls.proofs.Demands.{job-limits, call-accepted}
 
 -- ---- solve

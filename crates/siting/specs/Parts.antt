@@ -10,9 +10,9 @@ use Rattle.query.specs.Place.{NonEmpty}
 use Rattle.query.specs.Figures.{figures}
 use Rattle.query.specs.Space.{space}
 use Rattle.query.specs.Range.{InRange}
-use Rattle.job.specs.declared.Deck.{Deck}
+use Rattle.deck.specs.declared.Deck.{Deck}
 use Rattle.refusal.specs.declared.Refusal.{Refusal}
-use Rattle.sites.specs.DeckOf.{deckOf}
+use Rattle.deck.specs.DeckOf.{deckOf}
 use Rattle.report.specs.Report.{figuresOf}
 use Rattle.report.specs.Text.{reportText}
 use Rattle.report.specs.Output.{Filled}

@@ -2,7 +2,7 @@
 use calls::Answer;
 use calls::Cheapest;
 use calls::Text;
-use job::Deck;
+use deck::Deck;
 use job::Outcome;
 use problem::Spot;
 use refusal::Refusal;
@@ -36,7 +36,7 @@ fn solve(deck: Deck, rounds: u64, cells: &mut [i64]) -> Report
     requires { ⌜ Solvable deck rounds (length (now cells)) ⌝ }
     ensures { λ r. ⌜ Solved deck rounds (now (cells .entry)) (now (cells .exit)) r ⌝ }
 {
-    let sites = sites::of_deck(deck);
+    let sites = deck::of_deck(deck);
     let n = sites.count;
     let before = pricing::before(&sites.visits, &sites.near, n);
     let found = run::search(deck, sites, rounds, cells);
@@ -117,7 +117,7 @@ pub fn exhaustive(job: &[u8]) -> Cheapest
     let deck = j.deck;
     match outcome {
         Outcome::Accepted(_) => {
-            let sites = sites::of_deck(deck);
+            let sites = deck::of_deck(deck);
             Cheapest::At(exhaustive::cheapest(deck, sites))
         }
         Outcome::Refused(why) => Cheapest::Refused(why),

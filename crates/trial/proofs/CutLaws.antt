@@ -18,9 +18,9 @@ use Rattle.query.specs.Lines.{lines}
 use Rattle.query.specs.Problem.{problem}
 use Rattle.query.specs.Cut.{canCut, cutLine}
 use Rattle.job.specs.Format.{Result, refused, accepted, readJob}
-use Rattle.job.specs.declared.Deck.{Deck}
+use Rattle.deck.specs.declared.Deck.{Deck}
 use Rattle.numbers.proofs.WordTests.{back}
-use Rattle.sites.specs.DeckOf.{deckOf}
+use Rattle.deck.specs.DeckOf.{deckOf}
 use Rattle.lines.specs.LineRecord.{linesRecord, InOrder}
 use Rattle.cuts.specs.CutRecord.{rectOf, onLines, cutAt, isX, cutRecord}
 use Rattle.lines.specs.declared.Lines.{Lines}
@@ -32,7 +32,7 @@ use Rattle.cuts.proofs.CutRecordLaws.{cutRecord-found, cutRecord-cut}
 use Rattle.trial.specs.Opened.{openedRecord, rectAllowed}
 use Rattle.trial.specs.Trial.{minusOne, least, axisOf, axisNumber, cutAxisFigure, cutLineFigure, linesWritten}
 use Rattle.trial.specs.declared.opened.Opened.{Opened}
-use Rattle.sites.proofs.ReadLaws.{Spelt}
+use Rattle.job.proofs.ReadDeck.{Spelt}
 use Rattle.trial.proofs.OpenLaws.{open-deck, on-job, inside}
 use Rattle.trial.proofs.RectLaws.{Fits4, rect-held}
 

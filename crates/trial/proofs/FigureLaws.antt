@@ -24,12 +24,12 @@ use Rattle.query.specs.Bound.{span, bound}
 use Rattle.query.specs.Range.{costLimit, loadLimit}
 use Rattle.job_line.specs.Lines.{placeInRange}
 use Rattle.job.specs.Format.{readJob}
-use Rattle.sites.specs.Sites.{sitesOf}
+use Rattle.deck.specs.Sites.{sitesOf}
 use Rattle.pricing.specs.Figures.{costOf, loadOf}
 use Rattle.pricing.specs.Columns.{siteRows, Figure, BeforeIs, rowsOf, InColumns}
 use Rattle.cuts.specs.CutRecord.{rectOf}
-use Rattle.sites.specs.Record.{sitesRecord}
-use Rattle.sites.specs.declared.Sites.{Sites}
+use Rattle.deck.specs.Record.{sitesRecord}
+use Rattle.deck.specs.declared.Sites.{Sites}
 use Rattle.pricing.proofs.RecordLaws.{made-range, made-count, made-before, made-cost, made-load}
 use Rattle.pricing.proofs.SiteLaws.{siteOf, sitesOf-map}
 use Rattle.problem.specs.Problem.{boundOf, Sited, spotOf}
@@ -39,7 +39,7 @@ use Rattle.problem.proofs.DeckProblem.{made-bound}
 use Rattle.trial.specs.Opened.{openedRecord, rectAllowed}
 use Rattle.trial.specs.Trial.{minusOne, least, beforeFigure, nearFigure, costFigure, loadFigure, boundFigure}
 use Rattle.trial.specs.declared.opened.Opened.{Opened}
-use Rattle.sites.proofs.ReadLaws.{Spelt, spelt-range}
+use Rattle.job.proofs.ReadDeck.{Spelt, spelt-range}
 use Rattle.trial.proofs.OpenLaws.{open-sites, on-job, inside}
 use Rattle.trial.proofs.RectLaws.{Fits4, rect-held}
 

@@ -17,7 +17,7 @@ use Rattle.query.specs.Place.{Rect}
 use Rattle.job.specs.Format.{Job, Result, refused, accepted}
 use Rattle.refusal.specs.declared.Refusal.{Refusal}
 use Rattle.numbers.proofs.WordTests.{back, back-is}
-use Rattle.sites.proofs.ReadLaws.{differ}
+use Rattle.job.proofs.ReadDeck.{differ}
 use Rattle.trial.specs.Trial.{minusOne, least, refusalNumbers, readingNumbers, nearFigure, nearAt, deckFigures}
 
 pub number-at : (numbers : List ℤ) (which k : ℕ) (z : ℤ) → which ≡ k → z ≡ getD numbers k least → z ≡ getD numbers which least

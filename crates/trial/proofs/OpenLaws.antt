@@ -11,15 +11,15 @@ use Rattle.query.specs.Range.{InRange}
 use Rattle.job.specs.Format.{Job, Result, refused, accepted, readJob}
 use Rattle.job.specs.Record.{jobRecord}
 use Rattle.job.specs.declared.Job as Held
-use Rattle.job.specs.declared.Deck.{Deck}
+use Rattle.deck.specs.declared.Deck.{Deck}
 use Rattle.refusal.specs.declared.Refusal.{Refusal}
 use Rattle.job.specs.declared.Outcome.the-variants.{Accepted}
 use Rattle.job.proofs.Meaning.{accepted-law}
-use Rattle.sites.specs.DeckOf.{deckOf}
-use Rattle.sites.specs.Sites.{sitesOf}
-use Rattle.sites.specs.Record.{sitesRecord}
-use Rattle.sites.specs.declared.Sites.{Sites}
-use Rattle.sites.proofs.ReadLaws.{differ, Spelt, read-accepted, read-deck, read-rounds, read-deckOf, read-full, sites-ask}
+use Rattle.deck.specs.DeckOf.{deckOf}
+use Rattle.deck.specs.Sites.{sitesOf}
+use Rattle.deck.specs.Record.{sitesRecord}
+use Rattle.deck.specs.declared.Sites.{Sites}
+use Rattle.job.proofs.ReadDeck.{differ, Spelt, read-accepted, read-deck, read-rounds, read-deckOf, read-full, sites-ask}
 use Rattle.problem.specs.Problem.{Prepared}
 use Rattle.trial.specs.Opened.{openedDeck, openedRecord}
 use Rattle.trial.specs.Trial.{onJob}

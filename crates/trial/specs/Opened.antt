@@ -3,22 +3,22 @@
 use mathlib.Core.Bool.{Bool, true, false, _&&_}
 use mathlib.Core.List.{[]}
 use lib.Signed.{leZ}
-use Rattle.query.specs.Place.{Rect, corner, zeroRect}
+use Rattle.query.specs.Place.{Rect, corner}
 use Rattle.query.specs.Deck as Query
 use Rattle.job_line.specs.Lines.{placeInRange}
 use Rattle.job.specs.Format.{Result, refused, accepted}
-use Rattle.job.specs.Record.{deckRecord}
-use Rattle.sites.specs.Sites.{sitesOf}
-use Rattle.sites.specs.Record.{sitesRecord}
+use Rattle.deck.specs.DeckOf.{deckRecord, emptyDeck}
+use Rattle.deck.specs.Sites.{sitesOf}
+use Rattle.deck.specs.Record.{sitesRecord}
 use Rattle.trial.specs.declared.opened.Opened.{Opened}
 
 unfoldable pub openedDeck : Query.Deck → Opened
 unfolding sitesRecord deckRecord sitesOf
-openedDeck deck = record { accepted = true; deck = deckRecord (deck .area) (deck .posts) (deck .stops); sites = sitesRecord (sitesOf deck) }
+openedDeck deck = record { accepted = true; deck = deckRecord deck; sites = sitesRecord (sitesOf deck) }
 
 unfoldable pub openedRecord : Result → Opened
 unfolding openedDeck
-openedRecord (refused why) = record { accepted = false; deck = deckRecord zeroRect [] []; sites = sitesRecord [] }
+openedRecord (refused why) = record { accepted = false; deck = deckRecord emptyDeck; sites = sitesRecord [] }
 openedRecord (accepted job) = openedDeck (job .deck)
 
 -- a rectangle whose coordinates are in range and whose edges are in order

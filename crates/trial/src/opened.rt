@@ -1,10 +1,10 @@
 // A job that was read with the sites of its deck, and what is asked of both: ranges, figures over the columns of sites, lines and cuts.
 use cuts::Cut;
-use job::Deck;
+use deck::Deck;
 use job::Outcome;
 use lines::Lines;
 use numbers::abs_diff;
-use sites::Sites;
+use deck::Sites;
 ghost use mathlib.Core.Path.{_≡_};
 ghost use lib.Dec.{T};
 ghost use Rattle.query.specs.Lines.{lines};
@@ -12,7 +12,7 @@ ghost use Rattle.query.specs.Problem.{problem};
 ghost use Rattle.query.specs.Range.{loadLimit};
 ghost use Rattle.job_line.specs.Lines.{coordinateInRange, placeInRange};
 ghost use Rattle.job.specs.Format.{readJob};
-ghost use Rattle.sites.specs.DeckOf.{deckOf};
+ghost use Rattle.deck.specs.DeckOf.{deckOf};
 ghost use Rattle.lines.specs.LineRecord.{linesRecord};
 ghost use Rattle.cuts.specs.CutRecord.{rectOf, cutRecord};
 ghost use Rattle.pricing.specs.Columns.{siteRows, Figure};
@@ -36,7 +36,7 @@ pub fn open_job(bytes: &[u8]) -> Opened
     let deck = j.deck;
     match outcome {
         Outcome::Accepted(_) => {
-            let sites = sites::of_deck(deck);
+            let sites = deck::of_deck(deck);
             Opened {
                 accepted: true,
                 deck,

@@ -4,7 +4,7 @@ use borrow.Author.Tests.{not-true, not-false}
 use denote.Ref.{now}
 use native.Mathlib.Omega.{arith}
 use Rattle.job.specs.Format.{readJob}
-use Rattle.sites.proofs.ReadLaws.{Spelt}
+use Rattle.job.proofs.ReadDeck.{Spelt}
 use Rattle.trial.proofs.OpenLaws.{open-accepted, open-prepared, open-deck}
 use Rattle.kernels.proofs.SumLaws.{kernel-none, kernel-refused, too-many, kernel-answer}
 use borrow.Author.Needs.{needs}

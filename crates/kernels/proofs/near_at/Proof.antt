@@ -3,7 +3,7 @@
 use mathlib.Core.Path.{ap}
 use Prim.Native.Nat.{_%_}
 use lib.ListN.{getD}
-use Rattle.sites.specs.declared.Sites.{Sites}
+use Rattle.deck.specs.declared.Sites.{Sites}
 use Rattle.pricing.proofs.RecordLaws.{made-range}
 use borrow.Author.Needs.{needs}
 use Rattle.kernels.proofs.near_at.Statement.{statement}

@@ -2,9 +2,9 @@
 -- Assumes nothing.
 use Prim.Native.Nat.{_-_, _%_}
 use lib.ListN.{getD}
-use Rattle.sites.specs.DeckOf.{deckOf}
-use Rattle.sites.specs.Record.{sitesRecord}
-use Rattle.sites.specs.Sites.{sitesOf}
+use Rattle.deck.specs.DeckOf.{deckOf}
+use Rattle.deck.specs.Record.{sitesRecord}
+use Rattle.deck.specs.Sites.{sitesOf}
 use Rattle.kernels.proofs.SumLaws.{Summed, summed-none, summed-more, summed-all}
 use native.Mathlib.Omega.{arith}
 use Rattle.kernels.proofs.nears.Statement.{statement}

@@ -1,7 +1,7 @@
 -- `pricing::borne` meets its contract.
 -- Assumes nothing.
 use borrow.Author.Needs.{needs}
-use Rattle.sites.specs.Ranges.{Near180000}
+use Rattle.deck.specs.Ranges.{Near180000}
 use Rattle.pricing.proofs.ExcessLaws.{reach-word}
 use Rattle.pricing.proofs.borne.Statement.{statement}
 use Rattle.pricing.proofs.borne.Tie as tie

@@ -5,8 +5,8 @@ use Prim.Native.Nat.{_-_}
 use native.Mathlib.Omega.{arith}
 use mir.Syntax.{w32}
 use mir.Val.{toZ}
-use Rattle.sites.proofs.WordLaws.{coordinate}
-use Rattle.sites.proofs.TravelLaws.{place-word}
+use Rattle.deck.proofs.WordLaws.{coordinate}
+use Rattle.deck.proofs.TravelLaws.{place-word}
 use Rattle.pricing.proofs.SiteLaws.{paidBy, costOf-sum}
 use Rattle.pricing.proofs.ColumnLaws.{Passed, passed-none, passed-all, row-range}
 use Rattle.pricing.proofs.TurnLaws.{x-word, y-word, cost-more}

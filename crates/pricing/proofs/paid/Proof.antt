@@ -10,9 +10,9 @@ use lib.IntN.{pos}
 use mir.Syntax.{w32}
 use mir.Val.{toZ}
 use mir.ValLaws.{toZ-pos}
-use Rattle.sites.specs.Ranges.{Near180000}
-use Rattle.sites.proofs.WordLaws.{smaller-first, smaller-second}
-use Rattle.sites.proofs.TravelLaws.{far, far-small, far-word}
+use Rattle.deck.specs.Ranges.{Near180000}
+use Rattle.deck.proofs.WordLaws.{smaller-first, smaller-second}
+use Rattle.deck.proofs.TravelLaws.{far, far-small, far-word}
 use Rattle.pricing.proofs.paid.Statement.{statement}
 use Rattle.pricing.proofs.paid.Tie as tie
 

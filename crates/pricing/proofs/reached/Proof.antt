@@ -4,7 +4,7 @@ use native.Mathlib.Omega.{arith}
 use borrow.Author.Needs.{needs}
 use mir.Syntax.{w32}
 use Rattle.numbers.proofs.Words.{natural-fits}
-use Rattle.sites.proofs.WordLaws.{test-is}
+use Rattle.deck.proofs.WordLaws.{test-is}
 use Rattle.pricing.proofs.ExcessLaws.{away-small, away-sum}
 use Rattle.pricing.proofs.reached.Statement.{statement}
 use Rattle.pricing.proofs.reached.Tie as tie

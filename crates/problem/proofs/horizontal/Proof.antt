@@ -3,7 +3,7 @@
 use mathlib.Core.Path.{_≡_, _∙_}
 use borrow.Author.Needs.{needs}
 use lib.ListN.{length}
-use Rattle.sites.proofs.DeckLaws.{DeckColumns}
+use Rattle.deck.proofs.DeckLaws.{DeckColumns}
 use Rattle.problem.proofs.DeckProblem.{horizontal-is, rows-full}
 use Rattle.problem.proofs.horizontal.Statement.{statement}
 use Rattle.problem.proofs.horizontal.Tie as tie

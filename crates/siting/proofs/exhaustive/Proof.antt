@@ -1,6 +1,6 @@
 -- `siting::exhaustive` meets its contract.
 -- Assumes nothing.
-use Rattle.sites.proofs.ReadLaws.{read-accepted, sites-ask}
+use Rattle.job.proofs.ReadDeck.{read-accepted, sites-ask}
 use Rattle.siting.proofs.ExhaustiveLaws.{exhaustive-ready, exhaustive-found, exhaustive-refused}
 use borrow.Author.Needs.{needs}
 use Rattle.siting.proofs.exhaustive.Statement.{statement}

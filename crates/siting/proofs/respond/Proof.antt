@@ -1,7 +1,7 @@
 -- `siting::respond` meets its contract: each way out is that of the call's definition.
 -- Assumes nothing.
 use Rattle.calls.proofs.Demands.{refused-call, space-call, output-call}
-use Rattle.sites.proofs.ReadLaws.{read-refused}
+use Rattle.job.proofs.ReadDeck.{read-refused}
 use Rattle.siting.proofs.SolveLaws.{respond-refused, spelt, rounds-same, rounds-limit, solvable, report-limits, respond-reported}
 use native.Mathlib.Omega.{arith}
 use borrow.Author.Needs.{needs}

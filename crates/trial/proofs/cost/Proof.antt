@@ -12,7 +12,7 @@ use Rattle.job.proofs.RangeLaws.{place-range}
 use Rattle.problem.specs.Problem.{Prepared}
 use Rattle.pricing.specs.Columns.{Figure, rowsOf}
 use Rattle.pricing.specs.Figures.{costOf}
-use Rattle.sites.proofs.ReadLaws.{Spelt}
+use Rattle.job.proofs.ReadDeck.{Spelt}
 use Rattle.trial.proofs.OpenLaws.{open-accepted, open-prepared, open-refused, outside}
 use Rattle.trial.proofs.RectLaws.{tested-place}
 use Rattle.problem.proofs.Coordinates.{near-places}

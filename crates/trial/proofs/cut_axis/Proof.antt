@@ -11,7 +11,7 @@ use Rattle.query.specs.Place.{Rect}
 use Rattle.cuts.specs.CutRecord.{rectOf}
 use Rattle.problem.specs.Problem.{Prepared}
 use Rattle.trial.specs.Opened.{rectAllowed}
-use Rattle.sites.proofs.ReadLaws.{Spelt}
+use Rattle.job.proofs.ReadDeck.{Spelt}
 use Rattle.trial.proofs.OpenLaws.{open-accepted, open-prepared, open-refused, outside}
 use Rattle.trial.proofs.RectLaws.{Fits4, rect-held, tested-rect}
 use Rattle.trial.proofs.CutLaws.{axis-none, axis-answer}

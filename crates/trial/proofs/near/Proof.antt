@@ -3,7 +3,7 @@
 use borrow.Author.Tests.{not-true, not-false}
 use denote.Ref.{now}
 use Rattle.problem.specs.Problem.{Prepared}
-use Rattle.sites.proofs.ReadLaws.{Spelt}
+use Rattle.job.proofs.ReadDeck.{Spelt}
 use Rattle.trial.proofs.OpenLaws.{open-accepted, open-prepared, open-refused}
 use Rattle.problem.proofs.DeckProblem.{sites-count}
 use Rattle.trial.proofs.FigureLaws.{near-range, near-answer, near-none}

@@ -3,7 +3,7 @@
 use borrow.Author.Tests.{not-true, not-false}
 use denote.Ref.{now}
 use Rattle.problem.specs.Problem.{Prepared}
-use Rattle.sites.proofs.ReadLaws.{Spelt}
+use Rattle.job.proofs.ReadDeck.{Spelt}
 use Rattle.trial.proofs.OpenLaws.{open-accepted, open-prepared, open-refused}
 use Rattle.trial.proofs.CutLaws.{found-in-order, written-none, written-lines}
 use borrow.Author.Needs.{needs}

@@ -8,7 +8,7 @@ use mir.Syntax.{w64}
 use mir.ValLaws.{toZ-ofZ, toZ-pos}
 use Rattle.job.specs.Format.{refused, readJob}
 use Rattle.job.proofs.RefusalLaws.{line-most}
-use Rattle.sites.proofs.ReadLaws.{Spelt, read-accepted, read-refused}
+use Rattle.job.proofs.ReadDeck.{Spelt, read-accepted, read-refused}
 use Rattle.trial.proofs.OpenLaws.{rounds-read}
 use Rattle.trial.proofs.NumberLaws.{no-refusal, rounds-number, no-reading-number, no-rounds, refusal-number}
 use borrow.Author.Needs.{needs}

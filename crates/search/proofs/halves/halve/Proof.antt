@@ -6,7 +6,7 @@ use borrow.Author.Needs.{needs}
 use denote.Ref.{now}
 use Rattle.query.specs.Place.{Rect}
 use Rattle.pricing.specs.Columns.{siteRows}
-use Rattle.sites.specs.Sites.{Site}
+use Rattle.deck.specs.Sites.{Site}
 use Rattle.cuts.specs.declared.Cut.{Cut}
 use Rattle.search.specs.Run.{cornerCosts, cellFor, lowCorner, highCorner, firstRect, secondRect, halvesOf, CutInRange}
 use Rattle.problem.specs.Problem.{spotOf, rectIn, Ranged}

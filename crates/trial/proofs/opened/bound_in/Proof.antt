@@ -12,7 +12,7 @@ use Rattle.numbers.proofs.Distance.{dist-most}
 use Rattle.query.specs.Place.{Rect}
 use Rattle.query.specs.Range.{RectInRange, costLimit}
 use Rattle.numbers.proofs.WordTests.{back-is}
-use Rattle.sites.specs.Sites.{Site}
+use Rattle.deck.specs.Sites.{Site}
 use Rattle.pricing.specs.Figures.{costOf, loadOf}
 use Rattle.pricing.specs.Columns.{siteRows, Figure}
 use Rattle.cuts.specs.CutRecord.{rectOf}

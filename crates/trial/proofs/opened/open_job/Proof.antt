@@ -1,9 +1,9 @@
 -- `trial::opened::open_job` meets its contract: the deck that was read is in range, so that its sites can be found.
 -- Assumes nothing.
 use borrow.Author.Needs.{needs}
-use Rattle.sites.proofs.ReadLaws.{read-accepted, read-refused, sites-ask}
+use Rattle.job.proofs.ReadDeck.{read-accepted, read-refused, sites-ask}
 use Rattle.trial.proofs.OpenLaws.{opened-accepted, opened-refused}
-use Rattle.sites.specs.Record.{sitesRecord}
+use Rattle.deck.specs.Record.{sitesRecord}
 use Rattle.trial.proofs.opened.open_job.Statement.{statement}
 use Rattle.trial.proofs.opened.open_job.Tie as tie
 

@@ -1,9 +1,9 @@
--- `sites::of_deck` meets its contract: each column is made of the deck's, whose numbers are in range.
+-- `deck::of_deck` meets its contract: each column is made of the deck's, whose numbers are in range.
 -- Assumes nothing.
 use borrow.Author.Needs.{needs}
-use Rattle.sites.proofs.DeckLaws.{DeckColumns, some-post, stop-x-range, stop-y-range, visits-in-range, post-x-range, post-y-range, record-is}
-use Rattle.sites.proofs.of_deck.Statement.{statement}
-use Rattle.sites.proofs.of_deck.Tie as tie
+use Rattle.deck.proofs.DeckLaws.{DeckColumns, some-post, stop-x-range, stop-y-range, visits-in-range, post-x-range, post-y-range, record-is}
+use Rattle.deck.proofs.of_deck.Statement.{statement}
+use Rattle.deck.proofs.of_deck.Tie as tie
 
 columns : (c : tie.Start) → DeckColumns (c .args .t1)
 columns c = record {

@@ -1,5 +1,4 @@
-// The sites of a deck: its stops in columns, each with its near.
-use job::Deck;
+// The deck as a record, and its sites: its stops in columns, each with its near.
 ghost use mathlib.Core.Path.{_≡_};
 ghost use mathlib.Core.Bool.{cond};
 ghost use mathlib.Core.List.{map};
@@ -12,10 +11,25 @@ ghost use Rattle.numbers.specs.Padded.{padded};
 ghost use Rattle.query.specs.Deck.{plain};
 ghost use Rattle.query.specs.Travel.{closest};
 ghost use Rattle.query.specs.Range.{InRange};
-ghost use Rattle.sites.specs.DeckOf.{places, deckOf};
-ghost use Rattle.sites.specs.Sites.{sitesOf};
-ghost use Rattle.sites.specs.Record.{sitesRecord};
-ghost use Rattle.sites.specs.Ranges.{Near180000, CoordinatesInRange, VisitsInRange};
+ghost use Rattle.deck.specs.DeckOf.{places, deckOf};
+ghost use Rattle.deck.specs.Sites.{sitesOf};
+ghost use Rattle.deck.specs.Record.{sitesRecord};
+ghost use Rattle.deck.specs.Ranges.{Near180000, CoordinatesInRange, VisitsInRange};
+
+// A deck, one array a field. The first `posts` and `stops` elements of the arrays count; the others are 0.
+pub struct Deck {
+    pub xlo: i64,
+    pub ylo: i64,
+    pub xhi: i64,
+    pub yhi: i64,
+    pub posts: usize,
+    pub post_x: [i64; 64],
+    pub post_y: [i64; 64],
+    pub stops: usize,
+    pub stop_x: [i64; 512],
+    pub stop_y: [i64; 512],
+    pub visits: [u64; 512],
+}
 
 // The sites of a deck, one column a field. The first `count` numbers of a column count; the others are 0.
 pub struct Sites {

@@ -7,18 +7,17 @@ use Prim.Native.Nat.{ℕ, _≤_}
 use lib.Dec.{T}
 use Rattle.query.specs.Place.{NonEmpty}
 use Rattle.query.specs.Deck as Query
-use Rattle.query.specs.Deck.{AxisCosts, plain}
 use Rattle.query.specs.Range.{InRange}
 use Rattle.job.specs.Format.{Job, Result, refused, accepted, readJob}
 use Rattle.job.specs.Spelling.{Allowed}
-use Rattle.job.specs.Record.{deckRecord, jobRecord}
+use Rattle.job.specs.Record.{jobRecord}
 use Rattle.job.specs.declared.Job as Held
 use Rattle.refusal.specs.declared.Refusal.{Refusal}
 use Rattle.job.specs.declared.Outcome.{Outcome}
 use Rattle.job.specs.declared.Outcome.the-variants.{Accepted, Refused}
 use Rattle.job.proofs.Meaning.{accepted-law, allowed-in-range}
-use Rattle.sites.specs.DeckOf.{deckOf}
-use Rattle.sites.proofs.DeckLaws.{deck-record}
+use Rattle.deck.specs.DeckOf.{deckOf, deckRecord}
+use Rattle.deck.proofs.DeckLaws.{held-deck}
 
 -- a test's two outcomes differ
 pub differ : {P : Type 0} → true ≡ false → P
@@ -51,7 +50,7 @@ module _ (bytes : List ℕ) (j : Held.Job) (e : j ≡ jobRecord (readJob bytes))
       go (refused why) p q = differ (sym (ap isAccepted f) ∙ ap (λ (k : Held.Job). isAccepted (k .outcome)) q)
       go (accepted job) p q = record { job = job; read = p; allowed = accepted-law bytes job .exactly .0 p .2 }
 
-  pub read-deck : (s : Spelt bytes) → j .deck ≡ deckRecord (s .job .deck .area) (s .job .deck .posts) (s .job .deck .stops)
+  pub read-deck : (s : Spelt bytes) → j .deck ≡ deckRecord (s .job .deck)
   unfolding jobRecord
   read-deck s = ap (λ (k : Held.Job). k .deck) (e ∙ ap jobRecord (s .read))
 
@@ -68,12 +67,6 @@ module _ (bytes : List ℕ) (j : Held.Job) (e : j ≡ jobRecord (readJob bytes))
       go (accepted job) p q = differ (sym (ap (λ (k : Held.Job). isAccepted (k .outcome)) q) ∙ ap isAccepted f)
 
 -- ---- the deck
-deck-eta : (deck : Query.Deck) → deck .axis ≡ plain → record { axis = plain; area = deck .area; posts = deck .posts; stops = deck .stops } ≡ deck
-deck-eta deck e = ap (λ (a : AxisCosts). record { axis = a; area = deck .area; posts = deck .posts; stops = deck .stops }) (sym e)
-
-pub held-deck : (deck : Query.Deck) → deck .axis ≡ plain → deckOf (deckRecord (deck .area) (deck .posts) (deck .stops)) ≡ deck
-held-deck deck e = deck-record (deck .area) (deck .posts) (deck .stops) ∙ deck-eta deck e
-
 module _ {bytes : List ℕ} (s : Spelt bytes) where
   pub spelt-range : InRange (s .job .deck)
   spelt-range = allowed-in-range (s .job) (s .allowed)

@@ -1,16 +1,16 @@
--- `sites::coordinates` meets its contract: after i turns the first i coordinates are copied.
+-- `deck::post_coordinates` meets its contract: after i turns the first i coordinates are copied.
 -- Assumes nothing.
 use Prim.Native.Nat.{_-_}
 use native.Mathlib.Omega.{arith}
 use lib.IntN.{pos}
 use lib.ListN.{getD}
-use Rattle.sites.proofs.WordLaws.{narrow-fits, narrowed}
+use Rattle.deck.proofs.WordLaws.{narrow-fits, narrowed}
 use Rattle.numbers.proofs.Padded.{Filled, fill-none, fill-more, fill-all}
-use Rattle.sites.proofs.coordinates.Statement.{statement}
-use Rattle.sites.proofs.coordinates.Tie as tie
+use Rattle.deck.proofs.post_coordinates.Statement.{statement}
+use Rattle.deck.proofs.post_coordinates.Tie as tie
 
 abbrev Inv-loop : tie.InvT-loop
-Inv-loop from n to₀ i₀ to i = Filled 512 (pos 0) from n to i
+Inv-loop from n to₀ i₀ to i = Filled 64 (pos 0) from n to i
 
 abbrev μ-loop : tie.MeasureT-loop
 μ-loop from n to₀ i₀ to i = n - i
@@ -47,8 +47,8 @@ loop-again c =
 returns : tie.Need-returns Inv-loop μ-loop
 returns c = fill-all _ _ _ _ (c .before .loop .inv) (c .loop-test .left)
 
-pub coordinates-spec : {M : Type 1} → statement M
-coordinates-spec =
+pub post-coordinates-spec : {M : Type 1} → statement M
+post-coordinates-spec =
     tie.close
     (tie.spec
     Inv-loop

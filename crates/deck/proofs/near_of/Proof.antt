@@ -1,4 +1,4 @@
--- `sites::near_of` meets its contract: after the first j posts the least travel is that to the closest of them.
+-- `deck::near_of` meets its contract: after the first j posts the least travel is that to the closest of them.
 -- Assumes nothing.
 use mathlib.Core.Path.{_≡_, ap, _∙_}
 use Prim.Native.Nat.{_-_}
@@ -8,11 +8,11 @@ use lib.ListN.{getD}
 use mir.Syntax.{w32}
 use mir.Val.{toZ, ofZ}
 use mir.ValLaws.{toZ-pos}
-use Rattle.sites.proofs.WordLaws.{coordinate}
-use Rattle.sites.proofs.TravelLaws.{far, place-word, post-far, post-small}
-use Rattle.sites.proofs.ClosestLaws.{ClosestSoFar, closest-first, closest-more, closest-all, post-range}
-use Rattle.sites.proofs.near_of.Statement.{statement}
-use Rattle.sites.proofs.near_of.Tie as tie
+use Rattle.deck.proofs.WordLaws.{coordinate}
+use Rattle.deck.proofs.TravelLaws.{far, place-word, post-far, post-small}
+use Rattle.deck.proofs.ClosestLaws.{ClosestSoFar, closest-first, closest-more, closest-all, post-range}
+use Rattle.deck.proofs.near_of.Statement.{statement}
+use Rattle.deck.proofs.near_of.Tie as tie
 
 abbrev Inv-loop : tie.InvT-loop
 Inv-loop px py k x y least₀ j₀ least j = ClosestSoFar px py k (record { x = toZ w32 x; y = toZ w32 y }) least j

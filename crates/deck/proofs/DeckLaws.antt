@@ -1,24 +1,24 @@
 -- The deck that a record holds, column by column: its stops and posts in range, and the columns of its sites.
 -- Assumes nothing.
-use mathlib.Core.Path.{_≡_, refl, ap, _∙_}
+use mathlib.Core.Path.{_≡_, refl, sym, ap, _∙_}
 use mathlib.Core.List.{List, [], _∷_, _++_, map, zipWith, map-map, map-id, List·Memᴰ, List·Memᴰ·head, List·Memᴰ·tail}
 use Prim.Native.Nat.{ℕ, zero, suc, _≤_, _<_}
 use native.Mathlib.Omega.{arith}
 use lib.IntN.{ℤ, pos}
 use lib.ListN.{length, getD, take, length-take, length-map}
-use Rattle.query.specs.Place.{Place, Rect}
-use Rattle.query.specs.Deck.{Stop, plain}
+use Rattle.query.specs.Place.{Place}
+use Rattle.query.specs.Deck as Query
+use Rattle.query.specs.Deck.{Stop, AxisCosts, plain}
 use Rattle.query.specs.Travel.{closest, near}
 use Rattle.query.specs.Range.{InRange, StopInRange, PlaceInRange}
-use Rattle.job.specs.Record.{deckRecord}
 use Rattle.numbers.specs.Padded.{padded}
-use Rattle.job.specs.declared.Deck.{Deck}
-use Rattle.sites.specs.DeckOf.{places, stopsOf, deckOf}
-use Rattle.sites.specs.Sites.{Site, sitesOf}
-use Rattle.sites.specs.Ranges.{CoordinatesInRange, VisitsInRange}
-use Rattle.sites.specs.Record.{sitesRecord}
-use Rattle.sites.specs.declared.Sites.{Sites}
-use Rattle.sites.proofs.ClosestLaws.{zip-length, zip-at, placeAt, places-length, places-at}
+use Rattle.deck.specs.declared.Deck.{Deck}
+use Rattle.deck.specs.DeckOf.{places, stopsOf, deckOf, deckRecord}
+use Rattle.deck.specs.Sites.{Site, sitesOf}
+use Rattle.deck.specs.Ranges.{CoordinatesInRange, VisitsInRange}
+use Rattle.deck.specs.Record.{sitesRecord}
+use Rattle.deck.specs.declared.Sites.{Sites}
+use Rattle.deck.proofs.ClosestLaws.{zip-length, zip-at, placeAt, places-length, places-at}
 
 -- ---- lists
 take-member : {A : Type 0} (d : A) (l : List A) (n i : ℕ) → i < n → i < length l → List·Memᴰ (getD l i d) (take n l)
@@ -151,7 +151,7 @@ module _ (deck : Deck) (columns : DeckColumns deck) where
   unfolding sitesRecord
   record-is x y visits nears a b c d = rw (a, b, c, d, sites-length, x-column, y-column, visits-column, near-column)
 
--- ---- the deck that the record of an area, posts and stops holds
+-- ---- the record of a deck holds it, but for axis costs, which no record has
 front-places : (ps : List Place) (xs ys : List ℤ) → take (length ps) (places (map (λ p. p .x) ps ++ xs) (map (λ p. p .y) ps ++ ys)) ≡ ps
 unfolding places
 front-places [] xs ys = refl
@@ -162,6 +162,9 @@ unfolding places stopsOf
 front-stops [] xs ys vs = refl
 front-stops (s ∷ ss) xs ys vs = ap (λ (l : List Stop). s ∷ l) (front-stops ss xs ys vs)
 
-pub deck-record : (area : Rect) (posts : List Place) (stops : List Stop) → deckOf (deckRecord area posts stops) ≡ record { axis = plain; area = area; posts = posts; stops = stops }
+held-plain : (deck : Query.Deck) → deckOf (deckRecord deck) ≡ record { axis = plain; area = deck .area; posts = deck .posts; stops = deck .stops }
 unfolding deckOf deckRecord padded
-deck-record area posts stops = rw (front-places, front-stops)
+held-plain deck = rw (front-places, front-stops)
+
+pub held-deck : (deck : Query.Deck) → deck .axis ≡ plain → deckOf (deckRecord deck) ≡ deck
+held-deck deck e = held-plain deck ∙ ap (λ (a : AxisCosts). record { axis = a; area = deck .area; posts = deck .posts; stops = deck .stops }) (sym e)

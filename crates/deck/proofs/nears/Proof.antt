@@ -1,4 +1,4 @@
--- `sites::nears` meets its contract: after i turns the near of the first i stops is found.
+-- `deck::nears` meets its contract: after i turns the near of the first i stops is found.
 -- Assumes nothing.
 use mathlib.Core.List.{List, map}
 use Prim.Native.Nat.{ℕ, _-_}
@@ -8,12 +8,12 @@ use lib.ListN.{getD, take}
 use Rattle.query.specs.Place.{Place}
 use Rattle.query.specs.Deck.{plain}
 use Rattle.query.specs.Travel.{closest}
-use Rattle.sites.specs.DeckOf.{places}
-use Rattle.sites.proofs.WordLaws.{narrow-fits}
+use Rattle.deck.specs.DeckOf.{places}
+use Rattle.deck.proofs.WordLaws.{narrow-fits}
 use Rattle.numbers.proofs.Padded.{Filled, fill-none, fill-all}
-use Rattle.sites.proofs.ClosestLaws.{places-front, copied-front, copied-range, narrow-row, figures-more}
-use Rattle.sites.proofs.nears.Statement.{statement}
-use Rattle.sites.proofs.nears.Tie as tie
+use Rattle.deck.proofs.ClosestLaws.{places-front, copied-front, copied-range, narrow-row, figures-more}
+use Rattle.deck.proofs.nears.Statement.{statement}
+use Rattle.deck.proofs.nears.Tie as tie
 
 -- the near of a place
 abbrev nearBy : List ℤ → List ℤ → ℕ → Place → ℕ

@@ -2,4 +2,3 @@ pub mod WordLaws
 pub mod TravelLaws
 pub mod ClosestLaws
 pub mod DeckLaws
-pub mod ReadLaws

@@ -1,4 +1,4 @@
--- `sites::apart` meets its contract: the larger less the smaller is the distance, at most 360,000.
+-- `deck::apart` meets its contract: the larger less the smaller is the distance, at most 360,000.
 -- Assumes nothing.
 use Prim.Native.Nat.{_^_, _<_}
 use native.Mathlib.Omega.{arith}
@@ -6,8 +6,8 @@ use mir.Syntax.{w32}
 use Rattle.numbers.specs.Integer.{dist}
 use Rattle.numbers.proofs.Distance.{dist-most}
 use Rattle.numbers.proofs.Words.{gap-above, gap-below, natural-fits, result-is}
-use Rattle.sites.proofs.apart.Statement.{statement}
-use Rattle.sites.proofs.apart.Tie as tie
+use Rattle.deck.proofs.apart.Statement.{statement}
+use Rattle.deck.proofs.apart.Tie as tie
 
 within : (c : tie.Start) → dist (c .args .u) (c .args .v) < 2 ^ 31
 within c = omega (arith, dist-most 180000 (c .args .u) (c .args .v) (c .pre .x-range) (c .pre .y-range))

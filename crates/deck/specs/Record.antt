@@ -4,8 +4,8 @@ use mathlib.Core.List.{List, map}
 use lib.IntN.{pos}
 use lib.ListN.{length}
 use Rattle.numbers.specs.Padded.{padded}
-use Rattle.sites.specs.Sites.{Site}
-use Rattle.sites.specs.declared.Sites.{Sites}
+use Rattle.deck.specs.Sites.{Site}
+use Rattle.deck.specs.declared.Sites.{Sites}
 
 -- the record of some sites
 unfoldable pub sitesRecord : List Site → Sites

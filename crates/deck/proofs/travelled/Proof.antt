@@ -1,11 +1,11 @@
--- `sites::travelled` meets its contract.
+-- `deck::travelled` meets its contract.
 -- Assumes nothing.
 use borrow.Author.Needs.{needs}
 use mir.Syntax.{w32}
 use Rattle.numbers.proofs.Words.{natural-fits, result-is}
-use Rattle.sites.proofs.TravelLaws.{far-small, far-sum}
-use Rattle.sites.proofs.travelled.Statement.{statement}
-use Rattle.sites.proofs.travelled.Tie as tie
+use Rattle.deck.proofs.TravelLaws.{far-small, far-sum}
+use Rattle.deck.proofs.travelled.Statement.{statement}
+use Rattle.deck.proofs.travelled.Tie as tie
 
 apart-requires : tie.Need-apart-requires
 apart-requires c κs = search needs

@@ -20,10 +20,10 @@ use Rattle.numbers.specs.Padded.{padded}
 use Rattle.query.specs.Place.{Place}
 use Rattle.query.specs.Deck.{AxisCosts, plain}
 use Rattle.query.specs.Travel.{travel, closest}
-use Rattle.sites.specs.DeckOf.{places}
-use Rattle.sites.specs.Ranges.{CoordinatesInRange, Near180000}
-use Rattle.sites.proofs.WordLaws.{coordinate, narrowed}
-use Rattle.sites.proofs.TravelLaws.{far, travel-plain, narrow, narrow-place}
+use Rattle.deck.specs.DeckOf.{places}
+use Rattle.deck.specs.Ranges.{CoordinatesInRange, Near180000}
+use Rattle.deck.proofs.WordLaws.{coordinate, narrowed}
+use Rattle.deck.proofs.TravelLaws.{far, travel-plain, narrow, narrow-place}
 use Rattle.numbers.proofs.Padded.{padded-length, Filled, fill-more, padded-front}
 
 -- ---- two lists side by side

@@ -1,4 +1,4 @@
--- `sites::closer` meets its contract.
+-- `deck::closer` meets its contract.
 -- Assumes nothing.
 use mathlib.Core.Path.{_≡_, ap, _∙_}
 use borrow.Author.Needs.{needs}
@@ -6,9 +6,9 @@ use lib.IntN.{pos}
 use mir.Syntax.{w32}
 use mir.Val.{toZ, ofZ}
 use mir.ValLaws.{toZ-pos}
-use Rattle.sites.proofs.TravelLaws.{far, far-small, far-word, picks-first, picks-second}
-use Rattle.sites.proofs.closer.Statement.{statement}
-use Rattle.sites.proofs.closer.Tie as tie
+use Rattle.deck.proofs.TravelLaws.{far, far-small, far-word, picks-first, picks-second}
+use Rattle.deck.proofs.closer.Statement.{statement}
+use Rattle.deck.proofs.closer.Tie as tie
 
 travelled-requires : tie.Need-travelled-requires
 travelled-requires c κs = search needs

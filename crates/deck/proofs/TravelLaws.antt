@@ -14,8 +14,8 @@ use Rattle.numbers.proofs.Distance.{dist-most}
 use Rattle.query.specs.Place.{Place}
 use Rattle.query.specs.Deck.{plain}
 use Rattle.query.specs.Travel.{travel}
-use Rattle.sites.specs.Ranges.{Near180000}
-use Rattle.sites.proofs.WordLaws.{sum-is, coordinate, narrowed}
+use Rattle.deck.specs.Ranges.{Near180000}
+use Rattle.deck.proofs.WordLaws.{sum-is, coordinate, narrowed}
 
 abbrev pub far : ℤ → ℤ → ℤ → ℤ → ℕ
 far ux uy vx vy = dist ux vx + dist uy vy

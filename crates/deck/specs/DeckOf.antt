@@ -1,0 +1,50 @@
+-- The deck that a record of the code holds, and the record that holds a deck.
+-- Assumes nothing.
+use Prim.Native.Nat.{ℕ}
+use mathlib.Core.List.{List, [], map, zipWith}
+use lib.IntN.{ℤ, pos}
+use lib.ListN.{length, take}
+use Rattle.numbers.specs.Padded.{padded}
+use Rattle.query.specs.Place.{Place}
+use Rattle.query.specs.Deck as Query
+use Rattle.query.specs.Deck.{Stop, plain}
+use Rattle.deck.specs.declared.Deck.{Deck}
+
+unfoldable pub places : List ℤ → List ℤ → List Place
+unfolding zipWith
+places xs ys = zipWith (λ x y. record { x = x; y = y }) xs ys
+
+unfoldable pub stopsOf : List Place → List ℕ → List Stop
+unfolding zipWith
+stopsOf ps visits = zipWith (λ p v. record { at = p; visits = v }) ps visits
+
+-- the deck of a record. A count beyond its arrays counts all of their elements
+unfoldable pub deckOf : Deck → Query.Deck
+unfolding places stopsOf
+deckOf deck = record {
+  axis = plain;
+  area = record { xlo = deck .xlo; ylo = deck .ylo; xhi = deck .xhi; yhi = deck .yhi };
+  posts = take (deck .posts) (places (deck .«post_x») (deck .«post_y»));
+  stops = take (deck .stops) (stopsOf (places (deck .«stop_x») (deck .«stop_y»)) (deck .visits));
+}
+
+-- the record of a deck: its lists at the front of the arrays, and 0 behind them
+unfoldable pub deckRecord : Query.Deck → Deck
+unfolding padded
+deckRecord deck = record {
+  xlo = deck .area .xlo;
+  ylo = deck .area .ylo;
+  xhi = deck .area .xhi;
+  yhi = deck .area .yhi;
+  posts = length (deck .posts);
+  «post_x» = padded 64 (pos 0) (map (λ p. p .x) (deck .posts));
+  «post_y» = padded 64 (pos 0) (map (λ p. p .y) (deck .posts));
+  stops = length (deck .stops);
+  «stop_x» = padded 512 (pos 0) (map (λ s. s .at .x) (deck .stops));
+  «stop_y» = padded 512 (pos 0) (map (λ s. s .at .y) (deck .stops));
+  visits = padded 512 0 (map (λ s. s .visits) (deck .stops));
+}
+
+-- the deck whose record is all zeros
+abbrev pub emptyDeck : Query.Deck
+emptyDeck = record { axis = plain; area = record { xlo = pos 0; ylo = pos 0; xhi = pos 0; yhi = pos 0 }; posts = []; stops = [] }
