@@ -22,7 +22,7 @@ use Rattle.query.specs.Lines.{lines}
 use Rattle.query.specs.Deck.{Deck}
 use Rattle.query.specs.Range.{RectInRange, costLimit}
 use Rattle.job.specs.Format.{Result, readJob}
-use Rattle.job.specs.declared.Deck as Held
+use Rattle.deck.specs.declared.Deck as Held
 use Rattle.pricing.specs.Columns.{Figure, rowsOf}
 use Rattle.lines.specs.LineRecord.{linesRecord}
 use Rattle.cuts.specs.CutRecord.{rectOf, onLines, cutRecord}
