@@ -1,4 +1,5 @@
-// Text and decimal numbers written into a byte slice from a place on. Each returns the place after what it wrote.
+// Text and decimal numbers written into a byte slice from a place on, with room for their bytes and no more. Each returns the place after
+// what it wrote.
 ghost use Prim.Native.Nat.{_+_, _≤_};
 ghost use mathlib.Core.Path.{_≡_};
 ghost use lib.ListN.{length};
@@ -20,7 +21,7 @@ pub fn put(out: &mut [u8], at: usize, s: &[u8]) -> usize
 
 // The decimal digits of `n`, the first ones by a call of itself.
 pub fn put_nat(out: &mut [u8], at: usize, n: u64) -> usize
-    requires { ⌜ at + 20 ≤ length (now out) ⌝ }
+    requires { ⌜ at + length (spellNat n) ≤ length (now out) ⌝ }
     ensures { λ r. ⌜ Wrote (now (out .entry)) at (spellNat n) (now (out .exit)) r ⌝ }
 {
     if n < 10 {
@@ -41,7 +42,7 @@ fn magnitude(z: i64) -> u64
 }
 
 pub fn put_int(out: &mut [u8], at: usize, z: i64) -> usize
-    requires { ⌜ at + 21 ≤ length (now out) ⌝ }
+    requires { ⌜ at + length (spellInt z) ≤ length (now out) ⌝ }
     ensures { λ r. ⌜ Wrote (now (out .entry)) at (spellInt z) (now (out .exit)) r ⌝ }
 {
     if z < 0 {
