@@ -15,8 +15,7 @@ use Rattle.text.specs.Decimal.{spellNat, spellInt}
 use Rattle.text.specs.Numeral.{digits, natural}
 use Rattle.write.specs.Written.{Wrote}
 use Rattle.text.proofs.NumeralLaws.{natural-spelled}
-use Rattle.text.proofs.DigitCounts.{length-spellNat, length-spellNat-below, length-spellInt-below}
-use Rattle.write.proofs.SpellLaws.{length-spellInt}
+use Rattle.text.proofs.DigitCounts.{length-spellNat, length-spellNat-below, length-spellInt, length-spellInt-below}
 use Rattle.write.proofs.WrittenLaws.{written-front, wrote-both}
 use Rattle.refusal.specs.Refusal.{numberOf}
 use Rattle.refusal.specs.declared.Refusal.{Refusal}

@@ -1,7 +1,7 @@
--- Decimal digits: how many there are.
+-- How a number is spelled: the last digit apart, the sign apart, and how many bytes there are.
 -- Assumes nothing.
-use mathlib.Core.Path.{_≡_, sym, ap, _∙_}
-use mathlib.Core.Bool.{cond}
+use mathlib.Core.Path.{_≡_, refl, sym, ap, _∙_}
+use mathlib.Core.Bool.{cond, true, false, true≢false}
 use mathlib.Core.Logic.{⊎-elim}
 use Prim.Native.Nat.{ℕ, zero, suc, _+_, _/_, _%_, _^_, _≤_, _<_}
 use native.Mathlib.Omega.{arith}
@@ -10,7 +10,10 @@ use mathlib.Core.List.{List, [], _∷_, _++_}
 use lib.Dec.{lit<, leb, leb→le, nleb→lt, ltb}
 use lib.ListN.{length, length-append}
 use lib.IntN.{ℤ, pos, negsuc, natAbs}
+use lib.Signed.{ltZ}
+use borrow.Author.Tests.{ltb-true}
 use Rattle.numbers.proofs.Truth.{test, cond-ind}
+use Rattle.text.specs.Ascii.{minus}
 use Rattle.text.specs.Decimal.{decimal, spellNat, spellInt}
 use Rattle.text.proofs.DecimalLaws.{decimal-small, decimal-large}
 
@@ -31,6 +34,20 @@ decimal-enough (suc f) (suc g) n h k =
     (decimal-enough f g (n / 10) (omega (arith, pow-suc 10 (suc f))) (omega (arith, pow-suc 10 (suc g))))
 
 -- ---- numbers of at most 20 digits
+pub spellNat-one : (n : ℕ) → n < 10 → spellNat n ≡ (48 + n) ∷ []
+unfolding spellNat
+spellNat-one n h = decimal-small 19 n h
+
+pub spellNat-more : (n : ℕ) → 10 ≤ n → n < 10 ^ 20 → spellNat n ≡ spellNat (n / 10) ++ ((48 + n % 10) ∷ [])
+unfolding spellNat
+spellNat-more n h k = decimal-large 19 n h ∙ ap (λ (l : List ℕ). l ++ ((48 + n % 10) ∷ [])) (decimal-enough 18 19 (n / 10) (omega arith) (omega arith))
+
+pub length-one : (n : ℕ) → n < 10 → length (spellNat n) ≡ 1
+length-one n h = ap length (spellNat-one n h)
+
+pub length-more : (n : ℕ) → 10 ≤ n → n < 10 ^ 20 → length (spellNat n) ≡ length (spellNat (n / 10)) + 1
+length-more n h k = ap length (spellNat-more n h k) ∙ length-append (spellNat (n / 10)) ((48 + n % 10) ∷ [])
+
 pub length-spellNat : (n : ℕ) → length (spellNat n) ≤ 20
 unfolding spellNat
 length-spellNat n = length-decimal 20 n
@@ -46,6 +63,21 @@ length-spellNat-below k n h = ⊎-elim (λ t. omega (arith, length-spellNat n, l
         rw (decimal-enough 19 k n (lt-of-lt-of-le h p) h) (length-decimal (suc k) n)
 
 -- ---- numbers with a sign
+pub spellInt-nonNeg : (z : ℤ) → ltZ z (pos 0) ≡ false → spellInt z ≡ spellNat (natAbs z)
+unfolding spellInt
+spellInt-nonNeg (pos n) t = refl
+spellInt-nonNeg (negsuc n) t = absurd (true≢false t)
+
+pub spellInt-negative : (z : ℤ) → ltZ z (pos 0) ≡ true → spellInt z ≡ minus ∷ spellNat (natAbs z)
+unfolding spellInt
+spellInt-negative (pos n) t = absurd (omega (arith, ltb-true n 0 t))
+spellInt-negative (negsuc n) t = refl
+
+pub length-spellInt : (z : ℤ) → length (spellInt z) ≤ 21
+unfolding spellInt
+length-spellInt (pos n) = omega (arith, length-spellNat n)
+length-spellInt (negsuc n) = omega (arith, length-spellNat (suc n))
+
 pub length-spellInt-below : (k : ℕ) (z : ℤ) → natAbs z < 10 ^ suc k → length (spellInt z) ≤ k + 2
 unfolding spellInt
 length-spellInt-below k (pos n) h = omega (arith, length-spellNat-below k n h)

@@ -1,2 +1,2 @@
-pub mod SpellLaws
+pub mod IntLaws
 pub mod WrittenLaws

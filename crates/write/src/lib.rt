@@ -1,4 +1,5 @@
-// Text and decimal numbers written into a byte slice from a place on. Each returns the place after what it wrote.
+// Text and decimal numbers written into a byte slice from a place on, with room for their bytes and no more. Each `put` returns the place
+// after what it wrote. `nat_len` and `int_len`: how many bytes a number takes.
 ghost use Prim.Native.Nat.{_+_, _≤_};
 ghost use mathlib.Core.Path.{_≡_};
 ghost use lib.ListN.{length};
@@ -20,7 +21,7 @@ pub fn put(out: &mut [u8], at: usize, s: &[u8]) -> usize
 
 // The decimal digits of `n`, the first ones by a call of itself.
 pub fn put_nat(out: &mut [u8], at: usize, n: u64) -> usize
-    requires { ⌜ at + 20 ≤ length (now out) ⌝ }
+    requires { ⌜ at + length (spellNat n) ≤ length (now out) ⌝ }
     ensures { λ r. ⌜ Wrote (now (out .entry)) at (spellNat n) (now (out .exit)) r ⌝ }
 {
     if n < 10 {
@@ -33,6 +34,20 @@ pub fn put_nat(out: &mut [u8], at: usize, n: u64) -> usize
     }
 }
 
+// How many decimal digits `n` has.
+pub fn nat_len(n: u64) -> usize
+    ensures { λ r. ⌜ r ≡ length (spellNat n) ⌝ }
+    ensures { λ r. ⌜ r ≤ 20 ⌝ }
+{
+    let mut rest = n;
+    let mut len = 1;
+    while 10 <= rest {
+        rest = rest / 10;
+        len += 1;
+    }
+    len
+}
+
 // The absolute value, that of i64::MIN too.
 fn magnitude(z: i64) -> u64
     ensures { λ r. ⌜ r ≡ natAbs z ⌝ }
@@ -41,7 +56,7 @@ fn magnitude(z: i64) -> u64
 }
 
 pub fn put_int(out: &mut [u8], at: usize, z: i64) -> usize
-    requires { ⌜ at + 21 ≤ length (now out) ⌝ }
+    requires { ⌜ at + length (spellInt z) ≤ length (now out) ⌝ }
     ensures { λ r. ⌜ Wrote (now (out .entry)) at (spellInt z) (now (out .exit)) r ⌝ }
 {
     if z < 0 {
@@ -50,4 +65,13 @@ pub fn put_int(out: &mut [u8], at: usize, z: i64) -> usize
     } else {
         put_nat(out, at, magnitude(z))
     }
+}
+
+// How many bytes `z` takes: its digits, and the sign of a negative number.
+pub fn int_len(z: i64) -> usize
+    ensures { λ r. ⌜ r ≡ length (spellInt z) ⌝ }
+    ensures { λ r. ⌜ r ≤ 21 ⌝ }
+{
+    let digits = nat_len(magnitude(z));
+    if z < 0 { digits + 1 } else { digits }
 }

@@ -3,7 +3,9 @@
 use native.Mathlib.Omega.{arith}
 use borrow.Author.Needs.{needs}
 use mir.Syntax.{w64}
+use mir.Val.{toZ, ofZ}
 use mir.ValLaws.{toZ-ofZ}
+use Rattle.text.proofs.DigitCounts.{length-spellInt}
 use Rattle.write.proofs.WrittenLaws.{wrote-both}
 use Rattle.report.proofs.TextLaws.{length-int-part}
 use Rattle.report.proofs.put_key_int.Statement.{statement}
@@ -13,7 +15,7 @@ put-requires : tie.Need-put-requires
 put-requires c κs = search needs
 
 put-int-requires : tie.Need-put-int-requires
-put-int-requires c κs = search needs
+put-int-requires c κs = omega (arith, length-spellInt (toZ w64 (ofZ w64 (c .before .before .before .before .before .before .before .args .z))))
 
 same-length : tie.Need-same-length
 same-length c = search needs

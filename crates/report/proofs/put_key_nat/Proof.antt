@@ -2,6 +2,7 @@
 -- Assumes nothing.
 use native.Mathlib.Omega.{arith}
 use borrow.Author.Needs.{needs}
+use Rattle.text.proofs.DigitCounts.{length-spellNat}
 use Rattle.write.proofs.WrittenLaws.{wrote-both}
 use Rattle.report.proofs.TextLaws.{length-nat-part}
 use Rattle.report.proofs.put_key_nat.Statement.{statement}
@@ -11,7 +12,7 @@ put-requires : tie.Need-put-requires
 put-requires c κs = search needs
 
 put-nat-requires : tie.Need-put-nat-requires
-put-nat-requires c κs = search needs
+put-nat-requires c κs = omega (arith, length-spellNat (c .before .before .before .before .before .before .before .args .n))
 
 same-length : tie.Need-same-length
 same-length c = search needs
