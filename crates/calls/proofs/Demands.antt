@@ -26,7 +26,7 @@ use Rattle.refusal.specs.declared.Refusal.the-variants.{SmallSpace, ShortOutput
 use Rattle.report.specs.Text.{reportText}
 use Rattle.report.proofs.Fits.{report-fits}
 use Rattle.calls.specs.Answers.{AnswerOf, gives, refuses, refusal}
-use Rattle.calls.specs.Call.{Left, turnedDown, overwritten, jobFigures, reported, answered, reportCall}
+use Rattle.calls.specs.Call.{Left, turnedDown, jobFigures, reported, answered, reportCall}
 use Rattle.calls.specs.Demands.{Accepted, Applies, in-reading, small-space, short-output, Demand1, Reported, Demand2, oneMore, Demand3Report, Demands}
 use Rattle.calls.proofs.AnswerLaws.{same-number, same-line, same-refusal, same-given, not-refused}
 

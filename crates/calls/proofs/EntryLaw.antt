@@ -18,9 +18,10 @@ use Rattle.job.specs.Format.{Job, Result, refused, accepted, readJob}
 use Rattle.job.specs.Meaning.{Condition}
 use Rattle.job.proofs.Meaning.{refused-law}
 use Rattle.job.proofs.RefusalLaws.{condition-number}
+use Rattle.write.specs.Written.{overwritten}
 use Rattle.report.specs.Text.{reportText}
 use Rattle.calls.specs.Answers.{gives, refusal}
-use Rattle.calls.specs.Call.{turnedDown, overwritten, jobFigures, reportCall, ownSpace}
+use Rattle.calls.specs.Call.{turnedDown, jobFigures, reportCall, ownSpace}
 use Rattle.calls.specs.Entry.{Returned, resultOf, returned, entry}
 use Rattle.calls.specs.Demands.{in-reading, short-output}
 use Rattle.calls.specs.EntryLaw.{EntryLaw}

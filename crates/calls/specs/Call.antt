@@ -2,15 +2,16 @@
 -- Assumes nothing.
 use Prim.Native.Nat.{ℕ, _+_, _*_}
 use mathlib.Core.Bool.{cond}
-use mathlib.Core.List.{List, _++_}
+use mathlib.Core.List.{List}
 use lib.Dec.{ltb}
 use lib.IntN.{ℤ, pos}
-use lib.ListN.{length, drop, replicate}
+use lib.ListN.{length, replicate}
 use Rattle.query.specs.Figures.{Figures, figures}
 use Rattle.query.specs.Space.{space}
 use Rattle.job.specs.Format.{Job, Result, refused, accepted, readJob}
 use Rattle.refusal.specs.declared.Refusal.{Refusal}
 use Rattle.refusal.specs.declared.Refusal.the-variants.{SmallSpace, ShortOutput}
+use Rattle.write.specs.Written.{overwritten}
 use Rattle.report.specs.Text.{reportText}
 use Rattle.calls.specs.Answers.{AnswerOf, gives, refusal}
 
@@ -23,10 +24,6 @@ pub record Left : Type 0 where
 -- 01 "Every row changes nothing lent"
 abbrev pub turnedDown : Refusal → List ℤ → List ℕ → Left
 turnedDown why cells out = record { answer = refusal why; cells = cells; out = out }
-
--- 01 "A report fills the first bytes of the output; later bytes keep their values"
-unfoldable pub overwritten : List ℕ → List ℕ → List ℕ
-overwritten text out = text ++ drop (length text) out
 
 -- the figures of a job's report
 abbrev pub jobFigures : Job → Figures

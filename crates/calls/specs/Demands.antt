@@ -17,9 +17,10 @@ use Rattle.refusal.specs.declared.Refusal.the-variants.{SmallSpace, ShortOutput
 use Rattle.job.specs.Format.{Job, refused, accepted, readJob}
 use Rattle.job.specs.Spelling.{spell, Allowed}
 use Rattle.job.specs.Meaning.{Condition}
+use Rattle.write.specs.Written.{overwritten}
 use Rattle.report.specs.Text.{reportText}
 use Rattle.calls.specs.Answers.{gives, refuses, refusal}
-use Rattle.calls.specs.Call.{overwritten, jobFigures, reportCall}
+use Rattle.calls.specs.Call.{jobFigures, reportCall}
 
 -- 01 "A job is accepted if none of the refusals that its call can give applies to it and to what is lent": it is read as j, and enough is lent
 pub record Accepted (job : List ℕ) (cells : List ℤ) (out : List ℕ) (j : Job) : Type 0 where

@@ -10,8 +10,9 @@ use Rattle.refusal.specs.Refusal.{numberOf}
 use Rattle.refusal.specs.declared.Refusal.{Refusal}
 use Rattle.job.specs.Format.{Job, accepted, readJob}
 use Rattle.job.specs.Meaning.{Condition}
+use Rattle.write.specs.Written.{overwritten}
 use Rattle.report.specs.Text.{reportText}
-use Rattle.calls.specs.Call.{overwritten, jobFigures}
+use Rattle.calls.specs.Call.{jobFigures}
 use Rattle.calls.specs.Entry.{entry}
 
 -- 01 "The C entry has cell space of its own and never gives 7; its signed result is the bytes written, or minus the refusal number"

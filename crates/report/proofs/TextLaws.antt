@@ -13,7 +13,7 @@ use Rattle.query.specs.Range.{costLimit}
 use Rattle.text.specs.Ascii.{bytes, comma}
 use Rattle.text.specs.Decimal.{spellNat, spellInt}
 use Rattle.text.specs.Numeral.{digits, natural}
-use Rattle.write.specs.Written.{Wrote}
+use Rattle.write.specs.Written.{Overwrote, Wrote}
 use Rattle.text.proofs.NumeralLaws.{natural-spelled}
 use Rattle.text.proofs.DigitCounts.{length-spellNat, length-spellNat-below, length-spellInt, length-spellInt-below}
 use Rattle.write.proofs.WrittenLaws.{written-front, wrote-both}
@@ -21,7 +21,6 @@ use Rattle.refusal.specs.Refusal.{numberOf}
 use Rattle.refusal.specs.declared.Refusal.{Refusal}
 use Rattle.refusal.proofs.Numbers.{number-most}
 use Rattle.report.specs.Text.{stateText, reportText, refusalText}
-use Rattle.report.specs.Output.{Filled}
 
 -- ---- the parts
 abbrev pub statePart : State → List ℕ
@@ -109,7 +108,7 @@ pub length-int-part : (key : List ℕ) (z : ℤ) → length (key ++ spellInt z) 
 length-int-part key z = omega (arith, length-append key (spellInt z), length-spellInt z)
 
 -- ---- a text written from the start on
-pub filled : {out after : List ℕ} {end : ℕ} (text : List ℕ) → Wrote out 0 text after end → Filled out text after end
+pub filled : {out after : List ℕ} {end : ℕ} (text : List ℕ) → Wrote out 0 text after end → Overwrote out text after end
 filled {out} text w = record { number = w .next ∙ zero-add (length text); content = w .text ∙ written-front out text }
 
 pub report-filled :
@@ -119,7 +118,7 @@ pub report-filled :
     Wrote m₂ e₂ (costsPart (f .high) (f .low) (f .before)) m₃ e₃ →
     Wrote m₃ e₃ (roundsPart (f .rounds)) m₄ e₄ →
     Wrote m₄ e₄ (bytes "\n") after end →
-    Filled out (reportText f) after end
+    Overwrote out (reportText f) after end
 report-filled f s p c r n =
     filled (reportText f) (rw report-parts (wrote-both (wrote-both (wrote-both (wrote-both s p zero-le) c zero-le) r zero-le) n zero-le))
 
@@ -130,5 +129,5 @@ pub refusal-filled :
     Wrote out 0 (bytes "refused=" ++ spellNat n) m₁ e₁ →
     Wrote m₁ e₁ (bytes "\nline=" ++ spellNat l) m₂ e₂ →
     Wrote m₂ e₂ (bytes "\n") after end →
-    Filled out (refusalText number line) after end
+    Overwrote out (refusalText number line) after end
 refusal-filled {number = number} {line = line} n l p q v w e = filled (refusalText number line) (rw (refusal-parts, ← p, ← q) (wrote-both (wrote-both v w zero-le) e zero-le))

@@ -6,11 +6,10 @@ ghost use lib.ListN.{length};
 ghost use Rattle.refusal.specs.Refusal.{numberOf, lineOf};
 ghost use Rattle.text.specs.Ascii.{bytes, comma};
 ghost use Rattle.text.specs.Decimal.{spellNat, spellInt};
-ghost use Rattle.write.specs.Written.{Wrote};
+ghost use Rattle.write.specs.Written.{Overwrote, Wrote};
 ghost use Rattle.report.specs.Report.{stateOf, figuresOf};
 ghost use Rattle.report.specs.Text.{stateText, reportText, refusalText};
 ghost use Rattle.query.specs.Range.{FiguresInRange};
-ghost use Rattle.report.specs.Output.{Filled};
 
 pub enum State {
     Done,
@@ -80,7 +79,7 @@ fn put_costs(out: &mut [u8], at: usize, high: u64, low: i64, before: u64) -> usi
 pub fn write_report(out: &mut [u8], r: Report) -> usize
     requires { ⌜ 128 ≤ length (now out) ⌝ }
     requires { ⌜ FiguresInRange 1000 (figuresOf r) ⌝ }
-    ensures { λ n. ⌜ Filled (now (out .entry)) (reportText (figuresOf r)) (now (out .exit)) n ⌝ }
+    ensures { λ n. ⌜ Overwrote (now (out .entry)) (reportText (figuresOf r)) (now (out .exit)) n ⌝ }
 {
     let state = r.state;
     let end = put_state(out, 0, state);
@@ -93,7 +92,7 @@ pub fn write_report(out: &mut [u8], r: Report) -> usize
 // The two lines of a refusal at the start of `out`, and their length.
 pub fn write_refusal(out: &mut [u8], why: Refusal) -> usize
     requires { ⌜ 64 ≤ length (now out) ⌝ }
-    ensures { λ n. ⌜ Filled (now (out .entry)) (refusalText (numberOf why) (lineOf why)) (now (out .exit)) n ⌝ }
+    ensures { λ n. ⌜ Overwrote (now (out .entry)) (refusalText (numberOf why) (lineOf why)) (now (out .exit)) n ⌝ }
 {
     let number = refusal::number_of(why);
     let line = refusal::line_of(why);

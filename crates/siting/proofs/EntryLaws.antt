@@ -21,7 +21,7 @@ use Rattle.job.specs.Format.{refused}
 use Rattle.refusal.specs.declared.Refusal.{Refusal}
 use Rattle.report.specs.Report.{figuresOf}
 use Rattle.report.specs.Text.{reportText, refusalText}
-use Rattle.report.specs.Output.{Filled}
+use Rattle.write.specs.Written.{overwritten, Overwrote}
 use Rattle.report.proofs.Fits.{report-fits}
 use Rattle.numbers.proofs.Padded.{padded-none, padded-over}
 use Rattle.report.specs.declared.Report.{Report}
@@ -62,11 +62,16 @@ module _ (job out : List ℕ) (cells : List ℤ) (out′ : List ℕ) (r : Respon
   entry-refused why e n f = ap (λ (z : ℤ). record { result = z; out = out′ }) (rw f (minus-number why) ∙ ap (λ (a : Answer). resultOf (reportAnswer a)) (sym e)) ∙ entry-is
 
 -- ---- the program's text
-padded-is : (text : List ℕ) → length text ≤ 128 → text ++ drop (length text) (replicate 128 0) ≡ padded 128 0 text
+padded-is : (text : List ℕ) → length text ≤ 128 → overwritten text (replicate 128 0) ≡ padded 128 0 text
+unfolding overwritten
 padded-is text h = rw (padded-none {A = ℕ} 128 0) at (padded-over {A = ℕ} 128 0 [] text (omega arith) h)
 
+nothing-over : (out : List ℕ) → overwritten [] out ≡ out
+unfolding overwritten
+nothing-over out = refl
+
 -- a text written over zeros
-held : {out : List ℕ} {n : ℕ} (text : List ℕ) → Filled (replicate 128 0) text out n → length text ≤ 128 → record { length = n; bytes = out } ≡ textRecord text
+held : {out : List ℕ} {n : ℕ} (text : List ℕ) → Overwrote (replicate 128 0) text out n → length text ≤ 128 → record { length = n; bytes = out } ≡ textRecord text
 unfolding textRecord
 held text f h = rw (f .number, f .content) (ap (λ (l : List ℕ). record { length = length text; bytes = l }) (padded-is text h))
 
@@ -79,11 +84,11 @@ module _ (job : List ℕ) (cells : List ℤ) (out : List ℕ) (r : Response) (s 
   unfolding textRecord textOf
   text-report x e =
       let text = reportText (figuresOf x) in
-      let f : Filled (replicate 128 0) text out (r .bytes) = subst (λ (a : Answer). Filled (replicate 128 0) (textWritten a) out (r .bytes)) e (s .filled) in
+      let f : Overwrote (replicate 128 0) text out (r .bytes) = subst (λ (a : Answer). Overwrote (replicate 128 0) (textWritten a) out (r .bytes)) e (s .filled) in
       held text f (omega (arith, s .few, f .number)) ∙ sym (ap textRecord (text-is ∙ ap (λ (a : Answer). textOf (reportAnswer a)) e))
 
-  pub text-refused : (why : Refusal) → r .answer ≡ Answered.Refused why → (out′ : List ℕ) (n : ℕ) → Filled out (refusalText (numberOf why) (lineOf why)) out′ n → record { length = n; bytes = out′ } ≡ textRecord (answerText job)
+  pub text-refused : (why : Refusal) → r .answer ≡ Answered.Refused why → (out′ : List ℕ) (n : ℕ) → Overwrote out (refusalText (numberOf why) (lineOf why)) out′ n → record { length = n; bytes = out′ } ≡ textRecord (answerText job)
   unfolding textOf
   text-refused why e out′ n f =
-      let g : Filled (replicate 128 0) [] out (r .bytes) = subst (λ (a : Answer). Filled (replicate 128 0) (textWritten a) out (r .bytes)) e (s .filled) in
-      held (refusalText (numberOf why) (lineOf why)) (subst (λ (o : List ℕ). Filled o (refusalText (numberOf why) (lineOf why)) out′ n) (g .content) f) (omega (arith, report-fits .refusal-longest why)) ∙ sym (ap textRecord (text-is ∙ ap (λ (a : Answer). textOf (reportAnswer a)) e))
+      let g : Overwrote (replicate 128 0) [] out (r .bytes) = subst (λ (a : Answer). Overwrote (replicate 128 0) (textWritten a) out (r .bytes)) e (s .filled) in
+      held (refusalText (numberOf why) (lineOf why)) (subst (λ (o : List ℕ). Overwrote o (refusalText (numberOf why) (lineOf why)) out′ n) (g .content ∙ nothing-over (replicate 128 0)) f) (omega (arith, report-fits .refusal-longest why)) ∙ sym (ap textRecord (text-is ∙ ap (λ (a : Answer). textOf (reportAnswer a)) e))

@@ -34,7 +34,7 @@ use Rattle.deck.specs.declared.Sites.{Sites}
 use Rattle.pricing.proofs.RecordLaws.{made-range, made-before}
 use Rattle.report.specs.Report.{stateOf, figuresOf}
 use Rattle.report.specs.Text.{reportText}
-use Rattle.report.specs.Output.{Filled}
+use Rattle.write.specs.Written.{overwritten, Overwrote}
 use Rattle.report.specs.declared.Report.{Report}
 use Rattle.report.specs.declared.State.{State}
 use Rattle.report.proofs.Fits.{report-fits}
@@ -43,7 +43,7 @@ use Rattle.search.specs.declared.run.Found.{Found}
 use Rattle.calls.specs.declared.Answer.the-variants as Answered
 use Rattle.siting.specs.declared.Response.{Response}
 use Rattle.calls.specs.Answers.{gives}
-use Rattle.calls.specs.Call.{turnedDown, overwritten, reported, reportCall}
+use Rattle.calls.specs.Call.{turnedDown, reported, reportCall}
 use Rattle.siting.specs.Parts.{stateFor, Solvable, Solved, refusedResponse, Responded}
 use Rattle.job.proofs.ReadDeck.{Spelt, read-accepted, read-rounds, read-deckOf, read-full, sites-ask}
 use Rattle.calls.proofs.Demands.{job-limits, call-accepted}
@@ -82,10 +82,11 @@ module _ (deck : Deck) (n lent : ℕ) (h : Solvable deck n lent) (sites : Sites)
 
 -- ---- respond
 pub respond-refused : (job : List ℕ) (cells : List ℤ) (out : List ℕ) (why : Refusal) → reportCall job cells out ≡ turnedDown why cells out → (r : Response) → r ≡ refusedResponse why → Responded job cells out cells out r
+unfolding overwritten
 respond-refused job cells out why e r f = subst (Responded job cells out cells out) (sym f) (record { left = sym e; filled = record { number = refl; content = refl }; few = omega arith })
 
-reported-is : (job : Job) (cells cells′ : List ℤ) (out out′ : List ℕ) (r : Report) (text : List ℕ) → figuresOf r ≡ figures (job .deck) (job .rounds) → cells′ ≡ space (job .deck) (job .rounds) (length cells) → text ≡ reportText (figures (job .deck) (job .rounds)) → out′ ≡ text ++ drop (length text) out → record { answer = gives (figuresOf r); cells = cells′; out = out′ } ≡ reported job cells out
-unfolding reported overwritten
+reported-is : (job : Job) (cells cells′ : List ℤ) (out out′ : List ℕ) (r : Report) (text : List ℕ) → figuresOf r ≡ figures (job .deck) (job .rounds) → cells′ ≡ space (job .deck) (job .rounds) (length cells) → text ≡ reportText (figures (job .deck) (job .rounds)) → out′ ≡ overwritten text out → record { answer = gives (figuresOf r); cells = cells′; out = out′ } ≡ reported job cells out
+unfolding reported
 reported-is job cells cells′ out out′ r text e f g h = rw (h, g, f, e)
 
 -- an accepted job, as it was read
@@ -112,7 +113,7 @@ module _ (job : List ℕ) (j : Held.Job) (e : j ≡ jobRecord (readJob job)) (ro
     pub report-limits : FiguresInRange 1000 (figuresOf r)
     report-limits = subst (FiguresInRange 1000) (sym solved-figures) (job-limits (spelt .job) (spelt .allowed))
 
-    pub respond-reported : (out out′ : List ℕ) (n : ℕ) → 5 * (rounds + 1) ≤ length cells → 128 ≤ length out → Filled out (reportText (figuresOf r)) out′ n → Responded job cells out cells′ out′ (record { answer = Answered.Report r; bytes = n })
+    pub respond-reported : (out out′ : List ℕ) (n : ℕ) → 5 * (rounds + 1) ≤ length cells → 128 ≤ length out → Overwrote out (reportText (figuresOf r)) out′ n → Responded job cells out cells′ out′ (record { answer = Answered.Report r; bytes = n })
     respond-reported out out′ n h k f = record {
       left =
           reported-is (spelt .job) cells cells′ out out′ r (reportText (figuresOf r)) solved-figures solved-cells (ap reportText solved-figures) (f .content)

@@ -15,7 +15,7 @@ use Rattle.refusal.specs.declared.Refusal.{Refusal}
 use Rattle.deck.specs.DeckOf.{deckOf}
 use Rattle.report.specs.Report.{figuresOf}
 use Rattle.report.specs.Text.{reportText}
-use Rattle.report.specs.Output.{Filled}
+use Rattle.write.specs.Written.{Overwrote}
 use Rattle.report.specs.declared.Report.{Report}
 use Rattle.report.specs.declared.State.{State}
 use Rattle.report.specs.declared.State.the-variants.{Done, Stopped}
@@ -53,5 +53,5 @@ refusedResponse why = record { answer = Answered.Refused why; bytes = 0 }
 -- the answer of the call, what it leaves of the memory that it is lent, and the bytes that it writes
 pub record Responded (job : List ℕ) (cells : List ℤ) (out : List ℕ) (cells′ : List ℤ) (out′ : List ℕ) (r : Response) : Type 0 where
   pub left : record { answer = reportAnswer (r .answer); cells = cells′; out = out′ } ≡ reportCall job cells out
-  pub filled : Filled out (textWritten (r .answer)) out′ (r .bytes)
+  pub filled : Overwrote out (textWritten (r .answer)) out′ (r .bytes)
   pub few : r .bytes ≤ 128

@@ -8,7 +8,7 @@ use native.Mathlib.Omega.{arith}
 use mathlib.Core.List.{List, [], _∷_, _++_, append-assoc, append-nil}
 use lib.ListN.{length, take, drop, set, getD, length-append, length-drop, take-append-drop}
 use lib.Seq.{take-at, drop-at, drop-drop, length-take-le, set-split, take-suc, take-all}
-use Rattle.write.specs.Written.{written, Wrote}
+use Rattle.write.specs.Written.{overwritten, written, Wrote}
 
 -- what stands before the end of the new bytes
 length-head : (out : List ℕ) (at : ℕ) (bs : List ℕ) → at ≤ length out → length (take at out ++ bs) ≡ at + length bs
@@ -43,8 +43,8 @@ written-append out at a b h =
     )
 
 -- bytes from the start on
-pub written-front : (out bs : List ℕ) → written out 0 bs ≡ bs ++ drop (length bs) out
-unfolding written
+pub written-front : (out bs : List ℕ) → written out 0 bs ≡ overwritten bs out
+unfolding written overwritten
 written-front out bs = rw zero-add
 
 -- ---- calls that write, one after another
