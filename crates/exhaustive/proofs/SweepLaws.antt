@@ -108,13 +108,13 @@ module _ (ls : List ℤ) (n : ℕ) (up us down ds : List ℕ) (before : ℕ) (ol
         cost-is : (sites : List Site) (m : ℕ) (v : ℤ) → SitesAdded sites m ls n v up us down ds → before ≡ beforeOf sites → cost ≡ costOf sites (record { x = v; y = y })
         cost-is sites m v added f = omega (arith, balance, added .cost j h, f)
 
-        pub sweep-more : length old ≡ 514 → Sweeping ls n up us down ds before old (set costs j cost) (a + getD up j 0) (b + getD us j 0) (c + getD down j 0) (d + getD ds j 0) (j + 1)
-        sweep-more l = record {
+        pub sweep-more : length old ≡ 514 → (new : ℕ) → new ≡ cost → Sweeping ls n up us down ds before old (set costs j new) (a + getD up j 0) (b + getD us j 0) (c + getD down j 0) (d + getD ds j 0) (j + 1)
+        sweep-more l new i = record {
           count = omega arith;
           long = simp length-set (s .long);
           ups = ups-next;
           up-starts = up-starts-next;
           downs = downs-next;
           down-starts = down-starts-next;
-          written = λ sites m v added f. costs-more sites ls v old j cost (omega (arith, lines .in-order .within, lines .in-order .full)) (omega (arith, lines .in-order .within)) (s .written sites m v added f) (cost-is sites m v added f);
+          written = λ sites m v added f. costs-more sites ls v old j new (omega (arith, lines .in-order .within, lines .in-order .full)) (omega (arith, lines .in-order .within)) (s .written sites m v added f) (i ∙ cost-is sites m v added f);
         }

@@ -1,4 +1,5 @@
--- The exhaustive search as the code runs it: the crossings in their order, one vertical line after another, and of equal costs the first.
+-- The exhaustive search as the code runs it: the crossings in their order, one vertical line after another, the costs of a line in an
+-- array, and of equal costs the first.
 -- Assumes nothing.
 use Prim.Native.Nat.{ℕ}
 use mathlib.Core.Path.{_≡_}
@@ -10,7 +11,6 @@ use lib.ListN.{take, drop}
 use Rattle.query.specs.Place.{Place}
 use Rattle.deck.specs.Sites.{Site}
 use Rattle.pricing.specs.Figures.{costOf, beforeOf}
-use Rattle.deck.specs.declared.Sites.{Sites}
 use Rattle.problem.specs.declared.Spot.{Spot}
 use Rattle.problem.specs.Problem.{spotOf}
 use Rattle.exhaustive.specs.Ramps.{SitesAdded}

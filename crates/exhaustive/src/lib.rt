@@ -185,7 +185,7 @@ fn cost_at(before: u64, up: u64, up_at: u64, down: u64, down_at: u64, t: u64) ->
 }
 
 // The cheaper of two spots, the first of them where they cost the same. It is taken field by field: of a whole spot the compiler picks
-// the address and copies what is there, which costs more than all else in `choose`.
+// the address and copies what is there, at each crossing.
 fn cheaper(best: Spot, p: Spot) -> Spot
     ensures { λ r. ⌜ r ≡ cheaperOf best p ⌝ }
 {
@@ -221,16 +221,16 @@ fn sweep<'a>(
     let mut up_from: u64 = 0;
     let mut downs: u64 = 0;
     let mut down_from: u64 = 0;
-    let mut j: usize = 0;
-    while j < nh {
-        ups = ups + up[j];
-        up_from = up_from + up_at[j];
-        downs = downs + down[j];
-        down_from = down_from + down_at[j];
-        let y = h[j];
+    let mut k: usize = 0;
+    while k < nh {
+        ups = ups + up[k];
+        up_from = up_from + up_at[k];
+        downs = downs + down[k];
+        down_from = down_from + down_at[k];
+        let y = h[k];
         let cost = cost_at(before, ups, up_from, downs, down_from, height(y));
-        costs[j] = cost;
-        j += 1;
+        costs[k] = cost;
+        k += 1;
     }
 }
 

@@ -1,4 +1,4 @@
--- `exhaustive::sweep` meets its contract: after j turns the sums are those of the first j lines, and the array holds the costs at these.
+-- `exhaustive::sweep` meets its contract: after k turns the sums are those of the first k lines, and the array holds the costs at these.
 -- Assumes nothing.
 use Prim.Native.Nat.{_-_}
 use native.Mathlib.Omega.{arith}
@@ -7,10 +7,10 @@ use Rattle.exhaustive.proofs.sweep.Statement.{statement}
 use Rattle.exhaustive.proofs.sweep.Tie as tie
 
 abbrev Inv-loop : tie.InvT-loop
-Inv-loop h nh up up-at down down-at before costs₀ ups₀ up-from₀ downs₀ down-from₀ j₀ costs ups up-from downs down-from j = Sweeping h nh up up-at down down-at before costs₀ costs ups up-from downs down-from j
+Inv-loop h nh up up-at down down-at before costs₀ ups₀ up-from₀ downs₀ down-from₀ k₀ costs ups up-from downs down-from k = Sweeping h nh up up-at down down-at before costs₀ costs ups up-from downs down-from k
 
 abbrev μ-loop : tie.MeasureT-loop
-μ-loop h nh up up-at down down-at before costs₀ ups₀ up-from₀ downs₀ down-from₀ j₀ costs ups up-from downs down-from j = nh - j
+μ-loop h nh up up-at down down-at before costs₀ ups₀ up-from₀ downs₀ down-from₀ k₀ costs ups up-from downs down-from k = nh - k
 
 loop-holds : tie.Need-loop-holds Inv-loop μ-loop
 loop-holds c = sweep-none _ _ _ _ _ _ _ _
@@ -69,8 +69,8 @@ mul-costs c = omega arith
 element-write-costs : tie.Need-element-write-costs Inv-loop μ-loop
 element-write-costs c = omega arith
 
-add-j : tie.Need-add-j Inv-loop μ-loop
-add-j c = omega arith
+add-k : tie.Need-add-k Inv-loop μ-loop
+add-k c = omega arith
 
 loop-less : tie.Need-loop-less Inv-loop μ-loop
 loop-less c = omega (arith, c .before .before .before .before .before .before .before .loop-test .taken)
@@ -79,7 +79,7 @@ loop-again : tie.Need-loop-again Inv-loop μ-loop
 loop-again c =
     let at = c .before .before .before .before .before .before .before .before in
     let s = at .before in
-    sweep-more _ _ _ _ _ _ _ _ (s .pre .0) (s .pre .1) (at .loop .inv) (c .before .before .before .before .before .before .before .loop-test .taken) _ (c .before .height .ensures) _ (c .cost-at .ensures) (s .pre .2)
+    sweep-more _ _ _ _ _ _ _ _ (s .pre .0) (s .pre .1) (at .loop .inv) (c .before .before .before .before .before .before .before .loop-test .taken) _ (c .before .height .ensures) _ (c .cost-at .ensures) (s .pre .2) _ (omega arith)
 
 returns : tie.Need-returns Inv-loop μ-loop
 returns c = sweep-all _ _ _ _ _ _ _ _ (c .before .loop .inv) (c .loop-test .left)
@@ -109,7 +109,7 @@ sweep-spec =
     cost-at-requires
     mul-costs
     element-write-costs
-    add-j
+    add-k
     loop-less
     loop-again
     returns)
