@@ -70,10 +70,10 @@ pub fn number_lines(h: &[i64; 514], nh: usize, table: &mut [u16; 40001])
     fill(table, from, 40001, nh as u16);
 }
 
-// The number of the first line that is not below `start`, or that of all lines. This is the only use of the table, and nothing but the
-// lines has to lie where the table reaches: below it the answer is 0, above it `nh`. `add_ramp` multiplies with the height of a start
-// itself, not with anything that was looked up. So where heights are scaled by b, and lines are not, only the argument given here
-// changes: a ramp that starts at s is looked up at the least y with s ≤ b × y.
+// The number of the first line that is not below `start`, or that of all lines. Only this reads the table, and only lines have to lie
+// where the table reaches: below it the answer is 0, above it `nh`. The height of a start that `add_ramp` multiplies with is not looked
+// up. So if heights get scaled by some b and lines do not, the lookup stays as it is and is asked for another y: for a ramp that starts
+// at s the least y with s ≤ b × y.
 fn line_from(h: &[i64; 514], nh: usize, table: &[u16; 40001], start: i64) -> usize
     requires { ⌜ LinesInRange (now h) nh × Numbered (now h) nh (now table) × (natAbs start ≤ 900000) ⌝ }
     ensures { λ r. ⌜ FirstAtLeast (now (h .entry)) nh start r ⌝ }
