@@ -1,13 +1,11 @@
 -- One vertical line after another: the columns of a line, and the cheapest crossing over the lines.
 -- Assumes nothing.
 use mathlib.Core.Path.{_≡_, refl, sym, _∙_}
-use mathlib.Core.List.{List, _∷_, flatMap}
+use mathlib.Core.List.{List, flatMap}
 use Prim.Native.Nat.{ℕ, zero, suc, _+_, _≤_, _<_}
-use native.Mathlib.Numerals.{add-one}
 use native.Mathlib.Omega.{arith}
 use lib.IntN.{ℤ, pos}
 use lib.ListN.{getD, take, drop, replicate, length-replicate, length-take, drop-of-length-le}
-use lib.Seq.{drop-cons, getD-take, length-take-le}
 use Rattle.query.specs.Range.{costLimit}
 use Rattle.deck.specs.Sites.{Site}
 use Rattle.pricing.specs.Figures.{beforeOf}
@@ -15,9 +13,10 @@ use Rattle.pricing.specs.Columns.{Figure}
 use Rattle.problem.specs.declared.Spot.{Spot}
 use Rattle.numbers.proofs.WordTests.{back}
 use Rattle.exhaustive.specs.Ramps.{LinesInRange, RampSums, SiteSums, SitesAdded, Sweepable}
-use Rattle.exhaustive.specs.Cheapest.{firstCheapest, along, Swept}
+use Rattle.exhaustive.specs.Cheapest.{firstCheapest, along, costsAlong, Swept}
 use Rattle.exhaustive.proofs.SiteRamps.{small-back}
 use Rattle.exhaustive.proofs.AllSites.{sums-few}
+use Rattle.exhaustive.proofs.ChooseLaws.{next-line}
 use Rattle.exhaustive.proofs.CheapestLaws.{cheapest-none, cheapest-append}
 
 -- ---- columns of no ramps
@@ -46,8 +45,8 @@ module _ (sites : List Site) (m : ℕ) (ls : List ℤ) (n : ℕ) (v : ℤ) (up u
     enough = λ j h. omega (arith, added .cost j h, now .is);
   }
 
-  pub swept-line : (first r : Spot) → Swept ls n v up us down ds before first r → r ≡ firstCheapest sites first (along (take n ls) v)
-  swept-line first r s = s .is sites m added (now .is)
+  pub swept-line : (old costs : List ℕ) → Swept ls n up us down ds before old costs → costs ≡ costsAlong sites ls n v old
+  swept-line old costs s = s .is sites m v added (now .is)
 
 -- ---- line after line
 pub record Compared (sites : List Site) (hs vs : List ℤ) (n : ℕ) (first found : Spot) (i : ℕ) : Type 0 where
@@ -66,9 +65,8 @@ module _ (sites : List Site) (hs vs : List ℤ) (n : ℕ) (first : Spot) where
   unfolding flatMap
   compared-more {found} {i} lines w h found′ b =
       let v = getD vs i (pos 0) in
-      let line-next : drop i (take n vs) ≡ v ∷ drop (i + 1) (take n vs) = drop-cons (take n vs) i (pos 0) (rw (length-take-le n vs (omega (arith, lines .in-order .within, lines .in-order .full))) h) ∙ rw (getD-take n vs i (pos 0) h, add-one i) in
       let e : found′ ≡ firstCheapest sites found (along hs v) = rw (small-back v (omega (arith, lines .range i h))) at b in
       record {
         count = omega arith;
-        left = w .left ∙ rw (line-next, e) (cheapest-append sites found (along hs v) (flatMap (along hs) (drop (i + 1) (take n vs))));
+        left = w .left ∙ rw (next-line lines i h, e) (cheapest-append sites found (along hs v) (flatMap (along hs) (drop (i + 1) (take n vs))));
       }

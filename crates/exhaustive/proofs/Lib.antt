@@ -5,7 +5,9 @@ pub mod SiteRamps
 pub mod TableLaws
 pub mod AllSites
 pub mod CheapestLaws
+pub mod CostsAlong
 pub mod SweepLaws
+pub mod ChooseLaws
 pub mod CheapestOfLines
 pub mod CrossingOrder
 pub mod DeckCrossings

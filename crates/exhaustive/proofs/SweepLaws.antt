@@ -1,24 +1,20 @@
--- A sweep along a vertical line: after j lines the sums are those of the first j buckets, and what is left to compare are the lines from j on.
+-- A sweep along a vertical line: after j lines the sums are those of the first j buckets, and the array holds the costs at these lines.
 -- Assumes nothing.
-use mathlib.Core.Path.{_≡_, refl, sym, ap, _∙_}
-use mathlib.Core.List.{List, _∷_}
+use mathlib.Core.Path.{_≡_, refl, sym, _∙_}
+use mathlib.Core.List.{List}
 use Prim.Native.Nat.{ℕ, _+_, _*_, _^_, _≤_, _<_}
-use native.Mathlib.Numerals.{add-one}
 use native.Mathlib.Omega.{arith}
 use lib.IntN.{ℤ, pos, natAbs}
-use lib.ListN.{getD, take, drop, length-take, drop-of-length-le}
-use lib.Seq.{drop-cons, getD-take, length-take-le}
+use lib.ListN.{length, getD, set, length-set}
 use Rattle.deck.specs.Sites.{Site}
 use Rattle.pricing.specs.Figures.{costOf, beforeOf}
-use Rattle.problem.specs.declared.Spot.{Spot}
-use Rattle.problem.specs.Problem.{spotOf, spotAt}
 use Rattle.numbers.proofs.WordTests.{back}
 use Rattle.exhaustive.specs.Ramps.{heightOf, prefixSum, LinesInRange, RampSums, SitesAdded, Payable, Sweepable}
-use Rattle.exhaustive.specs.Cheapest.{cheaperOf, firstCheapest, along, Swept}
+use Rattle.exhaustive.specs.Cheapest.{costsAlong, Swept}
 use Rattle.exhaustive.proofs.Heights.{height-most}
 use Rattle.exhaustive.proofs.Prefixes.{prefix-none, prefix-more, prefix-most}
 use Rattle.exhaustive.proofs.SiteRamps.{sums-more, small-back}
-use Rattle.exhaustive.proofs.CheapestLaws.{cheapest-none, cheapest-more}
+use Rattle.exhaustive.proofs.CostsAlong.{costs-none, costs-more}
 
 -- ---- the sums stay small
 module _ {ws us : List ℕ} (sums : RampSums ws us 1200) (n : ℕ) (h : n ≤ 515) where
@@ -29,31 +25,31 @@ module _ {ws us : List ℕ} (sums : RampSums ws us 1200) (n : ℕ) (h : n ≤ 51
   starts-cap = omega (arith, prefix-most us 314568000000000 (λ k. sums .starts-most k) n)
 
 -- ---- the loop
-pub record Sweeping (ls : List ℤ) (n : ℕ) (v : ℤ) (up us down ds : List ℕ) (before : ℕ) (best found : Spot) (a b c d j : ℕ) : Type 0 where
+pub record Sweeping (ls : List ℤ) (n : ℕ) (up us down ds : List ℕ) (before : ℕ) (old costs : List ℕ) (a b c d j : ℕ) : Type 0 where
   pub count : j ≤ n
+  pub long : length costs ≡ length old
   pub ups : a ≡ prefixSum up j
   pub up-starts : b ≡ prefixSum us j
   pub downs : c ≡ prefixSum down j
   pub down-starts : d ≡ prefixSum ds j
-  pub left : (sites : List Site) (m : ℕ) → SitesAdded sites m ls n v up us down ds → before ≡ beforeOf sites → firstCheapest sites best (along (take n ls) v) ≡ firstCheapest sites found (along (drop j (take n ls)) v)
+  pub written : (sites : List Site) (m : ℕ) (v : ℤ) → SitesAdded sites m ls n v up us down ds → before ≡ beforeOf sites → costs ≡ costsAlong sites ls j v old
 
-module _ (ls : List ℤ) (n : ℕ) (v : ℤ) (up us down ds : List ℕ) (before : ℕ) (best : Spot) where
-  pub sweep-none : Sweeping ls n v up us down ds before best best 0 0 0 0 0
+module _ (ls : List ℤ) (n : ℕ) (up us down ds : List ℕ) (before : ℕ) (old : List ℕ) where
+  pub sweep-none : Sweeping ls n up us down ds before old old 0 0 0 0 0
   sweep-none = record {
     count = omega arith;
+    long = refl;
     ups = sym (prefix-none up);
     up-starts = sym (prefix-none us);
     downs = sym (prefix-none down);
     down-starts = sym (prefix-none ds);
-    left = λ sites m s e. refl;
+    written = λ sites m v s e. sym (costs-none sites ls v old);
   }
 
-  pub sweep-all : {found : Spot} {a b c d j : ℕ} → Sweeping ls n v up us down ds before best found a b c d j → n ≤ j → Swept ls n v up us down ds before best found
-  sweep-all {found} {j = j} s h = record {
-    is = λ sites m q e. sym (s .left sites m q e ∙ rw (drop-of-length-le (take n ls) {i = j} (omega (arith, length-take n ls))) (cheapest-none sites found));
-  }
+  pub sweep-all : {costs : List ℕ} {a b c d j : ℕ} → Sweeping ls n up us down ds before old costs a b c d j → n ≤ j → Swept ls n up us down ds before old costs
+  sweep-all {j = j} s h = let e : j ≡ n = omega (arith, s .count) in record { is = λ sites m v added f. rw e at (s .written sites m v added f) }
 
-  module _ (lines : LinesInRange ls n) (ok : Sweepable ls n up us down ds before) {found : Spot} {a b c d j : ℕ} (s : Sweeping ls n v up us down ds before best found a b c d j) (h : j < n) where
+  module _ (lines : LinesInRange ls n) (ok : Sweepable ls n up us down ds before) {costs : List ℕ} {a b c d j : ℕ} (s : Sweeping ls n up us down ds before old costs a b c d j) (h : j < n) where
     abbrev y : ℤ
     y = getD ls j (pos 0)
 
@@ -109,21 +105,16 @@ module _ (ls : List ℤ) (n : ℕ) (v : ℤ) (up us down ds : List ℕ) (before 
         balance : cost + (prefixSum down (j + 1) * heightOf y + prefixSum us (j + 1)) ≡ before + (prefixSum up (j + 1) * heightOf y + prefixSum ds (j + 1))
         balance = rw (t-is, ups-next, up-starts-next, downs-next, down-starts-next) at q
 
-        cost-is : (sites : List Site) (m : ℕ) → SitesAdded sites m ls n v up us down ds → before ≡ beforeOf sites → cost ≡ costOf sites (record { x = v; y = y })
-        cost-is sites m added f = omega (arith, balance, added .cost j h, f)
+        cost-is : (sites : List Site) (m : ℕ) (v : ℤ) → SitesAdded sites m ls n v up us down ds → before ≡ beforeOf sites → cost ≡ costOf sites (record { x = v; y = y })
+        cost-is sites m v added f = omega (arith, balance, added .cost j h, f)
 
-        spot-is : (p : Spot) → p ≡ spotAt v (back y) cost → (sites : List Site) (m : ℕ) → SitesAdded sites m ls n v up us down ds → before ≡ beforeOf sites → p ≡ spotOf sites (record { x = v; y = y })
-        spot-is p f sites m added k = f ∙ rw (y-back, cost-is sites m added k)
-
-        line-next : drop j (take n ls) ≡ y ∷ drop (j + 1) (take n ls)
-        line-next = drop-cons (take n ls) j (pos 0) (rw (length-take-le n ls (omega (arith, lines .in-order .within, lines .in-order .full))) h) ∙ rw (getD-take n ls j (pos 0) h, add-one j)
-
-        pub sweep-more : (p found′ : Spot) → p ≡ spotAt v (back y) cost → found′ ≡ cheaperOf found p → Sweeping ls n v up us down ds before best found′ (a + getD up j 0) (b + getD us j 0) (c + getD down j 0) (d + getD ds j 0) (j + 1)
-        sweep-more p found′ f g = record {
+        pub sweep-more : length old ≡ 514 → (new : ℕ) → new ≡ cost → Sweeping ls n up us down ds before old (set costs j new) (a + getD up j 0) (b + getD us j 0) (c + getD down j 0) (d + getD ds j 0) (j + 1)
+        sweep-more l new i = record {
           count = omega arith;
+          long = simp length-set (s .long);
           ups = ups-next;
           up-starts = up-starts-next;
           downs = downs-next;
           down-starts = down-starts-next;
-          left = λ sites m added k. s .left sites m added k ∙ rw line-next (cheapest-more sites found (record { x = v; y = y }) (along (drop (j + 1) (take n ls)) v)) ∙ ap (λ (q : Spot). firstCheapest sites q (along (drop (j + 1) (take n ls)) v)) (sym (g ∙ ap (cheaperOf found) (spot-is p f sites m added k)));
+          written = λ sites m v added f. costs-more sites ls v old j new (omega (arith, lines .in-order .within, lines .in-order .full)) (omega (arith, lines .in-order .within)) (s .written sites m v added f) (i ∙ cost-is sites m v added f);
         }

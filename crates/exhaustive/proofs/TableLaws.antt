@@ -8,7 +8,7 @@ use native.Mathlib.Omega.{arith}
 use lib.Dec.{ltb, ltb→lt, nltb→le}
 use lib.IntN.{ℤ, pos, natAbs}
 use lib.ListN.{length, getD, set, length-set}
-use lib.Seq.{getD-set-same, getD-set-other}
+use lib.Seq.{getD-set-same, getD-set-other, ext-getD}
 use Rattle.numbers.proofs.Truth.{test}
 use Rattle.numbers.proofs.Integer.{order}
 use Rattle.lines.specs.LineRecord.{FirstAtLeast}
@@ -121,3 +121,10 @@ module _ (ls : List ℤ) (n : ℕ) (lines : LinesInRange ls n) where
 
       pub from-table : (table : List ℕ) → Numbered ls n table → 980000 ≤ t → t ≤ 1020000 → FirstAtLeast ls n start (getD table (t - 980000) 0)
       from-table table s h l = let q : (t - 980000) + 980000 ≡ heightOf start = omega (arith, e) in first-of (subst (λ (u : ℕ). Parted ls n u (getD table (t - 980000) 0)) q (s .parted (t - 980000) (omega arith)))
+
+-- ---- two tables of the same lines are the same
+parted-one : {ls : List ℤ} {n t r r′ : ℕ} → Parted ls n t r → Parted ls n t r′ → r ≤ r′
+parted-one {r = r} {r′} p q = ⊎-elim (λ u. let l : r′ < r = ltb→lt r′ r u in absurd (omega (arith, p .before r′ l, q .after r′ (omega arith) (omega (arith, p .within))))) (λ u. nltb→le r′ r u) (test (ltb r′ r))
+
+pub numbered-one : {ls : List ℤ} {n : ℕ} {table table′ : List ℕ} → Numbered ls n table → Numbered ls n table′ → table ≡ table′
+numbered-one {table = table} {table′} p q = ext-getD 0 table table′ (omega (arith, p .long, q .long)) (λ t h. let a = p .parted t (omega (arith, p .long)) in let b = q .parted t (omega (arith, p .long)) in omega (arith, parted-one a b, parted-one b a))

@@ -1,16 +1,16 @@
--- The exhaustive search as the code runs it: the crossings in their order, one vertical line after another, and of equal costs the first.
+-- The exhaustive search as the code runs it: the crossings in their order, one vertical line after another, the costs of a line in an
+-- array, and of equal costs the first.
 -- Assumes nothing.
 use Prim.Native.Nat.{ℕ}
 use mathlib.Core.Path.{_≡_}
 use mathlib.Core.Bool.{cond}
-use mathlib.Core.List.{List, map, foldl}
+use mathlib.Core.List.{List, map, foldl, _++_}
 use lib.Dec.{ltb}
 use lib.IntN.{ℤ}
-use lib.ListN.{take}
+use lib.ListN.{take, drop}
 use Rattle.query.specs.Place.{Place}
 use Rattle.deck.specs.Sites.{Site}
 use Rattle.pricing.specs.Figures.{costOf, beforeOf}
-use Rattle.deck.specs.declared.Sites.{Sites}
 use Rattle.problem.specs.declared.Spot.{Spot}
 use Rattle.problem.specs.Problem.{spotOf}
 use Rattle.exhaustive.specs.Ramps.{SitesAdded}
@@ -28,6 +28,16 @@ firstCheapest sites first places = foldl (λ best p. cheaperOf best (spotOf site
 abbrev pub along : List ℤ → ℤ → List Place
 along horizontal v = map (λ h. record { x = v; y = h }) horizontal
 
--- the cheapest of a spot and the crossings of the vertical line at v, whatever the sites whose ramps the columns hold
-pub record Swept (ls : List ℤ) (n : ℕ) (v : ℤ) (up up-at down down-at : List ℕ) (before : ℕ) (first r : Spot) : Type 0 where
-  pub is : (sites : List Site) (m : ℕ) → SitesAdded sites m ls n v up up-at down down-at → before ≡ beforeOf sites → r ≡ firstCheapest sites first (along (take n ls) v)
+-- an array after the costs of the crossings of the vertical line at v with the first n lines were written to its front: the entries
+-- behind them are as they were
+unfoldable pub costsAlong : List Site → List ℤ → ℕ → ℤ → List ℕ → List ℕ
+unfolding costOf
+costsAlong sites ls n v old = map (λ h. costOf sites (record { x = v; y = h })) (take n ls) ++ drop n old
+
+-- such an array, whatever the sites whose ramps the columns hold
+pub record Swept (ls : List ℤ) (n : ℕ) (up up-at down down-at : List ℕ) (before : ℕ) (old costs : List ℕ) : Type 0 where
+  pub is : (sites : List Site) (m : ℕ) (v : ℤ) → SitesAdded sites m ls n v up up-at down down-at → before ≡ beforeOf sites → costs ≡ costsAlong sites ls n v old
+
+-- the cheapest of a spot and the crossings of the vertical line at v, whatever the sites whose costs the array holds
+pub record Chosen (ls : List ℤ) (n : ℕ) (v : ℤ) (costs : List ℕ) (first r : Spot) : Type 0 where
+  pub is : (sites : List Site) (old : List ℕ) → costs ≡ costsAlong sites ls n v old → r ≡ firstCheapest sites first (along (take n ls) v)

@@ -1,9 +1,10 @@
 // The exhaustive search: the cheapest crossing of a deck's lines. Along one vertical line the cost is a sum of ramps (specs/Ramps.antt),
-// so that the costs of all its crossings follow from prefix sums, with no pass over the sites for each.
+// so that the costs of all its crossings follow from prefix sums, with no pass over the sites for each. Line by line these costs are
+// written into an array (`costs_along`), and then the cheapest is chosen (`choose`).
 use deck::Deck;
+use deck::Sites;
 use numbers::abs_diff;
 use problem::Spot;
-use deck::Sites;
 ghost use mathlib.Core.Path.{_≡_};
 ghost use mathlib.Core.List.{flatMap};
 ghost use Prim.Native.Nat.{_+_, _*_, _≤_};
@@ -30,7 +31,7 @@ ghost use Rattle.exhaustive.specs.Ramps.{
   Payable,
   Sweepable,
 };
-ghost use Rattle.exhaustive.specs.Cheapest.{cheaperOf, firstCheapest, along, Swept};
+ghost use Rattle.exhaustive.specs.Cheapest.{cheaperOf, firstCheapest, along, costsAlong, Swept, Chosen};
 
 // How far a coordinate lies above −1,000,000, which is below every start of a ramp.
 fn height(y: i64) -> u64
@@ -52,8 +53,8 @@ fn fill(table: &mut [u16; 40001], from: usize, to: usize, j: u16)
     }
 }
 
-// For each coordinate from −20,000 to 20,000 the number of the first line that is not below it.
-fn number_lines(h: &[i64; 514], nh: usize, table: &mut [u16; 40001])
+// For each coordinate from −20,000 to 20,000, which is where lines are, the number of the first line that is not below it.
+pub fn number_lines(h: &[i64; 514], nh: usize, table: &mut [u16; 40001])
     requires { ⌜ LinesInRange (now h) nh × (length (now table) ≡ 40001) ⌝ }
     ensures { λ _. ⌜ Numbered (now (h .entry)) nh (now (table .exit)) ⌝ }
 {
@@ -69,7 +70,10 @@ fn number_lines(h: &[i64; 514], nh: usize, table: &mut [u16; 40001])
     fill(table, from, 40001, nh as u16);
 }
 
-// The number of the first line that is not below `start`, or that of all lines.
+// The number of the first line that is not below `start`, or that of all lines. Only this reads the table, and only lines have to lie
+// where the table reaches: below it the answer is 0, above it `nh`. The height of a start that `add_ramp` multiplies with is not looked
+// up. So if heights get scaled by some b and lines do not, the lookup stays as it is and is asked for another y: for a ramp that starts
+// at s the least y with s ≤ b × y.
 fn line_from(h: &[i64; 514], nh: usize, table: &[u16; 40001], start: i64) -> usize
     requires { ⌜ LinesInRange (now h) nh × Numbered (now h) nh (now table) × (natAbs start ≤ 900000) ⌝ }
     ensures { λ r. ⌜ FirstAtLeast (now (h .entry)) nh start r ⌝ }
@@ -181,7 +185,7 @@ fn cost_at(before: u64, up: u64, up_at: u64, down: u64, down_at: u64, t: u64) ->
 }
 
 // The cheaper of two spots, the first of them where they cost the same. It is taken field by field: of a whole spot the compiler picks
-// the address and copies what is there, which costs more than all else in `sweep`.
+// the address and copies what is there, at each crossing.
 fn cheaper(best: Spot, p: Spot) -> Spot
     ensures { λ r. ⌜ r ≡ cheaperOf best p ⌝ }
 {
@@ -199,42 +203,40 @@ fn cheaper(best: Spot, p: Spot) -> Spot
     }
 }
 
-// The cheapest of a spot and the crossings of the vertical line at `v`, in their order, from the ramps along the line.
+// Writes the cost of each crossing of a vertical line into `costs`, from the ramps along the line.
 fn sweep<'a>(
     h: &'a [i64; 514],
     nh: usize,
-    v: i64,
     up: &'a [u64; 515],
     up_at: &'a [u64; 515],
     down: &'a [u64; 515],
     down_at: &'a [u64; 515],
     before: u64,
-    first: Spot,
-) -> Spot
-    requires { ⌜ LinesInRange (now h) nh × (natAbs v ≤ 20000) × Sweepable (now h) nh (now up) (now «up_at») (now down) (now «down_at») before ⌝ }
-    ensures { λ r. ⌜ Swept (now (h .entry)) nh v (now (up .entry)) (now («up_at» .entry)) (now (down .entry)) (now («down_at» .entry)) before first r ⌝ }
+    costs: &mut [u64; 514],
+)
+    requires { ⌜ LinesInRange (now h) nh × Sweepable (now h) nh (now up) (now «up_at») (now down) (now «down_at») before × (length (now costs) ≡ 514) ⌝ }
+    ensures { λ _. ⌜ Swept (now (h .entry)) nh (now (up .entry)) (now («up_at» .entry)) (now (down .entry)) (now («down_at» .entry)) before (now (costs .entry)) (now (costs .exit)) ⌝ }
 {
-    let mut found = first;
     let mut ups: u64 = 0;
     let mut up_from: u64 = 0;
     let mut downs: u64 = 0;
     let mut down_from: u64 = 0;
-    let mut j: usize = 0;
-    while j < nh {
-        ups = ups + up[j];
-        up_from = up_from + up_at[j];
-        downs = downs + down[j];
-        down_from = down_from + down_at[j];
-        let y = h[j];
+    let mut k: usize = 0;
+    while k < nh {
+        ups = ups + up[k];
+        up_from = up_from + up_at[k];
+        downs = downs + down[k];
+        down_from = down_from + down_at[k];
+        let y = h[k];
         let cost = cost_at(before, ups, up_from, downs, down_from, height(y));
-        found = cheaper(found, problem::place(v, y, cost));
-        j += 1;
+        costs[k] = cost;
+        k += 1;
     }
-    found
 }
 
-// The cheapest of a spot and the crossings of the vertical line at `v`, the first among equals.
-fn cheapest_on<'a>(
+// Writes the cost of each crossing of the vertical line at `v` with the first `nh` horizontal lines into `costs`, in their order.
+// The entries behind them stay as they are. `table` is that of `number_lines`, and `before` that of `pricing`.
+pub fn costs_along<'a>(
     xs: &'a [i32; 512],
     ys: &'a [i32; 512],
     visits: &'a [u32; 512],
@@ -245,10 +247,10 @@ fn cheapest_on<'a>(
     table: &'a [u16; 40001],
     v: i64,
     before: u64,
-    first: Spot,
-) -> Spot
-    requires { ⌜ Sited (now xs) (now ys) (now visits) (now near) n × LinesInRange (now h) nh × (natAbs v ≤ 20000) × Figure (beforeOf (siteRows (now xs) (now ys) (now visits) (now near) n)) costLimit before × Numbered (now h) nh (now table) ⌝ }
-    ensures { λ r. ⌜ r ≡ firstCheapest (siteRows (now (xs .entry)) (now (ys .entry)) (now (visits .entry)) (now (near .entry)) n) first (along (take nh (now (h .entry))) v) ⌝ }
+    costs: &mut [u64; 514],
+)
+    requires { ⌜ Sited (now xs) (now ys) (now visits) (now near) n × LinesInRange (now h) nh × (natAbs v ≤ 20000) × Figure (beforeOf (siteRows (now xs) (now ys) (now visits) (now near) n)) costLimit before × Numbered (now h) nh (now table) × (length (now costs) ≡ 514) ⌝ }
+    ensures { λ _. ⌜ now (costs .exit) ≡ costsAlong (siteRows (now (xs .entry)) (now (ys .entry)) (now (visits .entry)) (now (near .entry)) n) (now (h .entry)) nh v (now (costs .entry)) ⌝ }
 {
     let mut up = [0u64; 515];
     let mut up_at = [0u64; 515];
@@ -269,7 +271,46 @@ fn cheapest_on<'a>(
         &mut down,
         &mut down_at,
     );
-    sweep(h, nh, v, &up, &up_at, &down, &down_at, before, first)
+    sweep(h, nh, &up, &up_at, &down, &down_at, before, costs);
+}
+
+// The cheapest of a spot and the crossings of the vertical line at `v`, the first among equals, from their costs.
+fn choose<'a>(h: &'a [i64; 514], nh: usize, v: i64, costs: &'a [u64; 514], first: Spot) -> Spot
+    requires { ⌜ LinesInRange (now h) nh ⌝ }
+    ensures { λ r. ⌜ Chosen (now (h .entry)) nh v (now (costs .entry)) first r ⌝ }
+{
+    let mut found = first;
+    let mut j: usize = 0;
+    while j < nh {
+        let y = h[j];
+        let cost = costs[j];
+        found = cheaper(found, problem::place(v, y, cost));
+        j += 1;
+    }
+    found
+}
+
+// The cheapest of a spot and the crossings of the vertical line at `v`, the first among equals. `costs` holds their costs then.
+fn cheapest_on<'a>(
+    xs: &'a [i32; 512],
+    ys: &'a [i32; 512],
+    visits: &'a [u32; 512],
+    near: &'a [u32; 512],
+    n: usize,
+    h: &'a [i64; 514],
+    nh: usize,
+    table: &'a [u16; 40001],
+    v: i64,
+    before: u64,
+    costs: &mut [u64; 514],
+    first: Spot,
+) -> Spot
+    requires { ⌜ Sited (now xs) (now ys) (now visits) (now near) n × LinesInRange (now h) nh × (natAbs v ≤ 20000) × Figure (beforeOf (siteRows (now xs) (now ys) (now visits) (now near) n)) costLimit before × Numbered (now h) nh (now table) × (length (now costs) ≡ 514) ⌝ }
+    ensures chosen { λ r. ⌜ r ≡ firstCheapest (siteRows (now (xs .entry)) (now (ys .entry)) (now (visits .entry)) (now (near .entry)) n) first (along (take nh (now (h .entry))) v) ⌝ }
+    ensures priced { λ _. ⌜ now (costs .exit) ≡ costsAlong (siteRows (now (xs .entry)) (now (ys .entry)) (now (visits .entry)) (now (near .entry)) n) (now (h .entry)) nh v (now (costs .entry)) ⌝ }
+{
+    costs_along(xs, ys, visits, near, n, h, nh, table, v, before, costs);
+    choose(h, nh, v, costs, first)
 }
 
 // The cheapest of a spot and the crossings of all lines, the first among equals.
@@ -290,10 +331,24 @@ fn cheapest_of<'a>(
     requires { ⌜ Sited (now xs) (now ys) (now visits) (now near) n × LinesInRange (now v) nv × LinesInRange (now h) nh × Figure (beforeOf (siteRows (now xs) (now ys) (now visits) (now near) n)) costLimit before × Numbered (now h) nh (now table) ⌝ }
     ensures { λ r. ⌜ r ≡ firstCheapest (siteRows (now (xs .entry)) (now (ys .entry)) (now (visits .entry)) (now (near .entry)) n) first (flatMap (along (take nh (now (h .entry)))) (take nv (now (v .entry)))) ⌝ }
 {
+    let mut costs = [0u64; 514];
     let mut found = first;
     let mut i: usize = 0;
     while i < nv {
-        found = cheapest_on(xs, ys, visits, near, n, h, nh, table, v[i], before, found);
+        found = cheapest_on(
+            xs,
+            ys,
+            visits,
+            near,
+            n,
+            h,
+            nh,
+            table,
+            v[i],
+            before,
+            &mut costs,
+            found,
+        );
         i += 1;
     }
     found

@@ -1,10 +1,10 @@
 // A job that was read with the sites of its deck, and what is asked of both: ranges, figures over the columns of sites, lines and cuts.
 use cuts::Cut;
 use deck::Deck;
+use deck::Sites;
 use job::Outcome;
 use lines::Lines;
 use numbers::abs_diff;
-use deck::Sites;
 ghost use mathlib.Core.Path.{_≡_};
 ghost use lib.Dec.{T};
 ghost use Rattle.query.specs.Lines.{lines};

@@ -1,23 +1,20 @@
--- `exhaustive::cheapest_on` meets its contract: the columns start at 0, and hold the ramps of all sites when they are swept.
+-- `exhaustive::cheapest_on` meets its contract: it chooses by the costs along the line.
 -- Assumes nothing.
-use native.Mathlib.Omega.{arith}
-use Rattle.exhaustive.proofs.SiteRamps.{small-back}
-use Rattle.exhaustive.proofs.CheapestOfLines.{zero-sums, sweepable, swept-line}
+use Rattle.numbers.proofs.WordTests.{back-is}
 use Rattle.exhaustive.proofs.cheapest_on.Statement.{statement}
 use Rattle.exhaustive.proofs.cheapest_on.Tie as tie
 
-add-sites-requires : tie.Need-add-sites-requires
-add-sites-requires c κs = let s = c .before .before .before .before in (s .pre .0, s .pre .1, rw (small-back (s .args .v) (omega (arith, s .pre .2))) (s .pre .2), zero-sums, s .pre .4)
+costs-along-requires : tie.Need-costs-along-requires
+costs-along-requires c κs = let s = c .before in (s .pre .0, s .pre .1, rw (back-is (s .fits .v)) (s .pre .2), s .pre .3, s .pre .4, s .pre .5)
 
-sweep-requires : tie.Need-sweep-requires
-sweep-requires c κs =
-    let s = c .before .before .before .before .before .before .before .before .before in
-    (s .pre .1, rw (small-back (s .args .v) (omega (arith, s .pre .2))) (s .pre .2), sweepable _ _ _ _ _ _ _ _ _ _ (s .pre .0 .count) (s .pre .3) (c .before .before .before .before .add-sites .ensures))
+choose-requires : tie.Need-choose-requires
+choose-requires c κs = c .before .before .before .pre .1
 
 returns : tie.Need-returns
 returns c =
-    let s = c .before .before .before .before .before .before .before .before .before .before in
-    rw (small-back (s .args .v) (omega (arith, s .pre .2))) at (swept-line _ _ _ _ _ _ _ _ _ _ (s .pre .0 .count) (s .pre .3) (c .before .before .before .before .before .add-sites .ensures) _ _ (c .sweep .ensures))
+    let s = c .before .before .before .before in
+    let costs = c .before .before .costs-along .ensures in
+    (rw (back-is (s .fits .v)) at (c .choose .ensures .is _ _ costs), rw (back-is (s .fits .v)) at costs)
 
 pub cheapest-on-spec : {M : Type 1} → statement M
-cheapest-on-spec = tie.close (tie.spec add-sites-requires sweep-requires returns)
+cheapest-on-spec = tie.close (tie.spec costs-along-requires choose-requires returns)

@@ -1,22 +1,19 @@
--- `exhaustive::sweep` meets its contract: after j turns the sums are those of the first j lines, and the lines from j on are left to compare.
+-- `exhaustive::sweep` meets its contract: after k turns the sums are those of the first k lines, and the array holds the costs at these.
 -- Assumes nothing.
 use Prim.Native.Nat.{_-_}
 use native.Mathlib.Omega.{arith}
-use mir.Syntax.{w64}
-use mir.Val.{toZ}
-use Rattle.exhaustive.proofs.SiteRamps.{small-back}
 use Rattle.exhaustive.proofs.SweepLaws.{Sweeping, sweep-none, sweep-all, sweep-more, ups-cap, up-starts-cap, downs-cap, down-starts-cap, y-range, payable}
 use Rattle.exhaustive.proofs.sweep.Statement.{statement}
 use Rattle.exhaustive.proofs.sweep.Tie as tie
 
 abbrev Inv-loop : tie.InvT-loop
-Inv-loop h nh v up up-at down down-at before found₀ ups₀ up-from₀ downs₀ down-from₀ j₀ found ups up-from downs down-from j = Sweeping h nh (toZ w64 v) up up-at down down-at before found₀ found ups up-from downs down-from j
+Inv-loop h nh up up-at down down-at before costs₀ ups₀ up-from₀ downs₀ down-from₀ k₀ costs ups up-from downs down-from k = Sweeping h nh up up-at down down-at before costs₀ costs ups up-from downs down-from k
 
 abbrev μ-loop : tie.MeasureT-loop
-μ-loop h nh v up up-at down down-at before found₀ ups₀ up-from₀ downs₀ down-from₀ j₀ found ups up-from downs down-from j = nh - j
+μ-loop h nh up up-at down down-at before costs₀ ups₀ up-from₀ downs₀ down-from₀ k₀ costs ups up-from downs down-from k = nh - k
 
 loop-holds : tie.Need-loop-holds Inv-loop μ-loop
-loop-holds c = sweep-none _ _ _ _ _ _ _ _ _
+loop-holds c = sweep-none _ _ _ _ _ _ _ _
 
 mul-ups : tie.Need-mul-ups Inv-loop μ-loop
 mul-ups c = omega arith
@@ -25,7 +22,7 @@ element-copy-out-ups : tie.Need-element-copy-out-ups Inv-loop μ-loop
 element-copy-out-ups c = omega arith
 
 add-ups : tie.Need-add-ups Inv-loop μ-loop
-add-ups c = let at = c .before .before in let s = at .before in omega (arith, ups-cap _ _ _ _ _ _ _ _ _ (s .pre .0) (s .pre .2) (at .loop .inv) (c .before .loop-test .taken))
+add-ups c = let at = c .before .before in let s = at .before in omega (arith, ups-cap _ _ _ _ _ _ _ _ (s .pre .0) (s .pre .1) (at .loop .inv) (c .before .loop-test .taken))
 
 mul-up-from : tie.Need-mul-up-from Inv-loop μ-loop
 mul-up-from c = omega arith
@@ -34,7 +31,7 @@ element-copy-out-up-from : tie.Need-element-copy-out-up-from Inv-loop μ-loop
 element-copy-out-up-from c = omega arith
 
 add-up-from : tie.Need-add-up-from Inv-loop μ-loop
-add-up-from c = let at = c .before .before .before in let s = at .before in omega (arith, up-starts-cap _ _ _ _ _ _ _ _ _ (s .pre .0) (s .pre .2) (at .loop .inv) (c .before .before .loop-test .taken))
+add-up-from c = let at = c .before .before .before in let s = at .before in omega (arith, up-starts-cap _ _ _ _ _ _ _ _ (s .pre .0) (s .pre .1) (at .loop .inv) (c .before .before .loop-test .taken))
 
 mul-downs : tie.Need-mul-downs Inv-loop μ-loop
 mul-downs c = omega arith
@@ -43,7 +40,7 @@ element-copy-out-downs : tie.Need-element-copy-out-downs Inv-loop μ-loop
 element-copy-out-downs c = omega arith
 
 add-downs : tie.Need-add-downs Inv-loop μ-loop
-add-downs c = let at = c .before .before .before .before in let s = at .before in omega (arith, downs-cap _ _ _ _ _ _ _ _ _ (s .pre .0) (s .pre .2) (at .loop .inv) (c .before .before .before .loop-test .taken))
+add-downs c = let at = c .before .before .before .before in let s = at .before in omega (arith, downs-cap _ _ _ _ _ _ _ _ (s .pre .0) (s .pre .1) (at .loop .inv) (c .before .before .before .loop-test .taken))
 
 mul-down-from : tie.Need-mul-down-from Inv-loop μ-loop
 mul-down-from c = omega arith
@@ -52,7 +49,7 @@ element-copy-out-down-from : tie.Need-element-copy-out-down-from Inv-loop μ-loo
 element-copy-out-down-from c = omega arith
 
 add-down-from : tie.Need-add-down-from Inv-loop μ-loop
-add-down-from c = let at = c .before .before .before .before .before in let s = at .before in omega (arith, down-starts-cap _ _ _ _ _ _ _ _ _ (s .pre .0) (s .pre .2) (at .loop .inv) (c .before .before .before .before .loop-test .taken))
+add-down-from c = let at = c .before .before .before .before .before in let s = at .before in omega (arith, down-starts-cap _ _ _ _ _ _ _ _ (s .pre .0) (s .pre .1) (at .loop .inv) (c .before .before .before .before .loop-test .taken))
 
 mul-y : tie.Need-mul-y Inv-loop μ-loop
 mul-y c = omega arith
@@ -61,31 +58,31 @@ element-copy-out-y : tie.Need-element-copy-out-y Inv-loop μ-loop
 element-copy-out-y c = omega arith
 
 height-requires : tie.Need-height-requires Inv-loop μ-loop
-height-requires c κs = let at = c .before .before .before .before .before .before in let s = at .before in y-range _ _ _ _ _ _ _ _ _ (s .pre .0) (s .pre .2) (at .loop .inv) (c .before .before .before .before .before .loop-test .taken)
+height-requires c κs = let at = c .before .before .before .before .before .before in let s = at .before in y-range _ _ _ _ _ _ _ _ (s .pre .0) (s .pre .1) (at .loop .inv) (c .before .before .before .before .before .loop-test .taken)
 
 cost-at-requires : tie.Need-cost-at-requires Inv-loop μ-loop
-cost-at-requires c κs = let at = c .before .before .before .before .before .before .before in let s = at .before in payable _ _ _ _ _ _ _ _ _ (s .pre .0) (s .pre .2) (at .loop .inv) (c .before .before .before .before .before .before .loop-test .taken) _ (c .height .ensures)
+cost-at-requires c κs = let at = c .before .before .before .before .before .before .before in let s = at .before in payable _ _ _ _ _ _ _ _ (s .pre .0) (s .pre .1) (at .loop .inv) (c .before .before .before .before .before .before .loop-test .taken) _ (c .height .ensures)
 
-place-requires : tie.Need-place-requires Inv-loop μ-loop
-place-requires c κs = tt
+mul-costs : tie.Need-mul-costs Inv-loop μ-loop
+mul-costs c = omega arith
 
-cheaper-requires : tie.Need-cheaper-requires Inv-loop μ-loop
-cheaper-requires c κs = tt
+element-write-costs : tie.Need-element-write-costs Inv-loop μ-loop
+element-write-costs c = omega arith
 
-add-j : tie.Need-add-j Inv-loop μ-loop
-add-j c = omega (arith, c .before .before .before .before .before .before .before .before .before .before .before .pre .0 .in-order .within, c .before .before .before .before .before .before .before .before .before .loop-test .taken)
+add-k : tie.Need-add-k Inv-loop μ-loop
+add-k c = omega arith
 
 loop-less : tie.Need-loop-less Inv-loop μ-loop
-loop-less c = omega (arith, c .before .before .before .before .before .before .before .before .before .loop-test .taken)
+loop-less c = omega (arith, c .before .before .before .before .before .before .before .loop-test .taken)
 
 loop-again : tie.Need-loop-again Inv-loop μ-loop
 loop-again c =
-    let at = c .before .before .before .before .before .before .before .before .before .before in
+    let at = c .before .before .before .before .before .before .before .before in
     let s = at .before in
-    sweep-more _ _ _ _ _ _ _ _ _ (s .pre .0) (s .pre .2) (at .loop .inv) (c .before .before .before .before .before .before .before .before .before .loop-test .taken) _ (c .before .before .before .height .ensures) _ (c .before .before .cost-at .ensures) _ _ (c .before .place .ensures) (c .cheaper .ensures)
+    sweep-more _ _ _ _ _ _ _ _ (s .pre .0) (s .pre .1) (at .loop .inv) (c .before .before .before .before .before .before .before .loop-test .taken) _ (c .before .height .ensures) _ (c .cost-at .ensures) (s .pre .2) _ (omega arith)
 
 returns : tie.Need-returns Inv-loop μ-loop
-returns c = let s = c .before .before in rw (small-back (s .args .v) (omega (arith, s .pre .1))) at (sweep-all _ _ _ _ _ _ _ _ _ (c .before .loop .inv) (c .loop-test .left))
+returns c = sweep-all _ _ _ _ _ _ _ _ (c .before .loop .inv) (c .loop-test .left)
 
 pub sweep-spec : {M : Type 1} → statement M
 sweep-spec =
@@ -110,9 +107,9 @@ sweep-spec =
     element-copy-out-y
     height-requires
     cost-at-requires
-    place-requires
-    cheaper-requires
-    add-j
+    mul-costs
+    element-write-costs
+    add-k
     loop-less
     loop-again
     returns)
