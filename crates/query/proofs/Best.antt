@@ -7,20 +7,20 @@ use mathlib.Core.List.{List, map, List·Memᴰ, List·Memᴰ·head, List·Memᴰ
 use lib.Dec.{T}
 use Rattle.numbers.proofs.Members.{least-member, least-le}
 use Rattle.query.specs.Place.{Place}
-use Rattle.query.specs.Problem.{Problem}
+use Rattle.query.specs.Problem.{Rules}
 use Rattle.query.specs.Order.{Priced, better}
 use Rattle.query.specs.Search.{pricedAt, bestOf}
 use Rattle.query.proofs.KeyOrder.{better-strict}
 
-module _ (P : Problem) (best : Priced) (places : List Place) where
-  pub bestOf-from : (bestOf P best places ≡ best) ⊎ ((p : Place) × List·Memᴰ p places × (pricedAt P p ≡ bestOf P best places))
+module _ (R : Rules) (best : Priced) (places : List Place) where
+  pub bestOf-from : (bestOf R best places ≡ best) ⊎ ((p : Place) × List·Memᴰ p places × (pricedAt R p ≡ bestOf R best places))
   unfolding bestOf
-  bestOf-from = ⊎-elim inl (λ m. inr (Memᴰ·of-map (pricedAt P) places m)) (List·Memᴰ·cases-cons (least-member better better-strict best (map (pricedAt P) places)))
+  bestOf-from = ⊎-elim inl (λ m. inr (Memᴰ·of-map (pricedAt R) places m)) (List·Memᴰ·cases-cons (least-member better better-strict best (map (pricedAt R) places)))
 
-  pub bestOf-old : T (not (better best (bestOf P best places)))
+  pub bestOf-old : T (not (better best (bestOf R best places)))
   unfolding bestOf
-  bestOf-old = least-le better better-strict best (map (pricedAt P) places) (List·Memᴰ·head refl)
+  bestOf-old = least-le better better-strict best (map (pricedAt R) places) (List·Memᴰ·head refl)
 
-  pub bestOf-new : (p : Place) → List·Memᴰ p places → T (not (better (pricedAt P p) (bestOf P best places)))
+  pub bestOf-new : (p : Place) → List·Memᴰ p places → T (not (better (pricedAt R p) (bestOf R best places)))
   unfolding bestOf
-  bestOf-new p m = least-le better better-strict best (map (pricedAt P) places) (List·Memᴰ·tail (Memᴰ·map (pricedAt P) m))
+  bestOf-new p m = least-le better better-strict best (map (pricedAt R) places) (List·Memᴰ·tail (Memᴰ·map (pricedAt R) m))
