@@ -9,7 +9,6 @@ use lib.Dec.{T, ltb}
 use lib.IntN.{ℤ, pos}
 use lib.Signed.{ltZ, _<ℤ_}
 use Rattle.numbers.specs.Integer.{eqZ}
-use Rattle.numbers.specs.Lists.{leastBy}
 use Rattle.numbers.proofs.Truth.{not-either, cond-ind}
 use Rattle.numbers.proofs.Integer.{order}
 use Rattle.numbers.proofs.Members.{flatMap-from}
@@ -18,7 +17,8 @@ use Rattle.query.specs.Grid.{Grid}
 use Rattle.query.specs.Problem.{Rules}
 use Rattle.query.specs.Order.{Priced, precedes, better}
 use Rattle.query.specs.Search.{bestOf}
-use Rattle.query.specs.Exhaustive.{crossings, cheapestCrossing}
+use Rattle.query.specs.Exhaustive.{crossings, exhaustive}
+use Rattle.query.proofs.Best.{bestOf-nil, bestOf-cons}
 use Rattle.query.proofs.KeyOrder.{not-earlier}
 use Rattle.deck.specs.Sites.{Site}
 use Rattle.pricing.specs.Figures.{costOf}
@@ -86,26 +86,18 @@ module _ (sites : List Site) (G : Grid) where
       go true = refl
       go false = refl
 
-  step-is : (best : Spot) (p : Place) (ps : List Place) → bestOf R (pricedOf best) (p ∷ ps) ≡ bestOf R (cond (better (pricedOf (spotOf sites p)) (pricedOf best)) (pricedOf (spotOf sites p)) (pricedOf best)) ps
-  unfolding bestOf leastBy
-  step-is best p ps = refl
-
-  none-is : (best : Priced) → bestOf R best [] ≡ best
-  unfolding bestOf leastBy
-  none-is best = refl
-
   later : (first : Spot) (p q : Place) → T (not (earlier q p)) → T (not (earlier q (pricedOf first .at))) → T (not (earlier q (pricedOf (cheaperOf first (spotOf sites p)) .at)))
   unfolding cheaperOf
   later first p q a b = cond-ind (λ (s : Spot). T (not (earlier q (pricedOf s .at)))) (ltb (costOf sites p) (first .cost)) (λ u. a) (λ u. b)
 
   cheapest-best : (first : Spot) (ps : List Place) → InTurn ps → ((q : Place) → List·Memᴰ q ps → T (not (earlier q (pricedOf first .at)))) → pricedOf (firstCheapest sites first ps) ≡ bestOf R (pricedOf first) ps
-  cheapest-best first [] none h = ap pricedOf (cheapest-none sites first) ∙ sym (none-is (pricedOf first))
+  cheapest-best first [] none h = ap pricedOf (cheapest-none sites first) ∙ sym (bestOf-nil R (pricedOf first))
   cheapest-best first (p ∷ ps) (then f t) h =
       ap pricedOf (cheapest-more sites first p ps)
       ∙ cheapest-best (cheaperOf first (spotOf sites p)) ps t (λ q m. later first p q (f q m) (h q (List·Memᴰ·tail m)))
       ∙ ap (λ (b : Priced). bestOf R b ps) (cheaper-is first (spotOf sites p) (h p (List·Memᴰ·head refl)))
-      ∙ sym (step-is first p ps)
+      ∙ sym (bestOf-cons R (pricedOf first) p ps)
 
-  pub cheapest-is : (area : Rect) → InTurn (flatMap (along (G .horizontal)) (G .vertical)) → ((q : Place) → List·Memᴰ q (flatMap (along (G .horizontal)) (G .vertical)) → T (not (earlier q (corner area)))) → pricedOf (firstCheapest sites (spotOf sites (corner area)) (flatMap (along (G .horizontal)) (G .vertical))) ≡ cheapestCrossing (siteProblem sites G area)
-  unfolding cheapestCrossing crossings
+  pub cheapest-is : (area : Rect) → InTurn (flatMap (along (G .horizontal)) (G .vertical)) → ((q : Place) → List·Memᴰ q (flatMap (along (G .horizontal)) (G .vertical)) → T (not (earlier q (corner area)))) → pricedOf (firstCheapest sites (spotOf sites (corner area)) (flatMap (along (G .horizontal)) (G .vertical))) ≡ exhaustive (siteProblem sites G area)
+  unfolding exhaustive crossings
   cheapest-is area t h = cheapest-best (spotOf sites (corner area)) (flatMap (along (G .horizontal)) (G .vertical)) t h

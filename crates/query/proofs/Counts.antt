@@ -2,18 +2,18 @@
 -- n + 1 live cells, and its count is that of its cuts.
 -- Assumes nothing.
 use mathlib.Core.Path.{_≡_, refl, ap, subst, _∙_}
-use mathlib.Core.List.{List, [], _∷_}
+use mathlib.Core.List.{List, [], _∷_, map}
 use Prim.Native.Nat.{ℕ, zero, suc, _+_, _≤_}
 use native.Mathlib.Omega.{arith}
 use lib.Dec.{T}
-use lib.ListN.{length, length-append}
+use lib.ListN.{length, length-append, take}
 use Rattle.numbers.specs.Lists.{nonEmpty}
 use Rattle.numbers.proofs.Members.{insertBy-length, keep-length}
 use Rattle.query.specs.Grid.{Grid}
 use Rattle.query.specs.Problem.{Rules, Problem}
 use Rattle.query.specs.Order.{Cell}
 use Rattle.query.specs.Search.{Search, isLive, cellOf, startBest, start, cellsAfter, bestAfter, roundOn, round, run}
-use Rattle.query.specs.History.{cutOf, cutsMade}
+use Rattle.query.specs.History.{cellCut, cutsMade}
 use Rattle.query.specs.Laws.{RoundLaw}
 use Rattle.query.proofs.CellsAfter.{after-is}
 
@@ -70,15 +70,15 @@ module _ (P : Problem) where
   live-count (suc n) = omega (arith, live-count n, round-length (run P n) (run P n .live) refl)
 
   -- the count is that of the cuts
-  round-made : (s : Search) (live : List Cell) → roundOn R s live .cuts ≡ s .cuts + length (cutOf G live)
-  unfolding roundOn cutOf
+  round-made : (s : Search) (live : List Cell) → roundOn R s live .cuts ≡ s .cuts + length (map (cellCut G) (take 1 live))
+  unfolding roundOn
   round-made s [] = omega arith
   round-made s (c ∷ others) = omega arith
 
   pub cuts-made : (n : ℕ) → run P n .cuts ≡ length (cutsMade P n)
   unfolding run round start cutsMade
   cuts-made zero = refl
-  cuts-made (suc n) = omega (arith, cuts-made n, round-made (run P n) (run P n .live), length-append (cutsMade P n) (cutOf G (run P n .live)))
+  cuts-made (suc n) = omega (arith, cuts-made n, round-made (run P n) (run P n .live), length-append (cutsMade P n) (map (cellCut G) (take 1 (run P n .live))))
 
   -- at most a cut a round
   round-most : (s : Search) (live : List Cell) → roundOn R s live .cuts ≤ suc (s .cuts)

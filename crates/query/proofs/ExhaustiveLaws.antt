@@ -12,7 +12,7 @@ use Rattle.query.specs.Problem.{Problem, problem}
 use Rattle.query.specs.Order.{Priced}
 use Rattle.query.specs.Search.{pricedAt, run}
 use Rattle.query.specs.Figures.{figures, figuresOf, done}
-use Rattle.query.specs.Exhaustive.{crossings, cheapestCrossing, exhaustive}
+use Rattle.query.specs.Exhaustive.{crossings, exhaustive}
 use Rattle.query.specs.ExhaustiveLaw.{ExhaustiveLaw}
 use Rattle.query.proofs.Axes.{for-both, along-in}
 use Rattle.query.proofs.LineLaws.{lines-along, lines-range}
@@ -44,11 +44,11 @@ module _ (deck : Deck) (full : NonEmpty (deck .area)) where
   crossing-in p on = along-in (deck .area) p (λ axis. lines-range deck axis full (coordinate axis p) (subst (List·Memᴰ (coordinate axis p)) (lines-along deck axis) (on axis)))
 
   -- no crossing is better than the cheapest, and for each point some crossing is as good
-  pub exhaustive-cheapest : Cheapest deck (exhaustive deck)
-  unfolding problem exhaustive cheapestCrossing
+  pub exhaustive-cheapest : Cheapest deck (exhaustive (problem deck))
+  unfolding problem exhaustive
   exhaustive-cheapest = record {
     ok = best-of-ok P (lawful deck full) (cut-law (P .rules .grid)) first (crossings (P .rules .grid)) (first-ok P (lawful deck full) (cut-law (P .rules .grid))) (λ p m. (crossing-in p (crossings-on (P .rules .grid) p m), crossings-on (P .rules .grid) p m));
-    none-better = λ p h. let (q, within, on, as-good) = lawful deck full .crossing p h in better-strict .chain (exhaustive deck) (pricedAt (P .rules) q) (pricedAt (P .rules) p) (bestOf-new (P .rules) first (crossings (P .rules .grid)) q (on-crossings (P .rules .grid) q on)) as-good;
+    none-better = λ p h. let (q, within, on, as-good) = lawful deck full .crossing p h in better-strict .chain (exhaustive (problem deck)) (pricedAt (P .rules) q) (pricedAt (P .rules) p) (bestOf-new (P .rules) first (crossings (P .rules .grid)) q (on-crossings (P .rules .grid) q on)) as-good;
   }
     where
       P : Problem
@@ -61,11 +61,11 @@ module _ (deck : Deck) (full : NonEmpty (deck .area)) where
   unfolding figures figuresOf
   exhaustive-law = record {
     in-area = exhaustive-cheapest .ok .inside;
-    costs = best-costs deck (exhaustive deck) (exhaustive-cheapest .ok);
-    best = cheapest-beats deck (exhaustive deck) exhaustive-cheapest;
+    costs = best-costs deck (exhaustive (problem deck)) (exhaustive-cheapest .ok);
+    best = cheapest-beats deck (exhaustive (problem deck)) exhaustive-cheapest;
     done-place = λ n e. ap (λ (b : Priced). b .at) (same n e);
     done-cost = λ n e. ap (λ (b : Priced). b .cost) (same n e);
   }
     where
-      same : (n : ℕ) → figures deck n .state ≡ done → run (problem deck) n .best ≡ exhaustive deck
-      same n e = cheapest-only deck (run (problem deck) n .best) (exhaustive deck) (done-cheapest deck full n (demand-3 deck full n .done-exactly .0 e)) exhaustive-cheapest
+      same : (n : ℕ) → figures deck n .state ≡ done → run (problem deck) n .best ≡ exhaustive (problem deck)
+      same n e = cheapest-only deck (run (problem deck) n .best) (exhaustive (problem deck)) (done-cheapest deck full n (demand-3 deck full n .done-exactly .0 e)) exhaustive-cheapest

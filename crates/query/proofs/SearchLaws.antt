@@ -3,9 +3,10 @@
 use mathlib.Core.Path.{_≡_, refl, sym, ap, subst}
 use mathlib.Core.Bool.{Bool, not}
 use mathlib.Core.Logic.{⊎-elim}
-use mathlib.Core.List.{List, [], _∷_, _++_, List·Memᴰ, List·Memᴰ·head, List·Memᴰ·tail, List·Memᴰ·append-cases, Memᴰ·append-left, Memᴰ·append-right, append-nil, Pairwise·nil, rel-of-pairwise-cons, Pairwise·of-cons}
+use mathlib.Core.List.{List, [], _∷_, _++_, map, List·Memᴰ, List·Memᴰ·head, List·Memᴰ·tail, List·Memᴰ·append-cases, Memᴰ·append-left, Memᴰ·append-right, append-nil, Pairwise·nil, rel-of-pairwise-cons, Pairwise·of-cons}
 use Prim.Native.Nat.{ℕ, zero, suc}
 use lib.Dec.{T, T-prop}
+use lib.ListN.{take}
 use Rattle.numbers.specs.Lists.{keep}
 use Rattle.numbers.proofs.Truth.{test, nand-right, and-fails-left, and-fails-right}
 use Rattle.numbers.proofs.Members.{keep-test, keep-all, keep-sorted, insertBy-sorted, irrefl}
@@ -16,7 +17,7 @@ use Rattle.query.specs.Cut.{canCut, cutLine, newCorners}
 use Rattle.query.specs.Order.{Priced, Cell, precedes, pricedKey, cellKey, better, cellBefore, CellsInOrder}
 use Rattle.query.specs.Search.{Search, isLive, cellOf, startBest, start, cellsAfter, bestAfter, roundOn, round, run}
 use Rattle.query.specs.Partition.{cutUp, notLive, dead, partition}
-use Rattle.query.specs.History.{cutOf, cutsMade}
+use Rattle.query.specs.History.{cellCut, cutsMade}
 use Rattle.query.specs.Laws.{TakenLaw, PartitionLaw}
 use Rattle.query.proofs.KeyOrder.{precedes-strict, better-strict, cellBefore-strict}
 use Rattle.query.proofs.Best.{bestOf-old}
@@ -112,9 +113,9 @@ module _ (P : Problem) where
 
   -- ---- the cell that a round takes
   pub taken-law : (n : ℕ) (c : Cell) (others : List Cell) → run P n .live ≡ c ∷ others → TakenLaw P n c
-  unfolding cutsMade cutOf
+  unfolding cutsMade
   taken-law n c others e = record {
-    is-cut = ap (λ (live : List Cell). cutsMade P n ++ cutOf G live) e;
+    is-cut = ap (λ (live : List Cell). cutsMade P n ++ map (cellCut G) (take 1 live)) e;
     is-live = live-are-live n c (subst (List·Memᴰ c) (sym e) (List·Memᴰ·head refl));
     is-first = λ d m. first d (subst (List·Memᴰ d) e m);
   }

@@ -8,16 +8,16 @@ use Prim.Native.Nat.{ℕ, _+_, _-_, _≤_}
 use native.Mathlib.Omega.{arith}
 use lib.Dec.{T}
 use lib.IntN.{ℤ}
-use Rattle.numbers.specs.Lists.{keep, leastBy, insertBy}
+use Rattle.numbers.specs.Lists.{keep, insertBy}
 use Rattle.numbers.proofs.Truth.{test, holds, fails}
 use Rattle.numbers.proofs.Members.{insertBy-sorted, insertBy-cases}
 use Rattle.query.specs.Place.{Place, Rect, corner}
 use Rattle.query.specs.Grid.{Grid}
-use Rattle.query.specs.Problem.{Rules}
 use Rattle.query.specs.Cut.{canCut}
 use Rattle.query.specs.Order as Query
 use Rattle.query.specs.Order.{Priced, precedes, pricedKey, cellKey, better, cellBefore}
-use Rattle.query.specs.Search.{isLive, pricedAt, bestOf, otherCorners, startBest}
+use Rattle.query.specs.Search.{isLive, bestOf, otherCorners, startBest}
+use Rattle.query.proofs.Best.{bestOf-nil, bestOf-cons}
 use Rattle.query.proofs.KeyOrder.{cellBefore-strict}
 use Rattle.deck.specs.Sites.{Site}
 use Rattle.problem.specs.declared.Spot.{Spot}
@@ -125,14 +125,6 @@ improved-is best p = go (better (pricedOf p) (pricedOf best))
     go true = refl
     go false = refl
 
-bestOf-nil : (R : Rules) (best : Priced) → bestOf R best [] ≡ best
-unfolding bestOf
-bestOf-nil R best = refl
-
-bestOf-cons : (R : Rules) (best : Priced) (p : Place) (ps : List Place) → bestOf R best (p ∷ ps) ≡ bestOf R (cond (better (pricedAt R p) best) (pricedAt R p) best) ps
-unfolding bestOf leastBy
-bestOf-cons R best p ps = refl
-
 module _ (sites : List Site) (G : Grid) where
   best-more : (best : Spot) (p : Place) (ps : List Place) → bestOf (siteRules sites G) (pricedOf best) (p ∷ ps) ≡ bestOf (siteRules sites G) (pricedOf (improved best (spotOf sites p))) ps
   best-more best p ps = rw (bestOf-cons (siteRules sites G) (pricedOf best) p ps, improved-is best (spotOf sites p))
@@ -143,7 +135,6 @@ module _ (sites : List Site) (G : Grid) where
   pub start-best : (area : Rect) → pricedOf (bestCorner area (cornerCosts sites area)) ≡ startBest (siteProblem sites G area)
   unfolding startBest otherCorners bestCorner
   start-best area =
-      let R = siteRules sites G in
       let c₁ = spotOf sites (corner area) in
       let c₂ = improved c₁ (spotOf sites (record { x = area .xlo; y = area .yhi })) in
       let c₃ = improved c₂ (spotOf sites (record { x = area .xhi; y = area .ylo })) in
@@ -151,4 +142,4 @@ module _ (sites : List Site) (G : Grid) where
       sym (best-more c₁ (record { x = area .xlo; y = area .yhi }) (record { x = area .xhi; y = area .ylo } ∷ record { x = area .xhi; y = area .yhi } ∷ [])
       ∙ best-more c₂ (record { x = area .xhi; y = area .ylo }) (record { x = area .xhi; y = area .yhi } ∷ [])
       ∙ best-more c₃ (record { x = area .xhi; y = area .yhi }) []
-      ∙ bestOf-nil R (pricedOf c₄))
+      ∙ bestOf-nil (siteRules sites G) (pricedOf c₄))
