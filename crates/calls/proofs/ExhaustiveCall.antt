@@ -6,6 +6,7 @@ use mathlib.Core.List.{List}
 use lib.IntN.{ℤ}
 use Rattle.query.specs.Order.{Priced}
 use Rattle.query.specs.Figures.{Figures, done}
+use Rattle.query.specs.Problem.{problem}
 use Rattle.query.specs.Exhaustive as Query
 use Rattle.query.specs.ExhaustiveLaw.{ExhaustiveLaw}
 use Rattle.query.proofs.ExhaustiveLaws.{exhaustive-law}
@@ -25,7 +26,7 @@ module _ (job : List ℕ) where
   unfolding exhaustiveCall
   call-of r e = ap cheapestOf e
 
-  pub call-accepted : (j : Job) → readJob job ≡ accepted j → exhaustiveCall job ≡ gives (Query.exhaustive (j .deck))
+  pub call-accepted : (j : Job) → readJob job ≡ accepted j → exhaustiveCall job ≡ gives (Query.exhaustive (problem (j .deck)))
   unfolding cheapestOf
   call-accepted j e = call-of (accepted j) e
 
@@ -38,7 +39,7 @@ module _ (job : List ℕ) where
     where
       go : (r : Result) → readJob job ≡ r → readJob job ≡ refused why
       go (refused w) e = e ∙ ap refused (same-refusal w why (sym (call-refused w e) ∙ f))
-      go (accepted j) e = absurd (not-refused (Query.exhaustive (j .deck)) (numberOf why) (lineOf why) (sym (call-accepted j e) ∙ f))
+      go (accepted j) e = absurd (not-refused (Query.exhaustive (problem (j .deck))) (numberOf why) (lineOf why) (sym (call-accepted j e) ∙ f))
 
   law : (j : Job) → readJob job ≡ accepted j → ExhaustiveLaw (j .deck)
   law j e = exhaustive-law (j .deck) (read-exactly job j .0 e .1 .area-full)
@@ -48,7 +49,7 @@ module _ (job : List ℕ) where
       let (j, a) = accepted-one job cells out f e in
       let same = figures-are job cells out j f a e in
       let finished = ap (λ (g : Figures). g .state) same ∙ d in
-      let both : record { at = jobFigures j .at; cost = jobFigures j .high } ≡ Query.exhaustive (j .deck) = rw (law j (a .read) .done-place (j .rounds) finished, law j (a .read) .done-cost (j .rounds) finished) in
+      let both : record { at = jobFigures j .at; cost = jobFigures j .high } ≡ Query.exhaustive (problem (j .deck)) = rw (law j (a .read) .done-place (j .rounds) finished, law j (a .read) .done-cost (j .rounds) finished) in
       call-accepted j (a .read) ∙ ap (λ (p : Priced). gives p) (sym both ∙ ap (λ (g : Figures). record { at = g .at; cost = g .high }) same)
 
   pub exhaustive-call-law : ExhaustiveCallLaw job

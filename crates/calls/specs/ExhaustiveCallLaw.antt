@@ -6,6 +6,7 @@ use mathlib.Core.Logic.{_↔_}
 use mathlib.Core.List.{List}
 use lib.IntN.{ℤ}
 use Rattle.query.specs.Figures.{Figures, done}
+use Rattle.query.specs.Problem.{problem}
 use Rattle.query.specs.Exhaustive as Query
 use Rattle.query.specs.ExhaustiveLaw.{ExhaustiveLaw}
 use Rattle.refusal.specs.declared.Refusal.{Refusal}
@@ -19,7 +20,7 @@ pub record ExhaustiveCallLaw (job : List ℕ) : Type 0 where
   -- "gives refusals 1 to 6 only": those of reading, each exactly under its condition, which 7 and 8 do not have here
   pub refused-exactly : (why : Refusal) → (exhaustiveCall job ≡ refusal why) ↔ Condition why job
   -- an accepted job gets the cheapest crossing, which is in the area, and every other point of the area is worse
-  pub given : (j : Job) → readJob job ≡ accepted j → exhaustiveCall job ≡ gives (Query.exhaustive (j .deck))
+  pub given : (j : Job) → readJob job ≡ accepted j → exhaustiveCall job ≡ gives (Query.exhaustive (problem (j .deck)))
   pub law : (j : Job) → readJob job ≡ accepted j → ExhaustiveLaw (j .deck)
   -- every done report of the job has its place and its cost
   pub done-report : (cells : List ℤ) (out : List ℕ) (f : Figures) → reportCall job cells out .answer ≡ gives f → f .state ≡ done → exhaustiveCall job ≡ gives (record { at = f .at; cost = f .high })

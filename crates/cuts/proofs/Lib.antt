@@ -1,4 +1,3 @@
 pub mod MiddleLaws
 pub mod NextLaws
 pub mod CutRecordLaws
-pub mod DeckCut

@@ -7,8 +7,8 @@ ghost use lib.IntN.{_+ℤ_};
 ghost use Rattle.numbers.specs.Integer.{halfUp, strictlyBetween};
 ghost use Rattle.numbers.specs.Lists.{keep};
 ghost use Rattle.query.specs.Cut.{middleLine};
-ghost use Rattle.lines.specs.LineRecord.{InOrder};
-ghost use Rattle.cuts.specs.CutRecord.{Edges, LineBefore, LineFrom, onLines, rectOf, cutAt, cutRecord, firstOf};
+ghost use Rattle.lines.specs.LineRecord.{InOrder, gridOf};
+ghost use Rattle.cuts.specs.CutRecord.{Edges, LineBefore, LineFrom, rectOf, cutAt, cutRecord, firstOf};
 
 // Whether a cell can be cut, and at which line: at an x where `across` is true, else at a y. Where it cannot the others are false and 0.
 pub struct Cut {
@@ -127,7 +127,7 @@ pub fn find_cut(
     requires { ⌜ InOrder (now ys) ny ⌝ }
     requires { ⌜ Edges xlo xhi ⌝ }
     requires { ⌜ Edges ylo yhi ⌝ }
-    ensures { λ r. ⌜ r ≡ cutRecord (onLines (take nx (now (xs .entry))) (take ny (now (ys .entry)))) (rectOf xlo ylo xhi yhi) ⌝ }
+    ensures { λ r. ⌜ r ≡ cutRecord (gridOf (now (xs .entry)) nx (now (ys .entry)) ny) (rectOf xlo ylo xhi yhi) ⌝ }
 {
     if yhi - ylo <= xhi - xlo {
         first_of(xs, nx, xlo, xhi, ys, ny, ylo, yhi, true)

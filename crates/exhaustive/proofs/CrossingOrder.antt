@@ -9,20 +9,21 @@ use lib.Dec.{T, ltb}
 use lib.IntN.{ℤ, pos}
 use lib.Signed.{ltZ, _<ℤ_}
 use Rattle.numbers.specs.Integer.{eqZ}
-use Rattle.numbers.specs.Lists.{leastBy}
 use Rattle.numbers.proofs.Truth.{not-either, cond-ind}
 use Rattle.numbers.proofs.Integer.{order}
 use Rattle.numbers.proofs.Members.{flatMap-from}
 use Rattle.query.specs.Place.{Place, Rect, corner, earlier}
-use Rattle.query.specs.Problem.{Problem}
+use Rattle.query.specs.Grid.{Grid}
+use Rattle.query.specs.Problem.{Rules}
 use Rattle.query.specs.Order.{Priced, precedes, better}
 use Rattle.query.specs.Search.{bestOf}
-use Rattle.query.specs.Exhaustive.{crossings, cheapestCrossing}
+use Rattle.query.specs.Exhaustive.{crossings, exhaustive}
+use Rattle.query.proofs.Best.{bestOf-nil, bestOf-cons}
 use Rattle.query.proofs.KeyOrder.{not-earlier}
 use Rattle.deck.specs.Sites.{Site}
 use Rattle.pricing.specs.Figures.{costOf}
 use Rattle.problem.specs.declared.Spot.{Spot}
-use Rattle.problem.specs.Problem.{siteProblem, pricedOf, spotOf}
+use Rattle.problem.specs.Problem.{siteRules, siteProblem, pricedOf, spotOf}
 use Rattle.exhaustive.specs.Cheapest.{cheaperOf, firstCheapest, along}
 use Rattle.exhaustive.proofs.CheapestLaws.{cheapest-none, cheapest-more}
 
@@ -73,9 +74,9 @@ better-cheaper : (p best : Priced) → T (not (earlier (p .at) (best .at))) → 
 unfolding better precedes
 better-cheaper p best t = without (ltb (p .cost) (best .cost)) (eqZ (pos (p .cost)) (pos (best .cost))) (earlier (p .at) (best .at)) t
 
-module _ (sites : List Site) (vs hs : List ℤ) (area : Rect) where
-  abbrev P : Problem
-  P = siteProblem sites vs hs area
+module _ (sites : List Site) (G : Grid) where
+  abbrev R : Rules
+  R = siteRules sites G
 
   cheaper-is : (best p : Spot) → T (not (earlier (pricedOf p .at) (pricedOf best .at))) → pricedOf (cheaperOf best p) ≡ cond (better (pricedOf p) (pricedOf best)) (pricedOf p) (pricedOf best)
   unfolding cheaperOf
@@ -85,26 +86,18 @@ module _ (sites : List Site) (vs hs : List ℤ) (area : Rect) where
       go true = refl
       go false = refl
 
-  step-is : (best : Spot) (p : Place) (ps : List Place) → bestOf P (pricedOf best) (p ∷ ps) ≡ bestOf P (cond (better (pricedOf (spotOf sites p)) (pricedOf best)) (pricedOf (spotOf sites p)) (pricedOf best)) ps
-  unfolding bestOf leastBy siteProblem
-  step-is best p ps = refl
-
-  none-is : (best : Priced) → bestOf P best [] ≡ best
-  unfolding bestOf leastBy
-  none-is best = refl
-
   later : (first : Spot) (p q : Place) → T (not (earlier q p)) → T (not (earlier q (pricedOf first .at))) → T (not (earlier q (pricedOf (cheaperOf first (spotOf sites p)) .at)))
   unfolding cheaperOf
   later first p q a b = cond-ind (λ (s : Spot). T (not (earlier q (pricedOf s .at)))) (ltb (costOf sites p) (first .cost)) (λ u. a) (λ u. b)
 
-  cheapest-best : (first : Spot) (ps : List Place) → InTurn ps → ((q : Place) → List·Memᴰ q ps → T (not (earlier q (pricedOf first .at)))) → pricedOf (firstCheapest sites first ps) ≡ bestOf P (pricedOf first) ps
-  cheapest-best first [] none h = ap pricedOf (cheapest-none sites first) ∙ sym (none-is (pricedOf first))
+  cheapest-best : (first : Spot) (ps : List Place) → InTurn ps → ((q : Place) → List·Memᴰ q ps → T (not (earlier q (pricedOf first .at)))) → pricedOf (firstCheapest sites first ps) ≡ bestOf R (pricedOf first) ps
+  cheapest-best first [] none h = ap pricedOf (cheapest-none sites first) ∙ sym (bestOf-nil R (pricedOf first))
   cheapest-best first (p ∷ ps) (then f t) h =
       ap pricedOf (cheapest-more sites first p ps)
       ∙ cheapest-best (cheaperOf first (spotOf sites p)) ps t (λ q m. later first p q (f q m) (h q (List·Memᴰ·tail m)))
-      ∙ ap (λ (b : Priced). bestOf P b ps) (cheaper-is first (spotOf sites p) (h p (List·Memᴰ·head refl)))
-      ∙ sym (step-is first p ps)
+      ∙ ap (λ (b : Priced). bestOf R b ps) (cheaper-is first (spotOf sites p) (h p (List·Memᴰ·head refl)))
+      ∙ sym (bestOf-cons R (pricedOf first) p ps)
 
-  pub cheapest-is : InTurn (flatMap (along hs) vs) → ((q : Place) → List·Memᴰ q (flatMap (along hs) vs) → T (not (earlier q (corner area)))) → pricedOf (firstCheapest sites (spotOf sites (corner area)) (flatMap (along hs) vs)) ≡ cheapestCrossing P
-  unfolding cheapestCrossing crossings siteProblem
-  cheapest-is t h = cheapest-best (spotOf sites (corner area)) (flatMap (along hs) vs) t h
+  pub cheapest-is : (area : Rect) → InTurn (flatMap (along (G .horizontal)) (G .vertical)) → ((q : Place) → List·Memᴰ q (flatMap (along (G .horizontal)) (G .vertical)) → T (not (earlier q (corner area)))) → pricedOf (firstCheapest sites (spotOf sites (corner area)) (flatMap (along (G .horizontal)) (G .vertical))) ≡ exhaustive (siteProblem sites G area)
+  unfolding exhaustive crossings
+  cheapest-is area t h = cheapest-best (spotOf sites (corner area)) (flatMap (along (G .horizontal)) (G .vertical)) t h

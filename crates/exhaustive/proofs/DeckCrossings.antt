@@ -15,7 +15,8 @@ use Rattle.numbers.proofs.Members.{flatMap-from}
 use Rattle.query.specs.Place.{Place, Rect, NonEmpty, Axis, x-axis, y-axis, low-edge, high-edge, corner, earlier}
 use Rattle.query.specs.Deck as Query
 use Rattle.query.specs.Lines.{lines}
-use Rattle.query.specs.Exhaustive.{cheapestCrossing, exhaustive}
+use Rattle.query.specs.Problem.{problem}
+use Rattle.query.specs.Exhaustive.{exhaustive}
 use Rattle.query.specs.Range.{InRange, costLimit}
 use Rattle.query.proofs.KeyOrder.{not-earlier}
 use Rattle.query.proofs.LineLaws.{lines-law, lines-range}
@@ -23,12 +24,11 @@ use Rattle.deck.specs.declared.Deck.{Deck}
 use Rattle.deck.specs.DeckOf.{deckOf}
 use Rattle.pricing.specs.Figures.{beforeOf, flagsOf}
 use Rattle.pricing.specs.Columns.{PaidInRange, Figure, BeforeIs, rowsOf, InColumns}
-use Rattle.lines.specs.LineRecord.{linesRecord}
+use Rattle.lines.specs.LineRecord.{linesRecord, gridOf}
 use Rattle.deck.specs.declared.Sites.{Sites}
 use Rattle.lines.specs.declared.Lines.{Lines}
 use Rattle.lines.proofs.Indexed.{member-at}
-use Rattle.lines.proofs.LineRecordLaws.{record-front}
-use Rattle.lines.proofs.DeckLines.{lines-in-order}
+use Rattle.lines.proofs.DeckLines.{deck-front, lines-in-order}
 use Rattle.pricing.proofs.RecordLaws.{paid-range}
 use Rattle.slots.specs.declared.Cell.{Cell}
 use Rattle.problem.specs.declared.Spot.{Spot}
@@ -50,15 +50,12 @@ module _ (deck : Query.Deck) (range : InRange deck) (full : NonEmpty (deck .area
   edge-range y-axis = (range .area .low-corner .y-range, range .area .high-corner .y-range)
 
   module _ (axis : Axis) (l : Lines) (e : l ≡ linesRecord (lines deck axis)) where
-    pub deck-front : take (l .count) (l .at) ≡ lines deck axis
-    deck-front = ap (λ (r : Lines). take (r .count) (r .at)) e ∙ record-front (lines deck axis)
-
     counted : l .count ≡ length (lines deck axis)
     unfolding linesRecord
     counted = ap (λ (r : Lines). r .count) e
 
     line-is : (j : ℕ) → j < l .count → getD (l .at) j (pos 0) ≡ getD (lines deck axis) j (pos 0)
-    line-is j h = sym (getD-take (l .count) (l .at) j (pos 0) h) ∙ rw deck-front
+    line-is j h = sym (getD-take (l .count) (l .at) j (pos 0) h) ∙ rw (deck-front deck axis l e)
 
     pub deck-lines : LinesInRange (l .at) (l .count)
     deck-lines = record {
@@ -103,12 +100,11 @@ module _ (deck : Deck) (sites : Sites) (ready : Prepared deck sites) where
     pub corner-near : Near20000 (back (area .xlo)) (back (area .ylo))
     corner-near = near-places (area .xlo) (area .ylo) (ranged .range .low-corner .x-range) (ranged .range .low-corner .y-range)
 
-    pub answers : (v h : Lines) → v ≡ linesRecord (lines (deckOf deck) x-axis) → h ≡ linesRecord (lines (deckOf deck) y-axis) → (first r : Spot) → first ≡ spotOf (rowsOf sites) (record { x = back (area .xlo); y = back (area .ylo) }) → r ≡ firstCheapest (rowsOf sites) first (flatMap (along (take (h .count) (h .at))) (take (v .count) (v .at))) → pricedOf r ≡ exhaustive (deckOf deck)
-    unfolding exhaustive
+    pub answers : (v h : Lines) → v ≡ linesRecord (lines (deckOf deck) x-axis) → h ≡ linesRecord (lines (deckOf deck) y-axis) → (first r : Spot) → first ≡ spotOf (rowsOf sites) (record { x = back (area .xlo); y = back (area .ylo) }) → r ≡ firstCheapest (rowsOf sites) first (flatMap (along (take (h .count) (h .at))) (take (v .count) (v .at))) → pricedOf r ≡ exhaustive (problem (deckOf deck))
     answers v h ve he first r e b =
         let corner-first : first ≡ spotOf (rowsOf sites) (corner (rectIn area)) = spot-back (rowsOf sites) (area .xlo) (area .ylo) first (ranged .range .low-corner .x-range) (ranged .range .low-corner .y-range) e in
-        let vs = deck-front (deckOf deck) (ready .range) (ready .full) x-axis v ve in
-        let hs = deck-front (deckOf deck) (ready .range) (ready .full) y-axis h he in
+        let vs = deck-front (deckOf deck) x-axis v ve in
+        let hs = deck-front (deckOf deck) y-axis h he in
         ap pricedOf (b ∙ ap (λ (s : Spot). firstCheapest (rowsOf sites) s (flatMap (along (take (h .count) (h .at))) (take (v .count) (v .at)))) corner-first)
-        ∙ cheapest-is (rowsOf sites) (take (v .count) (v .at)) (take (h .count) (h .at)) (rectIn area) (rw (vs, hs) (deck-turn (deckOf deck) (ready .range) (ready .full))) (λ q m. subst (λ (r : Rect). T (not (earlier q (corner r)))) (sym area-is) (deck-corner (deckOf deck) (ready .range) (ready .full) q (rw (vs, hs) at m)))
-        ∙ ap cheapestCrossing (coded-is deck sites ready area area-is v h ve he)
+        ∙ cheapest-is (rowsOf sites) (gridOf (v .at) (v .count) (h .at) (h .count)) (rectIn area) (rw (vs, hs) (deck-turn (deckOf deck) (ready .range) (ready .full))) (λ q m. subst (λ (r : Rect). T (not (earlier q (corner r)))) (sym area-is) (deck-corner (deckOf deck) (ready .range) (ready .full) q (rw (vs, hs) at m)))
+        ∙ ap exhaustive (coded-is deck sites ready area area-is v h ve he)

@@ -11,6 +11,7 @@ ghost use Prim.Native.Nat.{_+_, _*_, _≤_};
 ghost use lib.IntN.{natAbs};
 ghost use lib.ListN.{length, take};
 ghost use Rattle.query.specs.Range.{costLimit};
+ghost use Rattle.query.specs.Problem.{problem};
 ghost use Rattle.query.specs.Exhaustive.{exhaustive};
 ghost use Rattle.deck.specs.DeckOf.{deckOf};
 ghost use Rattle.pricing.specs.Figures.{beforeOf};
@@ -357,7 +358,7 @@ fn cheapest_of<'a>(
 // The cheapest crossing of a deck's lines, the earliest among equals, with its cost.
 pub fn cheapest(deck: Deck, sites: Sites) -> Spot
     requires { ⌜ Prepared deck sites ⌝ }
-    ensures { λ r. ⌜ pricedOf r ≡ exhaustive (deckOf deck) ⌝ }
+    ensures { λ r. ⌜ pricedOf r ≡ exhaustive (problem (deckOf deck)) ⌝ }
 {
     let area = problem::area_of(deck);
     let flags = problem::flags_of(area, sites);

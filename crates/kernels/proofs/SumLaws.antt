@@ -9,7 +9,7 @@ use native.Mathlib.Numerals.{add-one}
 use native.Mathlib.Omega.{arith}
 use borrow.Author.Tests.{lt-ltb, le-ltb}
 use lib.Dec.{T, ltb}
-use lib.ListN.{getD, take}
+use lib.ListN.{getD}
 use lib.IntN.{ℤ, pos, natAbs, _-ℤ_}
 use lib.Signed.{_≤ℤ_}
 use mir.Syntax.{w64}
@@ -24,8 +24,8 @@ use Rattle.query.specs.Range.{RectInRange, costLimit}
 use Rattle.job.specs.Format.{Result, readJob}
 use Rattle.deck.specs.declared.Deck as Held
 use Rattle.pricing.specs.Columns.{Figure, rowsOf}
-use Rattle.lines.specs.LineRecord.{linesRecord}
-use Rattle.cuts.specs.CutRecord.{rectOf, onLines, cutRecord}
+use Rattle.lines.specs.LineRecord.{linesRecord, gridOf}
+use Rattle.cuts.specs.CutRecord.{rectOf, cutRecord}
 use Rattle.cuts.specs.declared.Cut.{Cut}
 use Rattle.numbers.proofs.Words.{difference, difference-fits}
 use Rattle.deck.specs.DeckOf.{deckOf}
@@ -94,7 +94,7 @@ module _ (deck : Held.Deck) (sites : Sites) (h : Prepared deck sites) (which k :
   pub bound-sum : which ≡ 2 → Figure (sumTo (λ t. positive (boundOf (rowsOf sites) (rectAt t))) k) (100000 * costLimit) n → SumIs deck which k n
   bound-sum e fig = rw e (same-sum (boundTurn (deckOf deck)) k (λ t. ap positive (made-bound (deckOf deck) (plain-axis deck) (h .range) sites (h .sites-are) (rectAt t))) fig)
 
-  pub cut-sum : which ≡ 3 → (v u : Lines) → v ≡ linesRecord (lines (deckOf deck) x-axis) → u ≡ linesRecord (lines (deckOf deck) y-axis) → Figure (sumTo (λ t. positive (cutRecord (onLines (take (v .count) (v .at)) (take (u .count) (u .at))) (rectAt t) .at)) k) (100000 * costLimit) n → SumIs deck which k n
+  pub cut-sum : which ≡ 3 → (v u : Lines) → v ≡ linesRecord (lines (deckOf deck) x-axis) → u ≡ linesRecord (lines (deckOf deck) y-axis) → Figure (sumTo (λ t. positive (cutRecord (gridOf (v .at) (v .count) (u .at) (u .count)) (rectAt t) .at)) k) (100000 * costLimit) n → SumIs deck which k n
   cut-sum e v u a b fig = rw e (same-sum (cutTurn (deckOf deck)) k (λ t. ap (λ (c : Cut). positive (c .at)) (found-cut deck v u (rectAt t) a b)) fig)
 
   pub near-sum : which ≡ 4 → Figure (sumTo (λ t. getD (sitesRecord (sitesOf (deckOf deck)) .near) (t % 512) 0) k) (100000 * costLimit) n → SumIs deck which k n

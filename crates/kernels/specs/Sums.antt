@@ -13,7 +13,7 @@ use Rattle.query.specs.Deck.{Deck}
 use Rattle.query.specs.Cost.{cost}
 use Rattle.query.specs.Reach.{load}
 use Rattle.query.specs.Bound.{bound}
-use Rattle.query.specs.Problem.{problem}
+use Rattle.query.specs.Grid.{grid}
 use Rattle.job.specs.Format.{Result}
 use Rattle.deck.specs.Sites.{sitesOf}
 use Rattle.deck.specs.Record.{sitesRecord}
@@ -58,7 +58,7 @@ abbrev pub boundTurn : Deck → ℕ → ℕ
 boundTurn deck t = positive (bound deck (rectAt t))
 
 abbrev pub cutTurn : Deck → ℕ → ℕ
-cutTurn deck t = positive (cutRecord (problem deck) (rectAt t) .at)
+cutTurn deck t = positive (cutRecord (grid deck) (rectAt t) .at)
 
 -- the near of stop t, over and over; 0 behind the last
 abbrev pub nearTurn : Deck → ℕ → ℕ

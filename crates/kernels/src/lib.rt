@@ -4,7 +4,7 @@ use trial::opened;
 use trial::opened::Opened;
 ghost use mathlib.Core.Path.{_≡_};
 ghost use Prim.Native.Nat.{_*_, _%_, _≤_};
-ghost use lib.ListN.{getD, take};
+ghost use lib.ListN.{getD};
 ghost use Rattle.query.specs.Range.{InRange, costLimit};
 ghost use Rattle.job.specs.Format.{readJob};
 ghost use Rattle.pricing.specs.Columns.{siteRows, Figure};
@@ -12,8 +12,8 @@ ghost use Rattle.deck.specs.DeckOf.{deckOf};
 ghost use Rattle.deck.specs.Record.{sitesRecord};
 ghost use Rattle.deck.specs.Sites.{sitesOf};
 ghost use Rattle.pricing.specs.Figures.{costOf, loadOf};
-ghost use Rattle.lines.specs.LineRecord.{InOrder};
-ghost use Rattle.cuts.specs.CutRecord.{onLines, cutRecord};
+ghost use Rattle.lines.specs.LineRecord.{InOrder, gridOf};
+ghost use Rattle.cuts.specs.CutRecord.{cutRecord};
 ghost use Rattle.problem.specs.Problem.{boundOf, Sited, Prepared};
 ghost use Rattle.kernels.specs.Sums.{sumTo, Spread, placeAt, rectAt, positive, turn, kernelSum};
 
@@ -105,7 +105,7 @@ fn bounds<'a>(
 
 fn cuts(xs: &[i64; 514], nx: usize, ys: &[i64; 514], ny: usize, k: u64) -> u64
     requires { ⌜ InOrder (now xs) nx × InOrder (now ys) ny × (k ≤ 100000) ⌝ }
-    ensures { λ r. ⌜ Figure (sumTo (λ t. positive (cutRecord (onLines (take nx (now (xs .entry))) (take ny (now (ys .entry)))) (rectAt t) .at)) k) (100000 * costLimit) r ⌝ }
+    ensures { λ r. ⌜ Figure (sumTo (λ t. positive (cutRecord (gridOf (now (xs .entry)) nx (now (ys .entry)) ny) (rectAt t) .at)) k) (100000 * costLimit) r ⌝ }
 {
     let mut sum: u64 = 0;
     let mut t: u64 = 0;

@@ -1,6 +1,6 @@
 -- The lines that `find_lines` finds for a deck's stops are the deck's, and stand in order.
 -- Assumes nothing.
-use mathlib.Core.Path.{_≡_, refl, ap}
+use mathlib.Core.Path.{_≡_, refl, ap, _∙_}
 use mathlib.Core.Bool.{Bool, true, false, cond}
 use mathlib.Core.List.{List, [], _∷_, map}
 use Prim.Native.Nat.{ℕ, _+_, _-_, max, _≤_}
@@ -14,21 +14,21 @@ use Rattle.query.specs.Place.{Axis, x-axis, y-axis, coordinate, low-edge, high-
 use Rattle.query.specs.Deck.{Stop, Deck}
 use Rattle.query.specs.Reach.{reach}
 use Rattle.query.specs.Lines.{stopCoordinates, lines, gaps}
-use Rattle.query.specs.Problem.{problem}
+use Rattle.query.specs.Grid.{grid}
 use Rattle.query.proofs.LineLaws.{lines-law}
 use Rattle.numbers.specs.Padded.{padded}
-use Rattle.lines.specs.LineRecord.{InOrder, flagged, marked, linesBetween, linesRecord}
-use Rattle.lines.proofs.LineRecordLaws.{linesBetween-length, record-in-order}
+use Rattle.lines.specs.LineRecord.{InOrder, flagged, marked, linesBetween, linesRecord, gridOf}
+use Rattle.lines.specs.declared.Lines.{Lines}
+use Rattle.lines.proofs.LineRecordLaws.{linesBetween-length, record-front, record-in-order}
 use Rattle.numbers.proofs.Padded.{padded-front}
 
 -- ---- the lines of a deck
-pub problem-vertical : (deck : Deck) → problem deck .vertical ≡ lines deck x-axis
-unfolding problem
-problem-vertical deck = refl
+pub deck-front : (deck : Deck) (axis : Axis) (l : Lines) → l ≡ linesRecord (lines deck axis) → take (l .count) (l .at) ≡ lines deck axis
+deck-front deck axis l e = ap (λ (r : Lines). take (r .count) (r .at)) e ∙ record-front (lines deck axis)
 
-pub problem-horizontal : (deck : Deck) → problem deck .horizontal ≡ lines deck y-axis
-unfolding problem
-problem-horizontal deck = refl
+pub deck-grid : (deck : Deck) (v h : Lines) → v ≡ linesRecord (lines deck x-axis) → h ≡ linesRecord (lines deck y-axis) → gridOf (v .at) (v .count) (h .at) (h .count) ≡ grid deck
+unfolding grid
+deck-grid deck v h e f = λ i. record { vertical = deck-front deck x-axis v e i; horizontal = deck-front deck y-axis h f i }
 
 abbrev pub flag : Bool → ℕ
 flag b = cond b 1 0

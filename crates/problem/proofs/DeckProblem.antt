@@ -15,6 +15,7 @@ use Rattle.query.specs.Deck.{plain}
 use Rattle.query.specs.Bound.{span, bound}
 use Rattle.query.specs.Reach.{load}
 use Rattle.query.specs.Lines.{lines}
+use Rattle.query.specs.Grid.{grid}
 use Rattle.query.specs.Problem.{Problem, problem}
 use Rattle.query.specs.Range.{RectInRange, InRange}
 use Rattle.query.proofs.BoundLaws.{bound-is, cornerSum-is}
@@ -30,10 +31,9 @@ use Rattle.pricing.specs.Figures.{costOf, loadOf, flagsOf}
 use Rattle.pricing.specs.Columns.{FlagsAre, rowsOf, InColumns}
 use Rattle.pricing.proofs.SiteLaws.{cost-law, load-law, flags-law}
 use Rattle.pricing.proofs.RecordLaws.{made-rows, made-range, made-most, made-cost}
-use Rattle.lines.specs.LineRecord.{Rows, marked, linesBetween, linesRecord}
+use Rattle.lines.specs.LineRecord.{Rows, marked, linesBetween, linesRecord, gridOf}
 use Rattle.lines.specs.declared.Lines.{Lines}
-use Rattle.lines.proofs.LineRecordLaws.{record-front}
-use Rattle.lines.proofs.DeckLines.{coordinates, reached, lines-marked, lines-in-order, padded-reached}
+use Rattle.lines.proofs.DeckLines.{deck-grid, coordinates, reached, lines-marked, lines-in-order, padded-reached}
 use Rattle.slots.specs.declared.Cell.{Cell}
 use Rattle.numbers.proofs.WordTests.{back, fitting}
 use Rattle.problem.specs.Problem.{boundOf, siteProblem, Sited, Lined, rectIn, unbounded, Ranged, Reaching, Prepared}
@@ -118,14 +118,14 @@ module _ (deck : Query.Deck) (e : deck .axis ≡ plain) where
   pub made-bound : InRange deck → (sites : Sites) → sites ≡ sitesRecord (sitesOf deck) → (r : Rect) → boundOf (rowsOf sites) r ≡ bound deck r
   made-bound range sites f r = ap (λ (l : List Site). boundOf l r) (made-rows deck range sites f) ∙ bound-law r
 
-  pub deck-problem : siteProblem (sitesOf deck) (lines deck x-axis) (lines deck y-axis) (deck .area) ≡ problem deck
-  unfolding siteProblem problem
-  deck-problem = λ i. record { area = deck .area; vertical = lines deck x-axis; horizontal = lines deck y-axis; price = λ p. cost-law deck e p i; bound = λ r. bound-law r i }
+  pub deck-problem : siteProblem (sitesOf deck) (grid deck) (deck .area) ≡ problem deck
+  unfolding problem
+  deck-problem = λ i. record { area = deck .area; rules = record { grid = grid deck; price = λ p. cost-law deck e p i; bound = λ r. bound-law r i } }
 
 -- ---- a deck and its sites
 -- the problem that the code holds: the rows of its sites, and its lines
 abbrev pub codedProblem : Sites → Cell → Lines → Lines → Problem
-codedProblem sites area v h = siteProblem (rowsOf sites) (take (v .count) (v .at)) (take (h .count) (h .at)) (rectIn area)
+codedProblem sites area v h = siteProblem (rowsOf sites) (gridOf (v .at) (v .count) (h .at) (h .count)) (rectIn area)
 
 module _ (deck : Deck) (sites : Sites) (prepared : Prepared deck sites) where
   rows-are : rowsOf sites ≡ sitesOf (deckOf deck)
@@ -152,9 +152,7 @@ module _ (deck : Deck) (sites : Sites) (prepared : Prepared deck sites) where
       deck-lined = rw (ve, he) (record { across = lines-in-order (deckOf deck) x-axis (prepared .range .most-stops); deep = lines-in-order (deckOf deck) y-axis (prepared .range .most-stops) })
 
       pub coded-is : codedProblem sites area v h ≡ problem (deckOf deck)
-      coded-is =
-          (λ i. siteProblem (rows-are i) ((ap (λ (l : Lines). take (l .count) (l .at)) ve ∙ record-front (lines (deckOf deck) x-axis)) i) ((ap (λ (l : Lines). take (l .count) (l .at)) he ∙ record-front (lines (deckOf deck) y-axis)) i) (area-is i))
-          ∙ deck-problem (deckOf deck) (plain-axis deck)
+      coded-is = (λ i. siteProblem (rows-are i) (deck-grid (deckOf deck) v h ve he i) (area-is i)) ∙ deck-problem (deckOf deck) (plain-axis deck)
 
 -- what `find_lines` asks of columns that are full
 pub rows-full : (coords : List ℤ) (flags : List ℕ) (n : ℕ) → n ≤ 512 → length coords ≡ 512 → length flags ≡ 512 → Rows coords flags n

@@ -8,7 +8,8 @@ use Rattle.numbers.specs.Integer.{halfUp}
 use Rattle.query.specs.Place.{Place, Rect, NonEmpty}
 use Rattle.query.specs.Deck.{plain}
 use Rattle.query.specs.Bound.{span}
-use Rattle.query.specs.Problem.{Problem}
+use Rattle.query.specs.Grid.{Grid}
+use Rattle.query.specs.Problem.{Rules, Problem}
 use Rattle.query.specs.Order.{Priced}
 use Rattle.query.specs.Range.{RectInRange, InRange, costLimit}
 use Rattle.deck.specs.declared.Deck.{Deck}
@@ -28,10 +29,13 @@ unfoldable pub boundOf : List Site → Rect → ℤ
 unfolding costOf loadOf span halfUp
 boundOf sites r = halfUp (pos (max (costOf sites (record { x = r .xlo; y = r .ylo }) + costOf sites (record { x = r .xhi; y = r .yhi })) (costOf sites (record { x = r .xlo; y = r .yhi }) + costOf sites (record { x = r .xhi; y = r .ylo }))) -ℤ pos (span plain r * loadOf sites r))
 
--- the problem of some sites, lines and an area
-unfoldable pub siteProblem : List Site → List ℤ → List ℤ → Rect → Problem
-unfolding costOf boundOf
-siteProblem sites vertical horizontal area = record { area = area; vertical = vertical; horizontal = horizontal; price = costOf sites; bound = boundOf sites }
+-- what a round sees of some sites and lines
+abbrev pub siteRules : List Site → Grid → Rules
+siteRules sites G = record { grid = G; price = costOf sites; bound = boundOf sites }
+
+-- the problem that they make of an area
+abbrev pub siteProblem : List Site → Grid → Rect → Problem
+siteProblem sites G area = record { area = area; rules = siteRules sites G }
 
 -- columns of sites in range
 pub record Sited (xs ys : List ℤ) (vs ns : List ℕ) (n : ℕ) : Type 0 where

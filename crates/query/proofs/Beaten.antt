@@ -22,13 +22,13 @@ use Rattle.query.proofs.Invariant.{NotBetter, BestOk}
 -- a priced point of the area such that no point of the area is better
 pub record Cheapest (deck : Deck) (best : Priced) : Type 0 where
   pub ok : BestOk (problem deck) best
-  pub none-better : (p : Place) → In (deck .area) p → NotBetter (pricedAt (problem deck) p) best
+  pub none-better : (p : Place) → In (deck .area) p → NotBetter (pricedAt (problem deck .rules) p) best
 
 module _ (deck : Deck) where
   -- a place that is not better than another is it, or is beaten by it
-  beaten : (best p : Place) → T (not (better (pricedAt (problem deck) p) (pricedAt (problem deck) best))) → p ≢ best → Beaten deck best p
+  beaten : (best p : Place) → T (not (better (pricedAt (problem deck .rules) p) (pricedAt (problem deck .rules) best))) → p ≢ best → Beaten deck best p
   unfolding problem
-  beaten best p t apart = ⊎-elim (λ more. costs-more (ltb→lt (cost deck best) (cost deck p) more)) (λ same. further (omega (arith, nltb→le, not-better-cost (pricedAt (problem deck) p) (pricedAt (problem deck) best) t))) (test (ltb (cost deck best) (cost deck p)))
+  beaten best p t apart = ⊎-elim (λ more. costs-more (ltb→lt (cost deck best) (cost deck p) more)) (λ same. further (omega (arith, nltb→le, not-better-cost (pricedAt (problem deck .rules) p) (pricedAt (problem deck .rules) best) t))) (test (ltb (cost deck best) (cost deck p)))
     where
       behind : (same : cost deck p ≡ cost deck best) → best .x ≤ℤ p .x → (p .x ≡ best .x → best .y ≤ℤ p .y) → Beaten deck best p
       behind same h k =
@@ -37,14 +37,14 @@ module _ (deck : Deck) where
           (test (ltZ (best .x) (p .x)))
 
       further : cost deck p ≡ cost deck best → Beaten deck best p
-      further same = let late = not-better-earlier (pricedAt (problem deck) p) (pricedAt (problem deck) best) t same in behind same (not-earlier-x p best late) (not-earlier-y p best late)
+      further same = let late = not-better-earlier (pricedAt (problem deck .rules) p) (pricedAt (problem deck .rules) best) t same in behind same (not-earlier-x p best late) (not-earlier-y p best late)
 
   pub best-costs : (best : Priced) → BestOk (problem deck) best → cost deck (best .at) ≡ best .cost
   unfolding problem
   best-costs best ok = sym (ap (λ (b : Priced). b .cost) (ok .is))
 
   pub cheapest-beats : (best : Priced) → Cheapest deck best → (p : Place) → In (deck .area) p → p ≢ best .at → Beaten deck (best .at) p
-  cheapest-beats best c p h apart = beaten (best .at) p (subst (NotBetter (pricedAt (problem deck) p)) (c .ok .is) (c .none-better p h)) apart
+  cheapest-beats best c p h apart = beaten (best .at) p (subst (NotBetter (pricedAt (problem deck .rules) p)) (c .ok .is) (c .none-better p h)) apart
 
   pub cheapest-only : (p q : Priced) → Cheapest deck p → Cheapest deck q → p ≡ q
   unfolding problem

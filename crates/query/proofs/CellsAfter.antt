@@ -7,50 +7,51 @@ use lib.IntN.{ℤ}
 use Rattle.numbers.specs.Lists.{insertBy}
 use Rattle.numbers.proofs.Members.{insertBy-cases, insertBy-new, insertBy-old}
 use Rattle.query.specs.Place.{Place, Rect, In, Axis}
-use Rattle.query.specs.Problem.{Problem}
+use Rattle.query.specs.Grid.{Grid}
+use Rattle.query.specs.Problem.{Rules}
 use Rattle.query.specs.Cut.{cutLine, cutBefore, cutAfter}
 use Rattle.query.specs.Order.{Cell, cellBefore}
 use Rattle.query.specs.Search.{cellOf, cellsAfter}
 use Rattle.query.proofs.Split.{parts, split-point}
 
 -- the axis and the line of a cell's cut, and its parts
-abbrev pub axisOf : Problem → Cell → Axis
-axisOf P c = cutLine P (c .rect) .axis
+abbrev pub axisOf : Grid → Cell → Axis
+axisOf G c = cutLine G (c .rect) .axis
 
-abbrev pub lineOf : Problem → Cell → ℤ
-lineOf P c = cutLine P (c .rect) .at
+abbrev pub lineOf : Grid → Cell → ℤ
+lineOf G c = cutLine G (c .rect) .at
 
-abbrev pub firstOf : Problem → Cell → Rect
-firstOf P c = cutBefore (axisOf P c) (lineOf P c) (c .rect)
+abbrev pub firstOf : Grid → Cell → Rect
+firstOf G c = cutBefore (axisOf G c) (lineOf G c) (c .rect)
 
-abbrev pub secondOf : Problem → Cell → Rect
-secondOf P c = cutAfter (axisOf P c) (lineOf P c) (c .rect)
+abbrev pub secondOf : Grid → Cell → Rect
+secondOf G c = cutAfter (axisOf G c) (lineOf G c) (c .rect)
 
 -- p is in one of some cells
 abbrev pub Within : Place → List Cell → Type 0
 Within p cells = (c : Cell) × List·Memᴰ c cells × In (c .rect) p
 
-module _ (P : Problem) (c : Cell) (others : List Cell) where
-  pub after-is : cellsAfter P c others ≡ insertBy cellBefore (cellOf P (firstOf P c)) (insertBy cellBefore (cellOf P (secondOf P c)) others)
+module _ (R : Rules) (c : Cell) (others : List Cell) where
+  pub after-is : cellsAfter R c others ≡ insertBy cellBefore (cellOf R (firstOf (R .grid) c)) (insertBy cellBefore (cellOf R (secondOf (R .grid) c)) others)
   unfolding cellsAfter
   after-is = refl
 
-  pub after-cases : (d : Cell) → List·Memᴰ d (cellsAfter P c others) → (d ≡ cellOf P (firstOf P c)) ⊎ ((d ≡ cellOf P (secondOf P c)) ⊎ List·Memᴰ d others)
+  pub after-cases : (d : Cell) → List·Memᴰ d (cellsAfter R c others) → (d ≡ cellOf R (firstOf (R .grid) c)) ⊎ ((d ≡ cellOf R (secondOf (R .grid) c)) ⊎ List·Memᴰ d others)
   unfolding cellsAfter
-  after-cases d m = ⊎-elim inl (λ n. inr (insertBy-cases cellBefore (cellOf P (secondOf P c)) others n)) (insertBy-cases cellBefore (cellOf P (firstOf P c)) (insertBy cellBefore (cellOf P (secondOf P c)) others) m)
+  after-cases d m = ⊎-elim inl (λ n. inr (insertBy-cases cellBefore (cellOf R (secondOf (R .grid) c)) others n)) (insertBy-cases cellBefore (cellOf R (firstOf (R .grid) c)) (insertBy cellBefore (cellOf R (secondOf (R .grid) c)) others) m)
 
   -- a point of the cells before is in one of the cells after
-  pub after-within : (p : Place) → Within p (c ∷ others) → Within p (cellsAfter P c others)
+  pub after-within : (p : Place) → Within p (c ∷ others) → Within p (cellsAfter R c others)
   unfolding cellsAfter
   after-within p w = from (w .0) (w .1) (w .2)
     where
-      behind : (d : Cell) → List·Memᴰ d (insertBy cellBefore (cellOf P (secondOf P c)) others) → List·Memᴰ d (cellsAfter P c others)
-      behind d m = insertBy-old cellBefore (cellOf P (firstOf P c)) (insertBy cellBefore (cellOf P (secondOf P c)) others) m
+      behind : (d : Cell) → List·Memᴰ d (insertBy cellBefore (cellOf R (secondOf (R .grid) c)) others) → List·Memᴰ d (cellsAfter R c others)
+      behind d m = insertBy-old cellBefore (cellOf R (firstOf (R .grid) c)) (insertBy cellBefore (cellOf R (secondOf (R .grid) c)) others) m
 
-      in-part : In (firstOf P c) p ⊎ In (secondOf P c) p → Within p (cellsAfter P c others)
-      in-part (inl k) = (cellOf P (firstOf P c), insertBy-new cellBefore (cellOf P (firstOf P c)) (insertBy cellBefore (cellOf P (secondOf P c)) others), k)
-      in-part (inr k) = (cellOf P (secondOf P c), behind (cellOf P (secondOf P c)) (insertBy-new cellBefore (cellOf P (secondOf P c)) others), k)
+      in-part : In (firstOf (R .grid) c) p ⊎ In (secondOf (R .grid) c) p → Within p (cellsAfter R c others)
+      in-part (inl k) = (cellOf R (firstOf (R .grid) c), insertBy-new cellBefore (cellOf R (firstOf (R .grid) c)) (insertBy cellBefore (cellOf R (secondOf (R .grid) c)) others), k)
+      in-part (inr k) = (cellOf R (secondOf (R .grid) c), behind (cellOf R (secondOf (R .grid) c)) (insertBy-new cellBefore (cellOf R (secondOf (R .grid) c)) others), k)
 
-      from : (d : Cell) → List·Memᴰ d (c ∷ others) → In (d .rect) p → Within p (cellsAfter P c others)
-      from d (List·Memᴰ·head e) k = in-part (split-point (axisOf P c) (lineOf P c) (c .rect) (firstOf P c) (secondOf P c) (parts (axisOf P c) (lineOf P c) (c .rect)) p (subst (λ (d : Cell). In (d .rect) p) e k))
-      from d (List·Memᴰ·tail m) k = (d, behind d (insertBy-old cellBefore (cellOf P (secondOf P c)) others m), k)
+      from : (d : Cell) → List·Memᴰ d (c ∷ others) → In (d .rect) p → Within p (cellsAfter R c others)
+      from d (List·Memᴰ·head e) k = in-part (split-point (axisOf (R .grid) c) (lineOf (R .grid) c) (c .rect) (firstOf (R .grid) c) (secondOf (R .grid) c) (parts (axisOf (R .grid) c) (lineOf (R .grid) c) (c .rect)) p (subst (λ (d : Cell). In (d .rect) p) e k))
+      from d (List·Memᴰ·tail m) k = (d, behind d (insertBy-old cellBefore (cellOf R (secondOf (R .grid) c)) others m), k)

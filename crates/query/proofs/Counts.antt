@@ -2,28 +2,35 @@
 -- n + 1 live cells, and its count is that of its cuts.
 -- Assumes nothing.
 use mathlib.Core.Path.{_≡_, refl, ap, subst, _∙_}
-use mathlib.Core.List.{List, [], _∷_}
+use mathlib.Core.List.{List, [], _∷_, map}
 use Prim.Native.Nat.{ℕ, zero, suc, _+_, _≤_}
 use native.Mathlib.Omega.{arith}
 use lib.Dec.{T}
-use lib.ListN.{length, length-append}
+use lib.ListN.{length, length-append, take}
 use Rattle.numbers.specs.Lists.{nonEmpty}
 use Rattle.numbers.proofs.Members.{insertBy-length, keep-length}
-use Rattle.query.specs.Problem.{Problem}
+use Rattle.query.specs.Grid.{Grid}
+use Rattle.query.specs.Problem.{Rules, Problem}
 use Rattle.query.specs.Order.{Cell}
 use Rattle.query.specs.Search.{Search, isLive, cellOf, startBest, start, cellsAfter, bestAfter, roundOn, round, run}
-use Rattle.query.specs.History.{cutOf, cutsMade}
+use Rattle.query.specs.History.{cellCut, cutsMade}
 use Rattle.query.specs.Laws.{RoundLaw}
 use Rattle.query.proofs.CellsAfter.{after-is}
 
 module _ (P : Problem) where
+  abbrev G : Grid
+  G = P .rules .grid
+
+  abbrev R : Rules
+  R = P .rules
+
   -- a run that still has a live cell has made a cut in each of its rounds
-  round-live : (s : Search) (live : List Cell) → s .live ≡ live → T (nonEmpty (roundOn P s live .live)) → T (nonEmpty live)
+  round-live : (s : Search) (live : List Cell) → s .live ≡ live → T (nonEmpty (roundOn R s live .live)) → T (nonEmpty live)
   unfolding roundOn
   round-live s [] e t = subst (λ (l : List Cell). T (nonEmpty l)) e t
   round-live s (c ∷ others) e t = tt
 
-  round-cuts : (s : Search) (live : List Cell) → T (nonEmpty live) → roundOn P s live .cuts ≡ suc (s .cuts)
+  round-cuts : (s : Search) (live : List Cell) → T (nonEmpty live) → roundOn R s live .cuts ≡ suc (s .cuts)
   unfolding roundOn
   round-cuts s [] t = absurd t
   round-cuts s (c ∷ others) t = refl
@@ -34,12 +41,12 @@ module _ (P : Problem) where
   live-cuts (suc n) t = let u = round-live (run P n) (run P n .live) refl t in round-cuts (run P n) (run P n .live) u ∙ ap suc (live-cuts n u)
 
   -- a round makes one cut exactly if some cell is live
-  round-live-cuts : (s : Search) (live : List Cell) → roundOn P s live .cuts ≡ suc (s .cuts) → T (nonEmpty live)
+  round-live-cuts : (s : Search) (live : List Cell) → roundOn R s live .cuts ≡ suc (s .cuts) → T (nonEmpty live)
   unfolding roundOn
   round-live-cuts s [] e = absurd (omega arith)
   round-live-cuts s (c ∷ others) e = tt
 
-  no-round : (s : Search) (live : List Cell) → live ≡ [] → roundOn P s live ≡ s
+  no-round : (s : Search) (live : List Cell) → live ≡ [] → roundOn R s live ≡ s
   unfolding roundOn
   no-round s [] e = refl
   no-round s (c ∷ others) e = cc
@@ -49,32 +56,32 @@ module _ (P : Problem) where
   round-law n = record { one-cut = (round-cuts (run P n) (run P n .live), round-live-cuts (run P n) (run P n .live)); no-cut = no-round (run P n) (run P n .live) }
 
   -- at most one live cell more than there were cuts, so at most n + 1 after n rounds
-  after-length : (c : Cell) (others : List Cell) → length (cellsAfter P c others) ≡ suc (suc (length others))
-  after-length c others = rw (after-is P c others, insertBy-length, insertBy-length)
+  after-length : (c : Cell) (others : List Cell) → length (cellsAfter R c others) ≡ suc (suc (length others))
+  after-length c others = rw (after-is R c others, insertBy-length, insertBy-length)
 
-  round-length : (s : Search) (live : List Cell) → s .live ≡ live → length (roundOn P s live .live) ≤ suc (length live)
+  round-length : (s : Search) (live : List Cell) → s .live ≡ live → length (roundOn R s live .live) ≤ suc (length live)
   unfolding roundOn
   round-length s [] e = rw e (omega arith)
-  round-length s (c ∷ others) e = omega (arith, after-length c others, keep-length (isLive P (bestAfter P (s .best) c)) (cellsAfter P c others))
+  round-length s (c ∷ others) e = omega (arith, after-length c others, keep-length (isLive G (bestAfter R (s .best) c)) (cellsAfter R c others))
 
   pub live-count : (n : ℕ) → length (run P n .live) ≤ n + 1
   unfolding run round start
-  live-count zero = keep-length (isLive P (startBest P)) (cellOf P (P .area) ∷ [])
+  live-count zero = keep-length (isLive G (startBest P)) (cellOf R (P .area) ∷ [])
   live-count (suc n) = omega (arith, live-count n, round-length (run P n) (run P n .live) refl)
 
   -- the count is that of the cuts
-  round-made : (s : Search) (live : List Cell) → roundOn P s live .cuts ≡ s .cuts + length (cutOf P live)
-  unfolding roundOn cutOf
+  round-made : (s : Search) (live : List Cell) → roundOn R s live .cuts ≡ s .cuts + length (map (cellCut G) (take 1 live))
+  unfolding roundOn
   round-made s [] = omega arith
   round-made s (c ∷ others) = omega arith
 
   pub cuts-made : (n : ℕ) → run P n .cuts ≡ length (cutsMade P n)
   unfolding run round start cutsMade
   cuts-made zero = refl
-  cuts-made (suc n) = omega (arith, cuts-made n, round-made (run P n) (run P n .live), length-append (cutsMade P n) (cutOf P (run P n .live)))
+  cuts-made (suc n) = omega (arith, cuts-made n, round-made (run P n) (run P n .live), length-append (cutsMade P n) (map (cellCut G) (take 1 (run P n .live))))
 
   -- at most a cut a round
-  round-most : (s : Search) (live : List Cell) → roundOn P s live .cuts ≤ suc (s .cuts)
+  round-most : (s : Search) (live : List Cell) → roundOn R s live .cuts ≤ suc (s .cuts)
   unfolding roundOn
   round-most s [] = omega arith
   round-most s (c ∷ others) = omega arith

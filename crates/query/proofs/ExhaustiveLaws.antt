@@ -7,11 +7,12 @@ use lib.IntN.{ℤ}
 use Rattle.numbers.proofs.Members.{flatMap-member, flatMap-from}
 use Rattle.query.specs.Place.{Place, In, NonEmpty, x-axis, y-axis, coordinate, corner}
 use Rattle.query.specs.Deck.{Deck}
-use Rattle.query.specs.Problem.{Problem, problem, linesAlong}
+use Rattle.query.specs.Grid.{Grid, linesAlong, grid}
+use Rattle.query.specs.Problem.{Problem, problem}
 use Rattle.query.specs.Order.{Priced}
 use Rattle.query.specs.Search.{pricedAt, run}
 use Rattle.query.specs.Figures.{figures, figuresOf, done}
-use Rattle.query.specs.Exhaustive.{crossings, cheapestCrossing, exhaustive}
+use Rattle.query.specs.Exhaustive.{crossings, exhaustive}
 use Rattle.query.specs.ExhaustiveLaw.{ExhaustiveLaw}
 use Rattle.query.proofs.Axes.{for-both, along-in}
 use Rattle.query.proofs.LineLaws.{lines-along, lines-range}
@@ -27,44 +28,44 @@ use Rattle.query.proofs.Demand3.{lawful, done-cheapest, demand-3}
 abbrev at : ℤ → ℤ → Place
 at v h = record { x = v; y = h }
 
-pub crossings-on : (P : Problem) (p : Place) → List·Memᴰ p (crossings P) → OnLines P p
+pub crossings-on : (G : Grid) (p : Place) → List·Memᴰ p (crossings G) → OnLines G p
 unfolding crossings
-crossings-on P p m =
-    let (v, on-v, n) = flatMap-from (λ v. map (at v) (P .horizontal)) (P .vertical) m in
-    let (h, on-h, e) = Memᴰ·of-map (at v) (P .horizontal) n in
-    for-both (λ axis. List·Memᴰ (coordinate axis p) (linesAlong P axis)) (Memᴰ·cast (ap (λ (q : Place). q .x) (sym e)) on-v) (Memᴰ·cast (ap (λ (q : Place). q .y) (sym e)) on-h)
+crossings-on G p m =
+    let (v, on-v, n) = flatMap-from (λ v. map (at v) (G .horizontal)) (G .vertical) m in
+    let (h, on-h, e) = Memᴰ·of-map (at v) (G .horizontal) n in
+    for-both (λ axis. List·Memᴰ (coordinate axis p) (linesAlong G axis)) (Memᴰ·cast (ap (λ (q : Place). q .x) (sym e)) on-v) (Memᴰ·cast (ap (λ (q : Place). q .y) (sym e)) on-h)
 
-pub on-crossings : (P : Problem) (p : Place) → OnLines P p → List·Memᴰ p (crossings P)
+pub on-crossings : (G : Grid) (p : Place) → OnLines G p → List·Memᴰ p (crossings G)
 unfolding crossings
-on-crossings P p on = flatMap-member (λ v. map (at v) (P .horizontal)) (P .vertical) (on x-axis) (Memᴰ·map (at (p .x)) (on y-axis))
+on-crossings G p on = flatMap-member (λ v. map (at v) (G .horizontal)) (G .vertical) (on x-axis) (Memᴰ·map (at (p .x)) (on y-axis))
 
 module _ (deck : Deck) (full : NonEmpty (deck .area)) where
-  crossing-in : (p : Place) → OnLines (problem deck) p → In (deck .area) p
+  crossing-in : (p : Place) → OnLines (grid deck) p → In (deck .area) p
   crossing-in p on = along-in (deck .area) p (λ axis. lines-range deck axis full (coordinate axis p) (subst (List·Memᴰ (coordinate axis p)) (lines-along deck axis) (on axis)))
 
   -- no crossing is better than the cheapest, and for each point some crossing is as good
-  pub exhaustive-cheapest : Cheapest deck (exhaustive deck)
-  unfolding problem exhaustive cheapestCrossing
+  pub exhaustive-cheapest : Cheapest deck (exhaustive (problem deck))
+  unfolding problem exhaustive
   exhaustive-cheapest = record {
-    ok = best-of-ok P (lawful deck full) (cut-law P) first (crossings P) (first-ok P (lawful deck full) (cut-law P)) (λ p m. (crossing-in p (crossings-on P p m), crossings-on P p m));
-    none-better = λ p h. let (q, within, on, as-good) = lawful deck full .crossing p h in better-strict .chain (exhaustive deck) (pricedAt P q) (pricedAt P p) (bestOf-new P first (crossings P) q (on-crossings P q on)) as-good;
+    ok = best-of-ok P (lawful deck full) (cut-law (P .rules .grid)) first (crossings (P .rules .grid)) (first-ok P (lawful deck full) (cut-law (P .rules .grid))) (λ p m. (crossing-in p (crossings-on (P .rules .grid) p m), crossings-on (P .rules .grid) p m));
+    none-better = λ p h. let (q, within, on, as-good) = lawful deck full .crossing p h in better-strict .chain (exhaustive (problem deck)) (pricedAt (P .rules) q) (pricedAt (P .rules) p) (bestOf-new (P .rules) first (crossings (P .rules .grid)) q (on-crossings (P .rules .grid) q on)) as-good;
   }
     where
       P : Problem
       P = problem deck
 
       first : Priced
-      first = pricedAt P (corner (P .area))
+      first = pricedAt (P .rules) (corner (P .area))
 
   pub exhaustive-law : ExhaustiveLaw deck
   unfolding figures figuresOf
   exhaustive-law = record {
     in-area = exhaustive-cheapest .ok .inside;
-    costs = best-costs deck (exhaustive deck) (exhaustive-cheapest .ok);
-    best = cheapest-beats deck (exhaustive deck) exhaustive-cheapest;
+    costs = best-costs deck (exhaustive (problem deck)) (exhaustive-cheapest .ok);
+    best = cheapest-beats deck (exhaustive (problem deck)) exhaustive-cheapest;
     done-place = λ n e. ap (λ (b : Priced). b .at) (same n e);
     done-cost = λ n e. ap (λ (b : Priced). b .cost) (same n e);
   }
     where
-      same : (n : ℕ) → figures deck n .state ≡ done → run (problem deck) n .best ≡ exhaustive deck
-      same n e = cheapest-only deck (run (problem deck) n .best) (exhaustive deck) (done-cheapest deck full n (demand-3 deck full n .done-exactly .0 e)) exhaustive-cheapest
+      same : (n : ℕ) → figures deck n .state ≡ done → run (problem deck) n .best ≡ exhaustive (problem deck)
+      same n e = cheapest-only deck (run (problem deck) n .best) (exhaustive (problem deck)) (done-cheapest deck full n (demand-3 deck full n .done-exactly .0 e)) exhaustive-cheapest

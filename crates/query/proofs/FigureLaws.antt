@@ -13,7 +13,8 @@ use Rattle.numbers.proofs.Integer.{order}
 use Rattle.numbers.proofs.Members.{keep-from, least-member, least-le}
 use Rattle.numbers.proofs.Orders.{ltZ-strict}
 use Rattle.query.specs.Place.{Place, Rect, In, NonEmpty}
-use Rattle.query.specs.Problem.{Problem}
+use Rattle.query.specs.Grid.{Grid}
+use Rattle.query.specs.Problem.{Rules, Problem}
 use Rattle.query.specs.Order.{Priced, Cell, better}
 use Rattle.query.specs.Search.{Search, isLive, pricedAt, cellsAfter, bestAfter, roundOn}
 use Rattle.query.specs.Figures.{high, low}
@@ -42,60 +43,66 @@ le-low s z h k = go (low s) (least-member ltZ ltZ-strict (pos (high s)) (map (λ
     go l (List·Memᴰ·head e) = omega (arith, order)
     go l (List·Memᴰ·tail m) = let w = Memᴰ·of-map (λ (c : Cell). c .bound) (s .live) m in subst (λ (y : ℤ). z ≤ℤ y) (w .2) (k (w .0) (w .1))
 
-module _ (P : Problem) (lawful : Lawful P) (cut-law : (r : Rect) → CutLaw P r) where
+module _ (P : Problem) (lawful : Lawful P) (cut-law : (r : Rect) → CutLaw (P .rules .grid) r) where
+  abbrev G : Grid
+  G = P .rules .grid
+
+  abbrev R : Rules
+  R = P .rules
+
   -- ---- each point of the area costs at least low
-  pub low-le-cost : (s : Search) → Ok P (s .best) (s .live) → (p : Place) → In (P .area) p → low s ≤ℤ pos (P .price p)
+  pub low-le-cost : (s : Search) → Ok P (s .best) (s .live) → (p : Place) → In (P .area) p → low s ≤ℤ pos (R .price p)
   low-le-cost s ok p h = go (lawful .crossing p h)
     where
-      go : ((q : Place) × In (P .area) q × OnLines P q × T (not (better (pricedAt P p) (pricedAt P q)))) → low s ≤ℤ pos (P .price p)
-      go w = let cheaper = not-better-cost (pricedAt P p) (pricedAt P (w .0)) (w .3) in
+      go : ((q : Place) × In (P .area) q × OnLines G q × T (not (better (pricedAt R p) (pricedAt R q)))) → low s ≤ℤ pos (R .price p)
+      go w = let cheaper = not-better-cost (pricedAt R p) (pricedAt R (w .0)) (w .3) in
           ⊎-elim
-          (λ k. omega (arith, order, low-le-high s, not-better-cost (pricedAt P (w .0)) (s .best) k))
+          (λ k. omega (arith, order, low-le-high s, not-better-cost (pricedAt R (w .0)) (s .best) k))
           (λ v. omega (arith, order, low-le-bound s (v .0) (v .1), ok .cells (v .0) (v .1) .bound-is, lawful .below (v .0 .rect) (w .0) (v .2)))
           (ok .cover (w .0) (w .1) (w .2))
 
   -- ---- one more round
   module _ (s : Search) (c : Cell) (others : List Cell) (live : s .live ≡ c ∷ others) (ok : Ok P (s .best) (c ∷ others)) where
-    low-le-taken : low s ≤ℤ P .bound (c .rect)
+    low-le-taken : low s ≤ℤ R .bound (c .rect)
     low-le-taken = subst (λ (z : ℤ). low s ≤ℤ z) (ok .cells c (List·Memᴰ·head refl) .bound-is) (low-le-bound s c (subst (List·Memᴰ c) (sym live) (List·Memᴰ·head refl)))
 
-    low-le-part : (q : Rect) → PartOf (axisOf P c) (lineOf P c) (c .rect) q → low s ≤ℤ P .bound q
-    low-le-part q part = omega (arith, order, low-le-taken, lawful .part (c .rect) q (part-nonEmpty (axisOf P c) (lineOf P c) (c .rect) (cut .above) (cut .below) q part full) (part-low-in (axisOf P c) (lineOf P c) (c .rect) (cut .above) (cut .below) q part full) (part-high-in (axisOf P c) (lineOf P c) (c .rect) (cut .above) (cut .below) q part full))
+    low-le-part : (q : Rect) → PartOf (axisOf G c) (lineOf G c) (c .rect) q → low s ≤ℤ R .bound q
+    low-le-part q part = omega (arith, order, low-le-taken, lawful .part (c .rect) q (part-nonEmpty (axisOf G c) (lineOf G c) (c .rect) (cut .above) (cut .below) q part full) (part-low-in (axisOf G c) (lineOf G c) (c .rect) (cut .above) (cut .below) q part full) (part-high-in (axisOf G c) (lineOf G c) (c .rect) (cut .above) (cut .below) q part full))
       where
-        cut : Inside P (axisOf P c) (c .rect) (lineOf P c)
+        cut : Inside G (axisOf G c) (c .rect) (lineOf G c)
         cut = taken-cut P lawful cut-law (s .best) c others ok .is-inside
 
         full : NonEmpty (c .rect)
         full = ok .cells c (List·Memᴰ·head refl) .full
 
     -- each cell after the cut has a bound of at least low
-    low-le-after : (d : Cell) → List·Memᴰ d (cellsAfter P c others) → low s ≤ℤ d .bound
+    low-le-after : (d : Cell) → List·Memᴰ d (cellsAfter R c others) → low s ≤ℤ d .bound
     low-le-after d m =
-        ⊎-elim (λ e. subst (λ (d : Cell). low s ≤ℤ d .bound) (sym e) (low-le-part (firstOf P c) (is-first-part P lawful cut-law (s .best) c others ok)))
-        (⊎-elim (λ e. subst (λ (d : Cell). low s ≤ℤ d .bound) (sym e) (low-le-part (secondOf P c) (is-second-part P lawful cut-law (s .best) c others ok)))
+        ⊎-elim (λ e. subst (λ (d : Cell). low s ≤ℤ d .bound) (sym e) (low-le-part (firstOf G c) (is-first-part P lawful cut-law (s .best) c others ok)))
+        (⊎-elim (λ e. subst (λ (d : Cell). low s ≤ℤ d .bound) (sym e) (low-le-part (secondOf G c) (is-second-part P lawful cut-law (s .best) c others ok)))
         (λ n. low-le-bound s d (subst (List·Memᴰ d) (sym live) (List·Memᴰ·tail n))))
-        (after-cases P c others d m)
+        (after-cases R c others d m)
 
-    low-le-best : low s ≤ℤ pos (bestAfter P (s .best) c .cost)
+    low-le-best : low s ≤ℤ pos (bestAfter R (s .best) c .cost)
     low-le-best =
         ⊎-elim (λ e. subst (λ (b : Priced). low s ≤ℤ pos (b .cost)) (sym e) (low-le-high s))
         (λ w. subst (λ (b : Priced). low s ≤ℤ pos (b .cost)) (w .2) (omega (arith, order, low-le-taken, lawful .below (c .rect) (w .0) (w .1))))
         (best-from P lawful cut-law (s .best) c others ok)
 
-  pub low-rises : (s : Search) (live : List Cell) → s .live ≡ live → Ok P (s .best) live → low s ≤ℤ low (roundOn P s live)
+  pub low-rises : (s : Search) (live : List Cell) → s .live ≡ live → Ok P (s .best) live → low s ≤ℤ low (roundOn R s live)
   unfolding roundOn
   low-rises s [] e ok = omega (arith, order)
-  low-rises s (c ∷ others) e ok = le-low (roundOn P s (c ∷ others)) (low s) (low-le-best s c others e ok) (λ d m. low-le-after s c others e ok d (keep-from (isLive P (bestAfter P (s .best) c)) (cellsAfter P c others) m))
+  low-rises s (c ∷ others) e ok = le-low (roundOn R s (c ∷ others)) (low s) (low-le-best s c others e ok) (λ d m. low-le-after s c others e ok d (keep-from (isLive G (bestAfter R (s .best) c)) (cellsAfter R c others) m))
 
-  pub high-falls : (s : Search) (live : List Cell) → Ok P (s .best) live → high (roundOn P s live) ≤ high s
+  pub high-falls : (s : Search) (live : List Cell) → Ok P (s .best) live → high (roundOn R s live) ≤ high s
   unfolding roundOn
   high-falls s [] ok = omega arith
-  high-falls s (c ∷ others) ok = not-better-cost (s .best) (bestAfter P (s .best) c) (best-kept P lawful cut-law (s .best) c others ok)
+  high-falls s (c ∷ others) ok = not-better-cost (s .best) (bestAfter R (s .best) c) (best-kept P lawful cut-law (s .best) c others ok)
 
   -- ---- a finished search
   -- where no cell is live, no point of the area is better than the best
-  pub done-best : (s : Search) → Ok P (s .best) (s .live) → s .live ≡ [] → (p : Place) → In (P .area) p → NotBetter (pricedAt P p) (s .best)
+  pub done-best : (s : Search) → Ok P (s .best) (s .live) → s .live ≡ [] → (p : Place) → In (P .area) p → NotBetter (pricedAt R p) (s .best)
   done-best s ok e p h = go (lawful .crossing p h)
     where
-      go : ((q : Place) × In (P .area) q × OnLines P q × T (not (better (pricedAt P p) (pricedAt P q)))) → NotBetter (pricedAt P p) (s .best)
-      go w = better-strict .chain (s .best) (pricedAt P (w .0)) (pricedAt P p) (⊎-elim (λ k. k) (λ v. absurd (List·Memᴰ·not-nil (subst (List·Memᴰ (v .0)) e (v .1)))) (ok .cover (w .0) (w .1) (w .2))) (w .3)
+      go : ((q : Place) × In (P .area) q × OnLines G q × T (not (better (pricedAt R p) (pricedAt R q)))) → NotBetter (pricedAt R p) (s .best)
+      go w = better-strict .chain (s .best) (pricedAt R (w .0)) (pricedAt R p) (⊎-elim (λ k. k) (λ v. absurd (List·Memᴰ·not-nil (subst (List·Memᴰ (v .0)) e (v .1)))) (ok .cover (w .0) (w .1) (w .2))) (w .3)

@@ -32,7 +32,7 @@ point-in-range r p h i = record { x-range = within-range 20000 (r .xlo) (p .x) (
 
 module _ (deck : Deck) (range : InRange deck) (full : NonEmpty (deck .area)) where
   ok : (n : ℕ) → Ok (problem deck) (run (problem deck) n .best) (run (problem deck) n .live)
-  ok n = run-ok (problem deck) (lawful deck full) (cut-law (problem deck)) n
+  ok n = run-ok (problem deck) (lawful deck full) (cut-law (problem deck .rules .grid)) n
 
   cell-in-range : (n : ℕ) (c : Cell) → List·Memᴰ c (run (problem deck) n .live) → RectInRange (c .rect)
   unfolding problem

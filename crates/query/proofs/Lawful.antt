@@ -7,22 +7,23 @@ use lib.Dec.{T}
 use lib.IntN.{pos}
 use lib.Signed.{_≤ℤ_, _<ℤ_}
 use Rattle.query.specs.Place.{Place, Rect, In, NonEmpty, Axis, coordinate, low-edge, high-edge}
-use Rattle.query.specs.Problem.{Problem, linesAlong}
+use Rattle.query.specs.Grid.{Grid, linesAlong}
+use Rattle.query.specs.Problem.{Problem}
 use Rattle.query.specs.Order.{better}
 use Rattle.query.specs.Search.{pricedAt}
 
 -- q is a crossing of lines
-abbrev pub OnLines : Problem → Place → Type 0
-OnLines P q = (axis : Axis) → List·Memᴰ (coordinate axis q) (linesAlong P axis)
+abbrev pub OnLines : Grid → Place → Type 0
+OnLines G q = (axis : Axis) → List·Memᴰ (coordinate axis q) (linesAlong G axis)
 
 pub record Lawful (P : Problem) : Type 0 where
   pub nonEmpty : NonEmpty (P .area)
-  pub low-line : (axis : Axis) → List·Memᴰ (low-edge axis (P .area)) (linesAlong P axis)
-  pub high-line : (axis : Axis) → List·Memᴰ (high-edge axis (P .area)) (linesAlong P axis)
-  pub increasing : (axis : Axis) → Pairwise _<ℤ_ (linesAlong P axis)
+  pub low-line : (axis : Axis) → List·Memᴰ (low-edge axis (P .area)) (linesAlong (P .rules .grid) axis)
+  pub high-line : (axis : Axis) → List·Memᴰ (high-edge axis (P .area)) (linesAlong (P .rules .grid) axis)
+  pub increasing : (axis : Axis) → Pairwise _<ℤ_ (linesAlong (P .rules .grid) axis)
   -- the bound of a cell is at most the cost of each of its points
-  pub below : (r : Rect) (p : Place) → In r p → P .bound r ≤ℤ pos (P .price p)
+  pub below : (r : Rect) (p : Place) → In r p → P .rules .bound r ≤ℤ pos (P .rules .price p)
   -- and at most the bound of each of its parts
-  pub part : (r q : Rect) → NonEmpty q → In r (record { x = q .xlo; y = q .ylo }) → In r (record { x = q .xhi; y = q .yhi }) → P .bound r ≤ℤ P .bound q
+  pub part : (r q : Rect) → NonEmpty q → In r (record { x = q .xlo; y = q .ylo }) → In r (record { x = q .xhi; y = q .yhi }) → P .rules .bound r ≤ℤ P .rules .bound q
   -- for each point of the area there is a crossing in it that is cheaper, or costs the same and is not later
-  pub crossing : (p : Place) → In (P .area) p → (q : Place) × In (P .area) q × OnLines P q × T (not (better (pricedAt P p) (pricedAt P q)))
+  pub crossing : (p : Place) → In (P .area) p → (q : Place) × In (P .area) q × OnLines (P .rules .grid) q × T (not (better (pricedAt (P .rules) p) (pricedAt (P .rules) q)))

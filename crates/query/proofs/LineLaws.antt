@@ -17,13 +17,13 @@ use Rattle.query.specs.Place.{NonEmpty, Axis, x-axis, y-axis, coordinate
 use Rattle.query.specs.Deck.{Stop, Deck}
 use Rattle.query.specs.Reach.{reach}
 use Rattle.query.specs.Lines.{stopCoordinates, lines, gaps}
-use Rattle.query.specs.Problem.{problem, linesAlong}
+use Rattle.query.specs.Grid.{linesAlong, grid}
 use Rattle.query.specs.Cut.{inside}
 use Rattle.query.specs.Laws.{Named, edge-low, edge-high, of-stop, LinesLaw, GapsLaw}
 use Rattle.query.proofs.Axes.{edges-in}
 
-pub lines-along : (deck : Deck) (axis : Axis) → linesAlong (problem deck) axis ≡ lines deck axis
-unfolding problem
+pub lines-along : (deck : Deck) (axis : Axis) → linesAlong (grid deck) axis ≡ lines deck axis
+unfolding grid
 lines-along deck x-axis = refl
 lines-along deck y-axis = refl
 

@@ -9,17 +9,17 @@ use lib.Signed.{ltZ}
 use Rattle.numbers.specs.Integer.{dist, strictlyBetween}
 use Rattle.numbers.specs.Lists.{keep, nonEmpty, leastBy}
 use Rattle.query.specs.Place.{Place, Rect, Axis, x-axis, y-axis, low-edge, high-edge}
-use Rattle.query.specs.Problem.{Problem, linesAlong}
+use Rattle.query.specs.Grid.{Grid, linesAlong}
 
 -- the lines strictly inside a cell along an axis
-unfoldable pub inside : Problem → Axis → Rect → List ℤ
+unfoldable pub inside : Grid → Axis → Rect → List ℤ
 unfolding keep strictlyBetween
-inside P axis r = keep (strictlyBetween (low-edge axis r) (high-edge axis r)) (linesAlong P axis)
+inside G axis r = keep (strictlyBetween (low-edge axis r) (high-edge axis r)) (linesAlong G axis)
 
 -- 01 "A cell can be cut if some line lies strictly inside it"
-unfoldable pub canCut : Problem → Rect → Bool
+unfoldable pub canCut : Grid → Rect → Bool
 unfolding inside
-canCut P r = nonEmpty (inside P x-axis r) || nonEmpty (inside P y-axis r)
+canCut G r = nonEmpty (inside G x-axis r) || nonEmpty (inside G y-axis r)
 
 -- the length of a side, in plain tenths
 unfoldable pub side : Axis → Rect → ℕ
@@ -32,9 +32,9 @@ unfolding side
 longerSide r = cond (ltb (side x-axis r) (side y-axis r)) y-axis x-axis
 
 -- 01 "If both axes have lines inside, it cuts the longer side ..; otherwise it cuts the axis that has them"
-unfoldable pub cutAxis : Problem → Rect → Axis
+unfoldable pub cutAxis : Grid → Rect → Axis
 unfolding inside longerSide
-cutAxis P r = cond (nonEmpty (inside P x-axis r)) (cond (nonEmpty (inside P y-axis r)) (longerSide r) x-axis) y-axis
+cutAxis G r = cond (nonEmpty (inside G x-axis r)) (cond (nonEmpty (inside G y-axis r)) (longerSide r) x-axis) y-axis
 
 -- twice the distance from v to the middle of lo .. hi
 unfoldable pub offMiddle : ℤ → ℤ → ℤ → ℕ
@@ -58,9 +58,9 @@ pub record Line : Type 0 where
   pub at : ℤ
 
 -- the line at which a round cuts a cell
-unfoldable pub cutLine : Problem → Rect → Line
+unfoldable pub cutLine : Grid → Rect → Line
 unfolding cutAxis middleLine inside
-cutLine P r = record { axis = cutAxis P r; at = middleLine (low-edge (cutAxis P r) r) (high-edge (cutAxis P r) r) (inside P (cutAxis P r) r) }
+cutLine G r = record { axis = cutAxis G r; at = middleLine (low-edge (cutAxis G r) r) (high-edge (cutAxis G r) r) (inside G (cutAxis G r) r) }
 
 -- the part of a cell before a line, and the part after it; both hold the line
 abbrev pub cutBefore : Axis → ℤ → Rect → Rect

@@ -2,21 +2,17 @@
 -- Assumes nothing.
 use mathlib.Core.List.{List, map, flatMap}
 use Rattle.query.specs.Place.{Place, corner}
-use Rattle.query.specs.Deck.{Deck}
-use Rattle.query.specs.Problem.{Problem, problem}
+use Rattle.query.specs.Grid.{Grid}
+use Rattle.query.specs.Problem.{Problem}
 use Rattle.query.specs.Order.{Priced}
 use Rattle.query.specs.Search.{pricedAt, bestOf}
 
 -- 01 "every crossing of lines", 000 the candidate locations
-unfoldable pub crossings : Problem → List Place
+unfoldable pub crossings : Grid → List Place
 unfolding flatMap
-crossings P = flatMap (λ v. map (λ h. record { x = v; y = h }) (P .horizontal)) (P .vertical)
+crossings G = flatMap (λ v. map (λ h. record { x = v; y = h }) (G .horizontal)) (G .vertical)
 
 -- the place and cost of the cheapest crossing, the earliest among equals. The area's first corner is a crossing
-unfoldable pub cheapestCrossing : Problem → Priced
+unfoldable pub exhaustive : Problem → Priced
 unfolding bestOf crossings
-cheapestCrossing P = bestOf P (pricedAt P (corner (P .area))) (crossings P)
-
-unfoldable pub exhaustive : Deck → Priced
-unfolding cheapestCrossing problem
-exhaustive deck = cheapestCrossing (problem deck)
+exhaustive P = bestOf (P .rules) (pricedAt (P .rules) (corner (P .area))) (crossings (P .rules .grid))

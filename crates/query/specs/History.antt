@@ -1,8 +1,10 @@
 -- The cuts that the rounds of a search make, one after another: which cell, on which axis, at which line.
 -- Assumes nothing.
 use Prim.Native.Nat.{ℕ, zero, suc}
-use mathlib.Core.List.{List, [], _∷_, _++_}
+use mathlib.Core.List.{List, [], _++_, map}
+use lib.ListN.{take}
 use Rattle.query.specs.Place.{Rect}
+use Rattle.query.specs.Grid.{Grid}
 use Rattle.query.specs.Problem.{Problem}
 use Rattle.query.specs.Cut.{Line, cutLine}
 use Rattle.query.specs.Order.{Cell}
@@ -13,17 +15,11 @@ pub record Cut : Type 0 where
   pub line : Line
 
 -- how a cell is cut
-abbrev pub cellCut : Problem → Cell → Cut
-cellCut P c = record { cell = c .rect; line = cutLine P (c .rect) }
+abbrev pub cellCut : Grid → Cell → Cut
+cellCut G c = record { cell = c .rect; line = cutLine G (c .rect) }
 
--- the cut of a round that finds these live cells: of the first, and none where no cell is live
-unfoldable pub cutOf : Problem → List Cell → List Cut
-unfolding cutLine
-cutOf P [] = []
-cutOf P (c ∷ others) = cellCut P c ∷ []
-
--- the cuts of the first n rounds
+-- the cuts of the first n rounds: each of the first live cell, and none where no cell is live
 unfoldable pub cutsMade : Problem → ℕ → List Cut
-unfolding cutOf run
+unfolding cutLine run
 cutsMade P zero = []
-cutsMade P (suc n) = cutsMade P n ++ cutOf P (run P n .live)
+cutsMade P (suc n) = cutsMade P n ++ map (cellCut (P .rules .grid)) (take 1 (run P n .live))

@@ -18,7 +18,8 @@ use Rattle.query.specs.Cost.{cost}
 use Rattle.query.specs.Reach.{travelTo, reach}
 use Rattle.query.specs.Lines.{lines, gaps}
 use Rattle.query.specs.Bound.{bound}
-use Rattle.query.specs.Problem.{Problem, problem, linesAlong}
+use Rattle.query.specs.Grid.{Grid, linesAlong, grid}
+use Rattle.query.specs.Problem.{Problem, problem}
 use Rattle.query.specs.Cut.{inside, canCut, side, offMiddle, cutLine}
 use Rattle.query.specs.Order.{Cell, better, cellBefore, CellsInOrder}
 use Rattle.query.specs.Search.{isLive, run}
@@ -60,7 +61,7 @@ pub record LinesLaw (deck : Deck) (axis : Axis) : Type 0 where
 -- gaps are the lines strictly inside the area and one more
 pub record GapsLaw (deck : Deck) (axis : Axis) : Type 0 where
   pub at-least-one : 1 ≤ gaps deck axis
-  pub inside-and-one : NonEmpty (deck .area) → gaps deck axis ≡ length (inside (problem deck) axis (deck .area)) + 1
+  pub inside-and-one : NonEmpty (deck .area) → gaps deck axis ≡ length (inside (grid deck) axis (deck .area)) + 1
 
 -- q is a crossing of lines in the area that is as good as p: cheaper, or as cheap and not later (Theorem 2 of 000, with the order "earlier")
 pub record AsGood (deck : Deck) (p q : Place) : Type 0 where
@@ -69,24 +70,24 @@ pub record AsGood (deck : Deck) (p q : Place) : Type 0 where
   pub not-worse : T (not (better (record { at = p; cost = cost deck p }) (record { at = q; cost = cost deck q })))
 
 -- line v lies strictly inside r along an axis
-pub record Inside (P : Problem) (axis : Axis) (r : Rect) (v : ℤ) : Type 0 where
-  pub line : List·Memᴰ v (linesAlong P axis)
+pub record Inside (G : Grid) (axis : Axis) (r : Rect) (v : ℤ) : Type 0 where
+  pub line : List·Memᴰ v (linesAlong G axis)
   pub above : low-edge axis r <ℤ v
   pub below : v <ℤ high-edge axis r
 
 -- the line at which a cell is cut: inside, closest to the middle, and the smaller of two that are as close;
 -- where the other axis has lines inside too, its side is not longer, and on equal sides it is the y axis
-pub record CutLineLaw (P : Problem) (r : Rect) : Type 0 where
-  pub is-inside : Inside P (cutLine P r .axis) r (cutLine P r .at)
-  pub closest : (v : ℤ) → Inside P (cutLine P r .axis) r v → offMiddle (low-edge (cutLine P r .axis) r) (high-edge (cutLine P r .axis) r) (cutLine P r .at) ≤ offMiddle (low-edge (cutLine P r .axis) r) (high-edge (cutLine P r .axis) r) v
-  pub smaller : (v : ℤ) → Inside P (cutLine P r .axis) r v → offMiddle (low-edge (cutLine P r .axis) r) (high-edge (cutLine P r .axis) r) v ≡ offMiddle (low-edge (cutLine P r .axis) r) (high-edge (cutLine P r .axis) r) (cutLine P r .at) → cutLine P r .at ≤ℤ v
-  pub longer-side : (axis : Axis) (v : ℤ) → Inside P axis r v → side axis r ≤ side (cutLine P r .axis) r
-  pub x-on-equal-sides : (v : ℤ) → Inside P x-axis r v → side x-axis r ≡ side y-axis r → cutLine P r .axis ≡ x-axis
+pub record CutLineLaw (G : Grid) (r : Rect) : Type 0 where
+  pub is-inside : Inside G (cutLine G r .axis) r (cutLine G r .at)
+  pub closest : (v : ℤ) → Inside G (cutLine G r .axis) r v → offMiddle (low-edge (cutLine G r .axis) r) (high-edge (cutLine G r .axis) r) (cutLine G r .at) ≤ offMiddle (low-edge (cutLine G r .axis) r) (high-edge (cutLine G r .axis) r) v
+  pub smaller : (v : ℤ) → Inside G (cutLine G r .axis) r v → offMiddle (low-edge (cutLine G r .axis) r) (high-edge (cutLine G r .axis) r) v ≡ offMiddle (low-edge (cutLine G r .axis) r) (high-edge (cutLine G r .axis) r) (cutLine G r .at) → cutLine G r .at ≤ℤ v
+  pub longer-side : (axis : Axis) (v : ℤ) → Inside G axis r v → side axis r ≤ side (cutLine G r .axis) r
+  pub x-on-equal-sides : (v : ℤ) → Inside G x-axis r v → side x-axis r ≡ side y-axis r → cutLine G r .axis ≡ x-axis
 
 -- a cell can be cut exactly if some line is strictly inside it on some axis, and is then cut as document 01 says
-pub record CutLaw (P : Problem) (r : Rect) : Type 0 where
-  pub can-be-cut : T (canCut P r) ↔ ((axis : Axis) × (v : ℤ) × Inside P axis r v)
-  pub cut-line : T (canCut P r) → CutLineLaw P r
+pub record CutLaw (G : Grid) (r : Rect) : Type 0 where
+  pub can-be-cut : T (canCut G r) ↔ ((axis : Axis) × (v : ℤ) × Inside G axis r v)
+  pub cut-line : T (canCut G r) → CutLineLaw G r
 
 -- round n + 1 makes one cut if some cell is live, and only then; where none is live, the search stays as it is
 pub record RoundLaw (P : Problem) (n : ℕ) : Type 0 where
@@ -96,15 +97,15 @@ pub record RoundLaw (P : Problem) (n : ℕ) : Type 0 where
 -- the cell that round n + 1 takes, c: its cut follows those of the first n rounds, it is live, and no live cell comes before it by
 -- (bound, xlo, ylo)
 pub record TakenLaw (P : Problem) (n : ℕ) (c : Cell) : Type 0 where
-  pub is-cut : cutsMade P (suc n) ≡ cutsMade P n ++ (cellCut P c ∷ [])
-  pub is-live : T (isLive P (run P n .best) c)
+  pub is-cut : cutsMade P (suc n) ≡ cutsMade P n ++ (cellCut (P .rules .grid) c ∷ [])
+  pub is-live : T (isLive (P .rules .grid) (run P n .best) c)
   pub is-first : (d : Cell) → List·Memᴰ d (run P n .live) → T (not (cellBefore d c))
 
 -- the live cells are those of the partition that document 01's rule names: a dead cell never becomes live again.
 -- The partition's cells cover the area
 pub record PartitionLaw (P : Problem) (n : ℕ) : Type 0 where
-  pub live-are-live : (c : Cell) → List·Memᴰ c (run P n .live) → T (isLive P (run P n .best) c)
-  pub dead-are-not : (c : Cell) → List·Memᴰ c (dead P n) → T (not (isLive P (run P n .best) c))
+  pub live-are-live : (c : Cell) → List·Memᴰ c (run P n .live) → T (isLive (P .rules .grid) (run P n .best) c)
+  pub dead-are-not : (c : Cell) → List·Memᴰ c (dead P n) → T (not (isLive (P .rules .grid) (run P n .best) c))
   pub covers : (p : Place) → In (P .area) p → (c : Cell) × List·Memᴰ c (partition P n) × In (c .rect) p
 
 -- after n rounds at most n + 1 cells are live, so that 5 × (n + 1) numbers of cell space always suffice, and are all written;

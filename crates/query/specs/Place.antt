@@ -1,7 +1,7 @@
 -- Document 01, "The deck": places, the order "earlier", and rectangles.
 -- Assumes nothing.
 use mathlib.Core.Bool.{Bool, _&&_, _||_}
-use lib.IntN.{ℤ, pos}
+use lib.IntN.{ℤ}
 use lib.Signed.{ltZ, _≤ℤ_}
 use Rattle.numbers.specs.Integer.{eqZ}
 
@@ -21,10 +21,6 @@ pub record Rect : Type 0 where
   pub ylo : ℤ
   pub xhi : ℤ
   pub yhi : ℤ
-
--- the rectangle of zeros, for a record that needs one and has none
-abbrev pub zeroRect : Rect
-zeroRect = record { xlo = pos 0; ylo = pos 0; xhi = pos 0; yhi = pos 0 }
 
 -- p is a point of r, its edges included
 pub record In (r : Rect) (p : Place) : Type 0 where

@@ -7,6 +7,7 @@ use mathlib.Core.List.{List, _∷_}
 use lib.IntN.{ℤ}
 use Rattle.query.specs.Place.{Place, Rect, In, NonEmpty, Axis}
 use Rattle.query.specs.Deck.{Stop, Deck}
+use Rattle.query.specs.Grid.{Grid}
 use Rattle.query.specs.Problem.{Problem}
 use Rattle.query.specs.Order.{Cell}
 use Rattle.query.specs.Search.{run}
@@ -26,7 +27,7 @@ pub record QueryTheorems : Type 0 where
   pub demand-3 : (deck : Deck) → NonEmpty (deck .area) → (n : ℕ) → Demand3 deck n (figures deck n)
   -- the full walk, of every such deck
   pub exhaustive : (deck : Deck) → NonEmpty (deck .area) → ExhaustiveLaw deck
-  -- the parts of the rules. A problem is any area with any lines, prices and bounds
+  -- the parts of the rules. A grid is any lines, and a problem any area with any lines, prices and bounds
   pub half : (z : ℤ) → HalfLaw z
   pub near : (deck : Deck) (stop : Stop) → NearLaw deck stop
   pub travel-to : (deck : Deck) (r : Rect) (stop : Stop) → TravelToLaw deck r stop
@@ -35,7 +36,7 @@ pub record QueryTheorems : Type 0 where
   pub gaps : (deck : Deck) (axis : Axis) → GapsLaw deck axis
   -- for each point of the area some crossing is as good
   pub crossing : (deck : Deck) (p : Place) → In (deck .area) p → (q : Place) × AsGood deck p q
-  pub cut : (P : Problem) (r : Rect) → CutLaw P r
+  pub cut : (G : Grid) (r : Rect) → CutLaw G r
   -- the rounds. The cell that a round takes is the first of the live ones
   pub round : (P : Problem) (n : ℕ) → RoundLaw P n
   pub taken : (P : Problem) (n : ℕ) (c : Cell) (others : List Cell) → run P n .live ≡ c ∷ others → TakenLaw P n c

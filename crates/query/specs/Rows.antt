@@ -11,6 +11,7 @@ use Rattle.numbers.specs.Integer.{halfUp}
 use Rattle.query.specs.Place.{x-axis, y-axis}
 use Rattle.query.specs.Deck.{Deck, plain}
 use Rattle.query.specs.Lines.{gaps}
+use Rattle.query.specs.Problem.{problem}
 use Rattle.query.specs.Figures.{figures, done, stopped}
 use Rattle.query.specs.Space.{space}
 use Rattle.query.specs.Exhaustive.{exhaustive}
@@ -111,9 +112,9 @@ pub record Rows : Type 0 where
   pub space-D-0 : space deckD 0 7 ≡ pos 0 ∷ pos 0 ∷ pos 9 ∷ pos 0 ∷ negsuc 2 ∷ pos 0 ∷ pos 0 ∷ []
   pub space-order-2 : space deckOrder 2 17 ≡ map pos (1 ∷ 0 ∷ 2 ∷ 2 ∷ 0 ∷ 2 ∷ 0 ∷ 5 ∷ 2 ∷ 0 ∷ 0 ∷ 0 ∷ 1 ∷ 2 ∷ 1 ∷ 0 ∷ 0 ∷ [])
   -- the full walk
-  pub exhaustive-A : exhaustive deckA ≡ record { at = at 4 3; cost = 13 }
-  pub exhaustive-B : exhaustive deckB ≡ record { at = at 0 0; cost = 10 }
-  pub exhaustive-C : exhaustive deckC ≡ record { at = at 5 5; cost = 16 }
-  pub exhaustive-D : exhaustive deckD ≡ record { at = at 5 0; cost = 0 }
-  pub exhaustive-equal : exhaustive deckEqual ≡ record { at = at 0 3; cost = 5 }
-  pub exhaustive-axis : exhaustive deckAxis ≡ record { at = at 3 3; cost = 9 }
+  pub exhaustive-A : exhaustive (problem deckA) ≡ record { at = at 4 3; cost = 13 }
+  pub exhaustive-B : exhaustive (problem deckB) ≡ record { at = at 0 0; cost = 10 }
+  pub exhaustive-C : exhaustive (problem deckC) ≡ record { at = at 5 5; cost = 16 }
+  pub exhaustive-D : exhaustive (problem deckD) ≡ record { at = at 5 0; cost = 0 }
+  pub exhaustive-equal : exhaustive (problem deckEqual) ≡ record { at = at 0 3; cost = 5 }
+  pub exhaustive-axis : exhaustive (problem deckAxis) ≡ record { at = at 3 3; cost = 9 }

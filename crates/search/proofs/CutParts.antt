@@ -11,7 +11,7 @@ use lib.Signed.{_<ℤ_}
 use Rattle.numbers.proofs.Truth.{holds}
 use Rattle.numbers.proofs.Integer.{order, abs-range}
 use Rattle.query.specs.Place.{Rect, Axis, x-axis, y-axis, low-edge, high-edge}
-use Rattle.query.specs.Problem.{Problem}
+use Rattle.query.specs.Grid.{Grid}
 use Rattle.query.specs.Cut.{canCut, cutLine, cutBefore, cutAfter, newCorners}
 use Rattle.query.specs.Range.{RectInRange}
 use Rattle.query.proofs.CutLaws.{cut-law}
@@ -68,19 +68,19 @@ parts-range y-axis v r h n lo hi =
       record { range = record { low-corner = record { x-range = k .low-corner .x-range; y-range = n }; high-corner = k .high-corner }; full = record { across = h .full .across; deep = omega (arith, order) } },
     )
 
--- ---- a cut that is the record of a problem's
-module _ (P : Problem) (r : Rect) (can : T (canCut P r)) (cut : Cut) (e : cut ≡ cutRecord P r) where
-  pub cut-is : cut ≡ cutAt (isX (cutLine P r .axis)) (cutLine P r .at)
-  cut-is = e ∙ cutRecord-cut P r (holds (canCut P r) can)
+-- ---- a cut that is the record of a grid's
+module _ (G : Grid) (r : Rect) (can : T (canCut G r)) (cut : Cut) (e : cut ≡ cutRecord G r) where
+  pub cut-is : cut ≡ cutAt (isX (cutLine G r .axis)) (cutLine G r .at)
+  cut-is = e ∙ cutRecord-cut G r (holds (canCut G r) can)
 
   module _ (h : Ranged r) where
     pub cut-range : natAbs (cut .at) ≤ 20000
-    cut-range = let i = cut-law P r .cut-line can .is-inside in rw cut-is (line-range (cutLine P r .axis) (cutLine P r .at) r (h .range) (i .above) (i .below))
+    cut-range = let i = cut-law G r .cut-line can .is-inside in rw cut-is (line-range (cutLine G r .axis) (cutLine G r .at) r (h .range) (i .above) (i .below))
 
     both : Ranged (firstRect r (highCorner (cut .across) (cut .at) r)) × Ranged (secondRect r (lowCorner (cut .across) (cut .at) r))
     both =
-        let i = cut-law P r .cut-line can .is-inside in
-        rw cut-is (parts-range (cutLine P r .axis) (cutLine P r .at) r h (line-range (cutLine P r .axis) (cutLine P r .at) r (h .range) (i .above) (i .below)) (i .above) (i .below))
+        let i = cut-law G r .cut-line can .is-inside in
+        rw cut-is (parts-range (cutLine G r .axis) (cutLine G r .at) r h (line-range (cutLine G r .axis) (cutLine G r .at) r (h .range) (i .above) (i .below)) (i .above) (i .below))
 
     pub first-range : Ranged (firstRect r (highCorner (cut .across) (cut .at) r))
     first-range = both .0

@@ -40,7 +40,7 @@ module _ (deck : Query.Deck) (range : InRange deck) (full : NonEmpty (deck .area
   pub deck-steady : Steady (problem deck)
   unfolding figures figuresOf
   deck-steady = record {
-    ranged = λ n c m. record { range = run-in-range deck range full n .cells-range c m; full = run-ok (problem deck) (lawful deck full) (cut-law (problem deck)) n .cells c m .full };
+    ranged = λ n c m. record { range = run-in-range deck range full n .cells-range c m; full = run-ok (problem deck) (lawful deck full) (cut-law (problem deck .rules .grid)) n .cells c m .full };
     cost-limit = λ n. run-in-range deck range full n .figures-range .high-limit;
   }
 

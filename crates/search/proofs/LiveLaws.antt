@@ -8,37 +8,36 @@ use Prim.Native.Nat.{ℕ, _+_, _-_, _≤_}
 use native.Mathlib.Omega.{arith}
 use lib.Dec.{T}
 use lib.IntN.{ℤ}
-use Rattle.numbers.specs.Lists.{keep, leastBy, insertBy}
+use Rattle.numbers.specs.Lists.{keep, insertBy}
 use Rattle.numbers.proofs.Truth.{test, holds, fails}
 use Rattle.numbers.proofs.Members.{insertBy-sorted, insertBy-cases}
 use Rattle.query.specs.Place.{Place, Rect, corner}
-use Rattle.query.specs.Problem.{Problem}
-use Rattle.query.specs.Cut.{canCut, cutLine}
+use Rattle.query.specs.Grid.{Grid}
+use Rattle.query.specs.Cut.{canCut}
 use Rattle.query.specs.Order as Query
 use Rattle.query.specs.Order.{Priced, precedes, pricedKey, cellKey, better, cellBefore}
-use Rattle.query.specs.Search.{isLive, pricedAt, cellOf, bestOf, otherCorners, startBest}
+use Rattle.query.specs.Search.{isLive, bestOf, otherCorners, startBest}
+use Rattle.query.proofs.Best.{bestOf-nil, bestOf-cons}
 use Rattle.query.proofs.KeyOrder.{cellBefore-strict}
 use Rattle.deck.specs.Sites.{Site}
-use Rattle.cuts.specs.CutRecord.{onLines}
-use Rattle.cuts.proofs.CutRecordLaws.{canCut-lines, cutLine-lines}
 use Rattle.problem.specs.declared.Spot.{Spot}
-use Rattle.slots.specs.Slot.{Entry, queryCell, entryCell}
+use Rattle.slots.specs.Slot.{Entry, entryCell}
 use Rattle.cells.specs.Space.{entries, entryBefore}
 use Rattle.cells.specs.Steps.{InOrder}
-use Rattle.search.specs.Run.{cornerCosts, cellFor, improved, bestCorner, withLive, Added}
-use Rattle.problem.specs.Problem.{siteProblem, pricedOf, spotOf}
+use Rattle.search.specs.Run.{cornerCosts, improved, bestCorner, withLive, Added}
+use Rattle.problem.specs.Problem.{siteRules, siteProblem, pricedOf, spotOf}
 use Rattle.cells.proofs.SpaceLaws.{keep-insert-in, keep-insert-out, keep-agree, cells-insert, insert-in-order}
 
 -- ---- one more entry, if it is live
-module _ (P : Problem) (best : Priced) (e : Entry) (head tail : ℕ) (s : List ℤ) (t : List ℕ) where
-  pub added-none : (r : Bool) → r ≡ isLive P best (entryCell e) → r ≡ false → Added P best e head tail s t s t head
+module _ (G : Grid) (best : Priced) (e : Entry) (head tail : ℕ) (s : List ℤ) (t : List ℕ) where
+  pub added-none : (r : Bool) → r ≡ isLive G best (entryCell e) → r ≡ false → Added G best e head tail s t s t head
   unfolding withLive
-  added-none r f g = let dead : isLive P best (entryCell e) ≡ false = sym f ∙ g in record { down = omega arith; by-one = omega arith; entries-are = rw dead }
+  added-none r f g = let dead : isLive G best (entryCell e) ≡ false = sym f ∙ g in record { down = omega arith; by-one = omega arith; entries-are = rw dead }
 
-  pub added-one : (s′ : List ℤ) (t′ : List ℕ) (r : Bool) → r ≡ isLive P best (entryCell e) → r ≡ true → 1 ≤ head → head ≤ tail → entries s′ t′ (head - 1) (tail - head + 1) ≡ insertBy entryBefore e (entries s t head (tail - head)) → Added P best e head tail s t s′ t′ (head - 1)
+  pub added-one : (s′ : List ℤ) (t′ : List ℕ) (r : Bool) → r ≡ isLive G best (entryCell e) → r ≡ true → 1 ≤ head → head ≤ tail → entries s′ t′ (head - 1) (tail - head + 1) ≡ insertBy entryBefore e (entries s t head (tail - head)) → Added G best e head tail s t s′ t′ (head - 1)
   unfolding withLive
   added-one s′ t′ r f g h k q =
-      let live : isLive P best (entryCell e) ≡ true = sym f ∙ g in
+      let live : isLive G best (entryCell e) ≡ true = sym f ∙ g in
       let count : tail - (head - 1) ≡ tail - head + 1 = omega arith in
       record { down = omega arith; by-one = omega arith; entries-are = rw (live, count) q }
 
@@ -51,99 +50,73 @@ and-never true = refl
 and-never false = refl
 
 -- what a test of `is_live` says
-module _ (P : Problem) (best : Priced) (c : Query.Cell) where
-  pub live-behind : (r : Bool) → r ≡ precedes (cellKey c) (pricedKey best) → r ≡ false → false ≡ isLive P best c
+module _ (G : Grid) (best : Priced) (c : Query.Cell) where
+  pub live-behind : (r : Bool) → r ≡ precedes (cellKey c) (pricedKey best) → r ≡ false → false ≡ isLive G best c
   unfolding isLive
-  live-behind r e f = let g : precedes (cellKey c) (pricedKey best) ≡ false = sym e ∙ f in rw g (and-never (canCut P (c .rect)))
+  live-behind r e f = let g : precedes (cellKey c) (pricedKey best) ≡ false = sym e ∙ f in rw g (and-never (canCut G (c .rect)))
 
-  pub live-cut : (r : Bool) → r ≡ precedes (cellKey c) (pricedKey best) → r ≡ true → canCut P (c .rect) ≡ isLive P best c
+  pub live-cut : (r : Bool) → r ≡ precedes (cellKey c) (pricedKey best) → r ≡ true → canCut G (c .rect) ≡ isLive G best c
   unfolding isLive
-  live-cut r e f = let g : precedes (cellKey c) (pricedKey best) ≡ true = sym e ∙ f in rw g (and-right (canCut P (c .rect)))
+  live-cut r e f = let g : precedes (cellKey c) (pricedKey best) ≡ true = sym e ∙ f in rw g (and-right (canCut G (c .rect)))
 
-  live-precedes : canCut P (c .rect) ≡ true → (r : Bool) → r ≡ precedes (cellKey c) (pricedKey best) → r ≡ isLive P best c
+  live-precedes : canCut G (c .rect) ≡ true → (r : Bool) → r ≡ precedes (cellKey c) (pricedKey best) → r ≡ isLive G best c
   unfolding isLive
   live-precedes e r f = rw e f
 
 -- ---- live cells among cells in order
 -- a cell more, if it is live
-pub withCell : Problem → Priced → Query.Cell → List Query.Cell → List Query.Cell
-withCell P best x ys = cond (isLive P best x) (insertBy cellBefore x ys) ys
+pub withCell : Grid → Priced → Query.Cell → List Query.Cell → List Query.Cell
+withCell G best x ys = cond (isLive G best x) (insertBy cellBefore x ys) ys
 
 abbrev pub Ordered : List Query.Cell → Type 0
 Ordered cells = Pairwise (λ c d. T (not (cellBefore d c))) cells
 
-module _ (P : Problem) (best : Priced) where
-  keep-one : (x : Query.Cell) (cs : List Query.Cell) → Ordered cs → keep (isLive P best) (insertBy cellBefore x cs) ≡ withCell P best x (keep (isLive P best) cs)
+module _ (G : Grid) (best : Priced) where
+  keep-one : (x : Query.Cell) (cs : List Query.Cell) → Ordered cs → keep (isLive G best) (insertBy cellBefore x cs) ≡ withCell G best x (keep (isLive G best) cs)
   unfolding withCell
   keep-one x cs s =
-      ⊎-elim (λ (u : T (isLive P best x)). rw (holds (isLive P best x) u) (keep-insert-in cellBefore (isLive P best) x cellBefore-strict cs s u))
-      (λ (u : T (not (isLive P best x))). rw (fails (isLive P best x) u) (keep-insert-out cellBefore (isLive P best) x cs u))
-      (test (isLive P best x))
+      ⊎-elim (λ (u : T (isLive G best x)). rw (holds (isLive G best x) u) (keep-insert-in cellBefore (isLive G best) x cellBefore-strict cs s u))
+      (λ (u : T (not (isLive G best x))). rw (fails (isLive G best x) u) (keep-insert-out cellBefore (isLive G best) x cs u))
+      (test (isLive G best x))
 
-  pub keep-two : (x y : Query.Cell) (cs : List Query.Cell) → Ordered cs → keep (isLive P best) (insertBy cellBefore x (insertBy cellBefore y cs)) ≡ withCell P best x (withCell P best y (keep (isLive P best) cs))
-  keep-two x y cs s = keep-one x (insertBy cellBefore y cs) (insertBy-sorted cellBefore cellBefore-strict y cs s) ∙ ap (withCell P best x) (keep-one y cs s)
+  pub keep-two : (x y : Query.Cell) (cs : List Query.Cell) → Ordered cs → keep (isLive G best) (insertBy cellBefore x (insertBy cellBefore y cs)) ≡ withCell G best x (withCell G best y (keep (isLive G best) cs))
+  keep-two x y cs s = keep-one x (insertBy cellBefore y cs) (insertBy-sorted cellBefore cellBefore-strict y cs s) ∙ ap (withCell G best x) (keep-one y cs s)
 
-  pub map-with : (e : Entry) (es : List Entry) → map entryCell (withLive P best e es) ≡ withCell P best (entryCell e) (map entryCell es)
+  pub map-with : (e : Entry) (es : List Entry) → map entryCell (withLive G best e es) ≡ withCell G best (entryCell e) (map entryCell es)
   unfolding withLive withCell
   map-with e es =
-      ⊎-elim (λ (u : T (isLive P best (entryCell e))). rw (holds (isLive P best (entryCell e)) u) (cells-insert e es))
-      (λ (u : T (not (isLive P best (entryCell e)))). rw (fails (isLive P best (entryCell e)) u)) (test (isLive P best (entryCell e)))
+      ⊎-elim (λ (u : T (isLive G best (entryCell e))). rw (holds (isLive G best (entryCell e)) u) (cells-insert e es))
+      (λ (u : T (not (isLive G best (entryCell e)))). rw (fails (isLive G best (entryCell e)) u)) (test (isLive G best (entryCell e)))
 
   -- where all can be cut, those that come before the best are the live ones
-  pub keep-live : (cs : List Query.Cell) → ((c : Query.Cell) → List·Memᴰ c cs → T (canCut P (c .rect))) → keep (λ c. precedes (cellKey c) (pricedKey best)) cs ≡ keep (isLive P best) cs
-  keep-live cs h = keep-agree (λ c. precedes (cellKey c) (pricedKey best)) (isLive P best) cs (λ c m. live-precedes P best c (holds (canCut P (c .rect)) (h c m)) (precedes (cellKey c) (pricedKey best)) refl)
+  pub keep-live : (cs : List Query.Cell) → ((c : Query.Cell) → List·Memᴰ c cs → T (canCut G (c .rect))) → keep (λ c. precedes (cellKey c) (pricedKey best)) cs ≡ keep (isLive G best) cs
+  keep-live cs h = keep-agree (λ c. precedes (cellKey c) (pricedKey best)) (isLive G best) cs (λ c m. live-precedes G best c (holds (canCut G (c .rect)) (h c m)) (precedes (cellKey c) (pricedKey best)) refl)
 
-  with-in-order : (e : Entry) (es : List Entry) → InOrder es → InOrder (withLive P best e es)
+  with-in-order : (e : Entry) (es : List Entry) → InOrder es → InOrder (withLive G best e es)
   unfolding withLive
-  with-in-order e es order = go (isLive P best (entryCell e))
+  with-in-order e es order = go (isLive G best (entryCell e))
     where
       go : (b : Bool) → InOrder (cond b (insertBy entryBefore e es) es)
       go true = insert-in-order e es order
       go false = order
 
-  pub with-cases : (e : Entry) (es : List Entry) {f : Entry} → List·Memᴰ f (withLive P best e es) → (f ≡ e) ⊎ List·Memᴰ f es
+  pub with-cases : (e : Entry) (es : List Entry) {f : Entry} → List·Memᴰ f (withLive G best e es) → (f ≡ e) ⊎ List·Memᴰ f es
   unfolding withLive
-  with-cases e es {f} = go (isLive P best (entryCell e))
+  with-cases e es {f} = go (isLive G best (entryCell e))
     where
       go : (b : Bool) → List·Memᴰ f (cond b (insertBy entryBefore e es) es) → (f ≡ e) ⊎ List·Memᴰ f es
       go true m = insertBy-cases entryBefore e es m
       go false m = inr m
 
 -- entries in order are so with one more
-pub added-in-order : (P : Problem) (best : Priced) (e : Entry) (head tail : ℕ) (s s′ : List ℤ) (t t′ : List ℕ) (r : ℕ) → Added P best e head tail s t s′ t′ r → InOrder (entries s t head (tail - head)) → InOrder (entries s′ t′ r (tail - r))
-added-in-order P best e head tail s s′ t t′ r added order = rw (added .entries-are) (with-in-order P best e (entries s t head (tail - head)) order)
+pub added-in-order : (G : Grid) (best : Priced) (e : Entry) (head tail : ℕ) (s s′ : List ℤ) (t t′ : List ℕ) (r : ℕ) → Added G best e head tail s t s′ t′ r → InOrder (entries s t head (tail - head)) → InOrder (entries s′ t′ r (tail - r))
+added-in-order G best e head tail s s′ t t′ r added order = rw (added .entries-are) (with-in-order G best e (entries s t head (tail - head)) order)
 
-pub single : (P : Problem) (best : Priced) (x : Query.Cell) → withCell P best x [] ≡ keep (isLive P best) (x ∷ [])
+pub single : (G : Grid) (best : Priced) (x : Query.Cell) → withCell G best x [] ≡ keep (isLive G best) (x ∷ [])
 unfolding withCell keep insertBy
-single P best x = refl
+single G best x = refl
 
--- ---- the problem's lines
-module _ (sites : List Site) (vs hs : List ℤ) (area : Rect) where
-  pub can-lines : (r : Rect) → canCut (siteProblem sites vs hs area) r ≡ canCut (onLines vs hs) r
-  unfolding siteProblem
-  can-lines r = canCut-lines (siteProblem sites vs hs area) r
-
-  pub line-lines : (r : Rect) → cutLine (siteProblem sites vs hs area) r ≡ cutLine (onLines vs hs) r
-  unfolding siteProblem
-  line-lines r = cutLine-lines (siteProblem sites vs hs area) r
-
-  pub live-lines : (best : Priced) (c : Query.Cell) → isLive (siteProblem sites vs hs area) best c ≡ isLive (onLines vs hs) best c
-  unfolding isLive
-  live-lines best c = ap (λ (b : Bool). b && precedes (cellKey c) (pricedKey best)) (can-lines (c .rect))
-
-  pub with-lines : (best : Priced) (c : Query.Cell) (cs : List Query.Cell) → withCell (onLines vs hs) best c cs ≡ withCell (siteProblem sites vs hs area) best c cs
-  unfolding withCell
-  with-lines best c cs = rw (live-lines best c)
-
-  pub cell-is : (r : Rect) → queryCell (cellFor sites r) ≡ cellOf (siteProblem sites vs hs area) r
-  unfolding siteProblem
-  cell-is r = refl
-
-  -- ---- the best place
-  better-cost : (p : Place) → pricedOf (spotOf sites p) ≡ pricedAt (siteProblem sites vs hs area) p
-  unfolding siteProblem
-  better-cost p = refl
-
+-- ---- the best place
 improved-is : (best p : Spot) → pricedOf (improved best p) ≡ cond (better (pricedOf p) (pricedOf best)) (pricedOf p) (pricedOf best)
 unfolding improved
 improved-is best p = go (better (pricedOf p) (pricedOf best))
@@ -152,25 +125,16 @@ improved-is best p = go (better (pricedOf p) (pricedOf best))
     go true = refl
     go false = refl
 
-bestOf-nil : (P : Problem) (best : Priced) → bestOf P best [] ≡ best
-unfolding bestOf
-bestOf-nil P best = refl
+module _ (sites : List Site) (G : Grid) where
+  best-more : (best : Spot) (p : Place) (ps : List Place) → bestOf (siteRules sites G) (pricedOf best) (p ∷ ps) ≡ bestOf (siteRules sites G) (pricedOf (improved best (spotOf sites p))) ps
+  best-more best p ps = rw (bestOf-cons (siteRules sites G) (pricedOf best) p ps, improved-is best (spotOf sites p))
 
-bestOf-cons : (P : Problem) (best : Priced) (p : Place) (ps : List Place) → bestOf P best (p ∷ ps) ≡ bestOf P (cond (better (pricedAt P p) best) (pricedAt P p) best) ps
-unfolding bestOf leastBy
-bestOf-cons P best p ps = refl
+  pub best-two : (best : Spot) (p q : Place) → bestOf (siteRules sites G) (pricedOf best) (p ∷ q ∷ []) ≡ pricedOf (improved (improved best (spotOf sites p)) (spotOf sites q))
+  best-two best p q = best-more best p (q ∷ []) ∙ best-more (improved best (spotOf sites p)) q [] ∙ bestOf-nil (siteRules sites G) (pricedOf (improved (improved best (spotOf sites p)) (spotOf sites q)))
 
-module _ (sites : List Site) (vs hs : List ℤ) (area : Rect) where
-  best-more : (best : Spot) (p : Place) (ps : List Place) → bestOf (siteProblem sites vs hs area) (pricedOf best) (p ∷ ps) ≡ bestOf (siteProblem sites vs hs area) (pricedOf (improved best (spotOf sites p))) ps
-  best-more best p ps = rw (bestOf-cons (siteProblem sites vs hs area) (pricedOf best) p ps, improved-is best (spotOf sites p), better-cost sites vs hs area p)
-
-  pub best-two : (best : Spot) (p q : Place) → bestOf (siteProblem sites vs hs area) (pricedOf best) (p ∷ q ∷ []) ≡ pricedOf (improved (improved best (spotOf sites p)) (spotOf sites q))
-  best-two best p q = best-more best p (q ∷ []) ∙ best-more (improved best (spotOf sites p)) q [] ∙ bestOf-nil (siteProblem sites vs hs area) (pricedOf (improved (improved best (spotOf sites p)) (spotOf sites q)))
-
-  pub start-best : pricedOf (bestCorner area (cornerCosts sites area)) ≡ startBest (siteProblem sites vs hs area)
-  unfolding startBest otherCorners bestCorner siteProblem
-  start-best =
-      let P = siteProblem sites vs hs area in
+  pub start-best : (area : Rect) → pricedOf (bestCorner area (cornerCosts sites area)) ≡ startBest (siteProblem sites G area)
+  unfolding startBest otherCorners bestCorner
+  start-best area =
       let c₁ = spotOf sites (corner area) in
       let c₂ = improved c₁ (spotOf sites (record { x = area .xlo; y = area .yhi })) in
       let c₃ = improved c₂ (spotOf sites (record { x = area .xhi; y = area .ylo })) in
@@ -178,4 +142,4 @@ module _ (sites : List Site) (vs hs : List ℤ) (area : Rect) where
       sym (best-more c₁ (record { x = area .xlo; y = area .yhi }) (record { x = area .xhi; y = area .ylo } ∷ record { x = area .xhi; y = area .yhi } ∷ [])
       ∙ best-more c₂ (record { x = area .xhi; y = area .ylo }) (record { x = area .xhi; y = area .yhi } ∷ [])
       ∙ best-more c₃ (record { x = area .xhi; y = area .yhi }) []
-      ∙ bestOf-nil P (pricedOf c₄))
+      ∙ bestOf-nil (siteRules sites G) (pricedOf c₄))

@@ -16,8 +16,7 @@ use lib.Signed.{mag, ltZ, _≤ℤ_}
 use Rattle.numbers.specs.Lists.{leastBy}
 use Rattle.numbers.proofs.Truth.{and-left, nor-left, fails, holds, test, cond-ind}
 use Rattle.numbers.proofs.Integer.{order}
-use Rattle.query.specs.Place.{Rect, zeroRect}
-use Rattle.query.specs.Problem.{Problem}
+use Rattle.query.specs.Problem.{Rules, Problem}
 use Rattle.query.specs.Cut.{canCut}
 use Rattle.query.specs.Order as Query
 use Rattle.query.specs.Order.{precedes, pricedKey, cellKey, cellBefore}
@@ -33,48 +32,46 @@ use Rattle.slots.specs.Slot.{Entry, queryCell, entryCell, cellAt, entryAt}
 use Rattle.cells.specs.Space.{entries}
 use Rattle.cells.specs.Steps.{InOrder}
 use Rattle.search.specs.Run.{searchOf, Takeable, Holds, Steady, Answerable, isDone, foundOf}
-use Rattle.problem.specs.Problem.{siteProblem, pricedOf}
+use Rattle.problem.specs.Problem.{pricedOf}
 use Rattle.numbers.proofs.WordTests.{back, fitting}
 use Rattle.cells.proofs.SpaceLaws.{cells-in-order, entries-first, entries-none, entries-length}
-use Rattle.search.proofs.LiveLaws.{can-lines}
-use Rattle.search.proofs.RoundLaws.{search-is, round-area}
+use Rattle.search.proofs.RoundLaws.{search-is}
 
 -- ---- rounds from a search on
-unfoldable pub roundsFrom : Problem → ℕ → Search → Search
+unfoldable pub roundsFrom : Rules → ℕ → Search → Search
 unfolding round
-roundsFrom P zero s = s
-roundsFrom P (suc n) s = round P (roundsFrom P n s)
+roundsFrom R zero s = s
+roundsFrom R (suc n) s = round R (roundsFrom R n s)
 
-pub rounds-none : (P : Problem) (s : Search) → roundsFrom P 0 s ≡ s
+pub rounds-none : (R : Rules) (s : Search) → roundsFrom R 0 s ≡ s
 unfolding roundsFrom
-rounds-none P s = refl
+rounds-none R s = refl
 
-pub rounds-more : (P : Problem) (n : ℕ) (s : Search) → roundsFrom P (n + 1) s ≡ round P (roundsFrom P n s)
+pub rounds-more : (R : Rules) (n : ℕ) (s : Search) → roundsFrom R (n + 1) s ≡ round R (roundsFrom R n s)
 unfolding roundsFrom
-rounds-more P n s = ap (λ (m : ℕ). roundsFrom P m s) (add-one n)
+rounds-more R n s = ap (λ (m : ℕ). roundsFrom R m s) (add-one n)
 
-module _ (sites : List Site) (vs hs : List ℤ) (area : Rect) where
-  pub rounds-run : (n : ℕ) → roundsFrom (siteProblem sites vs hs zeroRect) n (start (siteProblem sites vs hs area)) ≡ run (siteProblem sites vs hs area) n
-  unfolding roundsFrom run
-  rounds-run zero = refl
-  rounds-run (suc n) = round-area sites vs hs area (roundsFrom (siteProblem sites vs hs zeroRect) n (start (siteProblem sites vs hs area))) ∙ ap (round (siteProblem sites vs hs area)) (rounds-run n)
+pub rounds-run : (P : Problem) (n : ℕ) → roundsFrom (P .rules) n (start P) ≡ run P n
+unfolding roundsFrom run
+rounds-run P zero = refl
+rounds-run P (suc n) = ap (round (P .rules)) (rounds-run P n)
 
 -- ---- the loop
-module _ (sites : List Site) (vs hs : List ℤ) where
-  pub holds-first : (x : Search) (s : List ℤ) (t : List ℕ) (st : State) → Holds sites x 1000 s t st → Holds sites (roundsFrom (siteProblem sites vs hs zeroRect) 0 (searchOf s t st)) (1000 - 0) s t st
-  holds-first x s t st h = record { is = sym (rounds-none (siteProblem sites vs hs zeroRect) (searchOf s t st)); costed = h .costed; low-head = h .low-head; in-turn = h .in-turn; ends = h .ends }
+module _ (sites : List Site) (R : Rules) where
+  pub holds-first : (x : Search) (s : List ℤ) (t : List ℕ) (st : State) → Holds sites x 1000 s t st → Holds sites (roundsFrom R 0 (searchOf s t st)) (1000 - 0) s t st
+  holds-first x s t st h = record { is = sym (rounds-none R (searchOf s t st)); costed = h .costed; low-head = h .low-head; in-turn = h .in-turn; ends = h .ends }
 
-  pub holds-more : (k : ℕ) (x : Search) (s s′ : List ℤ) (t t′ : List ℕ) (st st′ : State) → Holds sites (roundsFrom (siteProblem sites vs hs zeroRect) k x) (1000 - k) s t st → Holds sites (round (siteProblem sites vs hs zeroRect) (searchOf s t st)) (st .head - 1) s′ t′ st′ → Holds sites (roundsFrom (siteProblem sites vs hs zeroRect) (k + 1) x) (1000 - (k + 1)) s′ t′ st′
-  holds-more k x s s′ t t′ st st′ h g = record { is = g .is ∙ ap (round (siteProblem sites vs hs zeroRect)) (h .is) ∙ sym (rounds-more (siteProblem sites vs hs zeroRect) k x); costed = g .costed; low-head = omega (arith, h .low-head, g .low-head); in-turn = g .in-turn; ends = g .ends }
+  pub holds-more : (k : ℕ) (x : Search) (s s′ : List ℤ) (t t′ : List ℕ) (st st′ : State) → Holds sites (roundsFrom R k x) (1000 - k) s t st → Holds sites (round R (searchOf s t st)) (st .head - 1) s′ t′ st′ → Holds sites (roundsFrom R (k + 1) x) (1000 - (k + 1)) s′ t′ st′
+  holds-more k x s s′ t t′ st st′ h g = record { is = g .is ∙ ap (round R) (h .is) ∙ sym (rounds-more R k x); costed = g .costed; low-head = omega (arith, h .low-head, g .low-head); in-turn = g .in-turn; ends = g .ends }
 
-  pub holds-run : (area : Rect) (k lowest : ℕ) (x : Search) (s : List ℤ) (t : List ℕ) (st : State) → x ≡ start (siteProblem sites vs hs area) → Holds sites (roundsFrom (siteProblem sites vs hs zeroRect) k x) lowest s t st → Holds sites (run (siteProblem sites vs hs area) k) lowest s t st
-  holds-run area k lowest x s t st e h = record { is = h .is ∙ ap (roundsFrom (siteProblem sites vs hs zeroRect) k) e ∙ rounds-run sites vs hs area k; costed = h .costed; low-head = h .low-head; in-turn = h .in-turn; ends = h .ends }
+pub holds-run : (sites : List Site) (P : Problem) (k lowest : ℕ) (x : Search) (s : List ℤ) (t : List ℕ) (st : State) → x ≡ start P → Holds sites (roundsFrom (P .rules) k x) lowest s t st → Holds sites (run P k) lowest s t st
+holds-run sites P k lowest x s t st e h = record { is = h .is ∙ ap (roundsFrom (P .rules) k) e ∙ rounds-run P k; costed = h .costed; low-head = h .low-head; in-turn = h .in-turn; ends = h .ends }
 
 -- ---- once no cell is live, rounds change nothing
 pub stays : (P : Problem) (k m : ℕ) → k ≤ m → run P k .live ≡ [] → run P m ≡ run P k
 unfolding run round roundOn
 stays P k zero h e = ap (run P) (let z : zero ≡ k = omega arith in z)
-stays P k (suc m) h e = ⊎-elim (λ (q : k ≡ suc m). ap (run P) (sym q)) (λ (l : k < suc m). ap (round P) (stays P k m (omega arith) e) ∙ ap (roundOn P (run P k)) e) (eq-or-lt-of-le h)
+stays P k (suc m) h e = ⊎-elim (λ (q : k ≡ suc m). ap (run P) (sym q)) (λ (l : k < suc m). ap (round (P .rules)) (stays P k m (omega arith) e) ∙ ap (roundOn (P .rules) (run P k)) e) (eq-or-lt-of-le h)
 
 -- ---- what the slots hold does not depend on the costs
 pub cells-any : (s : List ℤ) (t u : List ℕ) (a n : ℕ) → map entryCell (entries s t a n) ≡ map entryCell (entries s u a n)
@@ -123,23 +120,19 @@ module _ (P : Problem) (sites : List Site) (n lowest : ℕ) (s : List ℤ) (t : 
   pub holds-any : searchOf s [] st ≡ run P n
   holds-any = search-any s [] t st ∙ h .is
 
-module _ (sites : List Site) (vs hs : List ℤ) (area : Rect) (n lowest : ℕ) (s : List ℤ) (t : List ℕ) (st : State) (h : Holds sites (run (siteProblem sites vs hs area) n) lowest s t st) where
-  abbrev P : Problem
-  P = siteProblem sites vs hs area
-
   -- what a round asks
-  pub takeable : Steady (siteProblem sites vs hs area) → n < 1000 → 1 ≤ lowest → st .head < st .tail → Takeable sites vs hs s t st
+  pub takeable : Steady P → n < 1000 → 1 ≤ lowest → st .head < st .tail → Takeable sites (P .rules .grid) s t st
   unfolding isLive
   takeable steady few low some = record {
     some = some;
     room = omega (arith, h .low-head);
     ends = h .ends;
-    few = omega (arith, cuts-are P sites n lowest s t st h, cuts-most P n);
-    cost-limit = omega (arith, best-cost P sites n lowest s t st h, steady .cost-limit n);
-    ranged = steady .ranged n (queryCell (cellAt s (st .head))) (member P sites n lowest s t st h (entryAt s t (st .head)) (rw (entries-first s t (st .head) (st .tail) some) (List·Memᴰ·head refl)));
-    can-cut = λ e m. let c = entryCell e in rw (can-lines sites vs hs area (c .rect)) at (and-left (canCut P (c .rect)) (precedes (cellKey c) (pricedKey (run P n .best))) (partition-law P n .live-are-live c (member P sites n lowest s t st h e m)));
+    few = omega (arith, cuts-are, cuts-most P n);
+    cost-limit = omega (arith, best-cost, steady .cost-limit n);
+    ranged = steady .ranged n (queryCell (cellAt s (st .head))) (member (entryAt s t (st .head)) (rw (entries-first s t (st .head) (st .tail) some) (List·Memᴰ·head refl)));
+    can-cut = λ e m. let c = entryCell e in and-left (canCut (P .rules .grid) (c .rect)) (precedes (cellKey c) (pricedKey (run P n .best))) (partition-law P n .live-are-live c (member e m));
     costed = h .costed;
-    in-order = ordered P sites n lowest s t st h t;
+    in-order = ordered t;
   }
 
 -- ---- the low figure

@@ -9,6 +9,7 @@ use lib.IntN.{ℤ, natAbs}
 use lib.ListN.{length}
 use Rattle.numbers.specs.Lists.{insertBy}
 use Rattle.query.specs.Place.{Place, Rect}
+use Rattle.query.specs.Grid.{Grid}
 use Rattle.query.specs.Problem.{Problem, problem}
 use Rattle.query.specs.Cut.{canCut}
 use Rattle.query.specs.Order as Query
@@ -22,7 +23,6 @@ use Rattle.deck.specs.DeckOf.{deckOf}
 use Rattle.deck.specs.Sites.{Site}
 use Rattle.pricing.specs.Figures.{costOf}
 use Rattle.lines.specs.LineRecord as Lines
-use Rattle.cuts.specs.CutRecord.{onLines}
 use Rattle.deck.specs.declared.Sites.{Sites}
 use Rattle.cuts.specs.declared.Cut.{Cut}
 use Rattle.slots.specs.declared.Cell.{Cell}
@@ -94,9 +94,9 @@ halvesOf sites cut r =
     record { low = spotOf sites low; high = spotOf sites high; first = cellFor sites (firstRect r high); «first_costs» = cornerCosts sites (firstRect r high); second = cellFor sites (secondRect r low); «second_costs» = cornerCosts sites (secondRect r low) }
 
 -- a cell that is cut, and its corners' costs
-pub record Cutting (sites : List Site) (vertical horizontal : List ℤ) (c : Cell) (k : Costs) : Type 0 where
+pub record Cutting (sites : List Site) (G : Grid) (c : Cell) (k : Costs) : Type 0 where
   pub ranged : Ranged (rectIn c)
-  pub can-cut : T (canCut (onLines vertical horizontal) (rectIn c))
+  pub can-cut : T (canCut G (rectIn c))
   pub costs : k ≡ cornerCosts sites (rectIn c)
 
 -- a cell whose edges and cut line are in range
@@ -106,9 +106,9 @@ pub record CutInRange (c : Cell) (cut : Cut) : Type 0 where
 
 -- ---- the entries
 -- an entry more, if it is live
-unfoldable pub withLive : Problem → Priced → Entry → List Entry → List Entry
+unfoldable pub withLive : Grid → Priced → Entry → List Entry → List Entry
 unfolding isLive insertBy entryBefore
-withLive P best e es = cond (isLive P best (entryCell e)) (insertBy entryBefore e es) es
+withLive G best e es = cond (isLive G best (entryCell e)) (insertBy entryBefore e es) es
 
 -- where an entry more may go: among entries in order
 pub record Addable (s : List ℤ) (t : List ℕ) (head tail : ℕ) (c : Cell) (best : Spot) : Type 0 where
@@ -120,10 +120,10 @@ pub record Addable (s : List ℤ) (t : List ℕ) (head tail : ℕ) (c : Cell) (b
   pub cost-limit : best .cost ≤ costLimit
 
 -- the entries from r on are those from head on and e, if it is live
-pub record Added (P : Problem) (best : Priced) (e : Entry) (head tail : ℕ) (s : List ℤ) (t : List ℕ) (s′ : List ℤ) (t′ : List ℕ) (r : ℕ) : Type 0 where
+pub record Added (G : Grid) (best : Priced) (e : Entry) (head tail : ℕ) (s : List ℤ) (t : List ℕ) (s′ : List ℤ) (t′ : List ℕ) (r : ℕ) : Type 0 where
   pub down : r ≤ head
   pub by-one : head ≤ r + 1
-  pub entries-are : entries s′ t′ r (tail - r) ≡ withLive P best e (entries s t head (tail - head))
+  pub entries-are : entries s′ t′ r (tail - r) ≡ withLive G best e (entries s t head (tail - head))
 
 -- each has the costs of its corners
 pub record Costed (sites : List Site) (es : List Entry) : Type 0 where
@@ -136,14 +136,14 @@ unfolding entries
 searchOf s t st = record { best = pricedOf (st .best); live = map entryCell (entries s t (st .head) (st .tail - st .head)); cuts = st .cuts }
 
 -- what a round asks
-pub record Takeable (sites : List Site) (vertical horizontal : List ℤ) (s : List ℤ) (t : List ℕ) (st : State) : Type 0 where
+pub record Takeable (sites : List Site) (G : Grid) (s : List ℤ) (t : List ℕ) (st : State) : Type 0 where
   pub some : st .head < st .tail
   pub room : 1 ≤ st .head
   pub ends : st .tail ≤ 1001
   pub few : st .cuts < 1000
   pub cost-limit : st .best .cost ≤ costLimit
   pub ranged : Ranged (rectIn (cellAt s (st .head)))
-  pub can-cut : (e : Entry) → List·Memᴰ e (entries s t (st .head) (st .tail - st .head)) → T (canCut (onLines vertical horizontal) (entryCell e .rect))
+  pub can-cut : (e : Entry) → List·Memᴰ e (entries s t (st .head) (st .tail - st .head)) → T (canCut G (entryCell e .rect))
   pub costed : Costed sites (entries s t (st .head) (st .tail - st .head))
   pub in-order : InOrder (entries s t (st .head) (st .tail - st .head))
 

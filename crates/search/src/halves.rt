@@ -5,7 +5,6 @@ use slots::Cell;
 use slots::Costs;
 ghost use mathlib.Core.Path.{_≡_};
 ghost use Prim.Native.Nat.{_-_, _≤_};
-ghost use lib.ListN.{take};
 ghost use lib.Signed.{_≤ℤ_};
 ghost use Rattle.numbers.specs.Integer.{dist};
 ghost use Rattle.query.specs.Deck.{plain};
@@ -13,7 +12,8 @@ ghost use Rattle.query.specs.Bound as Bound;
 ghost use Rattle.query.specs.Range.{costLimit, loadLimit, RectInRange};
 ghost use Rattle.pricing.specs.Figures.{loadOf};
 ghost use Rattle.pricing.specs.Columns.{siteRows, Figure};
-ghost use Rattle.cuts.specs.CutRecord.{Edges, onLines, cutRecord};
+ghost use Rattle.lines.specs.LineRecord.{gridOf};
+ghost use Rattle.cuts.specs.CutRecord.{Edges, cutRecord};
 ghost use Rattle.search.specs.Run.{cornerCosts, cellFor, improved, lowCorner, highCorner, firstRect, secondRect, firstCosts, secondCosts, halvesOf, Cutting, CutInRange};
 ghost use Rattle.problem.specs.Problem.{Sited, Lined, pricedOf, spotOf, rectIn, Ranged};
 
@@ -106,7 +106,7 @@ pub(crate) fn bounded<'a>(
 // Where a cell is cut.
 pub(crate) fn cut_of(v: &[i64; 514], nv: usize, h: &[i64; 514], nh: usize, c: Cell) -> Cut
     requires { ⌜ Lined (now v) nv (now h) nh × RectInRange (rectIn c) ⌝ }
-    ensures { λ r. ⌜ r ≡ cutRecord (onLines (take nv (now (v .entry))) (take nh (now (h .entry)))) (rectIn c) ⌝ }
+    ensures { λ r. ⌜ r ≡ cutRecord (gridOf (now (v .entry)) nv (now (h .entry)) nh) (rectIn c) ⌝ }
 {
     cuts::find_cut(v, nv, h, nh, c.xlo, c.ylo, c.xhi, c.yhi)
 }
@@ -229,8 +229,8 @@ pub(crate) fn halve<'a>(
     c: Cell,
     k: Costs,
 ) -> Halves
-    requires { ⌜ Sited (now xs) (now ys) (now visits) (now near) n × Lined (now v) nv (now h) nh × Cutting (siteRows (now xs) (now ys) (now visits) (now near) n) (take nv (now v)) (take nh (now h)) c k ⌝ }
-    ensures { λ r. ⌜ r ≡ halvesOf (siteRows (now (xs .entry)) (now (ys .entry)) (now (visits .entry)) (now (near .entry)) n) (cutRecord (onLines (take nv (now (v .entry))) (take nh (now (h .entry)))) (rectIn c)) (rectIn c) ⌝ }
+    requires { ⌜ Sited (now xs) (now ys) (now visits) (now near) n × Lined (now v) nv (now h) nh × Cutting (siteRows (now xs) (now ys) (now visits) (now near) n) (gridOf (now v) nv (now h) nh) c k ⌝ }
+    ensures { λ r. ⌜ r ≡ halvesOf (siteRows (now (xs .entry)) (now (ys .entry)) (now (visits .entry)) (now (near .entry)) n) (cutRecord (gridOf (now (v .entry)) nv (now (h .entry)) nh) (rectIn c)) (rectIn c) ⌝ }
 {
     let cut = cut_of(v, nv, h, nh, c);
     let low = low_corner(xs, ys, visits, near, n, c, cut);

@@ -9,17 +9,16 @@ use slots::Costs;
 ghost use mathlib.Core.Path.{_≡_};
 ghost use mathlib.Core.List.{[]};
 ghost use Prim.Native.Nat.{_-_, _≤_};
-ghost use lib.ListN.{length, take};
+ghost use lib.ListN.{length};
 ghost use Rattle.query.specs.Search as Search;
 ghost use Rattle.query.specs.Range.{costLimit, RectInRange};
-ghost use Rattle.query.specs.Place.{zeroRect};
 ghost use Rattle.query.specs.Figures as Figures;
 ghost use Rattle.pricing.specs.Columns.{siteRows};
-ghost use Rattle.cuts.specs.CutRecord.{onLines};
+ghost use Rattle.lines.specs.LineRecord.{gridOf};
 ghost use Rattle.slots.specs.Slot.{queryCell};
 ghost use Rattle.slots.specs.Numbering.{cellsIn, costsIn, Numbered};
 ghost use Rattle.search.specs.Run.{cornerCosts, CostsInRange, bestCorner, Addable, Added, searchOf, Takeable, Holds, Steady, Answerable, foundOf, Ready, Searched};
-ghost use Rattle.problem.specs.Problem.{siteProblem, Sited, Lined, pricedOf, rectIn, Ranged};
+ghost use Rattle.problem.specs.Problem.{siteRules, siteProblem, Sited, Lined, pricedOf, rectIn, Ranged};
 
 // A search while it runs: where its live cells stand in the order, the best place so far and the cuts made.
 pub struct State {
@@ -42,7 +41,7 @@ pub struct Found {
 // Whether a cell is live: it comes before the best place and can be cut.
 fn is_live(v: &[i64; 514], nv: usize, h: &[i64; 514], nh: usize, c: Cell, best: Spot) -> bool
     requires { ⌜ Lined (now v) nv (now h) nh × RectInRange (rectIn c) × (best .cost ≤ costLimit) ⌝ }
-    ensures { λ r. ⌜ r ≡ Search.isLive (onLines (take nv (now (v .entry))) (take nh (now (h .entry)))) (pricedOf best) (queryCell c) ⌝ }
+    ensures { λ r. ⌜ r ≡ Search.isLive (gridOf (now (v .entry)) nv (now (h .entry)) nh) (pricedOf best) (queryCell c) ⌝ }
 {
     if cells::precedes(c.bound, c.xlo, c.ylo, best.cost as i64, best.x, best.y) {
         let cut = halves::cut_of(v, nv, h, nh, c);
@@ -67,7 +66,7 @@ fn add<'a>(
     best: Spot,
 ) -> usize
     requires { ⌜ Lined (now v) nv (now h) nh × Addable (cellsIn (now s) (now o)) (costsIn (now t) (now o)) head tail c best × Numbered (now o) ⌝ }
-    ensures { λ r. ⌜ Added (onLines (take nv (now (v .entry))) (take nh (now (h .entry)))) (pricedOf best) (record { cell = c; costs = k }) head tail (cellsIn (now (s .entry)) (now (o .entry))) (costsIn (now (t .entry)) (now (o .entry))) (cellsIn (now (s .exit)) (now (o .exit))) (costsIn (now (t .exit)) (now (o .exit))) r × Numbered (now (o .exit)) ⌝ }
+    ensures { λ r. ⌜ Added (gridOf (now (v .entry)) nv (now (h .entry)) nh) (pricedOf best) (record { cell = c; costs = k }) head tail (cellsIn (now (s .entry)) (now (o .entry))) (costsIn (now (t .entry)) (now (o .entry))) (cellsIn (now (s .exit)) (now (o .exit))) (costsIn (now (t .exit)) (now (o .exit))) r × Numbered (now (o .exit)) ⌝ }
 {
     if is_live(v, nv, h, nh, c, best) {
         cells::insert(s, t, o, head, tail, c, k);
@@ -92,8 +91,8 @@ fn round<'a>(
     o: &mut [u16; 1001],
     st: State,
 ) -> State
-    requires { ⌜ Sited (now xs) (now ys) (now visits) (now near) n × Lined (now v) nv (now h) nh × Takeable (siteRows (now xs) (now ys) (now visits) (now near) n) (take nv (now v)) (take nh (now h)) (cellsIn (now s) (now o)) (costsIn (now t) (now o)) st × Numbered (now o) ⌝ }
-    ensures { λ r. ⌜ Holds (siteRows (now (xs .entry)) (now (ys .entry)) (now (visits .entry)) (now (near .entry)) n) (Search.round (siteProblem (siteRows (now (xs .entry)) (now (ys .entry)) (now (visits .entry)) (now (near .entry)) n) (take nv (now (v .entry))) (take nh (now (h .entry))) zeroRect) (searchOf (cellsIn (now (s .entry)) (now (o .entry))) (costsIn (now (t .entry)) (now (o .entry))) st)) (st .head - 1) (cellsIn (now (s .exit)) (now (o .exit))) (costsIn (now (t .exit)) (now (o .exit))) r × Numbered (now (o .exit)) ⌝ }
+    requires { ⌜ Sited (now xs) (now ys) (now visits) (now near) n × Lined (now v) nv (now h) nh × Takeable (siteRows (now xs) (now ys) (now visits) (now near) n) (gridOf (now v) nv (now h) nh) (cellsIn (now s) (now o)) (costsIn (now t) (now o)) st × Numbered (now o) ⌝ }
+    ensures { λ r. ⌜ Holds (siteRows (now (xs .entry)) (now (ys .entry)) (now (visits .entry)) (now (near .entry)) n) (Search.round (siteRules (siteRows (now (xs .entry)) (now (ys .entry)) (now (visits .entry)) (now (near .entry)) n) (gridOf (now (v .entry)) nv (now (h .entry)) nh)) (searchOf (cellsIn (now (s .entry)) (now (o .entry))) (costsIn (now (t .entry)) (now (o .entry))) st)) (st .head - 1) (cellsIn (now (s .exit)) (now (o .exit))) (costsIn (now (t .exit)) (now (o .exit))) r × Numbered (now (o .exit)) ⌝ }
 {
     let head = st.head;
     let c = slots::cell_at(s, o, head);
@@ -181,7 +180,7 @@ fn start<'a>(
     area: Cell,
 ) -> State
     requires { ⌜ Sited (now xs) (now ys) (now visits) (now near) n × Lined (now v) nv (now h) nh × Ranged (rectIn area) × Numbered (now o) ⌝ }
-    ensures { λ r. ⌜ Holds (siteRows (now (xs .entry)) (now (ys .entry)) (now (visits .entry)) (now (near .entry)) n) (Search.start (siteProblem (siteRows (now (xs .entry)) (now (ys .entry)) (now (visits .entry)) (now (near .entry)) n) (take nv (now (v .entry))) (take nh (now (h .entry))) (rectIn area))) 1000 (cellsIn (now (s .exit)) (now (o .exit))) (costsIn (now (t .exit)) (now (o .exit))) r × Numbered (now (o .exit)) ⌝ }
+    ensures { λ r. ⌜ Holds (siteRows (now (xs .entry)) (now (ys .entry)) (now (visits .entry)) (now (near .entry)) n) (Search.start (siteProblem (siteRows (now (xs .entry)) (now (ys .entry)) (now (visits .entry)) (now (near .entry)) n) (gridOf (now (v .entry)) nv (now (h .entry)) nh) (rectIn area))) 1000 (cellsIn (now (s .exit)) (now (o .exit))) (costsIn (now (t .exit)) (now (o .exit))) r × Numbered (now (o .exit)) ⌝ }
 {
     let k = corners(xs, ys, visits, near, n, area);
     let best = best_corner(area, k);
@@ -212,8 +211,8 @@ fn run_of<'a>(
     area: Cell,
     rounds: u64,
 ) -> State
-    requires { ⌜ Sited (now xs) (now ys) (now visits) (now near) n × Lined (now v) nv (now h) nh × Ranged (rectIn area) × (rounds ≤ 1000) × Steady (siteProblem (siteRows (now xs) (now ys) (now visits) (now near) n) (take nv (now v)) (take nh (now h)) (rectIn area)) × Numbered (now o) ⌝ }
-    ensures { λ r. ⌜ Holds (siteRows (now (xs .entry)) (now (ys .entry)) (now (visits .entry)) (now (near .entry)) n) (Search.run (siteProblem (siteRows (now (xs .entry)) (now (ys .entry)) (now (visits .entry)) (now (near .entry)) n) (take nv (now (v .entry))) (take nh (now (h .entry))) (rectIn area)) rounds) 0 (cellsIn (now (s .exit)) (now (o .exit))) (costsIn (now (t .exit)) (now (o .exit))) r × Numbered (now (o .exit)) ⌝ }
+    requires { ⌜ Sited (now xs) (now ys) (now visits) (now near) n × Lined (now v) nv (now h) nh × Ranged (rectIn area) × (rounds ≤ 1000) × Steady (siteProblem (siteRows (now xs) (now ys) (now visits) (now near) n) (gridOf (now v) nv (now h) nh) (rectIn area)) × Numbered (now o) ⌝ }
+    ensures { λ r. ⌜ Holds (siteRows (now (xs .entry)) (now (ys .entry)) (now (visits .entry)) (now (near .entry)) n) (Search.run (siteProblem (siteRows (now (xs .entry)) (now (ys .entry)) (now (visits .entry)) (now (near .entry)) n) (gridOf (now (v .entry)) nv (now (h .entry)) nh) (rectIn area)) rounds) 0 (cellsIn (now (s .exit)) (now (o .exit))) (costsIn (now (t .exit)) (now (o .exit))) r × Numbered (now (o .exit)) ⌝ }
 {
     let mut st = start(xs, ys, visits, near, n, v, nv, h, nh, s, t, o, area);
     let mut k: u64 = 0;

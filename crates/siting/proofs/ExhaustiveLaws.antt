@@ -4,7 +4,9 @@ use Prim.Native.Nat.{ℕ}
 use mathlib.Core.Path.{_≡_, sym, ap, _∙_}
 use mathlib.Core.List.{List}
 use native.Mathlib.Omega.{arith}
+use Rattle.query.specs.Deck.{Deck}
 use Rattle.query.specs.Order.{Priced}
+use Rattle.query.specs.Problem.{problem}
 use Rattle.query.specs.Exhaustive as Query
 use Rattle.job.specs.Format.{Job, refused, accepted, readJob}
 use Rattle.job.specs.Record.{jobRecord}
@@ -31,10 +33,10 @@ module _ (job : List ℕ) (j : Held.Job) (e : j ≡ jobRecord (readJob job)) whe
       let (range, posts, stops) = sites-ask s j e in
       record { sites-are = f; range = range; full = read-full s j e; posts = posts; stops = stops }
 
-  pub exhaustive-found : (rounds : ℕ) → j .outcome ≡ Accepted rounds → (s : Spot) → pricedOf s ≡ Query.exhaustive (deckOf (j .deck)) → cheapestAnswer (Cheapest.At s) ≡ exhaustiveCall job
+  pub exhaustive-found : (rounds : ℕ) → j .outcome ≡ Accepted rounds → (s : Spot) → pricedOf s ≡ Query.exhaustive (problem (deckOf (j .deck))) → cheapestAnswer (Cheapest.At s) ≡ exhaustiveCall job
   exhaustive-found rounds o s f =
       let t = read-accepted job j e rounds o in
-      ap (λ (p : Priced). gives p) (f ∙ ap Query.exhaustive (read-deckOf t j e)) ∙ sym (call-accepted job (t .job) (t .read))
+      ap (λ (p : Priced). gives p) (f ∙ ap (λ (d : Deck). Query.exhaustive (problem d)) (read-deckOf t j e)) ∙ sym (call-accepted job (t .job) (t .read))
 
   pub exhaustive-refused : (why : Refusal) → j .outcome ≡ Refused why → cheapestAnswer (Cheapest.Refused why) ≡ exhaustiveCall job
   exhaustive-refused why o = sym (call-refused job why (read-refused job j e why o))

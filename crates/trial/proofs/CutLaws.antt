@@ -15,18 +15,17 @@ use borrow.Author.Tests.{lt-ltb, le-ltb}
 use Rattle.query.specs.Place.{Rect, Axis, x-axis, y-axis}
 use Rattle.query.specs.Range.{InRange}
 use Rattle.query.specs.Lines.{lines}
-use Rattle.query.specs.Problem.{problem}
+use Rattle.query.specs.Grid.{Grid, grid}
 use Rattle.query.specs.Cut.{canCut, cutLine}
 use Rattle.job.specs.Format.{Result, refused, accepted, readJob}
 use Rattle.deck.specs.declared.Deck.{Deck}
 use Rattle.numbers.proofs.WordTests.{back}
 use Rattle.deck.specs.DeckOf.{deckOf}
-use Rattle.lines.specs.LineRecord.{linesRecord, InOrder}
-use Rattle.cuts.specs.CutRecord.{rectOf, onLines, cutAt, isX, cutRecord}
+use Rattle.lines.specs.LineRecord.{linesRecord, gridOf, InOrder}
+use Rattle.cuts.specs.CutRecord.{rectOf, cutAt, isX, cutRecord}
 use Rattle.lines.specs.declared.Lines.{Lines}
 use Rattle.cuts.specs.declared.Cut.{Cut}
-use Rattle.lines.proofs.DeckLines.{lines-in-order}
-use Rattle.cuts.proofs.DeckCut.{deck-cut}
+use Rattle.lines.proofs.DeckLines.{deck-grid, lines-in-order}
 use Rattle.lines.proofs.LineRecordLaws.{record-front}
 use Rattle.cuts.proofs.CutRecordLaws.{cutRecord-found, cutRecord-cut}
 use Rattle.trial.specs.Opened.{openedRecord, rectAllowed}
@@ -41,32 +40,32 @@ module _ (deck : Deck) where
   pub found-in-order : InRange (deckOf deck) → (axis : Axis) (r : Lines) → r ≡ linesRecord (lines (deckOf deck) axis) → InOrder (r .at) (r .count)
   found-in-order h axis r e = subst (λ (k : Lines). InOrder (k .at) (k .count)) (sym e) (lines-in-order (deckOf deck) axis (h .most-stops))
 
-  pub found-cut : (v u : Lines) (r : Rect) → v ≡ linesRecord (lines (deckOf deck) x-axis) → u ≡ linesRecord (lines (deckOf deck) y-axis) → cutRecord (onLines (take (v .count) (v .at)) (take (u .count) (u .at))) r ≡ cutRecord (problem (deckOf deck)) r
-  found-cut v u r e f = rw (e, f) (deck-cut (deckOf deck) r)
+  pub found-cut : (v u : Lines) (r : Rect) → v ≡ linesRecord (lines (deckOf deck) x-axis) → u ≡ linesRecord (lines (deckOf deck) y-axis) → cutRecord (gridOf (v .at) (v .count) (u .at) (u .count)) r ≡ cutRecord (grid (deckOf deck)) r
+  found-cut v u r e f = ap (λ (G : Grid). cutRecord G r) (deck-grid (deckOf deck) v u e f)
 
 -- ---- the answers
 axis-number : (axis : Axis) → axisNumber axis ≡ cond (isX axis) (pos 1) (pos 2)
 axis-number x-axis = refl
 axis-number y-axis = refl
 
-module _ {bytes : List ℕ} {o : Opened} (e : o ≡ openedRecord (readJob bytes)) (s : Spelt bytes) {xlo ylo xhi yhi : ℤ} (fits : Fits4 xlo ylo xhi yhi) (on : rectAllowed (rectOf xlo ylo xhi yhi) ≡ true) {cut : Cut} (found : cut ≡ cutRecord (problem (deckOf (o .deck))) (rectOf (back xlo) (back ylo) (back xhi) (back yhi))) where
+module _ {bytes : List ℕ} {o : Opened} (e : o ≡ openedRecord (readJob bytes)) (s : Spelt bytes) {xlo ylo xhi yhi : ℤ} (fits : Fits4 xlo ylo xhi yhi) (on : rectAllowed (rectOf xlo ylo xhi yhi) ≡ true) {cut : Cut} (found : cut ≡ cutRecord (grid (deckOf (o .deck))) (rectOf (back xlo) (back ylo) (back xhi) (back yhi))) where
   abbrev rect : Rect
   rect = rectOf xlo ylo xhi yhi
 
-  cut-is : cut ≡ cutRecord (problem (s .job .deck)) rect
+  cut-is : cut ≡ cutRecord (grid (s .job .deck)) rect
   cut-is = found ∙ rw (rect-held fits, open-deck bytes o e s)
 
-  can-cut : {t : Bool} → cut .found ≡ t → canCut (problem (s .job .deck)) rect ≡ t
-  can-cut g = sym (ap (λ (c : Cut). c .found) cut-is ∙ cutRecord-found (problem (s .job .deck)) rect) ∙ g
+  can-cut : {t : Bool} → cut .found ≡ t → canCut (grid (s .job .deck)) rect ≡ t
+  can-cut g = sym (ap (λ (c : Cut). c .found) cut-is ∙ cutRecord-found (grid (s .job .deck)) rect) ∙ g
 
   abbrev axis : Axis
-  axis = cutLine (problem (s .job .deck)) rect .axis
+  axis = cutLine (grid (s .job .deck)) rect .axis
 
-  cut-at : cut .found ≡ true → cut ≡ cutAt (isX axis) (cutLine (problem (s .job .deck)) rect .at)
-  cut-at g = cut-is ∙ cutRecord-cut (problem (s .job .deck)) rect (can-cut g)
+  cut-at : cut .found ≡ true → cut ≡ cutAt (isX axis) (cutLine (grid (s .job .deck)) rect .at)
+  cut-at g = cut-is ∙ cutRecord-cut (grid (s .job .deck)) rect (can-cut g)
 
-  axis-inside : cond (canCut (problem (s .job .deck)) rect) (axisNumber axis) (pos 0) ≡ cutAxisFigure rect (readJob bytes)
-  axis-inside = inside minusOne (rectAllowed rect) (λ job. cond (canCut (problem (job .deck)) rect) (axisNumber (cutLine (problem (job .deck)) rect .axis)) (pos 0)) s on
+  axis-inside : cond (canCut (grid (s .job .deck)) rect) (axisNumber axis) (pos 0) ≡ cutAxisFigure rect (readJob bytes)
+  axis-inside = inside minusOne (rectAllowed rect) (λ job. cond (canCut (grid (job .deck)) rect) (axisNumber (cutLine (grid (job .deck)) rect .axis)) (pos 0)) s on
 
   pub axis-none : cut .found ≡ false → pos 0 ≡ cutAxisFigure rect (readJob bytes)
   axis-none g = rw (can-cut g) at axis-inside
@@ -77,7 +76,7 @@ module _ {bytes : List ℕ} {o : Opened} (e : o ≡ openedRecord (readJob bytes)
   pub line-none : cut .found ≡ false → least ≡ cutLineFigure rect (readJob bytes)
   line-none g = line-off (can-cut g)
     where
-      line-off : canCut (problem (s .job .deck)) rect ≡ false → least ≡ cutLineFigure rect (readJob bytes)
+      line-off : canCut (grid (s .job .deck)) rect ≡ false → least ≡ cutLineFigure rect (readJob bytes)
       line-off k = rw (s .read, on, k)
 
   pub line-answer : cut .found ≡ true → cut .at ≡ cutLineFigure rect (readJob bytes)

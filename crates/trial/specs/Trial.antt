@@ -12,7 +12,7 @@ use Rattle.query.specs.Cost.{cost, before}
 use Rattle.query.specs.Reach.{load}
 use Rattle.query.specs.Bound.{bound}
 use Rattle.query.specs.Lines.{lines}
-use Rattle.query.specs.Problem.{problem}
+use Rattle.query.specs.Grid.{grid}
 use Rattle.query.specs.Cut.{canCut, cutLine}
 use Rattle.refusal.specs.Refusal.{numberOf, lineOf}
 use Rattle.refusal.specs.declared.Refusal.{Refusal}
@@ -64,11 +64,11 @@ axisNumber x-axis = pos 1
 axisNumber y-axis = pos 2
 
 abbrev pub cutAxisFigure : Rect → Result → ℤ
-cutAxisFigure rect r = onJob minusOne (λ job. cond (rectAllowed rect) (cond (canCut (problem (job .deck)) rect) (axisNumber (cutLine (problem (job .deck)) rect .axis)) (pos 0)) minusOne) r
+cutAxisFigure rect r = onJob minusOne (λ job. cond (rectAllowed rect) (cond (canCut (grid (job .deck)) rect) (axisNumber (cutLine (grid (job .deck)) rect .axis)) (pos 0)) minusOne) r
 
 -- the line of the cut
 abbrev pub cutLineFigure : Rect → Result → ℤ
-cutLineFigure rect r = onJob least (λ job. cond (rectAllowed rect && canCut (problem (job .deck)) rect) (cutLine (problem (job .deck)) rect .at) least) r
+cutLineFigure rect r = onJob least (λ job. cond (rectAllowed rect && canCut (grid (job .deck)) rect) (cutLine (grid (job .deck)) rect .at) least) r
 
 -- the near of the stop with a signed number
 abbrev pub nearAt : ℤ → Result → ℤ

@@ -8,7 +8,7 @@ use numbers::abs_diff;
 ghost use mathlib.Core.Path.{_≡_};
 ghost use lib.Dec.{T};
 ghost use Rattle.query.specs.Lines.{lines};
-ghost use Rattle.query.specs.Problem.{problem};
+ghost use Rattle.query.specs.Grid.{grid};
 ghost use Rattle.query.specs.Range.{loadLimit};
 ghost use Rattle.job_line.specs.Lines.{coordinateInRange, placeInRange};
 ghost use Rattle.job.specs.Format.{readJob};
@@ -167,7 +167,7 @@ pub fn lines_of(o: Opened, across: bool) -> Lines
 
 pub fn cut_of(o: Opened, xlo: i64, ylo: i64, xhi: i64, yhi: i64) -> Cut
     requires { ⌜ Prepared (o .deck) (o .sites) × T (rectAllowed (rectOf xlo ylo xhi yhi)) ⌝ }
-    ensures { λ r. ⌜ r ≡ cutRecord (problem (deckOf (o .deck))) (rectOf xlo ylo xhi yhi) ⌝ }
+    ensures { λ r. ⌜ r ≡ cutRecord (grid (deckOf (o .deck))) (rectOf xlo ylo xhi yhi) ⌝ }
 {
     let v = lines_of(o, true);
     let h = lines_of(o, false);

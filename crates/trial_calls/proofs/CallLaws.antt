@@ -13,6 +13,7 @@ use Rattle.numbers.proofs.Words.{word-fits}
 use Rattle.query.specs.Place.{In}
 use Rattle.query.specs.Order.{Priced}
 use Rattle.query.specs.Figures.{Figures}
+use Rattle.query.specs.Problem.{problem}
 use Rattle.query.specs.Exhaustive as Query
 use Rattle.query.proofs.Ranges.{figure-limits}
 use Rattle.query.proofs.FigureRanges.{point-in-range}
@@ -132,9 +133,9 @@ module _ (job : List ℕ) (answer : Cheapest) (e : cheapestAnswer answer ≡ exh
       go (accepted j) g =
           let range = allowed-in-range j (read-exactly job j .0 g .1) in
           let law = exhaustive-call-law job .law j g in
-          let same : Query.exhaustive (j .deck) ≡ pricedOf s = same-given _ _ (sym (exhaustive-call-law job .given j g) ∙ found) in
+          let same : Query.exhaustive (problem (j .deck)) ≡ pricedOf s = same-given _ _ (sym (exhaustive-call-law job .given j g) ∙ found) in
           let place = point-in-range (j .deck .area) (record { x = s .x; y = s .y }) (range .area) (subst (λ (p : Priced). In (j .deck .area) (p .at)) same (law .in-area)) in
-          record { x-range = place .x-range; y-range = place .y-range; cost-limit = omega (arith, figure-limits (j .deck) range .cost-limit (Query.exhaustive (j .deck) .at), law .costs, ap (λ (p : Priced). p .cost) same) }
+          record { x-range = place .x-range; y-range = place .y-range; cost-limit = omega (arith, figure-limits (j .deck) range .cost-limit (Query.exhaustive (problem (j .deck)) .at), law .costs, ap (λ (p : Priced). p .cost) same) }
 
   pub exhaustive-line : (why : Refusal) → answer ≡ Cheapest.Refused why → lineOf why ≤ 16385
   exhaustive-line why a = condition-line job why (exhaustive-call-law job .refused-exactly why .0 (sym e ∙ ap cheapestAnswer a))

@@ -2,10 +2,10 @@
 -- Assumes nothing.
 use mathlib.Core.Path.{ap, _∙_}
 use Prim.Native.Nat.{_-_}
-use lib.ListN.{take}
 use mir.Syntax.{w64}
 use mir.ValLaws.{toZ-ofZ}
-use Rattle.cuts.specs.CutRecord.{onLines, cutRecord}
+use Rattle.lines.specs.LineRecord.{gridOf}
+use Rattle.cuts.specs.CutRecord.{cutRecord}
 use Rattle.cuts.specs.declared.Cut.{Cut}
 use Rattle.problem.proofs.Coordinates.{edges-x, edges-y}
 use Rattle.kernels.specs.Sums.{rectAt, positive}
@@ -16,7 +16,7 @@ use Rattle.kernels.proofs.cuts.Statement.{statement}
 use Rattle.kernels.proofs.cuts.Tie as tie
 
 abbrev Inv-loop : tie.InvT-loop
-Inv-loop xs nx ys ny k sum₀ t₀ sum t = Summed (λ t. positive (cutRecord (onLines (take nx xs) (take ny ys)) (rectAt t) .at)) 1 k sum t
+Inv-loop xs nx ys ny k sum₀ t₀ sum t = Summed (λ t. positive (cutRecord (gridOf xs nx ys ny) (rectAt t) .at)) 1 k sum t
 
 abbrev μ-loop : tie.MeasureT-loop
 μ-loop xs nx ys ny k sum₀ t₀ sum t = k - t

@@ -3,9 +3,9 @@
 use Prim.Native.Nat.{_≤_}
 use native.Mathlib.Omega.{arith}
 use denote.Ref.{now}
-use lib.ListN.{take}
 use Rattle.query.specs.Range.{RectInRange, costLimit}
 use Rattle.pricing.specs.Columns.{siteRows}
+use Rattle.lines.specs.LineRecord.{gridOf}
 use Rattle.search.specs.Run.{Cutting}
 use Rattle.problem.specs.Problem.{rectIn}
 use Rattle.cells.proofs.SpaceLaws.{rest-in-order}
@@ -16,8 +16,8 @@ use Rattle.search.proofs.run.round.Statement.{statement}
 use Rattle.search.proofs.run.round.Tie as tie
 
 -- what is known of the cell, of its parts, and of the best place
-whole : (c : tie.After-costs-at) → let a = c .before .before .before .before .before .before .args in Cutting (siteRows (now (a .xs)) (now (a .ys)) (now (a .visits)) (now (a .near)) (a .n)) (take (a .nv) (now (a .v))) (take (a .nh) (now (a .h))) (c .before .before .before .cell-at .result) (c .costs-at .result)
-whole c = let s = c .before .before .before .before .before .before in cutting _ _ _ _ _ (s .args .st) (s .pre .2) _ _ (c .before .before .before .cell-at .ensures) (c .costs-at .ensures)
+whole : (c : tie.After-costs-at) → let a = c .before .before .before .before .before .before .args in Cutting (siteRows (now (a .xs)) (now (a .ys)) (now (a .visits)) (now (a .near)) (a .n)) (gridOf (now (a .v)) (a .nv) (now (a .h)) (a .nh)) (c .before .before .before .cell-at .result) (c .costs-at .result)
+whole c = let s = c .before .before .before .before .before .before in cutting _ _ _ _ (s .args .st) (s .pre .2) _ _ (c .before .before .before .cell-at .ensures) (c .costs-at .ensures)
 
 limits : (c : tie.After-halve) → (c .halve .result .low .cost ≤ costLimit) × (c .halve .result .high .cost ≤ costLimit)
 limits c = halves-limit _ _ (c .before .before .before .before .before .before .before .pre .0 .cost-limit) _ _ (c .halve .ensures)
@@ -78,7 +78,7 @@ returns c =
     let s = c .before .before .before .before .before .before .before .before .before .before .before .before .before .before .before .before .before .before .before .before .before .before .before .before .before .before .before in
     let told = c .before .before .before .before .before .before .before .before .before .before .before .struct-told .given in
     let best = c .before .before .before .before .before .before .before .before .before .before .before .before .before .before .before .before .before .before .improve2 in
-    (rounded _ _ _ _ _ (s .args .st) (s .pre .2) _ _ (c .before .before .before .before .before .before .before .before .before .before .before .before .before .before .before .before .before .before .before .before .before .before .before .before .cell-at .ensures) (c .before .before .before .before .before .before .before .before .before .before .before .before .before .before .before .before .before .before .before .before .before .costs-at .ensures) _ (c .before .before .before .before .before .before .before .before .before .before .before .before .before .before .before .before .before .before .before .before .halve .ensures) _ _ (c .before .before .before .before .before .before .before .before .before .before .before .before .before .before .before .before .before .before .before .improve .ensures) (best .ensures) _ (trim-key _ _ _ _ _ (best .result .x) (best .result .y) (told .0 .1) (told .1 .0 .1) (c .before .before .before .before .before .before .before .before .before .trim .ensures)) _ _ _ (c .before .before .before .before .before .add .ensures .0) _ _ _ (c .before .add2 .ensures .0), c .before .add2 .ensures .1)
+    (rounded _ _ _ _ (s .args .st) (s .pre .2) _ _ (c .before .before .before .before .before .before .before .before .before .before .before .before .before .before .before .before .before .before .before .before .before .before .before .before .cell-at .ensures) (c .before .before .before .before .before .before .before .before .before .before .before .before .before .before .before .before .before .before .before .before .before .costs-at .ensures) _ (c .before .before .before .before .before .before .before .before .before .before .before .before .before .before .before .before .before .before .before .before .halve .ensures) _ _ (c .before .before .before .before .before .before .before .before .before .before .before .before .before .before .before .before .before .before .before .improve .ensures) (best .ensures) _ (trim-key _ _ _ _ _ (best .result .x) (best .result .y) (told .0 .1) (told .1 .0 .1) (c .before .before .before .before .before .before .before .before .before .trim .ensures)) _ _ _ (c .before .before .before .before .before .add .ensures .0) _ _ _ (c .before .add2 .ensures .0), c .before .add2 .ensures .1)
 
 pub round-spec : {M : Type 1} → statement M
 round-spec =

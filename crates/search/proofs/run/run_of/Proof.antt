@@ -3,19 +3,18 @@
 use Prim.Native.Nat.{_-_, _≤_}
 use native.Mathlib.Omega.{arith}
 use denote.Ref.{now}
-use lib.ListN.{take}
 use Rattle.query.specs.Search.{run}
-use Rattle.query.specs.Place.{zeroRect}
 use Rattle.pricing.specs.Columns.{siteRows}
+use Rattle.lines.specs.LineRecord.{gridOf}
 use Rattle.slots.specs.Numbering.{cellsIn, costsIn, Numbered}
 use Rattle.search.specs.Run.{searchOf, Holds}
-use Rattle.problem.specs.Problem.{siteProblem, rectIn}
+use Rattle.problem.specs.Problem.{siteRules, siteProblem, rectIn}
 use Rattle.search.proofs.RunLaws.{roundsFrom, holds-first, holds-more, holds-run, ended, finished, takeable}
 use Rattle.search.proofs.run.run_of.Statement.{statement}
 use Rattle.search.proofs.run.run_of.Tie as tie
 
 abbrev Inv-loop : tie.InvT-loop
-Inv-loop xs ys visits near n v nv h nh s₀ t₀ o₀ rounds st₀ k₀ s t o st k = (k ≤ rounds) × Holds (siteRows xs ys visits near n) (roundsFrom (siteProblem (siteRows xs ys visits near n) (take nv v) (take nh h) zeroRect) k (searchOf (cellsIn s₀ o₀) (costsIn t₀ o₀) st₀)) (1000 - k) (cellsIn s o) (costsIn t o) st × Numbered o
+Inv-loop xs ys visits near n v nv h nh s₀ t₀ o₀ rounds st₀ k₀ s t o st k = (k ≤ rounds) × Holds (siteRows xs ys visits near n) (roundsFrom (siteRules (siteRows xs ys visits near n) (gridOf v nv h nh)) k (searchOf (cellsIn s₀ o₀) (costsIn t₀ o₀) st₀)) (1000 - k) (cellsIn s o) (costsIn t o) st × Numbered o
 
 abbrev μ-loop : tie.MeasureT-loop
 μ-loop xs ys visits near n v nv h nh s₀ t₀ o₀ rounds st₀ k₀ s t o st k = rounds - k
@@ -23,20 +22,20 @@ abbrev μ-loop : tie.MeasureT-loop
 -- the run that a turn has come to
 held : (c : tie.At-loop Inv-loop μ-loop) →
     let a = c .before .before .before .before .before .args in
-    Holds (siteRows (now (a .xs)) (now (a .ys)) (now (a .visits)) (now (a .near)) (a .n)) (run (siteProblem (siteRows (now (a .xs)) (now (a .ys)) (now (a .visits)) (now (a .near)) (a .n)) (take (a .nv) (now (a .v))) (take (a .nh) (now (a .h))) (rectIn (a .area))) (c .loop .k)) (1000 - c .loop .k) (cellsIn (c .loop .s) (c .loop .o)) (costsIn (c .loop .t) (c .loop .o)) (c .loop .st)
-held c = holds-run _ _ _ (rectIn (c .before .before .before .before .before .args .area)) _ _ _ _ _ _ (c .before .start .ensures .0 .is) (c .loop .inv .1)
+    Holds (siteRows (now (a .xs)) (now (a .ys)) (now (a .visits)) (now (a .near)) (a .n)) (run (siteProblem (siteRows (now (a .xs)) (now (a .ys)) (now (a .visits)) (now (a .near)) (a .n)) (gridOf (now (a .v)) (a .nv) (now (a .h)) (a .nh)) (rectIn (a .area))) (c .loop .k)) (1000 - c .loop .k) (cellsIn (c .loop .s) (c .loop .o)) (costsIn (c .loop .t) (c .loop .o)) (c .loop .st)
+held c = holds-run _ (siteProblem _ _ (rectIn (c .before .before .before .before .before .args .area))) _ _ _ _ _ _ (c .before .start .ensures .0 .is) (c .loop .inv .1)
 
 start-requires : tie.Need-start-requires Inv-loop μ-loop
 start-requires c κs = let p = c .before .before .before .pre in (p .0, p .1, p .2, p .5)
 
 loop-holds : tie.Need-loop-holds Inv-loop μ-loop
-loop-holds c = (omega arith, holds-first _ _ _ _ _ _ _ (c .start .ensures .0), c .start .ensures .1)
+loop-holds c = (omega arith, holds-first _ _ _ _ _ _ (c .start .ensures .0), c .start .ensures .1)
 
 returns : tie.Need-returns Inv-loop μ-loop
 returns c = let at = c .before .before .before in (ended _ _ _ _ _ _ _ (held at) _ (at .loop .inv .0) (c .if1 .taken), at .loop .inv .2)
 
 round-requires : tie.Need-round-requires Inv-loop μ-loop
-round-requires c κs = let at = c .before .before .before .before .before .before in let p = c .before .before .before .before .before .before .before .before .before .before .before .pre in (p .0, p .1, takeable _ _ _ _ _ _ _ _ _ (held at) (p .4) (omega (arith, c .before .before .before .before .before .loop-test .taken, p .3)) (omega (arith, c .before .before .before .before .before .loop-test .taken, p .3)) (c .before .before .before .if1 .left), at .loop .inv .2)
+round-requires c κs = let at = c .before .before .before .before .before .before in let p = c .before .before .before .before .before .before .before .before .before .before .before .pre in (p .0, p .1, takeable _ _ _ _ _ _ _ (held at) (p .4) (omega (arith, c .before .before .before .before .before .loop-test .taken, p .3)) (omega (arith, c .before .before .before .before .before .loop-test .taken, p .3)) (c .before .before .before .if1 .left), at .loop .inv .2)
 
 add-k : tie.Need-add-k Inv-loop μ-loop
 add-k c = omega (arith, c .before .before .before .before .before .before .loop-test .taken)
@@ -45,7 +44,7 @@ loop-less : tie.Need-loop-less Inv-loop μ-loop
 loop-less c = omega (arith, c .before .before .before .before .before .before .loop-test .taken)
 
 loop-again : tie.Need-loop-again Inv-loop μ-loop
-loop-again c = (omega (arith, c .before .before .before .before .before .before .loop-test .taken), holds-more _ _ _ _ _ _ _ _ _ _ _ (c .before .before .before .before .before .before .before .loop .inv .1) (c .round .ensures .0), c .round .ensures .1)
+loop-again c = (omega (arith, c .before .before .before .before .before .before .loop-test .taken), holds-more _ _ _ _ _ _ _ _ _ _ (c .before .before .before .before .before .before .before .loop .inv .1) (c .round .ensures .0), c .round .ensures .1)
 
 returns-2 : tie.Need-returns-2 Inv-loop μ-loop
 returns-2 c = (finished _ _ _ _ _ _ _ (held (c .before)) _ (omega (arith, c .before .loop .inv .0, c .loop-test .left)), c .before .loop .inv .2)

@@ -22,7 +22,7 @@ add-requires c κs =
     (s .pre .1, record { room = omega arith; in-turn = omega arith; ends = omega arith; in-order = none-in-order _ _ _; ranged = cell-range _ _ _ (c .before .before .before .bounded .ensures) (s .pre .2 .range); cost-limit = best-limit _ _ _ (costs-limit _ (s .pre .0 .cost-limit) _ _ (c .before .before .before .before .before .corners .ensures)) (c .before .before .before .before .best-corner .ensures) }, s .pre .3)
 
 returns : tie.Need-returns
-returns c = (started _ _ _ _ (c .before .before .before .before .before .before .before .args .area) _ _ _ _ _ _ _ (c .before .before .before .before .before .before .corners .ensures) (c .before .before .before .before .before .best-corner .ensures) (c .before .before .before .before .bounded .ensures) (c .add .ensures .0), c .add .ensures .1)
+returns c = (started _ _ _ (c .before .before .before .before .before .before .before .args .area) _ _ _ _ _ _ _ (c .before .before .before .before .before .before .corners .ensures) (c .before .before .before .before .before .best-corner .ensures) (c .before .before .before .before .bounded .ensures) (c .add .ensures .0), c .add .ensures .1)
 
 pub start-spec : {M : Type 1} → statement M
 start-spec =
