@@ -1,9 +1,9 @@
 // The exhaustive search: the cheapest crossing of a deck's lines. Along one vertical line the cost is a sum of ramps (specs/Ramps.antt),
 // so that the costs of all its crossings follow from prefix sums, with no pass over the sites for each.
 use deck::Deck;
+use deck::Sites;
 use numbers::abs_diff;
 use problem::Spot;
-use deck::Sites;
 ghost use mathlib.Core.Path.{_≡_};
 ghost use mathlib.Core.List.{flatMap};
 ghost use Prim.Native.Nat.{_+_, _*_, _≤_};

@@ -1,6 +1,6 @@
 // The price of a place or a rectangle, over columns of sites: one pass each, in 32-bit columns, so that the passes can be vectorised.
-use numbers::half_up;
 use deck::travelled;
+use numbers::half_up;
 ghost use mathlib.Core.Path.{_≡_};
 ghost use mathlib.Core.Bool.{cond};
 ghost use Prim.Native.Nat.{_+_, _*_, _≤_, min, max};

@@ -1,7 +1,7 @@
 // The problem of a deck as both searches take it: its area, its lines, and places with their costs.
 use deck::Deck;
-use lines::Lines;
 use deck::Sites;
+use lines::Lines;
 use slots::Cell;
 ghost use mathlib.Core.Path.{_≡_};
 ghost use Prim.Native.Nat.{_≤_};

@@ -1,9 +1,9 @@
 // The search by cells: its start, its rounds and what it answers.
 use crate::halves;
 use deck::Deck;
+use deck::Sites;
 use lines::Lines;
 use problem::Spot;
-use deck::Sites;
 use slots::Cell;
 use slots::Costs;
 ghost use mathlib.Core.Path.{_≡_};
