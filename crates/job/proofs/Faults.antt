@@ -115,7 +115,7 @@ from-top (one-more {lines} {k} {due} good text ns e t) {rest} {why} f =
 -- and back, the good lines being those that come before the fault
 pub first-fault : {lines : List (List ℕ)} {due : List Kind} {n : ℕ} {rest : List ℕ} {why : Refusal} (bytes : List ℕ) → length bytes ≤ 16384 → Good lines due → n ≡ suc (length lines) → bytes ≡ flatten lines ++ rest → Faults due n rest why → Condition why bytes
 first-fault {lines} bytes short good number split (bad-form {k} {due} {n} {bs} e) = (short, no-form lines bs k due good split number e)
-first-fault {lines} bytes short good number split (bad-value {k} {due} {n} {bs} ns rest e t) = (short, record { lines = lines; rest = bs; after = rest; k = k; due = due; before = good; split = split; number = number; ns = ns; form = e; range = t })
+first-fault {lines} bytes short good number split (bad-value {k} {due} {n} {bs} ns rest e t) = (short, record { lines = lines; rest = bs; after = rest; k = k; due = due; before = good; split = split; number = number; numbers = ns; form = e; range = t })
 first-fault {lines} bytes short good number split (more-text {n} {b} {bs}) = (short, too-much lines (b ∷ bs) good split number (λ e. absurd (let z : _≡_ {A = ℕ} 0 1 = cc in omega arith)))
 first-fault {lines} bytes short good number split (further {k} {due} {n} {bs} {why} ns rest e t f) =
     first-fault bytes short (one-more good (textOf (row k) ns) ns (form-whole (row k) ns (range-fits k ns t)) t) (omega (arith, length-append lines (textOf (row k) ns ∷ []))) (split ∙ ap (λ (l : List ℕ). flatten lines ++ l) (form-spells (row k) .reads bs ns rest e .0) ∙ sym (flatten-snoc lines (textOf (row k) ns) rest)) f
@@ -126,4 +126,4 @@ malformed-faults bytes n (too-much lines [] good split number some-text) = absur
 malformed-faults bytes n (too-much lines (b ∷ rest) good split number some-text) = rw (split, number) (from-top good more-text)
 
 pub range-faults : (bytes : List ℕ) (n : ℕ) → FirstOutOfRange bytes n → Faults allDue 1 bytes (OutOfRange n)
-range-faults bytes n o = rw (o .split, o .number) (from-top (o .before) (bad-value (o .ns) (o .after) (o .form) (o .range)))
+range-faults bytes n o = rw (o .split, o .number) (from-top (o .before) (bad-value (o .numbers) (o .after) (o .form) (o .range)))

@@ -21,22 +21,27 @@ pub record Job : Type 0 where
   pub deck : Deck
   pub rounds : ℕ
 
--- ---- what the numbers of a line say: `xlo,ylo,xhi,yhi`, `n`, `x,y` and `x,y,visits`
+-- ---- what the numbers of a line say
 abbrev pub nth : List ℤ → ℕ → ℤ
 nth ns i = getD ns i (pos 0)
 
+-- `xlo,ylo,xhi,yhi`
 abbrev pub areaOf : List ℤ → Rect
 areaOf ns = record { xlo = nth ns 0; ylo = nth ns 1; xhi = nth ns 2; yhi = nth ns 3 }
 
+-- `n`
 abbrev pub countOf : List ℤ → ℕ
 countOf ns = natAbs (nth ns 0)
 
+-- `x,y`
 abbrev pub postOf : List ℤ → Place
 postOf ns = record { x = nth ns 0; y = nth ns 1 }
 
+-- `x,y,visits`
 abbrev pub stopOf : List ℤ → Stop
 stopOf ns = record { at = postOf ns; visits = natAbs (nth ns 2) }
 
+-- what the numbers of all lines say: those of the area, of each post, of each stop, and the rounds
 abbrev pub jobOf : List ℤ → List (List ℤ) → List (List ℤ) → List ℤ → Job
 jobOf a ps ss n = record { deck = record { axis = plain; area = areaOf a; posts = map postOf ps; stops = map stopOf ss }; rounds = countOf n }
 

@@ -25,7 +25,7 @@ pub record SpellingLaw (job : Job) : Type 0 where
   pub one-job : (other : Job) → Allowed job → Allowed other → spell job ≡ spell other → job ≡ other
 
 -- ---- refusals
--- the lines that a line of a count makes due
+-- 01 "`posts=n`, then n lines `post=x,y`, `stops=n`, then n lines `stop=x,y,visits`": the lines that a line makes due
 abbrev pub dueAfter : Kind → List ℤ → List Kind
 dueAfter area ns = []
 dueAfter posts ns = replicate (countOf ns) post
@@ -54,9 +54,9 @@ pub record FirstOutOfRange (bytes : List ℕ) (n : ℕ) : Type 0 where
   pub before : Good lines (k ∷ due)
   pub split : bytes ≡ flatten lines ++ rest
   pub number : n ≡ suc (length lines)
-  pub ns : List ℤ
-  pub form : formOf (row k) rest ≡ some (ns, after)
-  pub range : T (not (inRanges (row k .ranges) ns))
+  pub numbers : List ℤ
+  pub form : formOf (row k) rest ≡ some (numbers, after)
+  pub range : T (not (inRanges (row k .ranges) numbers))
 
 -- the bytes spell a job whose values are all in range, so that only refusals 4 to 6 are left
 pub record Spelled (bytes : List ℕ) : Type 0 where

@@ -13,7 +13,8 @@ use Rattle.text.specs.Decimal.{spellInt}
 use Rattle.job_line.specs.Lines.{Kind, area, posts, post, stops, stop, rounds, row, endOf, inRanges}
 use Rattle.job.specs.Format.{Job}
 
--- a line of a job: its kind and its numbers
+-- ---- the lines of a job
+-- a line: its kind and its numbers
 pub record JobLine : Type 0 where
   pub kind : Kind
   pub numbers : List ℤ
@@ -30,10 +31,11 @@ postLine p = record { kind = post; numbers = p .x ∷ p .y ∷ [] }
 abbrev pub stopLine : Stop → JobLine
 stopLine s = record { kind = stop; numbers = s .at .x ∷ s .at .y ∷ pos (s .visits) ∷ [] }
 
--- 01 "A job is lines in this order"
+-- 01 "A job is lines in this order": the lines of a job
 abbrev pub linesOf : Job → List JobLine
 linesOf job = areaLine (job .deck .area) ∷ countLine posts (length (job .deck .posts)) ∷ (map postLine (job .deck .posts) ++ (countLine stops (length (job .deck .stops)) ∷ (map stopLine (job .deck .stops) ++ (countLine rounds (job .rounds) ∷ []))))
 
+-- ---- their bytes
 -- numbers, each with its end
 unfoldable pub spellNumbers : List ℤ → List ℕ
 unfolding spellInt
@@ -45,17 +47,17 @@ unfoldable pub spellLine : JobLine → List ℕ
 unfolding bytes spellNumbers
 spellLine l = row (l .kind) .key ++ spellNumbers (l .numbers)
 
--- the bytes of a job
 unfoldable pub spell : Job → List ℕ
 unfolding flatMap spellLine
 spell job = flatMap spellLine (linesOf job)
 
--- the jobs whose every line has its ranges. The area may be empty, and posts and stops may be none
+-- ---- which jobs can be spelled
+-- those whose every line has its ranges. The area may be empty, and posts and stops may be none
 pub record Writable (job : Job) : Type 0 where
   pub plain-axis : job .deck .axis ≡ plain
   pub in-ranges : (l : JobLine) → List·Memᴰ l (linesOf job) → T (inRanges (row (l .kind) .ranges) (l .numbers))
 
--- the jobs that document 01 allows: 1 to 64 posts, 1 to 512 stops and a non-empty area besides
+-- those that document 01 allows: 1 to 64 posts, 1 to 512 stops and a non-empty area besides
 pub record Allowed (job : Job) : Type 0 where
   pub writable : Writable job
   pub area-full : NonEmpty (job .deck .area)

@@ -13,7 +13,7 @@ use Rattle.job_line.specs.Form.{Form, _>>=_, _>>_, return, key, field}
 pub data Kind : Type 0 where
   area posts post stops stop rounds : Kind
 
--- the whole numbers from low to high, both included
+-- the numbers from low to high, both included
 pub record Range : Type 0 where
   pub low : ℤ
   pub high : ℤ
@@ -30,7 +30,7 @@ visits = record { low = pos 1; high = pos 65535 }
 abbrev pub upTo : ℕ → Range
 upTo most = record { low = pos 0; high = pos most }
 
--- what a line has: its key, and the range of each of its numbers
+-- a row of the table: a line's key, and the range of each of its numbers, in order
 pub record Row : Type 0 where
   pub key : List ℕ
   pub ranges : List Range
@@ -45,7 +45,7 @@ row stop = record { key = bytes "stop="; ranges = coordinates ∷ coordinates �
 row rounds = record { key = bytes "rounds="; ranges = upTo 1000 ∷ [] }
 
 -- ---- a line by its row
--- the byte that ends a number: a comma where others follow, byte 10 behind the last
+-- the byte that ends a number: a comma where others follow; 01 "each ended by byte 10" behind the last
 abbrev pub endOf : {A : Type 0} → List A → ℕ
 endOf [] = newline
 endOf (other ∷ others) = comma
@@ -66,11 +66,12 @@ formOf row = do
   key (row .key)
   numbers (row .ranges)
 
+-- 01 refusal 3, "a value out of range", is where a number is not in its range
 unfoldable pub inRange : Range → ℤ → Bool
 unfolding between
 inRange range n = between (range .low) (range .high) n
 
--- as many numbers as ranges, each in its range
+-- as many numbers as ranges, each in its own
 unfoldable pub inRanges : List Range → List ℤ → Bool
 unfolding inRange
 inRanges [] [] = true
