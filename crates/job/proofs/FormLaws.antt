@@ -1,6 +1,6 @@
 -- Lines: the form of a row reads a line as the numbers that it spells, and reads nothing but spellings.
 -- Assumes nothing.
-use mathlib.Core.Path.{_≡_, refl, sym, ap, subst, _∙_}
+use mathlib.Core.Path.{_≡_, refl, ap, _∙_}
 use mathlib.Core.Bool.{not}
 use mathlib.Core.List.{List, [], _∷_, _++_, append-nil, append-assoc}
 use mathlib.Core.Option.{Option, some, bind-eq-some-iff, Option·none-ne-some, Option·some-injective}

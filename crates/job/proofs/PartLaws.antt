@@ -206,11 +206,11 @@ ended-here z n next s h = rw (drop-of-length-le s h)
 
 module _ {s : List ℕ} {at n : ℕ} {r : CountLine} (count-at : LineAt (row rounds) s at n (countAnswer r)) where
   pub last-refused : {why : Refusal} → r ≡ C.Refused why → LastAt s at n (C.Refused why)
-  last-refused e = record { is = not-counted count-at ended e ∙ last-is n (drop at s) }
+  last-refused e = record { is = not-counted count-at ended e ∙ last-is n (drop at s); within = tt }
 
   module _ {count next : ℕ} (e : r ≡ C.Read count next) where
     pub last-more : next < length s → LastAt s at n (C.Refused (Malformed (n + 1)))
-    last-more h = record { is = ended-more (pos count ∷ []) (n + 1) next s h ∙ counted count-at ended e ∙ last-is n (drop at s) }
+    last-more h = record { is = ended-more (pos count ∷ []) (n + 1) next s h ∙ counted count-at ended e ∙ last-is n (drop at s); within = tt }
 
     pub last-read : length s ≤ next → LastAt s at n (C.Read count next)
-    last-read h = record { is = ended-here (pos count ∷ []) (n + 1) next s h ∙ counted count-at ended e ∙ last-is n (drop at s) }
+    last-read h = record { is = ended-here (pos count ∷ []) (n + 1) next s h ∙ counted count-at ended e ∙ last-is n (drop at s); within = subst (λ (r : CountLine). LineAt (row rounds) s at n (countAnswer r)) e count-at .within }

@@ -35,7 +35,7 @@ each-in (range ∷ ranges) [] t = t
 each-in (range ∷ ranges) (n ∷ ns) t = (and-left (inRange range n) (inRanges ranges ns) t, each-in ranges ns (and-right (inRange range n) (inRanges ranges ns) t))
 
 -- as many numbers as ranges
-pub as-many : (ranges : List Range) (ns : List ℤ) → EachIn ranges ns → length ns ≡ length ranges
+as-many : (ranges : List Range) (ns : List ℤ) → EachIn ranges ns → length ns ≡ length ranges
 as-many [] [] e = refl
 as-many [] (n ∷ ns) e = absurd e
 as-many (range ∷ ranges) [] e = absurd e

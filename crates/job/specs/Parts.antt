@@ -8,7 +8,7 @@ use lib.ListN.{length, drop}
 use Rattle.job_line.specs.Lines.{posts, post, stops, stop, rounds, row}
 use Rattle.job_line.specs.OneLine.{Reading, fault, got, Reader, line}
 use Rattle.job.specs.Reader.{_>>=_, _>>_, return, repeated, end}
-use Rattle.job_line.specs.Reading.{areaNumbers, countAnswer, answerIn}
+use Rattle.job_line.specs.Reading.{areaNumbers, countAnswer, answerIn, Within}
 use Rattle.job.specs.Format.{countOf, postOf, stopOf, jobOf, checked}
 use Rattle.job.specs.Record.{jobRecord}
 use Rattle.numbers.specs.Padded.{padded}
@@ -83,6 +83,7 @@ lastLine = do
 
 pub record LastAt (s : List ℕ) (at n : ℕ) (r : CountLine) : Type 0 where
   pub is : answerIn s n (countAnswer r) ≡ lastLine n (drop at s)
+  pub within : Within s (countAnswer r)
 
 -- refusals 4, 5 and 6 of what the lines hold, or the job
 pub record CheckedAt (area : Area) (postsRead : Posts) (stopsRead : Stops) (n : ℕ) (r : Job) : Type 0 where

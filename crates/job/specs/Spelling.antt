@@ -19,15 +19,19 @@ pub record JobLine : Type 0 where
   pub kind : Kind
   pub numbers : List ℤ
 
+-- `area=xlo,ylo,xhi,yhi`
 abbrev pub areaLine : Rect → JobLine
 areaLine r = record { kind = area; numbers = r .xlo ∷ r .ylo ∷ r .xhi ∷ r .yhi ∷ [] }
 
+-- `posts=n`, `stops=n`, `rounds=n`
 abbrev pub countLine : Kind → ℕ → JobLine
 countLine kind n = record { kind = kind; numbers = pos n ∷ [] }
 
+-- `post=x,y`
 abbrev pub postLine : Place → JobLine
 postLine p = record { kind = post; numbers = p .x ∷ p .y ∷ [] }
 
+-- `stop=x,y,visits`
 abbrev pub stopLine : Stop → JobLine
 stopLine s = record { kind = stop; numbers = s .at .x ∷ s .at .y ∷ pos (s .visits) ∷ [] }
 
@@ -47,12 +51,13 @@ unfoldable pub spellLine : JobLine → List ℕ
 unfolding bytes spellNumbers
 spellLine l = row (l .kind) .key ++ spellNumbers (l .numbers)
 
+-- a job's bytes: its lines, one after the other
 unfoldable pub spell : Job → List ℕ
 unfolding flatMap spellLine
 spell job = flatMap spellLine (linesOf job)
 
 -- ---- which jobs can be spelled
--- those whose every line has its ranges. The area may be empty, and posts and stops may be none
+-- those whose every line has its numbers in range. The area may be empty, and posts and stops may be none
 pub record Writable (job : Job) : Type 0 where
   pub plain-axis : job .deck .axis ≡ plain
   pub in-ranges : (l : JobLine) → List·Memᴰ l (linesOf job) → T (inRanges (row (l .kind) .ranges) (l .numbers))

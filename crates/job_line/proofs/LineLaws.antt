@@ -19,7 +19,7 @@ use Rattle.text.specs.Reading.{startsWith, ByteIs, Starts, NumberAt}
 use Rattle.text.specs.declared.ParsedNumber.{ParsedNumber}
 use Rattle.text.specs.declared.ParsedNumber.the-variants.{Read, Fault}
 use Rattle.text.proofs.KeyLaws.{byte-there}
-use Rattle.job_line.specs.Form.{Form, byte, key, field}
+use Rattle.job_line.specs.Form.{byte, key, field}
 use Rattle.job_line.specs.Lines.{Range, Row, endOf, numbers, formOf, inRanges}
 use Rattle.job_line.specs.OneLine.{line}
 use Rattle.job_line.specs.Reading.{FieldAt, read, refused, LineAt}

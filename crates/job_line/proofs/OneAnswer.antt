@@ -1,11 +1,11 @@
 -- Each public contract of this crate leaves one answer: it is had back from the reading that it stands for, so that two answers that meet the contract are the same.
 -- Assumes nothing.
 use mathlib.Core.Path.{_≡_, refl, sym, ap, _∙_}
-use mathlib.Core.List.{List, [], _∷_}
-use Prim.Native.Nat.{ℕ, _-_, _≤_}
+use mathlib.Core.List.{List}
+use Prim.Native.Nat.{ℕ, _-_}
 use native.Mathlib.Omega.{arith}
 use lib.IntN.{ℤ, pos, natAbs}
-use lib.ListN.{length, drop, getD, length-drop}
+use lib.ListN.{length, getD, length-drop}
 use Rattle.job_line.specs.Lines.{Row}
 use Rattle.job_line.specs.OneLine.{Reading, fault, got}
 use Rattle.job_line.specs.Reading.{Answer, read, refused, areaAnswer, countAnswer, postAnswer, stopAnswer, answerIn, Within, LineAt}

@@ -8,7 +8,7 @@ use lib.ListN.{length, length-append}
 
 module _ {A : Type 0} where
   -- joined, with one more list behind
-  pub flatten-onto : (ls : List (List A)) (rest : List A) → flatten ls ++ rest ≡ foldr _++_ rest ls
+  flatten-onto : (ls : List (List A)) (rest : List A) → flatten ls ++ rest ≡ foldr _++_ rest ls
   unfolding flatten
   flatten-onto [] rest = refl
   flatten-onto (l ∷ ls) rest = append-assoc l (flatten ls) rest ∙ ap (λ (m : List A). l ++ m) (flatten-onto ls rest)
