@@ -1,6 +1,6 @@
 -- The demands of the call `report`.
 -- Assumes nothing.
-use Prim.Native.Nat.{ℕ, _+_, _*_, _≤_, _<_}
+use Prim.Native.Nat.{ℕ, suc, _+_, _*_, _≤_, _<_}
 use mathlib.Core.Path.{_≡_, refl, sym, ap, subst, subst₂, _∙_}
 use mathlib.Core.Logic.{_↔_, ⊎-elim}
 use mathlib.Core.List.{List}
@@ -19,6 +19,7 @@ use Rattle.query.specs.Range.{FiguresInRange}
 use Rattle.query.proofs.FigureRanges.{run-in-range}
 use Rattle.job.specs.Format.{Job, Result, refused, accepted, readJob}
 use Rattle.job.specs.Spelling.{spell, Allowed}
+use Rattle.job.proofs.JobLaws.{most-rounds, other-rounds}
 use Rattle.job.proofs.Meaning.{accepted-law, refused-law, spelling-law, allowed-in-range}
 use Rattle.refusal.specs.Refusal.{numberOf, lineOf}
 use Rattle.refusal.specs.declared.Refusal.{Refusal}
@@ -34,19 +35,14 @@ use Rattle.calls.proofs.AnswerLaws.{same-number, same-line, same-refusa
 pub job-limits : (job : Job) → Allowed job → FiguresInRange 1000 (jobFigures job)
 job-limits job a =
     let range = run-in-range (job .deck) (allowed-in-range job a) (a .area-full) (job .rounds) .figures-range in
-    record { place = range .place; high-limit = range .high-limit; low-limit = range .low-limit; before-limit = range .before-limit; rounds-limit = omega (arith, range .rounds-limit, a .writable .rounds) }
+    record { place = range .place; high-limit = range .high-limit; low-limit = range .low-limit; before-limit = range .before-limit; rounds-limit = omega (arith, range .rounds-limit, most-rounds (a .writable)) }
 
 text-fits : (job : Job) → Allowed job → length (reportText (jobFigures job)) ≤ 128
 text-fits job a = report-fits .report-fits (jobFigures job) (job-limits job a)
 
 -- one more round leaves a job allowed
 allowed-more : (j : Job) → j .rounds < 1000 → Allowed j → Allowed (oneMore j)
-allowed-more j h a = let w = a .writable in record {
-  writable = record { plain-axis = w .plain-axis; area = w .area; posts = w .posts; most-posts = w .most-posts; stops = w .stops; most-stops = w .most-stops; rounds = omega arith };
-  area-full = a .area-full;
-  some-posts = a .some-posts;
-  some-stops = a .some-stops;
-}
+allowed-more j h a = record { writable = other-rounds j (suc (j .rounds)) (a .writable) h; area-full = a .area-full; some-posts = a .some-posts; some-stops = a .some-stops }
 
 -- bytes that spell an allowed job are few enough
 pub read-exactly : (job : List ℕ) (j : Job) → (readJob job ≡ accepted j) ↔ ((job ≡ spell j) × Allowed j)

@@ -8,26 +8,27 @@ use mathlib.Core.Option.{Option, none, some}
 use Prim.Native.Nat.{ℕ, zero, suc, _+_, _≤_}
 use native.Mathlib.Omega.{arith}
 use lib.Dec.{T}
-use lib.IntN.{natAbs}
+use lib.IntN.{ℤ}
 use lib.ListN.{length, length-append, replicate}
 use Rattle.numbers.proofs.Joined.{flatten-snoc}
 use Rattle.numbers.proofs.Truth.{holds, fails, cond-ind}
+use Rattle.job_line.specs.Lines.{Kind, area, posts, post, stops, stop, rounds, row, formOf, inRanges}
 use Rattle.job_line.specs.OneLine.{Reading, fault, got, Reader, line, lineResult}
 use Rattle.job.specs.Reader.{andThen, _>>=_, return, repeated, end}
-use Rattle.job.specs.Format.{Job, jobOf, jobLines}
-use Rattle.job.specs.Meaning.{Kind, area, posts, post, stops, stop, rounds, Held, formOf, rangeOf, dueAfter, Good, top, one-more, FirstMalformed, no-form, too-much, FirstOutOfRange, Condition}
+use Rattle.job.specs.Format.{Job, countOf, jobOf, jobLines}
+use Rattle.job.specs.Meaning.{dueAfter, Good, top, one-more, FirstMalformed, no-form, too-much, FirstOutOfRange, Condition}
 use Rattle.refusal.specs.declared.Refusal.{Refusal}
 use Rattle.refusal.specs.declared.Refusal.the-variants.{Malformed, OutOfRange}
 use Rattle.job.proofs.FormLaws.{textOf, form-spells, form-whole, form-local}
-use Rattle.job.proofs.RangeLaws.{range-small}
-use Rattle.job.proofs.ReaderLaws.{not-got, lineOf}
+use Rattle.job.proofs.RangeLaws.{range-fits}
+use Rattle.job.proofs.ReaderLaws.{not-got}
 
 -- the fault of the text bs from line n on, where lines of these kinds are due
 pub data Faults : List Kind → ℕ → List ℕ → Refusal → Type 0 where
-  bad-form : {k : Kind} {due : List Kind} {n : ℕ} {bs : List ℕ} → formOf k bs ≡ none → Faults (k ∷ due) n bs (Malformed n)
-  bad-value : {k : Kind} {due : List Kind} {n : ℕ} {bs : List ℕ} (v : Held k) (rest : List ℕ) → formOf k bs ≡ some (v, rest) → T (not (rangeOf k v)) → Faults (k ∷ due) n bs (OutOfRange n)
+  bad-form : {k : Kind} {due : List Kind} {n : ℕ} {bs : List ℕ} → formOf (row k) bs ≡ none → Faults (k ∷ due) n bs (Malformed n)
+  bad-value : {k : Kind} {due : List Kind} {n : ℕ} {bs : List ℕ} (ns : List ℤ) (rest : List ℕ) → formOf (row k) bs ≡ some (ns, rest) → T (not (inRanges (row k .ranges) ns)) → Faults (k ∷ due) n bs (OutOfRange n)
   more-text : {n b : ℕ} {bs : List ℕ} → Faults [] n (b ∷ bs) (Malformed n)
-  further : {k : Kind} {due : List Kind} {n : ℕ} {bs : List ℕ} {why : Refusal} (v : Held k) (rest : List ℕ) → formOf k bs ≡ some (v, rest) → T (rangeOf k v) → Faults (dueAfter k v ++ due) (n + 1) rest why → Faults (k ∷ due) n bs why
+  further : {k : Kind} {due : List Kind} {n : ℕ} {bs : List ℕ} {why : Refusal} (ns : List ℤ) (rest : List ℕ) → formOf (row k) bs ≡ some (ns, rest) → T (inRanges (row k .ranges) ns) → Faults (dueAfter k ns ++ due) (n + 1) rest why → Faults (k ∷ due) n bs why
 
 -- what a reading says of a refusal: it is its fault, or it is due to what comes after
 abbrev Outcome : {A : Type 0} → Reading A → (A → ℕ → List ℕ → Refusal → Type 0) → Refusal → Type 0
@@ -50,24 +51,24 @@ return-finds : {A : Type 0} (a : A) {Before : ℕ → List ℕ → Refusal → T
 unfolding return
 return-finds a = record { finds = λ n bs why. (λ x. x, λ x. x) }
 
-line-found : {k : Kind} {due : List Kind} {n : ℕ} {bs : List ℕ} {why : Refusal} → Faults (k ∷ due) n bs why → Outcome (lineResult (rangeOf k) n (formOf k bs)) (λ v. Faults (dueAfter k v ++ due)) why
+line-found : {k : Kind} {due : List Kind} {n : ℕ} {bs : List ℕ} {why : Refusal} → Faults (k ∷ due) n bs why → Outcome (lineResult (row k) n (formOf (row k) bs)) (λ ns. Faults (dueAfter k ns ++ due)) why
 line-found (bad-form e) = rw e refl
-line-found {k} (bad-value v rest e t) = rw (e, fails (rangeOf k v) t) refl
-line-found {k} (further v rest e t f) = rw (e, holds (rangeOf k v) t) f
+line-found {k} (bad-value ns rest e t) = rw (e, fails (inRanges (row k .ranges) ns) t) refl
+line-found {k} (further ns rest e t f) = rw (e, holds (inRanges (row k .ranges) ns) t) f
 
-line-finds : (k : Kind) (due : List Kind) → Finds (lineOf k) (Faults (k ∷ due)) (λ v. Faults (dueAfter k v ++ due))
+line-finds : (k : Kind) (due : List Kind) → Finds (line (row k)) (Faults (k ∷ due)) (λ ns. Faults (dueAfter k ns ++ due))
 unfolding line
-line-finds k due = record { finds = λ n bs why. (line-found, fault-of n bs why (formOf k bs) refl) }
+line-finds k due = record { finds = λ n bs why. (line-found, fault-of n bs why (formOf (row k) bs) refl) }
   where
-    fault-of : (n : ℕ) (bs : List ℕ) (why : Refusal) (o : Option (Held k × List ℕ)) → formOf k bs ≡ o → Outcome (lineResult (rangeOf k) n o) (λ v. Faults (dueAfter k v ++ due)) why → Faults (k ∷ due) n bs why
+    fault-of : (n : ℕ) (bs : List ℕ) (why : Refusal) (o : Option (List ℤ × List ℕ)) → formOf (row k) bs ≡ o → Outcome (lineResult (row k) n o) (λ ns. Faults (dueAfter k ns ++ due)) why → Faults (k ∷ due) n bs why
     fault-of n bs why none p = λ e. subst (Faults (k ∷ due) n bs) e (bad-form p)
-    fault-of n bs why (some r) p = cond-ind (λ (x : Reading (Held k)). Outcome x (λ v. Faults (dueAfter k v ++ due)) why → Faults (k ∷ due) n bs why) (rangeOf k (r .0)) (λ t f. further (r .0) (r .1) p t f) (λ t e. subst (Faults (k ∷ due) n bs) e (bad-value (r .0) (r .1) p t))
+    fault-of n bs why (some r) p = cond-ind (λ (x : Reading (List ℤ)). Outcome x (λ ns. Faults (dueAfter k ns ++ due)) why → Faults (k ∷ due) n bs why) (inRanges (row k .ranges) (r .0)) (λ t f. further (r .0) (r .1) p t f) (λ t e. subst (Faults (k ∷ due) n bs) e (bad-value (r .0) (r .1) p t))
 
 -- lines of a kind that makes no others due
-repeated-finds : (k : Kind) → ((v : Held k) → dueAfter k v ≡ []) → (count : ℕ) (read : List (Held k)) (due : List Kind) → Finds (repeated count (lineOf k) read) (Faults (replicate count k ++ due)) (λ vs. Faults due)
+repeated-finds : (k : Kind) → ((ns : List ℤ) → dueAfter k ns ≡ []) → (count : ℕ) (read : List (List ℤ)) (due : List Kind) → Finds (repeated count (line (row k)) read) (Faults (replicate count k ++ due)) (λ all. Faults due)
 unfolding repeated
 repeated-finds k alone zero read due = return-finds read
-repeated-finds k alone (suc count) read due = bind-finds (line-finds k (replicate count k ++ due)) (λ v. rw (alone v) (repeated-finds k alone count (read ++ (v ∷ [])) due))
+repeated-finds k alone (suc count) read due = bind-finds (line-finds k (replicate count k ++ due)) (λ ns. rw (alone ns) (repeated-finds k alone count (read ++ (ns ∷ [])) due))
 
 end-found : {n : ℕ} {why : Refusal} → Faults [] n [] why → ⊥
 end-found f = elim f [ ]
@@ -90,9 +91,9 @@ allDue = area ∷ posts ∷ stops ∷ rounds ∷ []
 job-finds : (n : ℕ) (bs : List ℕ) (why : Refusal) → Faults allDue n bs why ↔ Outcome (jobLines n bs) (λ job n bs why. ⊥) why
 unfolding jobLines
 job-finds n bs why =
-    (bind-finds (line-finds area (posts ∷ stops ∷ rounds ∷ [])) (λ r. bind-finds (line-finds posts (stops ∷ rounds ∷ [])) (λ p. bind-finds (repeated-finds post (λ v. refl) (natAbs p) [] (stops ∷ rounds ∷ [])) (λ ps.
-    bind-finds (line-finds stops (rounds ∷ [])) (λ q. bind-finds (repeated-finds stop (λ v. refl) (natAbs q) [] (rounds ∷ [])) (λ ss.
-    bind-finds (line-finds rounds []) (λ z. bind-finds end-finds (λ u. return-finds (jobOf r ps ss (natAbs z)))))))))) .finds n bs why
+    (bind-finds (line-finds area (posts ∷ stops ∷ rounds ∷ [])) (λ r. bind-finds (line-finds posts (stops ∷ rounds ∷ [])) (λ p. bind-finds (repeated-finds post (λ ns. refl) (countOf p) [] (stops ∷ rounds ∷ [])) (λ ps.
+    bind-finds (line-finds stops (rounds ∷ [])) (λ q. bind-finds (repeated-finds stop (λ ns. refl) (countOf q) [] (rounds ∷ [])) (λ ss.
+    bind-finds (line-finds rounds []) (λ z. bind-finds end-finds (λ u. return-finds (jobOf r ps ss z))))))))) .finds n bs why
 
 pub job-faults : (n : ℕ) (bs : List ℕ) (why : Refusal) → (jobLines n bs ≡ fault why) ↔ Faults allDue n bs why
 job-faults n bs why = go (jobLines n bs) (job-finds n bs why)
@@ -106,18 +107,18 @@ job-faults n bs why = go (jobLines n bs) (job-finds n bs why)
 from-top : {lines : List (List ℕ)} {due : List Kind} → Good lines due → {rest : List ℕ} {why : Refusal} → Faults due (suc (length lines)) rest why → Faults allDue 1 (flatten lines ++ rest) why
 unfolding flatten
 from-top top f = f
-from-top (one-more {lines} {k} {due} good text v e t) {rest} {why} f =
+from-top (one-more {lines} {k} {due} good text ns e t) {rest} {why} f =
     let count : suc (length (lines ++ (text ∷ []))) ≡ suc (length lines) + 1 = omega (arith, length-append lines (text ∷ [])) in
-    let here : Faults (k ∷ due) (suc (length lines)) (text ++ rest) why = further v rest (form-local k text v rest e) t (rw count at f) in
+    let here : Faults (k ∷ due) (suc (length lines)) (text ++ rest) why = further ns rest (form-local (row k) text ns rest e) t (rw count at f) in
     rw (flatten-snoc lines text rest) (from-top good here)
 
 -- and back, the good lines being those that come before the fault
 pub first-fault : {lines : List (List ℕ)} {due : List Kind} {n : ℕ} {rest : List ℕ} {why : Refusal} (bytes : List ℕ) → length bytes ≤ 16384 → Good lines due → n ≡ suc (length lines) → bytes ≡ flatten lines ++ rest → Faults due n rest why → Condition why bytes
 first-fault {lines} bytes short good number split (bad-form {k} {due} {n} {bs} e) = (short, no-form lines bs k due good split number e)
-first-fault {lines} bytes short good number split (bad-value {k} {due} {n} {bs} v rest e t) = (short, record { lines = lines; rest = bs; after = rest; k = k; due = due; before = good; split = split; number = number; held = v; form = e; range = t })
+first-fault {lines} bytes short good number split (bad-value {k} {due} {n} {bs} ns rest e t) = (short, record { lines = lines; rest = bs; after = rest; k = k; due = due; before = good; split = split; number = number; numbers = ns; form = e; range = t })
 first-fault {lines} bytes short good number split (more-text {n} {b} {bs}) = (short, too-much lines (b ∷ bs) good split number (λ e. absurd (let z : _≡_ {A = ℕ} 0 1 = cc in omega arith)))
-first-fault {lines} bytes short good number split (further {k} {due} {n} {bs} {why} v rest e t f) =
-    first-fault bytes short (one-more good (textOf k v) v (form-whole k v (range-small k v t)) t) (omega (arith, length-append lines (textOf k v ∷ []))) (split ∙ ap (λ (l : List ℕ). flatten lines ++ l) (form-spells k .reads bs v rest e .0) ∙ sym (flatten-snoc lines (textOf k v) rest)) f
+first-fault {lines} bytes short good number split (further {k} {due} {n} {bs} {why} ns rest e t f) =
+    first-fault bytes short (one-more good (textOf (row k) ns) ns (form-whole (row k) ns (range-fits k ns t)) t) (omega (arith, length-append lines (textOf (row k) ns ∷ []))) (split ∙ ap (λ (l : List ℕ). flatten lines ++ l) (form-spells (row k) .reads bs ns rest e .0) ∙ sym (flatten-snoc lines (textOf (row k) ns) rest)) f
 
 pub malformed-faults : (bytes : List ℕ) (n : ℕ) → FirstMalformed bytes n → Faults allDue 1 bytes (Malformed n)
 malformed-faults bytes n (no-form lines rest k due good split number e) = rw (split, number) (from-top good (bad-form e))
@@ -125,4 +126,4 @@ malformed-faults bytes n (too-much lines [] good split number some-text) = absur
 malformed-faults bytes n (too-much lines (b ∷ rest) good split number some-text) = rw (split, number) (from-top good more-text)
 
 pub range-faults : (bytes : List ℕ) (n : ℕ) → FirstOutOfRange bytes n → Faults allDue 1 bytes (OutOfRange n)
-range-faults bytes n o = rw (o .split, o .number) (from-top (o .before) (bad-value (o .held) (o .after) (o .form) (o .range)))
+range-faults bytes n o = rw (o .split, o .number) (from-top (o .before) (bad-value (o .numbers) (o .after) (o .form) (o .range)))

@@ -1,26 +1,24 @@
--- Lines: each form reads a line as what it spells, and reads nothing but spellings.
+-- Lines: the form of a row reads a line as the numbers that it spells, and reads nothing but spellings.
 -- Assumes nothing.
-use mathlib.Core.Path.{_≡_, refl, sym, ap, subst, _∙_}
+use mathlib.Core.Path.{_≡_, refl, ap, _∙_}
 use mathlib.Core.Bool.{not}
-use mathlib.Core.List.{List, [], _∷_, _++_, append-nil, foldr, flatten}
+use mathlib.Core.List.{List, [], _∷_, _++_, append-nil, append-assoc}
 use mathlib.Core.Option.{Option, some, bind-eq-some-iff, Option·none-ne-some, Option·some-injective}
 use Prim.Native.Nat.{ℕ, suc, _+_, _*_, _^_, _≤_, _<_}
-use Prim.Native.String.{String}
 use native.Mathlib.Nat.{le-trans, pow-le-pow-right}
 use native.Mathlib.Omega.{arith}
 use lib.Dec.{T, eqb, eqb→eq, eqb-refl, lit≤}
 use lib.IntN.{ℤ, natAbs}
 use lib.ListN.{length, length-append}
-use Rattle.numbers.proofs.Joined.{flatten-onto}
 use Rattle.numbers.proofs.Truth.{cond-ind, cond-true, cond-false}
-use Rattle.text.specs.Ascii.{bytes, comma, newline, isDigit}
+use Rattle.text.specs.Ascii.{isDigit}
 use Rattle.text.specs.Numeral.{digits, number}
 use Rattle.text.specs.Decimal.{spellInt}
 use Rattle.text.proofs.DigitCounts.{length-spellInt-below}
 use Rattle.text.proofs.NumeralLaws.{number-reads, number-spelled}
 use Rattle.job_line.specs.Form.{Form, _>>=_, _>>_, byte, key, field, return}
-use Rattle.job_line.specs.Lines.{areaLine, countLine, postLine, stopLine}
-use Rattle.job.specs.Meaning.{Kind, area, posts, post, stops, stop, rounds, Held, formOf}
+use Rattle.job_line.specs.Lines.{Range, Row, endOf, numbers, formOf}
+use Rattle.job.specs.Spelling.{spellNumbers}
 
 -- what it says of a form that it reads the texts of values, where the values are such, and nothing else
 pub record Spells {A : Type 0} (form : Form A) (text : A → List ℕ → List ℕ) (Such : A → Type 0) : Type 0 where
@@ -63,123 +61,80 @@ field-spells end t = record {
   writes = λ z rest small. rw (number-spelled z (end ∷ rest) small (cond-false (isDigit end) _ _ t), byte-spells end .writes tt rest tt);
 }
 
--- ---- the numbers of a line, each with the byte that ends it
-abbrev Numbers : List ℕ → Type 0
-Numbers [] = Unit
-Numbers (end ∷ ends) = ℤ × Numbers ends
-
--- their spellings and ends, in order
-abbrev pieces : (ends : List ℕ) → Numbers ends → List (List ℕ)
-pieces [] v = []
-pieces (end ∷ ends) v = spellInt (v .0) ∷ (end ∷ []) ∷ pieces ends (v .1)
-
+-- ---- the numbers of a line, each with its end
 -- each within so many digits
-abbrev Within : ℕ → (ends : List ℕ) → Numbers ends → Type 0
-Within k [] v = Unit
-Within k (end ∷ ends) v = (natAbs (v .0) < 10 ^ k) × Within k ends (v .1)
+abbrev pub Within : ℕ → List ℤ → Type 0
+Within d [] = Unit
+Within d (n ∷ ns) = (natAbs n < 10 ^ d) × Within d ns
 
-pub within-more : (d e : ℕ) → d ≤ e → (ends : List ℕ) (v : Numbers ends) → Within d ends v → Within e ends v
-within-more d e h [] v w = tt
-within-more d e h (end ∷ ends) v w = (le-trans (w .0) (pow-le-pow-right (lit≤ {m = 1} {n = 10} tt) h), within-more d e h ends (v .1) (w .1))
+pub within-more : (d e : ℕ) → d ≤ e → (ns : List ℤ) → Within d ns → Within e ns
+within-more d e h [] w = tt
+within-more d e h (n ∷ ns) w = (le-trans (w .0) (pow-le-pow-right (lit≤ {m = 1} {n = 10} tt) h), within-more d e h ns (w .1))
 
-pieces-length : (d : ℕ) (ends : List ℕ) (v : Numbers ends) → Within (suc d) ends v → length (flatten (pieces ends v)) ≤ length ends * (d + 3)
-unfolding flatten
-pieces-length d [] v w = omega arith
-pieces-length d (end ∷ ends) v w = simp length-append (omega (arith, length-spellInt-below d (v .0) (w .0), pieces-length d ends (v .1) (w .1)))
+numbers-length : (d : ℕ) (ns : List ℤ) → Within (suc d) ns → length (spellNumbers ns) ≤ length ns * (d + 3)
+unfolding spellNumbers
+numbers-length d [] w = omega arith
+numbers-length d (n ∷ ns) w = simp length-append (omega (arith, length-spellInt-below d n (w .0), numbers-length d ns (w .1)))
 
--- no end is a digit
-abbrev NoDigits : List ℕ → Type 0
-NoDigits [] = Unit
-NoDigits (end ∷ ends) = T (not (isDigit end)) × NoDigits ends
+end-no-digit : {A : Type 0} (others : List A) → T (not (isDigit (endOf others)))
+unfolding isDigit
+end-no-digit [] = tt
+end-no-digit (a ∷ others) = tt
 
--- reading them, and making of them what the line holds
-numbersForm : {A : Type 0} (ends : List ℕ) → (Numbers ends → A) → Form A
-numbersForm [] make = return (make tt)
-numbersForm (end ∷ ends) make = field end >>= (λ z. numbersForm ends (λ v. make (z, v)))
+end-same : {A B : Type 0} (xs : List A) (ys : List B) → length xs ≡ length ys → endOf xs ≡ endOf ys
+end-same [] [] e = refl
+end-same [] (y ∷ ys) e = absurd (omega arith)
+end-same (x ∷ xs) [] e = absurd (omega arith)
+end-same (x ∷ xs) (y ∷ ys) e = refl
 
-numbers-reads : {A : Type 0} (ends : List ℕ) → NoDigits ends → (make : Numbers ends → A) (bs : List ℕ) (a : A) (rest : List ℕ) → numbersForm ends make bs ≡ some (a, rest) → (v : Numbers ends) × (bs ≡ foldr _++_ rest (pieces ends v)) × (make v ≡ a) × Within 9 ends v
-unfolding numbersForm return
-numbers-reads [] ok make bs a rest = λ e. (tt, some-parts e .1, some-parts e .0, tt)
-numbers-reads (end ∷ ends) ok make bs a rest = bind-reads (field end) (λ z. numbersForm ends (λ v. make (z, v))) bs (λ z mid p e.
-    let (v, text, made, small) = numbers-reads ends (ok .1) (λ v. make (z, v)) mid a rest e in
-    let (first, size) = field-spells end (ok .0) .reads bs z mid p in
-    ((z, v), first ∙ ap (λ (l : List ℕ). spellInt z ++ (end ∷ l)) text, made, (size, small)))
+-- as many numbers as ranges, and each of at most nine digits
+pub record Fitting (ranges : List Range) (ns : List ℤ) : Type 0 where
+  pub as-many : length ns ≡ length ranges
+  pub small : Within 9 ns
 
-numbers-writes : {A : Type 0} (ends : List ℕ) → NoDigits ends → (make : Numbers ends → A) (v : Numbers ends) (rest : List ℕ) → Within 9 ends v → numbersForm ends make (foldr _++_ rest (pieces ends v)) ≡ some (make v, rest)
-unfolding numbersForm return _>>=_
-numbers-writes [] ok make v rest small = refl
-numbers-writes (end ∷ ends) ok make v rest small = rw (field-spells end (ok .0) .writes (v .0) (foldr _++_ rest (pieces ends (v .1))) (small .0)) (numbers-writes ends (ok .1) (λ w. make (v .0, w)) (v .1) rest (small .1))
+numbers-spells : (ranges : List Range) → Spells (numbers ranges) (λ ns rest. spellNumbers ns ++ rest) (Fitting ranges)
+unfolding numbers spellNumbers
+numbers-spells [] = record {
+  reads = λ bs ns rest e. let (same, last) = some-parts e in rw (← same, ← last) (refl, record { as-many = refl; small = tt });
+  writes = writes;
+}
+  where
+    writes : (ns : List ℤ) (rest : List ℕ) → Fitting [] ns → numbers [] (spellNumbers ns ++ rest) ≡ some (ns, rest)
+    writes [] rest f = refl
+    writes (n ∷ ns) rest f = let e = f .as-many in absurd (omega arith)
+numbers-spells (range ∷ others) = record {
+  reads = λ bs ns rest. bind-reads (field (endOf others)) (λ z. numbers others >>= (λ zs. return (z ∷ zs))) bs (λ z mid p. bind-reads (numbers others) (λ zs. return (z ∷ zs)) mid (λ zs after q e.
+      let (first, size) = field-spells (endOf others) (end-no-digit others) .reads bs z mid p in
+      let (text, fit) = numbers-spells others .reads mid zs after q in
+      let (same, last) = some-parts e in
+      rw (← same, ← last) (rw (append-assoc, end-same zs others (fit .as-many)) (first ∙ ap (λ (l : List ℕ). spellInt z ++ (endOf others ∷ l)) text), record { as-many = ap suc (fit .as-many); small = (size, fit .small) })));
+  writes = writes (numbers-spells others);
+}
+  where
+    writes : Spells (numbers others) (λ ns rest. spellNumbers ns ++ rest) (Fitting others) → (ns : List ℤ) (rest : List ℕ) → Fitting (range ∷ others) ns → numbers (range ∷ others) (spellNumbers ns ++ rest) ≡ some (ns, rest)
+    writes ih [] rest f = let e = f .as-many in absurd (omega arith)
+    writes ih (n ∷ ns) rest f =
+        let e : length ns ≡ length others = omega (arith, f .as-many) in
+        rw (append-assoc, end-same ns others e, field-spells (endOf others) (end-no-digit others) .writes n (spellNumbers ns ++ rest) (f .small .0), ih .writes ns rest (record { as-many = e; small = f .small .1 }))
 
 -- ---- the lines
--- a key and what follows it
-key-line : {A : Type 0} (name : List ℕ) {form : Form A} (ps : A → List (List ℕ)) {Such : A → Type 0} → Spells form (λ a rest. foldr _++_ rest (ps a)) Such → Spells (key name >> form) (λ a rest. flatten (name ∷ ps a) ++ rest) Such
-unfolding _>>_
-key-line name {form} ps s = record {
-  reads = λ bs a rest. bind-reads (key name) (λ u. form) bs (λ u mid p e. let (text, such) = s .reads mid a rest e in (rw flatten-onto (key-spells name .reads bs u mid p .0 ∙ ap (λ (l : List ℕ). name ++ l) text), such));
-  writes = λ a rest such. rw (flatten-onto (name ∷ ps a) rest, key-spells name .writes tt (foldr _++_ rest (ps a)) tt) (s .writes a rest such);
-}
+abbrev pub textOf : Row → List ℤ → List ℕ
+textOf row ns = row .key ++ spellNumbers ns
 
-numbers-spells : {A : Type 0} (ends : List ℕ) → NoDigits ends → (make : Numbers ends → A) (parts : A → Numbers ends) → ((v : Numbers ends) → parts (make v) ≡ v) → ((a : A) → make (parts a) ≡ a) → Spells (numbersForm ends make) (λ a rest. foldr _++_ rest (pieces ends (parts a))) (λ a. Within 9 ends (parts a))
-numbers-spells ends ok make parts there back = record {
-  reads = λ bs a rest e. let (v, text, made, small) = numbers-reads ends ok make bs a rest e in subst (λ (w : Numbers ends). (bs ≡ foldr _++_ rest (pieces ends w)) × Within 9 ends w) (sym (there v) ∙ ap parts made) (text, small);
-  writes = λ a rest small. numbers-writes ends ok make (parts a) rest small ∙ ap (λ (b : _). some (b, rest)) (back a);
-}
+module _ (row : Row) where
+  pub form-spells : Spells (formOf row) (λ ns rest. textOf row ns ++ rest) (Fitting (row .ranges))
+  unfolding formOf
+  form-spells = record {
+    reads = λ bs ns rest. bind-reads (key (row .key)) (λ u. numbers (row .ranges)) bs (λ u mid p e. let (text, fit) = numbers-spells (row .ranges) .reads mid ns rest e in (rw append-assoc (key-spells (row .key) .reads bs u mid p .0 ∙ ap (λ (l : List ℕ). row .key ++ l) text), fit));
+    writes = λ ns rest fit. rw (append-assoc, key-spells (row .key) .writes tt (spellNumbers ns ++ rest) tt) (numbers-spells (row .ranges) .writes ns rest fit);
+  }
 
-pub count-spells : (name : String) → Spells (countLine name) (λ z rest. flatten (bytes name ∷ pieces (newline ∷ []) (z, tt)) ++ rest) (λ z. Within 9 (newline ∷ []) (z, tt))
-unfolding countLine isDigit
-count-spells name = let s = key-line (bytes name) (λ z. pieces (newline ∷ []) (z, tt)) (field-spells newline tt) in record {
-  reads = λ bs z rest e. let (text, small) = s .reads bs z rest e in (text, (small, tt));
-  writes = λ z rest small. s .writes z rest (small .0);
-}
+  pub form-whole : (ns : List ℤ) → Fitting (row .ranges) ns → formOf row (textOf row ns) ≡ some (ns, [])
+  form-whole ns fit = rw append-nil at (form-spells .writes ns [] fit)
 
--- ---- the same of each kind of line
-abbrev pub nameOf : Kind → List ℕ
-nameOf area = bytes "area="
-nameOf posts = bytes "posts="
-nameOf post = bytes "post="
-nameOf stops = bytes "stops="
-nameOf stop = bytes "stop="
-nameOf rounds = bytes "rounds="
+  -- a form that reads a text whole reads it at the start of any text
+  pub form-local : (text : List ℕ) (ns : List ℤ) (rest : List ℕ) → formOf row text ≡ some (ns, []) → formOf row (text ++ rest) ≡ some (ns, rest)
+  form-local text ns rest e = let (t, fit) = form-spells .reads text ns [] e in rw (t, append-nil) (form-spells .writes ns rest fit)
 
-abbrev pub endsOf : Kind → List ℕ
-endsOf area = comma ∷ comma ∷ comma ∷ newline ∷ []
-endsOf posts = newline ∷ []
-endsOf post = comma ∷ newline ∷ []
-endsOf stops = newline ∷ []
-endsOf stop = comma ∷ comma ∷ newline ∷ []
-endsOf rounds = newline ∷ []
-
-abbrev pub numbersOf : (k : Kind) → Held k → Numbers (endsOf k)
-numbersOf area r = (r .xlo, (r .ylo, (r .xhi, (r .yhi, tt))))
-numbersOf posts z = (z, tt)
-numbersOf post p = (p .x, (p .y, tt))
-numbersOf stops z = (z, tt)
-numbersOf stop s = (s .at .x, (s .at .y, (s .visits, tt)))
-numbersOf rounds z = (z, tt)
-
-abbrev pub textOf : (k : Kind) → Held k → List ℕ
-textOf k v = flatten (nameOf k ∷ pieces (endsOf k) (numbersOf k v))
-
--- the numbers of a line have at most so many digits
-abbrev pub HeldWithin : ℕ → (k : Kind) → Held k → Type 0
-HeldWithin d k v = Within d (endsOf k) (numbersOf k v)
-
-pub form-spells : (k : Kind) → Spells (formOf k) (λ v rest. textOf k v ++ rest) (HeldWithin 9 k)
-unfolding areaLine postLine stopLine numbersForm isDigit
-form-spells area = key-line (nameOf area) _ (numbers-spells (endsOf area) (tt, (tt, (tt, (tt, tt)))) (λ v. record { xlo = v .0; ylo = v .1 .0; xhi = v .1 .1 .0; yhi = v .1 .1 .1 .0 }) _ (λ v. refl) (λ a. refl))
-form-spells posts = count-spells "posts="
-form-spells post = key-line (nameOf post) _ (numbers-spells (endsOf post) (tt, (tt, tt)) (λ v. record { x = v .0; y = v .1 .0 }) _ (λ v. refl) (λ a. refl))
-form-spells stops = count-spells "stops="
-form-spells stop = key-line (nameOf stop) _ (numbers-spells (endsOf stop) (tt, (tt, (tt, tt))) (λ v. record { at = record { x = v .0; y = v .1 .0 }; visits = v .1 .1 .0 }) _ (λ v. refl) (λ a. refl))
-form-spells rounds = count-spells "rounds="
-
-pub form-whole : (k : Kind) (v : Held k) → HeldWithin 9 k v → formOf k (textOf k v) ≡ some (v, [])
-form-whole k v small = rw append-nil at (form-spells k .writes v [] small)
-
--- a form that reads a text whole reads it at the start of any text
-pub form-local : (k : Kind) (text : List ℕ) (v : Held k) (rest : List ℕ) → formOf k text ≡ some (v, []) → formOf k (text ++ rest) ≡ some (v, rest)
-form-local k text v rest e = let (t, small) = form-spells k .reads text v [] e in rw (t, append-nil) (form-spells k .writes v rest small)
-
-pub text-length : (d : ℕ) (k : Kind) (v : Held k) → HeldWithin (suc d) k v → length (textOf k v) ≤ length (nameOf k) + length (endsOf k) * (d + 3)
-unfolding flatten
-text-length d k v w = simp length-append (omega (arith, pieces-length d (endsOf k) (numbersOf k v) w))
+  pub text-length : (d : ℕ) (ns : List ℤ) → Within (suc d) ns → length (textOf row ns) ≤ length (row .key) + length ns * (d + 3)
+  text-length d ns w = simp length-append (omega (arith, numbers-length d ns w))

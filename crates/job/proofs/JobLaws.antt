@@ -1,131 +1,217 @@
--- Reading every line of a job: it goes through for the spellings of jobs whose values are in range, and for no other text.
+-- Reading every line of a job: it goes through for the spellings of jobs whose lines have their ranges, and for no other text.
 -- Assumes nothing.
 use mathlib.Core.Path.{_≡_, refl, sym, ap, subst, _∙_}
-use mathlib.Core.List.{List, [], _++_, map, map-map, map-id, flatMap, List·Memᴰ, Memᴰ·of-map}
+use mathlib.Core.List.{List, [], _∷_, _++_, map, map-map, map-id, flatMap, List·Memᴰ, List·Memᴰ·head, List·Memᴰ·tail, List·Memᴰ·not-nil, Memᴰ·map, Memᴰ·append-left, Memᴰ·append-right}
 use Prim.Native.Nat.{ℕ, _+_, _*_, _≤_}
 use native.Mathlib.Omega.{arith}
 use lib.Dec.{T}
-use lib.IntN.{ℤ, pos, natAbs}
+use lib.IntN.{ℤ, pos}
 use lib.ListN.{length, length-append, length-map}
-use Rattle.numbers.proofs.Joined.{flatMap-map, flatMap-length}
-use Rattle.query.specs.Place.{Place, Rect}
-use Rattle.query.specs.Deck.{Stop}
-use Rattle.query.specs.Range.{StopInRange}
+use Rattle.numbers.proofs.Joined.{flatMap-append, flatMap-map, flatMap-length, map-each}
+use Rattle.numbers.proofs.Members.{each-cons, each-append, each-map}
+use Rattle.query.specs.Place.{Place}
+use Rattle.query.specs.Deck.{Stop, plain, Deck}
+use Rattle.query.specs.Range.{RectInRange, PlaceInRange, StopInRange}
 use Rattle.text.specs.Ascii.{bytes}
-use Rattle.job_line.specs.Lines.{StopLine, upTo}
-use Rattle.job_line.specs.OneLine.{got}
+use Rattle.job_line.specs.Lines.{Kind, area, posts, post, stops, stop, rounds, row, inRanges}
+use Rattle.job_line.specs.OneLine.{got, line}
 use Rattle.job.specs.Reader.{repeated, end}
-use Rattle.job.specs.Format.{Job, jobOf, stopOf, jobLines}
-use Rattle.job.specs.Spelling.{spellStop, spell, Writable}
-use Rattle.job.specs.Meaning.{Kind, Held, area, posts, post, stops, stop, rounds, rangeOf}
-use Rattle.job.proofs.FormLaws.{textOf, nameOf, endsOf, text-length}
-use Rattle.job.proofs.RangeLaws.{area-range, place-range, stop-range, up-to, count-up-to, range-within}
-use Rattle.job.proofs.ReaderLaws.{lineOf, bind-got, line-got, line-gets, all-got, repeated-gets, end-got}
+use Rattle.job.specs.Format.{Job, countOf, postOf, stopOf, jobOf, jobLines}
+use Rattle.job.specs.Spelling.{JobLine, areaLine, countLine, postLine, stopLine, linesOf, spellLine, spell, Writable}
+use Rattle.job.proofs.FormLaws.{textOf, text-length}
+use Rattle.job.proofs.RangeLaws.{range-within, range-fits, area-range, count-range, post-range, stop-range, area-back, count-back, count-limit, post-back, stop-back}
+use Rattle.job.proofs.ReaderLaws.{lineOf, Ranged, bind-got, line-got, line-gets, all-got, repeated-gets, end-got}
 
-spell-is : (job : Job) → spell job ≡ textOf area (job .deck .area) ++ (textOf posts (pos (length (job .deck .posts))) ++ (flatMap (textOf post) (job .deck .posts) ++ (textOf stops (pos (length (job .deck .stops))) ++ (flatMap spellStop (job .deck .stops) ++ (textOf rounds (pos (job .rounds)) ++ [])))))
-unfolding spell
-spell-is job = refl
+-- ---- lines of a kind
+line-length : (k : Kind) (ns : List ℤ) → Ranged k ns → length (textOf (row k) ns) ≤ length (row k .key) + length (row k .ranges) * 7
+line-length k ns t = rw (← range-fits k ns t .as-many) (text-length (row k) 4 ns (range-within k ns t))
 
-line-length : (k : Kind) (v : Held k) → T (rangeOf k v) → length (textOf k v) ≤ length (nameOf k) + length (endsOf k) * 7
-line-length k v t = text-length 4 k v (range-within k v t)
+line-text : (k : Kind) (ns : List ℤ) → textOf (row k) ns ≡ spellLine (lineOf k ns)
+unfolding spellLine
+line-text k ns = refl
 
--- ---- the lines of a job, by what they hold: an area, posts, stops and rounds
-module _ (r : Rect) (ps : List Place) (ss : List StopLine) (k : ℕ) where
+kind-text : (k : Kind) (all : List (List ℤ)) (others : List JobLine) → flatMap spellLine (map (lineOf k) all ++ others) ≡ flatMap (textOf (row k)) all ++ flatMap spellLine others
+kind-text k all others = flatMap-append spellLine (map (lineOf k) all) others ∙ ap (λ (l : List ℕ). l ++ flatMap spellLine others) (sym (flatMap-map (textOf (row k)) spellLine (lineOf k) all (λ ns m. line-text k ns)))
+
+InRanges : JobLine → Type 0
+InRanges l = T (inRanges (row (l .kind) .ranges) (l .numbers))
+
+-- ---- the lines of a job, by their numbers: those of the area, of posts, of each post, of stops, of each stop, of rounds
+module _ (a n : List ℤ) (ps : List (List ℤ)) (m : List ℤ) (ss : List (List ℤ)) (k : List ℤ) where
+  readLines : List JobLine
+  readLines = lineOf area a ∷ lineOf posts n ∷ (map (lineOf post) ps ++ (lineOf stops m ∷ (map (lineOf stop) ss ++ (lineOf rounds k ∷ []))))
+
   linesText : List ℕ
-  linesText = textOf area r ++ (textOf posts (pos (length ps)) ++ (flatMap (textOf post) ps ++ (textOf stops (pos (length ss)) ++ (flatMap (textOf stop) ss ++ (textOf rounds (pos k) ++ [])))))
+  linesText = textOf (row area) a ++ (textOf (row posts) n ++ (flatMap (textOf (row post)) ps ++ (textOf (row stops) m ++ (flatMap (textOf (row stop)) ss ++ (textOf (row rounds) k ++ [])))))
+
+  text-is : flatMap spellLine readLines ≡ linesText
+  unfolding readLines linesText flatMap spellLine
+  text-is = rw (kind-text post ps _, kind-text stop ss _)
 
   record LinesInRange : Type 0 where
-    area-in : T (rangeOf area r)
-    posts-in : T (rangeOf posts (pos (length ps)))
-    post-in : (v : Place) → List·Memᴰ v ps → T (rangeOf post v)
-    stops-in : T (rangeOf stops (pos (length ss)))
-    stop-in : (v : StopLine) → List·Memᴰ v ss → T (rangeOf stop v)
-    rounds-in : T (rangeOf rounds (pos k))
+    area-in : Ranged area a
+    posts-in : Ranged posts n
+    post-in : (ns : List ℤ) → List·Memᴰ ns ps → Ranged post ns
+    stops-in : Ranged stops m
+    stop-in : (ns : List ℤ) → List·Memᴰ ns ss → Ranged stop ns
+    rounds-in : Ranged rounds k
+    all-posts : length ps ≡ countOf n
+    all-stops : length ss ≡ countOf m
 
-  lines-writable : LinesInRange → Writable (jobOf r ps ss k)
-  lines-writable i = record {
-    plain-axis = refl;
-    area = area-range r .0 (i .area-in);
-    posts = λ v m. place-range v .0 (i .post-in v m);
-    most-posts = up-to 64 _ .0 (i .posts-in) .2;
-    stops = λ s m. let (v, n, e) = Memᴰ·of-map stopOf ss m in subst StopInRange e (stop-range v .0 (i .stop-in v n) .1);
-    most-stops = omega (arith, length-map ss stopOf, up-to 512 (pos (length ss)) .0 (i .stops-in));
-    rounds = up-to 1000 _ .0 (i .rounds-in) .2;
-  }
-
-  lines-spelled : LinesInRange → linesText ≡ spell (jobOf r ps ss k)
-  unfolding linesText
-  lines-spelled i = cc (spell-is (jobOf r ps ss k), length-map ss stopOf, flatMap-map (textOf stop) spellStop stopOf ss (λ v m. ap (λ (w : ℤ). textOf stop (record { at = v .at; visits = w })) (stop-range v .0 (i .stop-in v m) .0)))
-
-  lines-gets : (n : ℕ) → LinesInRange → (m : ℕ) × (jobLines n linesText ≡ got (jobOf r ps ss k) m [])
-  unfolding jobLines linesText
-  lines-gets n i =
-      let b₅ = textOf rounds (pos k) ++ [] in
-      let b₄ = flatMap (textOf stop) ss ++ b₅ in
-      let b₃ = textOf stops (pos (length ss)) ++ b₄ in
-      let b₂ = flatMap (textOf post) ps ++ b₃ in
-      let (m₃, e₃) = repeated-gets post ps [] (n + 1 + 1) b₃ (i .post-in) in
-      let (m₅, e₅) = repeated-gets stop ss [] (m₃ + 1) b₅ (i .stop-in) in
-      (m₅ + 1, rw (line-gets area n r (textOf posts (pos (length ps)) ++ b₂) (i .area-in), line-gets posts (n + 1) (pos (length ps)) b₂ (i .posts-in), e₃, line-gets stops m₃ (pos (length ss)) b₄ (i .stops-in), e₅, line-gets rounds m₅ (pos k) [] (i .rounds-in)))
-
-  lines-length : LinesInRange → length linesText ≤ 16384
-  unfolding linesText bytes
-  lines-length i = simp length-append (omega (
-    arith,
-    up-to 64 (pos (length ps)) .0 (i .posts-in),
-    up-to 512 (pos (length ss)) .0 (i .stops-in),
-    line-length area r (i .area-in),
-    line-length posts (pos (length ps)) (i .posts-in),
-    flatMap-length (textOf post) 19 ps (λ v m. line-length post v (i .post-in v m)),
-    line-length stops (pos (length ss)) (i .stops-in),
-    flatMap-length (textOf stop) 26 ss (λ v m. line-length stop v (i .stop-in v m)),
-    line-length rounds (pos k) (i .rounds-in),
-  ))
-
--- the lines of a job in range
-abbrev stopLineOf : Stop → StopLine
-stopLineOf s = record { at = s .at; visits = pos (s .visits) }
-
-job-lines : (job : Job) → Writable job → (ss : List StopLine) × LinesInRange (job .deck .area) (job .deck .posts) ss (job .rounds) × (jobOf (job .deck .area) (job .deck .posts) ss (job .rounds) ≡ job)
-job-lines job w =
-    let back = map-map stopOf stopLineOf (job .deck .stops) ∙ map-id (job .deck .stops) in (
-      map stopLineOf (job .deck .stops),
-      record {
-        area-in = area-range (job .deck .area) .1 (w .area);
-        posts-in = count-up-to (w .most-posts);
-        post-in = λ p i. place-range p .1 (w .posts p i);
-        stops-in = count-up-to (omega (arith, length-map (job .deck .stops) stopLineOf, w .most-stops));
-        stop-in = λ v i. let (s, j, q) = Memᴰ·of-map stopLineOf (job .deck .stops) i in subst (λ (u : StopLine). T (rangeOf stop u)) q (stop-range (stopLineOf s) .1 (refl, w .stops s j));
-        rounds-in = count-up-to (w .rounds);
-      },
-      λ i. record { deck = record { axis = sym (w .plain-axis) i; area = job .deck .area; posts = job .deck .posts; stops = back i }; rounds = job .rounds },
+  module _ (i : LinesInRange) where
+    -- they are those of the job that they are read as
+    lines-are : linesOf (jobOf a ps ss k) ≡ readLines
+    unfolding readLines
+    lines-are = cc (
+      area-back a (i .area-in),
+      length-map ps postOf ∙ i .all-posts,
+      count-back 64 n (i .posts-in),
+      map-map postLine postOf ps ∙ map-each (λ ns. postLine (postOf ns)) (lineOf post) ps (λ ns j. ap (lineOf post) (post-back ns (i .post-in ns j))),
+      length-map ss stopOf ∙ i .all-stops,
+      count-back 512 m (i .stops-in),
+      map-map stopLine stopOf ss ∙ map-each (λ ns. stopLine (stopOf ns)) (lineOf stop) ss (λ ns j. ap (lineOf stop) (stop-back ns (i .stop-in ns j))),
+      count-back 1000 k (i .rounds-in),
     )
 
+    each-line : (l : JobLine) → List·Memᴰ l readLines → InRanges l
+    unfolding readLines InRanges
+    each-line =
+        each-cons InRanges (i .area-in) (each-cons InRanges (i .posts-in) (each-append InRanges (map (lineOf post) ps) (each-map InRanges (lineOf post) ps (i .post-in))
+        (each-cons InRanges (i .stops-in) (each-append InRanges (map (lineOf stop) ss) (each-map InRanges (lineOf stop) ss (i .stop-in)) (each-cons InRanges (i .rounds-in) (λ l j. absurd (List·Memᴰ·not-nil j)))))))
+
+    lines-writable : Writable (jobOf a ps ss k)
+    unfolding InRanges
+    lines-writable = record { plain-axis = refl; in-ranges = subst (λ (ls : List JobLine). (l : JobLine) → List·Memᴰ l ls → InRanges l) (sym lines-are) each-line }
+
+    lines-spelled : spell (jobOf a ps ss k) ≡ linesText
+    unfolding spell
+    lines-spelled = ap (flatMap spellLine) lines-are ∙ text-is
+
+    lines-gets : (from : ℕ) → (to : ℕ) × (jobLines from linesText ≡ got (jobOf a ps ss k) to [])
+    unfolding jobLines linesText
+    lines-gets from =
+        let b₅ = textOf (row rounds) k ++ [] in
+        let b₄ = flatMap (textOf (row stop)) ss ++ b₅ in
+        let b₃ = textOf (row stops) m ++ b₄ in
+        let b₂ = flatMap (textOf (row post)) ps ++ b₃ in
+        let (m₃, e₃) = repeated-gets post ps [] (from + 1 + 1) b₃ (i .post-in) in
+        let (m₅, e₅) = repeated-gets stop ss [] (m₃ + 1) b₅ (i .stop-in) in
+        (m₅ + 1, rw (line-gets area from a (textOf (row posts) n ++ b₂) (i .area-in), line-gets posts (from + 1) n b₂ (i .posts-in), ← i .all-posts, e₃, line-gets stops m₃ m b₄ (i .stops-in), ← i .all-stops, e₅, line-gets rounds m₅ k [] (i .rounds-in)))
+
+    lines-length : length linesText ≤ 16384
+    unfolding linesText bytes
+    lines-length = simp length-append (omega (
+      arith,
+      i .all-posts,
+      count-limit 64 n (i .posts-in),
+      i .all-stops,
+      count-limit 512 m (i .stops-in),
+      line-length area a (i .area-in),
+      line-length posts n (i .posts-in),
+      flatMap-length (textOf (row post)) 19 ps (λ ns j. line-length post ns (i .post-in ns j)),
+      line-length stops m (i .stops-in),
+      flatMap-length (textOf (row stop)) 26 ss (λ ns j. line-length stop ns (i .stop-in ns j)),
+      line-length rounds k (i .rounds-in),
+    ))
+
 -- ---- the job that is read
--- a count that was read, with as many lines behind it
-counted : {A : Type 0} (most : ℕ) (z : ℤ) (vs : List A) → T (upTo most z) → length vs ≡ natAbs z → z ≡ pos (length vs)
-counted most z vs t e = up-to most z .0 t .0 ∙ ap pos (sym e)
-
-pub job-got : (n : ℕ) (bs : List ℕ) (job : Job) (m : ℕ) (rest : List ℕ) → jobLines n bs ≡ got job m rest → (bs ≡ spell job) × Writable job
+pub job-got : (from : ℕ) (bs : List ℕ) (job : Job) (to : ℕ) (rest : List ℕ) → jobLines from bs ≡ got job to rest → (bs ≡ spell job) × Writable job
 unfolding jobLines linesText
-job-got n bs job m rest =
-    bind-got (lineOf area) _ n bs (λ r n₁ b₁ e₁. bind-got (lineOf posts) _ n₁ b₁ (λ p n₂ b₂ e₂. bind-got (repeated (natAbs p) (lineOf post) []) _ n₂ b₂ (λ ps n₃ b₃ e₃.
-    bind-got (lineOf stops) _ n₃ b₃ (λ q n₄ b₄ e₄. bind-got (repeated (natAbs q) (lineOf stop) []) _ n₄ b₄ (λ ss n₅ b₅ e₅. bind-got (lineOf rounds) _ n₅ b₅ (λ z n₆ b₆ e₆. bind-got end _ n₆ b₆ (λ u n₇ b₇ e₇ e₈.
-    let (t₁, i₁) = line-got area n bs r n₁ b₁ e₁ in
-    let (t₂, i₂) = line-got posts n₁ b₁ p n₂ b₂ e₂ in
-    let (t₃, l₃, i₃) = all-got post (natAbs p) n₂ b₂ ps n₃ b₃ e₃ in
-    let (t₄, i₄) = line-got stops n₃ b₃ q n₄ b₄ e₄ in
-    let (t₅, l₅, i₅) = all-got stop (natAbs q) n₄ b₄ ss n₅ b₅ e₅ in
-    let (t₆, i₆) = line-got rounds n₅ b₅ z n₆ b₆ e₆ in
-    let p-is = counted 64 p ps i₂ l₃ in
-    let q-is = counted 512 q ss i₄ l₅ in
-    let z-is = up-to 1000 z .0 i₆ .0 in
-    let i : LinesInRange r ps ss (natAbs z) = record { area-in = i₁; posts-in = rw p-is at i₂; post-in = i₃; stops-in = rw q-is at i₄; stop-in = i₅; rounds-in = rw z-is at i₆ } in
-    let same : jobOf r ps ss (natAbs z) ≡ job = cc in
-    rw (← same) (cc (end-got n₆ b₆ e₇, lines-spelled r ps ss (natAbs z) i), lines-writable r ps ss (natAbs z) i))))))))
+job-got from bs job to rest =
+    bind-got (line (row area)) _ from bs (λ a n₁ b₁ e₁. bind-got (line (row posts)) _ n₁ b₁ (λ n n₂ b₂ e₂. bind-got (repeated (countOf n) (line (row post)) []) _ n₂ b₂ (λ ps n₃ b₃ e₃.
+    bind-got (line (row stops)) _ n₃ b₃ (λ m n₄ b₄ e₄. bind-got (repeated (countOf m) (line (row stop)) []) _ n₄ b₄ (λ ss n₅ b₅ e₅. bind-got (line (row rounds)) _ n₅ b₅ (λ k n₆ b₆ e₆. bind-got end _ n₆ b₆ (λ u n₇ b₇ e₇ e₈.
+    let (t₁, i₁) = line-got area from bs a n₁ b₁ e₁ in
+    let (t₂, i₂) = line-got posts n₁ b₁ n n₂ b₂ e₂ in
+    let (t₃, l₃, i₃) = all-got post (countOf n) n₂ b₂ ps n₃ b₃ e₃ in
+    let (t₄, i₄) = line-got stops n₃ b₃ m n₄ b₄ e₄ in
+    let (t₅, l₅, i₅) = all-got stop (countOf m) n₄ b₄ ss n₅ b₅ e₅ in
+    let (t₆, i₆) = line-got rounds n₅ b₅ k n₆ b₆ e₆ in
+    let i : LinesInRange a n ps m ss k = record { area-in = i₁; posts-in = i₂; post-in = i₃; stops-in = i₄; stop-in = i₅; rounds-in = i₆; all-posts = l₃; all-stops = l₅ } in
+    let same : jobOf a ps ss k ≡ job = cc in
+    rw (← same) (cc (end-got n₆ b₆ e₇, lines-spelled a n ps m ss k i), lines-writable a n ps m ss k i))))))))
 
-pub job-gets : (n : ℕ) (job : Job) → Writable job → (m : ℕ) × (jobLines n (spell job) ≡ got job m [])
-job-gets n job w = let (ss, i, same) = job-lines job w in subst (λ (j : Job). (m : ℕ) × (jobLines n (spell j) ≡ got j m [])) same (rw (← lines-spelled _ _ ss _ i) (lines-gets _ _ ss _ n i))
+-- ---- a job whose lines have their ranges
+module _ {job : Job} (w : Writable job) where
+  area-in : Ranged area (areaLine (job .deck .area) .numbers)
+  area-in = w .in-ranges _ (List·Memᴰ·head refl)
+
+  posts-in : Ranged posts (pos (length (job .deck .posts)) ∷ [])
+  posts-in = w .in-ranges _ (List·Memᴰ·tail (List·Memᴰ·head refl))
+
+  post-in : (p : Place) → List·Memᴰ p (job .deck .posts) → Ranged post (postLine p .numbers)
+  post-in p i = w .in-ranges (postLine p) (List·Memᴰ·tail (List·Memᴰ·tail (Memᴰ·append-left _ (Memᴰ·map postLine i))))
+
+  -- a line behind those of the posts
+  behind : {l : JobLine} → List·Memᴰ l (countLine stops (length (job .deck .stops)) ∷ (map stopLine (job .deck .stops) ++ (countLine rounds (job .rounds) ∷ []))) → T (inRanges (row (l .kind) .ranges) (l .numbers))
+  behind {l} i = w .in-ranges l (List·Memᴰ·tail (List·Memᴰ·tail (Memᴰ·append-right (map postLine (job .deck .posts)) i)))
+
+  stops-in : Ranged stops (pos (length (job .deck .stops)) ∷ [])
+  stops-in = behind (List·Memᴰ·head refl)
+
+  stop-in : (s : Stop) → List·Memᴰ s (job .deck .stops) → Ranged stop (stopLine s .numbers)
+  stop-in s i = behind (List·Memᴰ·tail (Memᴰ·append-left _ (Memᴰ·map stopLine i)))
+
+  rounds-in : Ranged rounds (pos (job .rounds) ∷ [])
+  rounds-in = behind (List·Memᴰ·tail (Memᴰ·append-right (map stopLine (job .deck .stops)) (List·Memᴰ·head refl)))
+
+  -- its values, by the ranges of document 01
+  pub ranged-area : RectInRange (job .deck .area)
+  ranged-area = area-range (job .deck .area) area-in
+
+  pub ranged-posts : (p : Place) → List·Memᴰ p (job .deck .posts) → PlaceInRange p
+  ranged-posts p i = post-range p (post-in p i)
+
+  pub ranged-stops : (s : Stop) → List·Memᴰ s (job .deck .stops) → StopInRange s
+  ranged-stops s i = stop-range s (stop-in s i)
+
+  pub most-posts : length (job .deck .posts) ≤ 64
+  most-posts = count-range 64 (length (job .deck .posts)) .0 posts-in
+
+  pub most-stops : length (job .deck .stops) ≤ 512
+  most-stops = count-range 512 (length (job .deck .stops)) .0 stops-in
+
+  pub most-rounds : job .rounds ≤ 1000
+  most-rounds = count-range 1000 (job .rounds) .0 rounds-in
+
+-- the numbers of its lines
+module _ (deck : Deck) where
+  abbrev postsNumbers : List (List ℤ)
+  postsNumbers = map (λ p. postLine p .numbers) (deck .posts)
+
+  abbrev stopsNumbers : List (List ℤ)
+  stopsNumbers = map (λ s. stopLine s .numbers) (deck .stops)
+
+  DeckLines : ℕ → Type 0
+  DeckLines n = LinesInRange (areaLine (deck .area) .numbers) (pos (length (deck .posts)) ∷ []) postsNumbers (pos (length (deck .stops)) ∷ []) stopsNumbers (pos n ∷ [])
+
+deck-lines : (job : Job) (n : ℕ) → Writable job → n ≤ 1000 → DeckLines (job .deck) n
+unfolding DeckLines
+deck-lines job n w h = record {
+  area-in = area-in w;
+  posts-in = posts-in w;
+  post-in = each-map (Ranged post) (λ p. postLine p .numbers) (job .deck .posts) (post-in w);
+  stops-in = stops-in w;
+  stop-in = each-map (Ranged stop) (λ s. stopLine s .numbers) (job .deck .stops) (stop-in w);
+  rounds-in = count-range 1000 n .1 h;
+  all-posts = length-map (job .deck .posts) (λ p. postLine p .numbers);
+  all-stops = length-map (job .deck .stops) (λ s. stopLine s .numbers);
+}
+
+job-back : (job : Job) → job .deck .axis ≡ plain → jobOf (areaLine (job .deck .area) .numbers) (postsNumbers (job .deck)) (stopsNumbers (job .deck)) (pos (job .rounds) ∷ []) ≡ job
+job-back job e =
+    let p = map-map postOf (λ p. postLine p .numbers) (job .deck .posts) ∙ map-id (job .deck .posts) in
+    let s = map-map stopOf (λ s. stopLine s .numbers) (job .deck .stops) ∙ map-id (job .deck .stops) in
+    λ i. record { deck = record { axis = sym e i; area = job .deck .area; posts = p i; stops = s i }; rounds = job .rounds }
+
+pub job-gets : (from : ℕ) (job : Job) → Writable job → (to : ℕ) × (jobLines from (spell job) ≡ got job to [])
+unfolding DeckLines
+job-gets from job w = let i = deck-lines job (job .rounds) w (most-rounds w) in subst (λ (j : Job). (to : ℕ) × (jobLines from (spell j) ≡ got j to [])) (job-back job (w .plain-axis)) (rw (lines-spelled _ _ _ _ _ _ i) (lines-gets _ _ _ _ _ _ i from))
 
 pub spell-length : (job : Job) → Writable job → length (spell job) ≤ 16384
-spell-length job w = let (ss, i, same) = job-lines job w in subst (λ (j : Job). length (spell j) ≤ 16384) same (rw (← lines-spelled _ _ ss _ i) (lines-length _ _ ss _ i))
+unfolding DeckLines
+spell-length job w = let i = deck-lines job (job .rounds) w (most-rounds w) in subst (λ (j : Job). length (spell j) ≤ 16384) (job-back job (w .plain-axis)) (rw (lines-spelled _ _ _ _ _ _ i) (lines-length _ _ _ _ _ _ i))
+
+-- another number of rounds
+pub other-rounds : (job : Job) (n : ℕ) → Writable job → n ≤ 1000 → Writable (record { deck = job .deck; rounds = n })
+unfolding DeckLines
+other-rounds job n w h = subst Writable (job-back (record { deck = job .deck; rounds = n }) (w .plain-axis)) (lines-writable _ _ _ _ _ _ (deck-lines job n w h))

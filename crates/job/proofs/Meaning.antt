@@ -23,7 +23,7 @@ use Rattle.job.specs.Spelling.{spell, Writable, Allowed}
 use Rattle.job.specs.Meaning.{AcceptedLaw, SpellingLaw, top, Spelled, Condition, RefusedLaw}
 use Rattle.refusal.specs.declared.Refusal.{Refusal}
 use Rattle.refusal.specs.declared.Refusal.the-variants.{TooLong, Malformed, OutOfRange, EmptyArea, NoPosts, NoStops, SmallSpace, ShortOutput}
-use Rattle.job.proofs.JobLaws.{job-got, job-gets, spell-length}
+use Rattle.job.proofs.JobLaws.{job-got, job-gets, ranged-area, ranged-posts, ranged-stops, most-posts, most-stops, spell-length}
 use Rattle.job.proofs.Faults.{Faults, allDue, job-faults, first-fault, malformed-faults, range-faults}
 
 -- what each result says of the bytes
@@ -102,4 +102,4 @@ allowed-in-range job a =
     let w = a .writable in
     let p = ap (λ (c : AxisCosts). c .a) (w .plain-axis) in
     let q = ap (λ (c : AxisCosts). c .b) (w .plain-axis) in
-    record { axis-some = omega arith; axis-most = omega arith; area = w .area; posts = w .posts; some-posts = a .some-posts; most-posts = w .most-posts; stops = w .stops; some-stops = a .some-stops; most-stops = w .most-stops }
+    record { axis-some = omega arith; axis-most = omega arith; area = ranged-area w; posts = ranged-posts w; some-posts = a .some-posts; most-posts = most-posts w; stops = ranged-stops w; some-stops = a .some-stops; most-stops = most-stops w }

@@ -2,24 +2,21 @@
 -- Assumes nothing.
 use mathlib.Core.Path.{_≡_, refl, sym, ap, subst, _∙_}
 use mathlib.Core.List.{List, [], _∷_, _++_, map}
-use mathlib.Core.Bool.{Bool}
-use Prim.Native.String.{String}
 use Prim.Native.Nat.{ℕ, suc, _+_, _-_, _≤_, _<_}
 use native.Mathlib.Nat.{add-zero, sub-zero}
 use native.Mathlib.Omega.{arith}
 use lib.ListN.{length, drop, set, replicate, length-append, drop-of-length-le}
-use lib.IntN.{ℤ, pos, natAbs}
+use lib.IntN.{ℤ, pos}
 use mir.Syntax.{w64}
 use mir.Val.{SFits}
-use Rattle.query.specs.Place.{Place}
-use Rattle.text.specs.Ascii.{bytes}
 use Rattle.text.proofs.KeyLaws.{drop-next}
-use Rattle.job_line.specs.Lines.{StopLine, countLine, postLine, stopLine, placeInRange, stopInRange, upTo}
-use Rattle.job_line.specs.OneLine.{fault, got, Reader, lineResult, line}
+use Rattle.job_line.specs.Lines.{Kind, posts, post, stops, stop, rounds, Row, row}
+use Rattle.job_line.specs.OneLine.{fault, got, Reader, line}
 use Rattle.job.specs.Reader.{andThen, repeated, end}
 use Rattle.numbers.specs.Padded.{padded}
 use Rattle.numbers.proofs.Padded.{padded-map}
-use Rattle.job_line.specs.Reading.{countForm, countIn, CountAt, PostAt, StopAt}
+use Rattle.job_line.specs.Reading.{countAnswer, postAnswer, stopAnswer, answerIn, LineAt}
+use Rattle.job.specs.Format.{countOf, postOf, stopOf}
 use Rattle.job.specs.Parts.{postLines, stopLines, allPosts, allStops, lastLine, PostsAt, StopsAt, LastAt}
 use Rattle.refusal.specs.declared.Refusal.{Refusal}
 use Rattle.refusal.specs.declared.Refusal.the-variants.{Malformed}
@@ -29,10 +26,12 @@ use Rattle.job.specs.declared.Posts.{Posts}
 use Rattle.job.specs.declared.Stops.{Stops}
 use Rattle.job_line.specs.declared.PostLine.{PostLine}
 use Rattle.job_line.specs.declared.PostLine.the-variants as P
-use Rattle.job_line.specs.declared.StopLine as Answer
+use Rattle.job_line.specs.declared.StopLine.{StopLine}
 use Rattle.job_line.specs.declared.StopLine.the-variants as S
 use Rattle.job.specs.declared.Next.the-variants.{At, Refused}
 use Rattle.numbers.proofs.WordTests.{back, back-is}
+use Rattle.job.proofs.RangeLaws.{count-range}
+use Rattle.job.proofs.ReaderLaws.{Ranged, line-got}
 
 -- ---- the reading that is left
 module _ {A : Type 0} (one : Reader A) where
@@ -77,44 +76,44 @@ module _ {A : Type 0} {one : Reader A} {s : List ℕ} {start count first : ℕ} 
 
 -- ---- posts
 pub record PostsFilled (s : List ℕ) (start count first : ℕ) (x y : List ℤ) (at i : ℕ) : Type 0 where
-  pub places : List Place
-  pub filling : Filling (line postLine placeInRange) s start count first at i places
-  pub x-is : x ≡ padded 64 (pos 0) (map (λ p. p .x) places)
-  pub y-is : y ≡ padded 64 (pos 0) (map (λ p. p .y) places)
+  pub lines : List (List ℤ)
+  pub filling : Filling (line (row post)) s start count first at i lines
+  pub x-is : x ≡ padded 64 (pos 0) (map (λ l. postOf l .x) lines)
+  pub y-is : y ≡ padded 64 (pos 0) (map (λ l. postOf l .y) lines)
 
 module _ {s : List ℕ} {start count first : ℕ} where
   pub posts-none : PostsFilled s start count first (replicate 64 (pos 0)) (replicate 64 (pos 0)) start 0
   unfolding padded
-  posts-none = record { places = []; filling = filling-none; x-is = refl; y-is = refl }
+  posts-none = record { lines = []; filling = filling-none; x-is = refl; y-is = refl }
 
   module _ {x y : List ℤ} {at i : ℕ} (f : PostsFilled s start count first x y at i) where
     pub posts-all : i ≤ count → count ≤ i → count ≤ 64 → PostsAt s first (postLines count first (drop start s)) (record { next = At at; count = i; x = x; y = y })
-    posts-all g h k = record { places = f .places; hold = record { count-is = f .filling .long; x-is = f .x-is; y-is = f .y-is }; few = omega arith; is = filling-all (f .filling) g h }
+    posts-all g h k = record { lines = f .lines; hold = record { count-is = f .filling .long; x-is = f .x-is; y-is = f .y-is }; few = omega arith; is = filling-all (f .filling) g h }
 
-    module _ {r : PostLine} (post : PostAt s at (first + i) r) (h : i < count) (k : count ≤ 64) where
+    module _ {r : PostLine} (post-at : LineAt (row post) s at (first + i) (postAnswer r)) (h : i < count) (k : count ≤ 64) where
       pub posts-refused : {why : Refusal} → r ≡ P.Refused why → PostsAt s first (postLines count first (drop start s)) (record { next = Refused why; count = i; x = x; y = y })
-      posts-refused e = record { places = f .places; hold = record { count-is = f .filling .long; x-is = f .x-is; y-is = f .y-is }; few = omega arith; is = filling-fault (f .filling) h (subst (PostAt s at (first + i)) e post .is) }
+      posts-refused e = record { lines = f .lines; hold = record { count-is = f .filling .long; x-is = f .x-is; y-is = f .y-is }; few = omega arith; is = filling-fault (f .filling) h (subst (λ (r : PostLine). LineAt (row post) s at (first + i) (postAnswer r)) e post-at .is) }
 
       pub posts-more : {px py : ℤ} {next : ℕ} → r ≡ P.Read px py next → SFits w64 px → SFits w64 py → PostsFilled s start count first (set x i (back px)) (set y i (back py)) next (i + 1)
       posts-more {px} {py} e fx fy =
           rw (back-is fx, back-is fy)
           (record {
-            places = f .places ++ (here ∷ []);
-            filling = filling-more (f .filling) h (subst (PostAt s at (first + i)) e post .is);
-            x-is = padded-map 64 (pos 0) (λ p. p .x) (f .places) here (f .filling .long) (omega arith) (f .x-is);
-            y-is = padded-map 64 (pos 0) (λ p. p .y) (f .places) here (f .filling .long) (omega arith) (f .y-is);
+            lines = f .lines ++ (here ∷ []);
+            filling = filling-more (f .filling) h (subst (λ (r : PostLine). LineAt (row post) s at (first + i) (postAnswer r)) e post-at .is);
+            x-is = padded-map 64 (pos 0) (λ l. postOf l .x) (f .lines) here (f .filling .long) (omega arith) (f .x-is);
+            y-is = padded-map 64 (pos 0) (λ l. postOf l .y) (f .lines) here (f .filling .long) (omega arith) (f .y-is);
           })
         where
-          here : Place
-          here = record { x = px; y = py }
+          here : List ℤ
+          here = px ∷ py ∷ []
 
 -- ---- stops
 pub record StopsFilled (s : List ℕ) (start count first : ℕ) (x y : List ℤ) (visits : List ℕ) (at i : ℕ) : Type 0 where
-  pub lines : List StopLine
-  pub filling : Filling (line stopLine stopInRange) s start count first at i lines
-  pub x-is : x ≡ padded 512 (pos 0) (map (λ l. l .at .x) lines)
-  pub y-is : y ≡ padded 512 (pos 0) (map (λ l. l .at .y) lines)
-  pub visits-is : visits ≡ padded 512 0 (map (λ l. natAbs (l .visits)) lines)
+  pub lines : List (List ℤ)
+  pub filling : Filling (line (row stop)) s start count first at i lines
+  pub x-is : x ≡ padded 512 (pos 0) (map (λ l. stopOf l .at .x) lines)
+  pub y-is : y ≡ padded 512 (pos 0) (map (λ l. stopOf l .at .y) lines)
+  pub visits-is : visits ≡ padded 512 0 (map (λ l. stopOf l .visits) lines)
 
 module _ {s : List ℕ} {start count first : ℕ} where
   pub stops-none : StopsFilled s start count first (replicate 512 (pos 0)) (replicate 512 (pos 0)) (replicate 512 0) start 0
@@ -125,93 +124,93 @@ module _ {s : List ℕ} {start count first : ℕ} where
     pub stops-all : i ≤ count → count ≤ i → count ≤ 512 → StopsAt s first (stopLines count first (drop start s)) (record { next = At at; count = i; x = x; y = y; visits = visits })
     stops-all g h k = record { lines = f .lines; hold = record { count-is = f .filling .long; x-is = f .x-is; y-is = f .y-is; visits-is = f .visits-is }; few = omega arith; is = filling-all (f .filling) g h }
 
-    module _ {r : Answer.StopLine} (stop : StopAt s at (first + i) r) (h : i < count) (k : count ≤ 512) where
+    module _ {r : StopLine} (stop-at : LineAt (row stop) s at (first + i) (stopAnswer r)) (h : i < count) (k : count ≤ 512) where
       pub stops-refused : {why : Refusal} → r ≡ S.Refused why → StopsAt s first (stopLines count first (drop start s)) (record { next = Refused why; count = i; x = x; y = y; visits = visits })
-      stops-refused e = record { lines = f .lines; hold = record { count-is = f .filling .long; x-is = f .x-is; y-is = f .y-is; visits-is = f .visits-is }; few = omega arith; is = filling-fault (f .filling) h (subst (StopAt s at (first + i)) e stop .is) }
+      stops-refused e = record { lines = f .lines; hold = record { count-is = f .filling .long; x-is = f .x-is; y-is = f .y-is; visits-is = f .visits-is }; few = omega arith; is = filling-fault (f .filling) h (subst (λ (r : StopLine). LineAt (row stop) s at (first + i) (stopAnswer r)) e stop-at .is) }
 
       pub stops-more : {sx sy : ℤ} {v next : ℕ} → r ≡ S.Read sx sy v next → SFits w64 sx → SFits w64 sy → StopsFilled s start count first (set x i (back sx)) (set y i (back sy)) (set visits i v) next (i + 1)
       stops-more {sx} {sy} {v} e fx fy =
           rw (back-is fx, back-is fy)
           (record {
             lines = f .lines ++ (here ∷ []);
-            filling = filling-more (f .filling) h (subst (StopAt s at (first + i)) e stop .is);
-            x-is = padded-map 512 (pos 0) (λ l. l .at .x) (f .lines) here (f .filling .long) (omega arith) (f .x-is);
-            y-is = padded-map 512 (pos 0) (λ l. l .at .y) (f .lines) here (f .filling .long) (omega arith) (f .y-is);
-            visits-is = padded-map 512 0 (λ l. natAbs (l .visits)) (f .lines) here (f .filling .long) (omega arith) (f .visits-is);
+            filling = filling-more (f .filling) h (subst (λ (r : StopLine). LineAt (row stop) s at (first + i) (stopAnswer r)) e stop-at .is);
+            x-is = padded-map 512 (pos 0) (λ l. stopOf l .at .x) (f .lines) here (f .filling .long) (omega arith) (f .x-is);
+            y-is = padded-map 512 (pos 0) (λ l. stopOf l .at .y) (f .lines) here (f .filling .long) (omega arith) (f .y-is);
+            visits-is = padded-map 512 0 (λ l. stopOf l .visits) (f .lines) here (f .filling .long) (omega arith) (f .visits-is);
           })
         where
-          here : StopLine
-          here = record { at = record { x = sx; y = sy }; visits = pos v }
+          here : List ℤ
+          here = sx ∷ sy ∷ pos v ∷ []
 
 -- ---- a line of a count, and what follows it
-countLine-is : (name : String) (bs : List ℕ) → countForm (bytes name) bs ≡ countLine name bs
-unfolding countForm countLine
-countLine-is name bs = refl
+module _ {s : List ℕ} {at n : ℕ} {row : Row} {r : CountLine} (count-at : LineAt row s at n (countAnswer r)) where
+  read-is : {r′ : CountLine} → r ≡ r′ → answerIn s n (countAnswer r′) ≡ line row n (drop at s)
+  read-is e = subst (λ (r : CountLine). LineAt row s at n (countAnswer r)) e count-at .is
 
-countLine-line : (name : String) (inRange : ℤ → Bool) (n : ℕ) (bs : List ℕ) → line (countForm (bytes name)) inRange n bs ≡ line (countLine name) inRange n bs
-unfolding line
-countLine-line name inRange n bs = ap (lineResult inRange n) (countLine-is name bs)
+  module _ {A : Type 0} (rest : List ℤ → Reader A) where
+    counted : {count next : ℕ} → r ≡ C.Read count next → rest (pos count ∷ []) (n + 1) (drop next s) ≡ andThen (line row n (drop at s)) rest
+    counted e = ap (λ R. andThen R rest) (read-is e)
 
-module _ {A : Type 0} (name : String) (rest : ℤ → Reader A) {s : List ℕ} {at most n : ℕ} {r : CountLine} (count-at : CountAt s at (bytes name) most n r) where
-  read-is : {r′ : CountLine} → r ≡ r′ → countIn s n r′ ≡ line (countLine name) (upTo most) n (drop at s)
-  read-is e = subst (CountAt s at (bytes name) most n) e count-at .is ∙ countLine-line name (upTo most) n (drop at s)
+    not-counted : {why : Refusal} → r ≡ C.Refused why → fault why ≡ andThen (line row n (drop at s)) rest
+    not-counted e = ap (λ R. andThen R rest) (read-is e)
 
-  counted : {count next : ℕ} → r ≡ C.Read count next → rest (pos count) (n + 1) (drop next s) ≡ andThen (line (countLine name) (upTo most) n (drop at s)) rest
-  counted e = ap (λ R. andThen R rest) (read-is e)
+-- a count that was read is in its range
+counted-in : (k : Kind) {s : List ℕ} {at n : ℕ} {r : CountLine} → LineAt (row k) s at n (countAnswer r) → {count next : ℕ} → r ≡ C.Read count next → Ranged k (pos count ∷ [])
+counted-in k {s} {at} {n} count-at {count} {next} e = line-got k n (drop at s) (pos count ∷ []) (n + 1) (drop next s) (sym (read-is count-at e)) .1
 
-  not-counted : {why : Refusal} → r ≡ C.Refused why → fault why ≡ andThen (line (countLine name) (upTo most) n (drop at s)) rest
-  not-counted e = ap (λ R. andThen R rest) (read-is e)
-
-  pub counted-most : {count next : ℕ} → r ≡ C.Read count next → count ≤ most
-  counted-most e = subst (CountAt s at (bytes name) most n) e count-at .within .0
-
-posts-is : (n : ℕ) (bs : List ℕ) → andThen (line (countLine "posts=") (upTo 64) n bs) (λ c. postLines (natAbs c)) ≡ allPosts n bs
+posts-is : (n : ℕ) (bs : List ℕ) → andThen (line (row posts) n bs) (λ c. postLines (countOf c)) ≡ allPosts n bs
 unfolding allPosts
 posts-is n bs = refl
 
-stops-is : (n : ℕ) (bs : List ℕ) → andThen (line (countLine "stops=") (upTo 512) n bs) (λ c. stopLines (natAbs c)) ≡ allStops n bs
+stops-is : (n : ℕ) (bs : List ℕ) → andThen (line (row stops) n bs) (λ c. stopLines (countOf c)) ≡ allStops n bs
 unfolding allStops
 stops-is n bs = refl
 
 module _ {s : List ℕ} {at n : ℕ} {r : CountLine} where
-  pub all-posts : CountAt s at (bytes "posts=") 64 n r → {count next : ℕ} → r ≡ C.Read count next → {p : Posts} → PostsAt s (n + 1) (postLines count (n + 1) (drop next s)) p → PostsAt s (n + 1) (allPosts n (drop at s)) p
-  all-posts count-at e {p} f = subst (λ R. PostsAt s (n + 1) R p) (counted "posts=" (λ c. postLines (natAbs c)) count-at e ∙ posts-is n (drop at s)) f
+  pub posts-most : LineAt (row posts) s at n (countAnswer r) → {count next : ℕ} → r ≡ C.Read count next → count ≤ 64
+  posts-most count-at {count} e = count-range 64 count .0 (counted-in posts count-at e)
 
-  pub all-posts-refused : CountAt s at (bytes "posts=") 64 n r → {why : Refusal} → r ≡ C.Refused why → PostsAt s (n + 1) (allPosts n (drop at s)) (record { next = Refused why; count = 0; x = replicate 64 (pos 0); y = replicate 64 (pos 0) })
+  pub stops-most : LineAt (row stops) s at n (countAnswer r) → {count next : ℕ} → r ≡ C.Read count next → count ≤ 512
+  stops-most count-at {count} e = count-range 512 count .0 (counted-in stops count-at e)
+
+  pub all-posts : LineAt (row posts) s at n (countAnswer r) → {count next : ℕ} → r ≡ C.Read count next → {p : Posts} → PostsAt s (n + 1) (postLines count (n + 1) (drop next s)) p → PostsAt s (n + 1) (allPosts n (drop at s)) p
+  all-posts count-at e {p} f = subst (λ R. PostsAt s (n + 1) R p) (counted count-at (λ c. postLines (countOf c)) e ∙ posts-is n (drop at s)) f
+
+  pub all-posts-refused : LineAt (row posts) s at n (countAnswer r) → {why : Refusal} → r ≡ C.Refused why → PostsAt s (n + 1) (allPosts n (drop at s)) (record { next = Refused why; count = 0; x = replicate 64 (pos 0); y = replicate 64 (pos 0) })
   unfolding padded
-  all-posts-refused count-at e = record { places = []; hold = record { count-is = refl; x-is = refl; y-is = refl }; few = omega arith; is = not-counted "posts=" (λ c. postLines (natAbs c)) count-at e ∙ posts-is n (drop at s) }
+  all-posts-refused count-at e = record { lines = []; hold = record { count-is = refl; x-is = refl; y-is = refl }; few = omega arith; is = not-counted count-at (λ c. postLines (countOf c)) e ∙ posts-is n (drop at s) }
 
-  pub all-stops : CountAt s at (bytes "stops=") 512 n r → {count next : ℕ} → r ≡ C.Read count next → {p : Stops} → StopsAt s (n + 1) (stopLines count (n + 1) (drop next s)) p → StopsAt s (n + 1) (allStops n (drop at s)) p
-  all-stops count-at e {p} f = subst (λ R. StopsAt s (n + 1) R p) (counted "stops=" (λ c. stopLines (natAbs c)) count-at e ∙ stops-is n (drop at s)) f
+  pub all-stops : LineAt (row stops) s at n (countAnswer r) → {count next : ℕ} → r ≡ C.Read count next → {p : Stops} → StopsAt s (n + 1) (stopLines count (n + 1) (drop next s)) p → StopsAt s (n + 1) (allStops n (drop at s)) p
+  all-stops count-at e {p} f = subst (λ R. StopsAt s (n + 1) R p) (counted count-at (λ c. stopLines (countOf c)) e ∙ stops-is n (drop at s)) f
 
-  pub all-stops-refused : CountAt s at (bytes "stops=") 512 n r → {why : Refusal} → r ≡ C.Refused why → StopsAt s (n + 1) (allStops n (drop at s)) (record { next = Refused why; count = 0; x = replicate 512 (pos 0); y = replicate 512 (pos 0); visits = replicate 512 0 })
+  pub all-stops-refused : LineAt (row stops) s at n (countAnswer r) → {why : Refusal} → r ≡ C.Refused why → StopsAt s (n + 1) (allStops n (drop at s)) (record { next = Refused why; count = 0; x = replicate 512 (pos 0); y = replicate 512 (pos 0); visits = replicate 512 0 })
   unfolding padded
-  all-stops-refused count-at e = record { lines = []; hold = record { count-is = refl; x-is = refl; y-is = refl; visits-is = refl }; few = omega arith; is = not-counted "stops=" (λ c. stopLines (natAbs c)) count-at e ∙ stops-is n (drop at s) }
+  all-stops-refused count-at e = record { lines = []; hold = record { count-is = refl; x-is = refl; y-is = refl; visits-is = refl }; few = omega arith; is = not-counted count-at (λ c. stopLines (countOf c)) e ∙ stops-is n (drop at s) }
 
 -- ---- the last line
 -- the end of the text behind a number
-ended : ℤ → Reader ℤ
+ended : List ℤ → Reader (List ℤ)
 ended z n bs = andThen (end n bs) (λ u n bs. got z n bs)
 
-last-is : (n : ℕ) (bs : List ℕ) → andThen (line (countLine "rounds=") (upTo 1000) n bs) ended ≡ lastLine n bs
+last-is : (n : ℕ) (bs : List ℕ) → andThen (line (row rounds) n bs) ended ≡ lastLine n bs
 unfolding lastLine ended
 last-is n bs = refl
 
-ended-more : (z : ℤ) (n next : ℕ) (s : List ℕ) → next < length s → fault (Malformed n) ≡ ended z n (drop next s)
+ended-more : (z : List ℤ) (n next : ℕ) (s : List ℕ) → next < length s → fault (Malformed n) ≡ ended z n (drop next s)
 unfolding ended end
 ended-more z n next s h = rw (drop-next s next h)
 
-ended-here : (z : ℤ) (n next : ℕ) (s : List ℕ) → length s ≤ next → got z n (drop next s) ≡ ended z n (drop next s)
+ended-here : (z : List ℤ) (n next : ℕ) (s : List ℕ) → length s ≤ next → got z n (drop next s) ≡ ended z n (drop next s)
 unfolding ended end
 ended-here z n next s h = rw (drop-of-length-le s h)
 
-module _ {s : List ℕ} {at n : ℕ} {r : CountLine} (count-at : CountAt s at (bytes "rounds=") 1000 n r) where
+module _ {s : List ℕ} {at n : ℕ} {r : CountLine} (count-at : LineAt (row rounds) s at n (countAnswer r)) where
   pub last-refused : {why : Refusal} → r ≡ C.Refused why → LastAt s at n (C.Refused why)
-  last-refused e = record { is = not-counted "rounds=" ended count-at e ∙ last-is n (drop at s); within = tt }
+  last-refused e = record { is = not-counted count-at ended e ∙ last-is n (drop at s); within = tt }
 
   module _ {count next : ℕ} (e : r ≡ C.Read count next) where
     pub last-more : next < length s → LastAt s at n (C.Refused (Malformed (n + 1)))
-    last-more h = record { is = ended-more (pos count) (n + 1) next s h ∙ counted "rounds=" ended count-at e ∙ last-is n (drop at s); within = tt }
+    last-more h = record { is = ended-more (pos count ∷ []) (n + 1) next s h ∙ counted count-at ended e ∙ last-is n (drop at s); within = tt }
 
     pub last-read : length s ≤ next → LastAt s at n (C.Read count next)
-    last-read h = record { is = ended-here (pos count) (n + 1) next s h ∙ counted "rounds=" ended count-at e ∙ last-is n (drop at s); within = subst (CountAt s at (bytes "rounds=") 1000 n) e count-at .within }
+    last-read h = record { is = ended-here (pos count ∷ []) (n + 1) next s h ∙ counted count-at ended e ∙ last-is n (drop at s); within = subst (λ (r : CountLine). LineAt (row rounds) s at n (countAnswer r)) e count-at .within }

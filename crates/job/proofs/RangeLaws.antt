@@ -1,72 +1,148 @@
--- The tests of a line's ranges: they hold of the values that specs/Range.antt of `query` allows, and of no others.
+-- The ranges of a line: what it says of its numbers that they are in them.
 -- Assumes nothing.
-use mathlib.Core.Path.{_≡_, refl}
-use mathlib.Core.Bool.{_&&_}
+use mathlib.Core.Path.{_≡_, refl, sym, ap, subst}
+use mathlib.Core.Bool.{true}
 use mathlib.Core.Logic.{_↔_}
-use Prim.Native.Nat.{ℕ, _≤_}
+use mathlib.Core.List.{List, [], _∷_}
+use Prim.Native.Nat.{ℕ, suc, _≤_, _<_, _^_}
 use native.Mathlib.Omega.{arith}
 use lib.Dec.{T}
 use lib.IntN.{ℤ, pos, negsuc, natAbs}
-use Rattle.numbers.specs.Integer.{between}
-use Rattle.numbers.proofs.Truth.{and-iff}
+use lib.ListN.{length}
+use Rattle.numbers.proofs.Truth.{and-left, and-right, and-intro}
 use Rattle.numbers.proofs.Integer.{order, abs-range}
 use Rattle.numbers.proofs.Ranges.{between-range, range-between}
 use Rattle.query.specs.Place.{Place, Rect}
+use Rattle.query.specs.Deck.{Stop}
 use Rattle.query.specs.Range.{PlaceInRange, RectInRange, StopInRange}
-use Rattle.job_line.specs.Lines.{StopLine, coordinateInRange, placeInRange, areaInRange, stopInRange, upTo}
-use Rattle.job.specs.Format.{stopOf}
-use Rattle.job.specs.Meaning.{Kind, area, posts, post, stops, stop, rounds, Held, rangeOf}
-use Rattle.job.proofs.FormLaws.{HeldWithin, within-more, endsOf, numbersOf}
+use Rattle.job_line.specs.Lines.{Kind, area, posts, post, stops, stop, rounds, Range, coordinates, upTo, row, inRange, inRanges}
+use Rattle.job.specs.Format.{areaOf, countOf, postOf, stopOf}
+use Rattle.job.specs.Spelling.{areaLine, postLine, stopLine}
+use Rattle.job.proofs.FormLaws.{Within, within-more, Fitting}
 
-coordinate-range : (v : ℤ) → T (coordinateInRange v) ↔ (natAbs v ≤ 20000)
-unfolding coordinateInRange
+-- ---- each number in its range
+abbrev EachIn : List Range → List ℤ → Type 0
+EachIn [] [] = Unit
+EachIn [] (n ∷ ns) = ⊥
+EachIn (range ∷ ranges) [] = ⊥
+EachIn (range ∷ ranges) (n ∷ ns) = T (inRange range n) × EachIn ranges ns
+
+each-in : (ranges : List Range) (ns : List ℤ) → T (inRanges ranges ns) → EachIn ranges ns
+unfolding inRanges
+each-in [] [] t = tt
+each-in [] (n ∷ ns) t = t
+each-in (range ∷ ranges) [] t = t
+each-in (range ∷ ranges) (n ∷ ns) t = (and-left (inRange range n) (inRanges ranges ns) t, each-in ranges ns (and-right (inRange range n) (inRanges ranges ns) t))
+
+-- as many numbers as ranges
+as-many : (ranges : List Range) (ns : List ℤ) → EachIn ranges ns → length ns ≡ length ranges
+as-many [] [] e = refl
+as-many [] (n ∷ ns) e = absurd e
+as-many (range ∷ ranges) [] e = absurd e
+as-many (range ∷ ranges) (n ∷ ns) e = ap suc (as-many ranges ns (e .1))
+
+-- ---- a number in its range has at most five digits
+abbrev Narrow : List Range → Type 0
+Narrow [] = Unit
+Narrow (range ∷ ranges) = ((natAbs (range .low) < 10 ^ 5) × (natAbs (range .high) < 10 ^ 5)) × Narrow ranges
+
+narrow : (k : Kind) → Narrow (row k .ranges)
+narrow area = omega arith
+narrow posts = omega arith
+narrow post = omega arith
+narrow stops = omega arith
+narrow stop = omega arith
+narrow rounds = omega arith
+
+range-narrow : (range : Range) (n : ℤ) → (natAbs (range .low) < 10 ^ 5) × (natAbs (range .high) < 10 ^ 5) → T (inRange range n) → natAbs n < 10 ^ 5
+unfolding inRange
+range-narrow range n h t = omega (arith, abs-range n 99999 .1 (omega (arith, order, between-range (range .low) (range .high) n t, abs-range (range .low) 99999 .0 (omega arith), abs-range (range .high) 99999 .0 (omega arith))))
+
+ranges-narrow : (ranges : List Range) (ns : List ℤ) → Narrow ranges → EachIn ranges ns → Within 5 ns
+ranges-narrow [] [] h e = tt
+ranges-narrow [] (n ∷ ns) h e = absurd e
+ranges-narrow (range ∷ ranges) [] h e = absurd e
+ranges-narrow (range ∷ ranges) (n ∷ ns) h e = (range-narrow range n (h .0) (e .0), ranges-narrow ranges ns (h .1) (e .1))
+
+module _ (k : Kind) (ns : List ℤ) (t : T (inRanges (row k .ranges) ns)) where
+  pub range-within : Within 5 ns
+  range-within = ranges-narrow (row k .ranges) ns (narrow k) (each-in (row k .ranges) ns t)
+
+  pub range-fits : Fitting (row k .ranges) ns
+  range-fits = record { as-many = as-many (row k .ranges) ns (each-in (row k .ranges) ns t); small = within-more 5 9 (omega arith) ns range-within }
+
+-- ---- what a range says of a number
+pub coordinate-range : (v : ℤ) → T (inRange coordinates v) ↔ (natAbs v ≤ 20000)
+unfolding inRange
 coordinate-range v = (λ t. abs-range v 20000 .1 (omega (arith, order, between-range (negsuc 19999) (pos 20000) v t)), λ h. range-between (negsuc 19999) (pos 20000) v (omega (arith, order, abs-range v 20000 .0 h)) (omega (arith, order, abs-range v 20000 .0 h)))
 
 -- a number that is not negative
-pub count-range : (least most : ℕ) (z : ℤ) → T (between (pos least) (pos most) z) ↔ ((z ≡ pos (natAbs z)) × (least ≤ natAbs z) × (natAbs z ≤ most))
-unfolding between
-count-range least most (pos n) = (λ t. let (low, high) = between-range (pos least) (pos most) (pos n) t in (refl, omega (arith, order), omega (arith, order)), λ h. range-between (pos least) (pos most) (pos n) (omega (arith, order)) (omega (arith, order)))
-count-range least most (negsuc n) = (λ t. absurd t, λ h. omega (arith, order))
+natural-range : (least most : ℕ) (z : ℤ) → T (inRange (record { low = pos least; high = pos most }) z) → (z ≡ pos (natAbs z)) × (least ≤ natAbs z) × (natAbs z ≤ most)
+unfolding inRange
+natural-range least most (pos n) t = let (low, high) = between-range (pos least) (pos most) (pos n) t in (refl, omega (arith, order), omega (arith, order))
+natural-range least most (negsuc n) t = let (low, high) = between-range (pos least) (pos most) (negsuc n) t in absurd (omega (arith, order))
 
-pub place-range : (p : Place) → T (placeInRange p) ↔ PlaceInRange p
-unfolding placeInRange
-place-range p =
-    let both = and-iff (coordinateInRange (p .x)) (coordinateInRange (p .y)) (coordinate-range (p .x)) (coordinate-range (p .y)) in
-    (λ t. record { x-range = both .0 t .0; y-range = both .0 t .1 }, λ h. both .1 (h .x-range, h .y-range))
+-- ---- what the ranges say of an area, a count, a post and a stop
+pub area-range : (r : Rect) → T (inRanges (row area .ranges) (areaLine r .numbers)) → RectInRange r
+area-range r t =
+    let e = each-in (row area .ranges) (areaLine r .numbers) t in
+    record {
+      low-corner = record { x-range = coordinate-range (r .xlo) .0 (e .0); y-range = coordinate-range (r .ylo) .0 (e .1 .0) };
+      high-corner = record { x-range = coordinate-range (r .xhi) .0 (e .1 .1 .0); y-range = coordinate-range (r .yhi) .0 (e .1 .1 .1 .0) };
+    }
 
-pub area-range : (r : Rect) → T (areaInRange r) ↔ RectInRange r
-unfolding areaInRange
-area-range r =
-    let low = and-iff (coordinateInRange (r .xlo)) (coordinateInRange (r .ylo)) (coordinate-range (r .xlo)) (coordinate-range (r .ylo)) in
-    let three = and-iff (coordinateInRange (r .xlo) && coordinateInRange (r .ylo)) (coordinateInRange (r .xhi)) low (coordinate-range (r .xhi)) in
-    let four = and-iff (coordinateInRange (r .xlo) && coordinateInRange (r .ylo) && coordinateInRange (r .xhi)) (coordinateInRange (r .yhi)) three (coordinate-range (r .yhi)) in (
-      λ t. let ((l, x), y) = four .0 t in record { low-corner = record { x-range = l .0; y-range = l .1 }; high-corner = record { x-range = x; y-range = y } },
-      λ h. four .1 (((h .low-corner .x-range, h .low-corner .y-range), h .high-corner .x-range), h .high-corner .y-range),
-    )
+pub count-range : (most n : ℕ) → T (inRanges (upTo most ∷ []) (pos n ∷ [])) ↔ (n ≤ most)
+unfolding inRanges
+count-range most n = (
+  λ t. natural-range 0 most (pos n) (each-in (upTo most ∷ []) (pos n ∷ []) t .0) .2,
+  λ h. and-intro (inRange (upTo most) (pos n)) true (range-between (pos 0) (pos most) (pos n) (omega (arith, order)) (omega (arith, order))) tt,
+)
 
-pub stop-range : (s : StopLine) → T (stopInRange s) ↔ ((s .visits ≡ pos (natAbs (s .visits))) × StopInRange (stopOf s))
-unfolding stopInRange
-stop-range s =
-    let both = and-iff (placeInRange (s .at)) (between (pos 1) (pos 65535) (s .visits)) (place-range (s .at)) (count-range 1 65535 (s .visits)) in (
-      λ t. let (place, (same, low, high)) = both .0 t in (same, record { place = place; some-visits = low; most-visits = high }),
-      λ h. both .1 (h .1 .place, (h .0, h .1 .some-visits, h .1 .most-visits)),
-    )
+pub post-range : (p : Place) → T (inRanges (row post .ranges) (postLine p .numbers)) → PlaceInRange p
+post-range p t =
+    let e = each-in (row post .ranges) (postLine p .numbers) t in
+    record { x-range = coordinate-range (p .x) .0 (e .0); y-range = coordinate-range (p .y) .0 (e .1 .0) }
 
-pub up-to : (most : ℕ) (z : ℤ) → T (upTo most z) ↔ ((z ≡ pos (natAbs z)) × (0 ≤ natAbs z) × (natAbs z ≤ most))
-unfolding upTo
-up-to most z = count-range 0 most z
+pub stop-range : (s : Stop) → T (inRanges (row stop .ranges) (stopLine s .numbers)) → StopInRange s
+stop-range s t =
+    let e = each-in (row stop .ranges) (stopLine s .numbers) t in
+    let v = natural-range 1 65535 (pos (s .visits)) (e .1 .1 .0) in
+    record { place = record { x-range = coordinate-range (s .at .x) .0 (e .0); y-range = coordinate-range (s .at .y) .0 (e .1 .0) }; some-visits = v .1; most-visits = v .2 }
 
-pub count-up-to : {n most : ℕ} → n ≤ most → T (upTo most (pos n))
-count-up-to {n} {most} h = up-to most (pos n) .1 (refl, omega arith, h)
+-- ---- numbers in their ranges are those of the line of what they say
+pub area-back : (ns : List ℤ) → T (inRanges (row area .ranges) ns) → areaLine (areaOf ns) .numbers ≡ ns
+area-back ns t = go ns (each-in (row area .ranges) ns t)
+  where
+    go : (ns : List ℤ) → EachIn (row area .ranges) ns → areaLine (areaOf ns) .numbers ≡ ns
+    go (a ∷ []) e = absurd (e .1)
+    go (a ∷ b ∷ []) e = absurd (e .1 .1)
+    go (a ∷ b ∷ c ∷ []) e = absurd (e .1 .1 .1)
+    go (a ∷ b ∷ c ∷ d ∷ []) e = refl
+    go (a ∷ b ∷ c ∷ d ∷ other ∷ others) e = absurd (e .1 .1 .1 .1)
 
--- a number in its range has at most five digits
-pub range-within : (k : Kind) (v : Held k) → T (rangeOf k v) → HeldWithin 5 k v
-range-within area r t = let h = area-range r .0 t in omega arith
-range-within posts z t = omega (arith, up-to 64 z .0 t)
-range-within post p t = let h = place-range p .0 t in omega arith
-range-within stops z t = omega (arith, up-to 512 z .0 t)
-range-within stop s t = let h = stop-range s .0 t .1 in omega arith
-range-within rounds z t = omega (arith, up-to 1000 z .0 t)
+pub count-back : (most : ℕ) (ns : List ℤ) → T (inRanges (upTo most ∷ []) ns) → pos (countOf ns) ∷ [] ≡ ns
+count-back most ns t = go ns (each-in (upTo most ∷ []) ns t)
+  where
+    go : (ns : List ℤ) → EachIn (upTo most ∷ []) ns → pos (countOf ns) ∷ [] ≡ ns
+    go (n ∷ other ∷ others) e = absurd (e .1)
+    go (n ∷ []) e = ap (λ (z : ℤ). z ∷ []) (sym (natural-range 0 most n (e .0) .0))
 
-pub range-small : (k : Kind) (v : Held k) → T (rangeOf k v) → HeldWithin 9 k v
-range-small k v t = within-more 5 9 (omega arith) (endsOf k) (numbersOf k v) (range-within k v t)
+pub count-limit : (most : ℕ) (ns : List ℤ) → T (inRanges (upTo most ∷ []) ns) → countOf ns ≤ most
+count-limit most ns t = count-range most (countOf ns) .0 (subst (λ (l : List ℤ). T (inRanges (upTo most ∷ []) l)) (sym (count-back most ns t)) t)
+
+pub post-back : (ns : List ℤ) → T (inRanges (row post .ranges) ns) → postLine (postOf ns) .numbers ≡ ns
+post-back ns t = go ns (each-in (row post .ranges) ns t)
+  where
+    go : (ns : List ℤ) → EachIn (row post .ranges) ns → postLine (postOf ns) .numbers ≡ ns
+    go (x ∷ []) e = absurd (e .1)
+    go (x ∷ y ∷ []) e = refl
+    go (x ∷ y ∷ other ∷ others) e = absurd (e .1 .1)
+
+pub stop-back : (ns : List ℤ) → T (inRanges (row stop .ranges) ns) → stopLine (stopOf ns) .numbers ≡ ns
+stop-back ns t = go ns (each-in (row stop .ranges) ns t)
+  where
+    go : (ns : List ℤ) → EachIn (row stop .ranges) ns → stopLine (stopOf ns) .numbers ≡ ns
+    go (x ∷ []) e = absurd (e .1)
+    go (x ∷ y ∷ []) e = absurd (e .1 .1)
+    go (x ∷ y ∷ v ∷ other ∷ others) e = absurd (e .1 .1 .1)
+    go (x ∷ y ∷ v ∷ []) e = ap (λ (z : ℤ). x ∷ y ∷ z ∷ []) (sym (natural-range 1 65535 v (e .1 .1 .0) .0))

@@ -15,6 +15,7 @@ use Rattle.job.specs.declared.Job as Held
 use Rattle.refusal.specs.declared.Refusal.{Refusal}
 use Rattle.job.specs.declared.Outcome.{Outcome}
 use Rattle.job.specs.declared.Outcome.the-variants.{Accepted, Refused}
+use Rattle.job.proofs.JobLaws.{most-posts, most-stops}
 use Rattle.job.proofs.Meaning.{accepted-law, allowed-in-range}
 use Rattle.deck.specs.DeckOf.{deckOf, deckRecord}
 use Rattle.deck.proofs.DeckLaws.{held-deck}
@@ -81,4 +82,4 @@ module _ {bytes : List ℕ} (s : Spelt bytes) where
     -- what `sites` asks
     pub sites-ask : InRange (deckOf (j .deck)) × (j .deck .posts ≤ 64) × (j .deck .stops ≤ 512)
     unfolding deckRecord
-    sites-ask = (subst InRange (sym read-deckOf) spelt-range, rw (read-deck bytes j e s) (s .allowed .writable .most-posts), rw (read-deck bytes j e s) (s .allowed .writable .most-stops))
+    sites-ask = (subst InRange (sym read-deckOf) spelt-range, rw (read-deck bytes j e s) (most-posts (s .allowed .writable)), rw (read-deck bytes j e s) (most-stops (s .allowed .writable)))

@@ -6,21 +6,20 @@ use mathlib.Core.List.{List, [], _∷_, map, map-map}
 use Prim.Native.Nat.{ℕ, _+_, _≤_, _<_}
 use native.Mathlib.Omega.{arith}
 use borrow.Author.Tests.{lt-ltb, le-ltb}
-use lib.IntN.{ℤ, pos, natAbs}
+use lib.IntN.{ℤ, pos}
 use lib.ListN.{length, drop, length-map}
 use lib.Signed.{ltZ}
 use mir.Syntax.{w64}
 use mir.Val.{SFits}
 use Rattle.numbers.specs.Lists.{nonEmpty}
-use Rattle.query.specs.Place.{Place, Rect}
-use Rattle.job_line.specs.Lines.{StopLine, areaLine, countLine, areaInRange, upTo}
+use Rattle.job_line.specs.Lines.{area, posts, stops, rounds, row}
 use Rattle.job_line.specs.OneLine.{Reading, fault, got, Reader, line}
 use Rattle.job.specs.Reader.{andThen, end}
 use Rattle.job.specs.Format as Format
-use Rattle.job.specs.Format.{refused, accepted, jobOf, stopOf, emptyArea, checked, jobLines, resultOf, readJob}
+use Rattle.job.specs.Format.{refused, accepted, areaOf, countOf, postOf, stopOf, jobOf, emptyArea, checked, jobLines, resultOf, readJob}
 use Rattle.job.specs.Record.{jobRecord}
 use Rattle.numbers.specs.Padded.{padded}
-use Rattle.job_line.specs.Reading.{areaOf, countIn, AreaAt}
+use Rattle.job_line.specs.Reading.{areaNumbers, areaAnswer, countAnswer, answerIn, LineAt}
 use Rattle.job.specs.Parts.{postLines, stopLines, allPosts, allStops, lastLine, nextIn, PostsHold, StopsHold, PostsAt, StopsAt, LastAt, CheckedAt}
 use Rattle.job_line.specs.declared.Area.{Area}
 use Rattle.job_line.specs.declared.AreaLine.{AreaLine}
@@ -38,11 +37,11 @@ use Rattle.numbers.proofs.WordTests.{back, back-is}
 
 -- ---- refusal 4
 module _ {a : Area} (xlo : SFits w64 (a .xlo)) (ylo : SFits w64 (a .ylo)) (xhi : SFits w64 (a .xhi)) (yhi : SFits w64 (a .yhi)) where
-  pub empty-across : ltZ (back (a .xhi)) (back (a .xlo)) ≡ true → true ≡ emptyArea (areaOf a)
+  pub empty-across : ltZ (back (a .xhi)) (back (a .xlo)) ≡ true → true ≡ emptyArea (areaOf (areaNumbers a))
   unfolding emptyArea
   empty-across e = rw (rw (back-is xhi, back-is xlo) at e)
 
-  pub empty-deep : ltZ (back (a .xhi)) (back (a .xlo)) ≡ false → ltZ (back (a .yhi)) (back (a .ylo)) ≡ emptyArea (areaOf a)
+  pub empty-deep : ltZ (back (a .xhi)) (back (a .xlo)) ≡ false → ltZ (back (a .yhi)) (back (a .ylo)) ≡ emptyArea (areaOf (areaNumbers a))
   unfolding emptyArea
   empty-deep e = rw (rw (back-is xhi, back-is xlo) at e, back-is yhi, back-is ylo)
 
@@ -58,67 +57,70 @@ module _ {A : Type 0} where
 
 -- the job as the code makes it of its parts
 abbrev pub jobOfParts : ℤ → ℤ → ℤ → ℤ → Posts → Stops → ℕ → Job
-jobOfParts xlo ylo xhi yhi posts stops rounds = record {
-  outcome = Accepted rounds;
+jobOfParts xlo ylo xhi yhi p s n = record {
+  outcome = Accepted n;
   deck = record {
     xlo = xlo;
     ylo = ylo;
     xhi = xhi;
     yhi = yhi;
-    posts = posts .count;
-    «post_x» = posts .x;
-    «post_y» = posts .y;
-    stops = stops .count;
-    «stop_x» = stops .x;
-    «stop_y» = stops .y;
-    visits = stops .visits;
+    posts = p .count;
+    «post_x» = p .x;
+    «post_y» = p .y;
+    stops = s .count;
+    «stop_x» = s .x;
+    «stop_y» = s .y;
+    visits = s .visits;
   };
 }
 
-accepted-is : (area : Rect) (places : List Place) (lines : List StopLine) (rounds : ℕ) → jobRecord (accepted (jobOf area places lines rounds)) ≡ record {
-  outcome = Accepted rounds;
+accepted-is : (a : List ℤ) (ps ss : List (List ℤ)) (n : List ℤ) → jobRecord (accepted (jobOf a ps ss n)) ≡ record {
+  outcome = Accepted (countOf n);
   deck = record {
-    xlo = area .xlo;
-    ylo = area .ylo;
-    xhi = area .xhi;
-    yhi = area .yhi;
-    posts = length places;
-    «post_x» = padded 64 (pos 0) (map (λ p. p .x) places);
-    «post_y» = padded 64 (pos 0) (map (λ p. p .y) places);
-    stops = length (map stopOf lines);
-    «stop_x» = padded 512 (pos 0) (map (λ s. s .at .x) (map stopOf lines));
-    «stop_y» = padded 512 (pos 0) (map (λ s. s .at .y) (map stopOf lines));
-    visits = padded 512 0 (map (λ s. s .visits) (map stopOf lines));
+    xlo = areaOf a .xlo;
+    ylo = areaOf a .ylo;
+    xhi = areaOf a .xhi;
+    yhi = areaOf a .yhi;
+    posts = length (map postOf ps);
+    «post_x» = padded 64 (pos 0) (map (λ p. p .x) (map postOf ps));
+    «post_y» = padded 64 (pos 0) (map (λ p. p .y) (map postOf ps));
+    stops = length (map stopOf ss);
+    «stop_x» = padded 512 (pos 0) (map (λ s. s .at .x) (map stopOf ss));
+    «stop_y» = padded 512 (pos 0) (map (λ s. s .at .y) (map stopOf ss));
+    visits = padded 512 0 (map (λ s. s .visits) (map stopOf ss));
   };
 }
 unfolding jobRecord
-accepted-is area places lines rounds = refl
+accepted-is a ps ss n = refl
 
-parts-are : {area : Rect} {posts : Posts} {stops : Stops} (rounds : ℕ) {places : List Place} {lines : List StopLine} → PostsHold posts places → StopsHold stops lines → jobOfParts (area .xlo) (area .ylo) (area .xhi) (area .yhi) posts stops rounds ≡ jobRecord (accepted (jobOf area places lines rounds))
-parts-are {area} rounds {places} {lines} p s = rw (accepted-is area places lines rounds, p .count-is, p .x-is, p .y-is, s .count-is, s .x-is, s .y-is, s .visits-is, length-map lines stopOf, map-map (λ s. s .at .x) stopOf lines, map-map (λ s. s .at .y) stopOf lines, map-map (λ s. s .visits) stopOf lines)
+parts-are : (a : Area) {postsRead : Posts} {stopsRead : Stops} (n : ℕ) {ps ss : List (List ℤ)} → PostsHold postsRead ps → StopsHold stopsRead ss → jobOfParts (a .xlo) (a .ylo) (a .xhi) (a .yhi) postsRead stopsRead n ≡ jobRecord (accepted (jobOf (areaNumbers a) ps ss (pos n ∷ [])))
+parts-are a n {ps} {ss} p s = rw (accepted-is (areaNumbers a) ps ss (pos n ∷ []), p .count-is, p .x-is, p .y-is, s .count-is, s .x-is, s .y-is, s .visits-is, length-map ps postOf, map-map (λ p. p .x) postOf ps, map-map (λ p. p .y) postOf ps, length-map ss stopOf, map-map (λ s. s .at .x) stopOf ss, map-map (λ s. s .at .y) stopOf ss, map-map (λ s. s .visits) stopOf ss)
 
-module _ {area : Area} {posts : Posts} {stops : Stops} (rounds : ℕ) {t : Bool} (is-empty : t ≡ emptyArea (areaOf area)) where
-  pub checked-empty : {r : Job} → t ≡ true → r ≡ jobRecord (refused EmptyArea) → CheckedAt area posts stops rounds r
+some-places : {postsRead : Posts} → (postsRead .count ≡ 0 → ⊥) → {ps : List (List ℤ)} → PostsHold postsRead ps → nonEmpty (map postOf ps) ≡ true
+some-places some-posts {ps} p = some-elements (map postOf ps) (λ z. some-posts (p .count-is ∙ sym (length-map ps postOf) ∙ z))
+
+module _ {a : Area} {postsRead : Posts} {stopsRead : Stops} (n : ℕ) {t : Bool} (is-empty : t ≡ emptyArea (areaOf (areaNumbers a))) where
+  pub checked-empty : {r : Job} → t ≡ true → r ≡ jobRecord (refused EmptyArea) → CheckedAt a postsRead stopsRead n r
   unfolding checked
   checked-empty on e = record { is = λ p s. rw (← is-empty, on) e }
 
   module _ (off : t ≡ false) where
-    pub checked-no-posts : {r : Job} → posts .count ≡ 0 → r ≡ jobRecord (refused NoPosts) → CheckedAt area posts stops rounds r
+    pub checked-no-posts : {r : Job} → postsRead .count ≡ 0 → r ≡ jobRecord (refused NoPosts) → CheckedAt a postsRead stopsRead n r
     unfolding checked
-    checked-no-posts z e = record { is = λ {places} p s. rw (← is-empty, off, no-elements places (sym (p .count-is) ∙ z)) e }
+    checked-no-posts z e = record { is = λ {ps} p s. rw (← is-empty, off, no-elements (map postOf ps) (length-map ps postOf ∙ sym (p .count-is) ∙ z)) e }
 
-    module _ (some-posts : posts .count ≡ 0 → ⊥) where
-      pub checked-no-stops : {r : Job} → stops .count ≡ 0 → r ≡ jobRecord (refused NoStops) → CheckedAt area posts stops rounds r
+    module _ (some-posts : postsRead .count ≡ 0 → ⊥) where
+      pub checked-no-stops : {r : Job} → stopsRead .count ≡ 0 → r ≡ jobRecord (refused NoStops) → CheckedAt a postsRead stopsRead n r
       unfolding checked
-      checked-no-stops z e = record { is = λ {places} {lines} p s. rw (← is-empty, off, some-elements places (λ z. some-posts (p .count-is ∙ z)), no-elements (map stopOf lines) (length-map lines stopOf ∙ sym (s .count-is) ∙ z)) e }
+      checked-no-stops z e = record { is = λ {ps} {ss} p s. rw (← is-empty, off, some-places some-posts p, no-elements (map stopOf ss) (length-map ss stopOf ∙ sym (s .count-is) ∙ z)) e }
 
-      module _ (some-stops : stops .count ≡ 0 → ⊥) where
-        job-accepted : {places : List Place} {lines : List StopLine} → PostsHold posts places → StopsHold stops lines → accepted (jobOf (areaOf area) places lines rounds) ≡ checked (jobOf (areaOf area) places lines rounds)
+      module _ (some-stops : stopsRead .count ≡ 0 → ⊥) where
+        job-accepted : {ps ss : List (List ℤ)} → PostsHold postsRead ps → StopsHold stopsRead ss → accepted (jobOf (areaNumbers a) ps ss (pos n ∷ [])) ≡ checked (jobOf (areaNumbers a) ps ss (pos n ∷ []))
         unfolding checked
-        job-accepted {places} {lines} p s = rw (← is-empty, off, some-elements places (λ z. some-posts (p .count-is ∙ z)), some-elements (map stopOf lines) (λ z. some-stops (s .count-is ∙ sym (length-map lines stopOf) ∙ z)))
+        job-accepted {ps} {ss} p s = rw (← is-empty, off, some-places some-posts p, some-elements (map stopOf ss) (λ z. some-stops (s .count-is ∙ sym (length-map ss stopOf) ∙ z)))
 
-        pub checked-accepted : SFits w64 (area .xlo) → SFits w64 (area .ylo) → SFits w64 (area .xhi) → SFits w64 (area .yhi) → CheckedAt area posts stops rounds (jobOfParts (back (area .xlo)) (back (area .ylo)) (back (area .xhi)) (back (area .yhi)) posts stops rounds)
-        checked-accepted xlo ylo xhi yhi = record { is = λ p s. rw (back-is xlo, back-is ylo, back-is xhi, back-is yhi) (parts-are rounds p s) ∙ ap jobRecord (job-accepted p s) }
+        pub checked-accepted : SFits w64 (a .xlo) → SFits w64 (a .ylo) → SFits w64 (a .xhi) → SFits w64 (a .yhi) → CheckedAt a postsRead stopsRead n (jobOfParts (back (a .xlo)) (back (a .ylo)) (back (a .xhi)) (back (a .yhi)) postsRead stopsRead n)
+        checked-accepted xlo ylo xhi yhi = record { is = λ p s. rw (back-is xlo, back-is ylo, back-is xhi, back-is yhi) (parts-are a n p s) ∙ ap jobRecord (job-accepted p s) }
 
 -- ---- the lines of a job, part by part
 -- one reading after another
@@ -127,72 +129,72 @@ then-assoc (fault why) f g = refl
 then-assoc (got a n bs) f g = refl
 
 -- what follows the stops, the posts and the area
-after-stops : Rect → List Place → List StopLine → Reader Format.Job
-after-stops area places lines n bs = andThen (line (countLine "rounds=") (upTo 1000) n bs) (λ z n bs. andThen (end n bs) (λ u n bs. got (jobOf area places lines (natAbs z)) n bs))
+after-stops : List ℤ → List (List ℤ) → List (List ℤ) → Reader Format.Job
+after-stops a ps ss n bs = andThen (line (row rounds) n bs) (λ k n bs. andThen (end n bs) (λ u n bs. got (jobOf a ps ss k) n bs))
 
-after-posts : Rect → List Place → Reader Format.Job
-after-posts area places n bs = andThen (line (countLine "stops=") (upTo 512) n bs) (λ z n bs. andThen (stopLines (natAbs z) n bs) (after-stops area places))
+after-posts : List ℤ → List (List ℤ) → Reader Format.Job
+after-posts a ps n bs = andThen (line (row stops) n bs) (λ k n bs. andThen (stopLines (countOf k) n bs) (after-stops a ps))
 
-after-area : Rect → Reader Format.Job
-after-area area n bs = andThen (line (countLine "posts=") (upTo 64) n bs) (λ z n bs. andThen (postLines (natAbs z) n bs) (after-posts area))
+after-area : List ℤ → Reader Format.Job
+after-area a n bs = andThen (line (row posts) n bs) (λ k n bs. andThen (postLines (countOf k) n bs) (after-posts a))
 
-lines-are : (n : ℕ) (bs : List ℕ) → jobLines n bs ≡ andThen (line areaLine areaInRange n bs) after-area
+lines-are : (n : ℕ) (bs : List ℕ) → jobLines n bs ≡ andThen (line (row area) n bs) after-area
 unfolding jobLines after-area after-posts after-stops
 lines-are n bs = refl
 
-after-area-is : (area : Rect) (n : ℕ) (bs : List ℕ) → after-area area n bs ≡ andThen (allPosts n bs) (after-posts area)
+after-area-is : (a : List ℤ) (n : ℕ) (bs : List ℕ) → after-area a n bs ≡ andThen (allPosts n bs) (after-posts a)
 unfolding after-area allPosts
-after-area-is area n bs = then-assoc (line (countLine "posts=") (upTo 64) n bs) (λ z. postLines (natAbs z)) (after-posts area)
+after-area-is a n bs = then-assoc (line (row posts) n bs) (λ k. postLines (countOf k)) (after-posts a)
 
-after-posts-is : (area : Rect) (places : List Place) (n : ℕ) (bs : List ℕ) → after-posts area places n bs ≡ andThen (allStops n bs) (after-stops area places)
+after-posts-is : (a : List ℤ) (ps : List (List ℤ)) (n : ℕ) (bs : List ℕ) → after-posts a ps n bs ≡ andThen (allStops n bs) (after-stops a ps)
 unfolding after-posts allStops
-after-posts-is area places n bs = then-assoc (line (countLine "stops=") (upTo 512) n bs) (λ z. stopLines (natAbs z)) (after-stops area places)
+after-posts-is a ps n bs = then-assoc (line (row stops) n bs) (λ k. stopLines (countOf k)) (after-stops a ps)
 
-after-stops-is : (area : Rect) (places : List Place) (lines : List StopLine) (n : ℕ) (bs : List ℕ) → after-stops area places lines n bs ≡ andThen (lastLine n bs) (λ z n bs. got (jobOf area places lines (natAbs z)) n bs)
+after-stops-is : (a : List ℤ) (ps ss : List (List ℤ)) (n : ℕ) (bs : List ℕ) → after-stops a ps ss n bs ≡ andThen (lastLine n bs) (λ k n bs. got (jobOf a ps ss k) n bs)
 unfolding after-stops lastLine
-after-stops-is area places lines n bs = go (line (countLine "rounds=") (upTo 1000) n bs)
+after-stops-is a ps ss n bs = go (line (row rounds) n bs)
   where
-    last : (z : ℤ) (r : Reading (Unit {0})) → andThen r (λ u n bs. got (jobOf area places lines (natAbs z)) n bs) ≡ andThen (andThen r (λ u n bs. got z n bs)) (λ z n bs. got (jobOf area places lines (natAbs z)) n bs)
-    last z (fault why) = refl
-    last z (got u n bs) = refl
+    last : (k : List ℤ) (r : Reading (Unit {0})) → andThen r (λ u n bs. got (jobOf a ps ss k) n bs) ≡ andThen (andThen r (λ u n bs. got k n bs)) (λ k n bs. got (jobOf a ps ss k) n bs)
+    last k (fault why) = refl
+    last k (got u n bs) = refl
 
-    go : (r : Reading ℤ) → andThen r (λ z n bs. andThen (end n bs) (λ u n bs. got (jobOf area places lines (natAbs z)) n bs)) ≡ andThen (andThen r (λ z n bs. andThen (end n bs) (λ u n bs. got z n bs))) (λ z n bs. got (jobOf area places lines (natAbs z)) n bs)
+    go : (r : Reading (List ℤ)) → andThen r (λ k n bs. andThen (end n bs) (λ u n bs. got (jobOf a ps ss k) n bs)) ≡ andThen (andThen r (λ k n bs. andThen (end n bs) (λ u n bs. got k n bs))) (λ k n bs. got (jobOf a ps ss k) n bs)
     go (fault why) = refl
-    go (got z n bs) = last z (end n bs)
+    go (got k n bs) = last k (end n bs)
 
 -- ---- the whole reading
 pub read-long : (s : List ℕ) → 16384 < length s → refused TooLong ≡ readJob s
 unfolding readJob
 read-long s h = rw (lt-ltb 16384 (length s) h)
 
-module _ {s : List ℕ} (short : length s ≤ 16384) {area-answer : AreaLine} (area-at : AreaAt s 0 1 area-answer) where
-  read-short : readJob s ≡ resultOf (jobLines 1 s)
-  unfolding readJob
-  read-short = rw (le-ltb 16384 (length s) short)
+read-short : (s : List ℕ) → length s ≤ 16384 → readJob s ≡ resultOf (jobLines 1 s)
+unfolding readJob
+read-short s short = rw (le-ltb 16384 (length s) short)
 
+module _ {s : List ℕ} (short : length s ≤ 16384) {area-answer : AreaLine} (area-at : LineAt (row area) s 0 1 (areaAnswer area-answer)) where
   pub read-area : {why : Refusal} → area-answer ≡ A.Refused why → refused why ≡ readJob s
-  read-area e = rw (read-short, lines-are 1 s, ← subst (AreaAt s 0 1) e area-at .is)
+  read-area e = rw (read-short s short, lines-are 1 s, ← subst (λ (r : AreaLine). LineAt (row area) s 0 1 (areaAnswer r)) e area-at .is)
 
-  module _ {area : Area} {at₁ : ℕ} (area-is : area-answer ≡ A.Read area at₁) {posts : Posts} (posts-at : PostsAt s 3 (allPosts 2 (drop at₁ s)) posts) where
-    from-posts : jobLines 1 s ≡ andThen (nextIn s (posts-at .places) (3 + posts .count) (posts .next)) (after-posts (areaOf area))
-    from-posts = rw (lines-are 1 s, ← subst (AreaAt s 0 1) area-is area-at .is, after-area-is (areaOf area) 2 (drop at₁ s), posts-at .is)
+  module _ {a : Area} {at₁ : ℕ} (area-is : area-answer ≡ A.Read a at₁) {postsRead : Posts} (posts-at : PostsAt s 3 (allPosts 2 (drop at₁ s)) postsRead) where
+    from-posts : jobLines 1 s ≡ andThen (nextIn s (posts-at .lines) (3 + postsRead .count) (postsRead .next)) (after-posts (areaNumbers a))
+    from-posts = rw (lines-are 1 s, ← subst (λ (r : AreaLine). LineAt (row area) s 0 1 (areaAnswer r)) area-is area-at .is, after-area-is (areaNumbers a) 2 (drop at₁ s), posts-at .is)
 
-    pub read-posts : {why : Refusal} → posts .next ≡ Refused why → refused why ≡ readJob s
-    read-posts e = rw (read-short, from-posts, e)
+    pub read-posts : {why : Refusal} → postsRead .next ≡ Refused why → refused why ≡ readJob s
+    read-posts e = rw (read-short s short, from-posts, e)
 
-    module _ {at₂ : ℕ} (posts-is : posts .next ≡ At at₂) {stops : Stops} (stops-at : StopsAt s (3 + posts .count + 1) (allStops (3 + posts .count) (drop at₂ s)) stops) where
-      from-stops : jobLines 1 s ≡ andThen (nextIn s (stops-at .lines) (3 + posts .count + 1 + stops .count) (stops .next)) (after-stops (areaOf area) (posts-at .places))
-      from-stops = rw (from-posts, posts-is, after-posts-is (areaOf area) (posts-at .places) (3 + posts .count) (drop at₂ s), stops-at .is)
+    module _ {at₂ : ℕ} (posts-is : postsRead .next ≡ At at₂) {stopsRead : Stops} (stops-at : StopsAt s (3 + postsRead .count + 1) (allStops (3 + postsRead .count) (drop at₂ s)) stopsRead) where
+      from-stops : jobLines 1 s ≡ andThen (nextIn s (stops-at .lines) (3 + postsRead .count + 1 + stopsRead .count) (stopsRead .next)) (after-stops (areaNumbers a) (posts-at .lines))
+      from-stops = rw (from-posts, posts-is, after-posts-is (areaNumbers a) (posts-at .lines) (3 + postsRead .count) (drop at₂ s), stops-at .is)
 
-      pub read-stops : {why : Refusal} → stops .next ≡ Refused why → refused why ≡ readJob s
-      read-stops e = rw (read-short, from-stops, e)
+      pub read-stops : {why : Refusal} → stopsRead .next ≡ Refused why → refused why ≡ readJob s
+      read-stops e = rw (read-short s short, from-stops, e)
 
-      module _ {at₃ : ℕ} (stops-is : stops .next ≡ At at₃) {last : CountLine} (last-at : LastAt s at₃ (3 + posts .count + 1 + stops .count) last) where
-        from-last : jobLines 1 s ≡ andThen (countIn s (3 + posts .count + 1 + stops .count) last) (λ z n bs. got (jobOf (areaOf area) (posts-at .places) (stops-at .lines) (natAbs z)) n bs)
-        from-last = rw (from-stops, stops-is, after-stops-is (areaOf area) (posts-at .places) (stops-at .lines) (3 + posts .count + 1 + stops .count) (drop at₃ s), last-at .is)
+      module _ {at₃ : ℕ} (stops-is : stopsRead .next ≡ At at₃) {last : CountLine} (last-at : LastAt s at₃ (3 + postsRead .count + 1 + stopsRead .count) last) where
+        from-last : jobLines 1 s ≡ andThen (answerIn s (3 + postsRead .count + 1 + stopsRead .count) (countAnswer last)) (λ k n bs. got (jobOf (areaNumbers a) (posts-at .lines) (stops-at .lines) k) n bs)
+        from-last = rw (from-stops, stops-is, after-stops-is (areaNumbers a) (posts-at .lines) (stops-at .lines) (3 + postsRead .count + 1 + stopsRead .count) (drop at₃ s), last-at .is)
 
         pub read-last : {why : Refusal} → last ≡ C.Refused why → refused why ≡ readJob s
-        read-last e = rw (read-short, from-last, e)
+        read-last e = rw (read-short s short, from-last, e)
 
-        pub read-all : {rounds next : ℕ} → last ≡ C.Read rounds next → {r : Job} → CheckedAt area posts stops rounds r → r ≡ jobRecord (readJob s)
-        read-all e checked-at = rw (read-short, from-last, e) (checked-at .is (posts-at .hold) (stops-at .hold))
+        pub read-all : {n next : ℕ} → last ≡ C.Read n next → {r : Job} → CheckedAt a postsRead stopsRead n r → r ≡ jobRecord (readJob s)
+        read-all e checked-at = rw (read-short s short, from-last, e) (checked-at .is (posts-at .hold) (stops-at .hold))

@@ -7,17 +7,19 @@ use mathlib.Core.Option.{Option, none, some}
 use Prim.Native.Nat.{ℕ, zero, suc, _+_}
 use native.Mathlib.Omega.{arith}
 use lib.Dec.{T}
+use lib.IntN.{ℤ}
 use lib.ListN.{length}
 use lib.Seq.{append-snoc}
 use Rattle.numbers.proofs.Truth.{holds}
 use Rattle.numbers.proofs.Members.{each-cons}
 use Rattle.job_line.specs.OneLine.{Reading, fault, got, Reader, line, lineResult}
 use Rattle.job.specs.Reader.{andThen, _>>=_, repeated, end}
-use Rattle.job.specs.Meaning.{Kind, Held, formOf, rangeOf}
+use Rattle.job_line.specs.Lines.{Kind, row, formOf, inRanges}
+use Rattle.job.specs.Spelling.{JobLine}
 use Rattle.refusal.specs.declared.Refusal.{Refusal}
 use Rattle.refusal.specs.declared.Refusal.the-variants.{OutOfRange}
 use Rattle.job.proofs.FormLaws.{textOf, form-spells}
-use Rattle.job.proofs.RangeLaws.{range-small}
+use Rattle.job.proofs.RangeLaws.{range-fits}
 
 pub not-got : {A C : Type 0} {why : Refusal} {a : A} {n : ℕ} {bs : List ℕ} → _≡_ {A = Reading A} (fault why) (got a n bs) → C
 not-got e = absurd (let z : _≡_ {A = ℕ} 0 1 = cc in omega arith)
@@ -40,38 +42,43 @@ unfolding end
 end-got n [] e = refl
 end-got n (b ∷ bs) e = not-got e
 
--- the reader of a line of a kind
-abbrev pub lineOf : (k : Kind) → Reader (Held k)
-lineOf k = line (formOf k) (rangeOf k)
-
+-- ---- lines of a kind
 module _ (k : Kind) where
-  pub line-got : (n : ℕ) (bs : List ℕ) (v : Held k) (m : ℕ) (rest : List ℕ) → lineOf k n bs ≡ got v m rest → (bs ≡ textOf k v ++ rest) × T (rangeOf k v)
-  unfolding line
-  line-got n bs v m rest = go (formOf k bs) refl
-    where
-      go : (o : Option (Held k × List ℕ)) → formOf k bs ≡ o → lineResult (rangeOf k) n o ≡ got v m rest → (bs ≡ textOf k v ++ rest) × T (rangeOf k v)
-      go none p e = not-got e
-      go (some r) p e = let (t, same, last) = got-parts (rangeOf k (r .0)) (r .0) (n + 1) (r .1) (OutOfRange n) e in rw (← same, ← last) (form-spells k .reads bs (r .0) (r .1) p .0, t)
+  -- a line that holds these numbers
+  abbrev pub lineOf : List ℤ → JobLine
+  lineOf ns = record { kind = k; numbers = ns }
 
-  pub line-gets : (n : ℕ) (v : Held k) (rest : List ℕ) → T (rangeOf k v) → lineOf k n (textOf k v ++ rest) ≡ got v (n + 1) rest
+  -- whose ranges they keep
+  abbrev pub Ranged : List ℤ → Type 0
+  Ranged ns = T (inRanges (row k .ranges) ns)
+
+  pub line-got : (n : ℕ) (bs : List ℕ) (ns : List ℤ) (m : ℕ) (rest : List ℕ) → line (row k) n bs ≡ got ns m rest → (bs ≡ textOf (row k) ns ++ rest) × Ranged ns
   unfolding line
-  line-gets n v rest t = rw (form-spells k .writes v rest (range-small k v t), holds (rangeOf k v) t)
+  line-got n bs ns m rest = go (formOf (row k) bs) refl
+    where
+      go : (o : Option (List ℤ × List ℕ)) → formOf (row k) bs ≡ o → lineResult (row k) n o ≡ got ns m rest → (bs ≡ textOf (row k) ns ++ rest) × Ranged ns
+      go none p e = not-got e
+      go (some r) p e = let (t, same, last) = got-parts (inRanges (row k .ranges) (r .0)) (r .0) (n + 1) (r .1) (OutOfRange n) e in rw (← same, ← last) (form-spells (row k) .reads bs (r .0) (r .1) p .0, t)
+
+  pub line-gets : (n : ℕ) (ns : List ℤ) (rest : List ℕ) → Ranged ns → line (row k) n (textOf (row k) ns ++ rest) ≡ got ns (n + 1) rest
+  unfolding line
+  line-gets n ns rest t = rw (form-spells (row k) .writes ns rest (range-fits k ns t), holds (inRanges (row k .ranges) ns) t)
 
   -- so many lines of a kind, behind those read before
-  repeated-got : (count : ℕ) (read : List (Held k)) (n : ℕ) (bs : List ℕ) (vs : List (Held k)) (m : ℕ) (rest : List ℕ) → repeated count (lineOf k) read n bs ≡ got vs m rest → (more : List (Held k)) × (read ++ more ≡ vs) × (bs ≡ flatMap (textOf k) more ++ rest) × (length more ≡ count) × ((v : Held k) → List·Memᴰ v more → T (rangeOf k v))
+  repeated-got : (count : ℕ) (read : List (List ℤ)) (n : ℕ) (bs : List ℕ) (all : List (List ℤ)) (m : ℕ) (rest : List ℕ) → repeated count (line (row k)) read n bs ≡ got all m rest → (more : List (List ℤ)) × (read ++ more ≡ all) × (bs ≡ flatMap (textOf (row k)) more ++ rest) × (length more ≡ count) × ((ns : List ℤ) → List·Memᴰ ns more → Ranged ns)
   unfolding repeated flatMap
-  repeated-got zero read n bs vs m rest = λ e. ([], cc (append-nil read), cc, refl, λ v i. absurd (List·Memᴰ·not-nil i))
-  repeated-got (suc count) read n bs vs m rest = bind-got (lineOf k) (λ v. repeated count (lineOf k) (read ++ (v ∷ []))) n bs (λ v j mid p e.
-      let (text, t) = line-got n bs v j mid p in
-      let (more, same, texts, all, ts) = repeated-got count (read ++ (v ∷ [])) j mid vs m rest e in
-      (v ∷ more, sym (append-snoc read v more) ∙ same, rw append-assoc (text ∙ ap (λ (l : List ℕ). textOf k v ++ l) texts), ap suc all, each-cons (λ w. T (rangeOf k w)) t ts))
+  repeated-got zero read n bs all m rest = λ e. ([], cc (append-nil read), cc, refl, λ ns i. absurd (List·Memᴰ·not-nil i))
+  repeated-got (suc count) read n bs all m rest = bind-got (line (row k)) (λ ns. repeated count (line (row k)) (read ++ (ns ∷ []))) n bs (λ ns j mid p e.
+      let (text, t) = line-got n bs ns j mid p in
+      let (more, same, texts, long, ts) = repeated-got count (read ++ (ns ∷ [])) j mid all m rest e in
+      (ns ∷ more, sym (append-snoc read ns more) ∙ same, rw append-assoc (text ∙ ap (λ (l : List ℕ). textOf (row k) ns ++ l) texts), ap suc long, each-cons Ranged t ts))
 
-  pub all-got : (count n : ℕ) (bs : List ℕ) (vs : List (Held k)) (m : ℕ) (rest : List ℕ) → repeated count (lineOf k) [] n bs ≡ got vs m rest → (bs ≡ flatMap (textOf k) vs ++ rest) × (length vs ≡ count) × ((v : Held k) → List·Memᴰ v vs → T (rangeOf k v))
-  all-got count n bs vs m rest e = let (more, same, texts, all, ts) = repeated-got count [] n bs vs m rest e in rw (← same) (texts, all, ts)
+  pub all-got : (count n : ℕ) (bs : List ℕ) (all : List (List ℤ)) (m : ℕ) (rest : List ℕ) → repeated count (line (row k)) [] n bs ≡ got all m rest → (bs ≡ flatMap (textOf (row k)) all ++ rest) × (length all ≡ count) × ((ns : List ℤ) → List·Memᴰ ns all → Ranged ns)
+  all-got count n bs all m rest e = let (more, same, texts, long, ts) = repeated-got count [] n bs all m rest e in rw (← same) (texts, long, ts)
 
-  pub repeated-gets : (more read : List (Held k)) (n : ℕ) (rest : List ℕ) → ((v : Held k) → List·Memᴰ v more → T (rangeOf k v)) → (m : ℕ) × (repeated (length more) (lineOf k) read n (flatMap (textOf k) more ++ rest) ≡ got (read ++ more) m rest)
+  pub repeated-gets : (more read : List (List ℤ)) (n : ℕ) (rest : List ℕ) → ((ns : List ℤ) → List·Memᴰ ns more → Ranged ns) → (m : ℕ) × (repeated (length more) (line (row k)) read n (flatMap (textOf (row k)) more ++ rest) ≡ got (read ++ more) m rest)
   unfolding repeated flatMap
   repeated-gets [] read n rest ts = (n, rw append-nil)
-  repeated-gets (v ∷ more) read n rest ts =
-      let (m, e) = repeated-gets more (read ++ (v ∷ [])) (n + 1) rest (λ w i. ts w (List·Memᴰ·tail i)) in
-      (m, rw (append-assoc, line-gets n v (flatMap (textOf k) more ++ rest) (ts v (List·Memᴰ·head refl)), ← append-snoc read v more) e)
+  repeated-gets (ns ∷ more) read n rest ts =
+      let (m, e) = repeated-gets more (read ++ (ns ∷ [])) (n + 1) rest (λ w i. ts w (List·Memᴰ·tail i)) in
+      (m, rw (append-assoc, line-gets n ns (flatMap (textOf (row k)) more ++ rest) (ts ns (List·Memᴰ·head refl)), ← append-snoc read ns more) e)

@@ -5,19 +5,20 @@ use mathlib.Core.List.{List, [], _∷_, _++_, flatten}
 use mathlib.Core.Option.{Option, none, some}
 use Prim.Native.Nat.{ℕ, suc, _≤_}
 use native.Mathlib.Omega.{arith}
+use lib.IntN.{ℤ}
 use lib.ListN.{length, length-append}
 use Rattle.numbers.proofs.Joined.{flatten-snoc}
-use Rattle.job_line.specs.Lines.{areaLine, countLine, postLine, stopLine}
+use Rattle.job_line.specs.Lines.{Kind, area, posts, post, stops, stop, rounds, row, formOf}
 use Rattle.job.specs.Format.{refused, readJob}
 use Rattle.refusal.specs.Refusal.{numberOf, lineOf}
-use Rattle.job.specs.Meaning.{Kind, area, posts, post, stops, stop, rounds, Held, formOf, Good, top, one-more, FirstMalformed, no-form, too-much, Condition}
+use Rattle.job.specs.Meaning.{Good, top, one-more, FirstMalformed, no-form, too-much, Condition}
 use Rattle.refusal.specs.declared.Refusal.{Refusal}
 use Rattle.refusal.specs.declared.Refusal.the-variants.{TooLong, Malformed, OutOfRange, EmptyArea, NoPosts, NoStops, SmallSpace, ShortOutput}
 use Rattle.job.proofs.Meaning.{refused-law}
 
 -- ---- the line: each line before it has a byte
-no-bytes : (k : Kind) → formOf k [] ≡ none
-unfolding areaLine countLine postLine stopLine
+no-bytes : (k : Kind) → formOf (row k) [] ≡ none
+unfolding formOf
 no-bytes area = refl
 no-bytes posts = refl
 no-bytes post = refl
@@ -28,13 +29,13 @@ no-bytes rounds = refl
 not-none : {A C : Type 0} {a : A} → _≡_ {A = Option A} none (some a) → C
 not-none e = absurd (let z : _≡_ {A = ℕ} 0 1 = cc in omega arith)
 
-some-bytes : (k : Kind) (text : List ℕ) {r : Held k × List ℕ} → formOf k text ≡ some r → 1 ≤ length text
+some-bytes : (k : Kind) (text : List ℕ) {r : List ℤ × List ℕ} → formOf (row k) text ≡ some r → 1 ≤ length text
 some-bytes k [] e = not-none (sym (no-bytes k) ∙ e)
 some-bytes k (b ∷ text) e = omega arith
 
 good-length : {lines : List (List ℕ)} {due : List Kind} → Good lines due → length lines ≤ length (flatten lines)
 good-length top = omega arith
-good-length (one-more {lines} {k} {due} good text v e t) =
+good-length (one-more {lines} {k} {due} good text ns e t) =
     let joined : flatten (lines ++ (text ∷ [])) ++ [] ≡ flatten lines ++ (text ++ []) = flatten-snoc lines text [] in
     let same = ap length joined in
     omega (arith, good-length good, some-bytes k text e, length-append lines (text ∷ []), length-append (flatten lines) (text ++ []), length-append text [], length-append (flatten (lines ++ (text ∷ []))) [], same)

@@ -4,13 +4,13 @@ use Prim.Native.Nat.{ℕ}
 use mathlib.Core.Bool.{Bool, cond, _||_}
 use mathlib.Core.List.{List, [], map}
 use lib.Dec.{ltb}
-use lib.ListN.{length}
-use lib.IntN.{natAbs}
+use lib.ListN.{length, getD}
+use lib.IntN.{ℤ, pos, natAbs}
 use lib.Signed.{ltZ}
 use Rattle.numbers.specs.Lists.{nonEmpty}
 use Rattle.query.specs.Place.{Place, Rect}
 use Rattle.query.specs.Deck.{Stop, Deck, plain}
-use Rattle.job_line.specs.Lines.{StopLine, areaLine, countLine, postLine, stopLine, placeInRange, areaInRange, stopInRange, upTo}
+use Rattle.job_line.specs.Lines.{area, posts, post, stops, stop, rounds, row}
 use Rattle.job_line.specs.OneLine.{Reading, fault, got, Reader, line}
 use Rattle.job.specs.Reader.{_>>=_, _>>_, return, repeated, end}
 use Rattle.refusal.specs.declared.Refusal.{Refusal}
@@ -21,24 +21,43 @@ pub record Job : Type 0 where
   pub deck : Deck
   pub rounds : ℕ
 
-abbrev pub stopOf : StopLine → Stop
-stopOf s = record { at = s .at; visits = natAbs (s .visits) }
+-- ---- what the numbers of a line say
+abbrev pub nth : List ℤ → ℕ → ℤ
+nth ns i = getD ns i (pos 0)
 
-abbrev pub jobOf : Rect → List Place → List StopLine → ℕ → Job
-jobOf area posts stops rounds = record { deck = record { axis = plain; area = area; posts = posts; stops = map stopOf stops }; rounds = rounds }
+-- `xlo,ylo,xhi,yhi`
+abbrev pub areaOf : List ℤ → Rect
+areaOf ns = record { xlo = nth ns 0; ylo = nth ns 1; xhi = nth ns 2; yhi = nth ns 3 }
 
+-- `n`
+abbrev pub countOf : List ℤ → ℕ
+countOf ns = natAbs (nth ns 0)
+
+-- `x,y`
+abbrev pub postOf : List ℤ → Place
+postOf ns = record { x = nth ns 0; y = nth ns 1 }
+
+-- `x,y,visits`
+abbrev pub stopOf : List ℤ → Stop
+stopOf ns = record { at = postOf ns; visits = natAbs (nth ns 2) }
+
+-- what the numbers of all lines say: those of the area, of each post, of each stop, and the rounds
+abbrev pub jobOf : List ℤ → List (List ℤ) → List (List ℤ) → List ℤ → Job
+jobOf a ps ss n = record { deck = record { axis = plain; area = areaOf a; posts = map postOf ps; stops = map stopOf ss }; rounds = countOf n }
+
+-- ---- reading
 -- 01 "A job is lines in this order .. Nothing follows"
 unfoldable pub jobLines : Reader Job
-unfolding areaLine countLine postLine stopLine placeInRange areaInRange stopInRange upTo return line repeated end _>>=_ _>>_
+unfolding line return repeated end _>>=_ _>>_
 jobLines = do
-  area ← line areaLine areaInRange
-  posts ← line (countLine "posts=") (upTo 64)
-  posts ← repeated (natAbs posts) (line postLine placeInRange) []
-  stops ← line (countLine "stops=") (upTo 512)
-  stops ← repeated (natAbs stops) (line stopLine stopInRange) []
-  rounds ← line (countLine "rounds=") (upTo 1000)
+  a ← line (row area)
+  n ← line (row posts)
+  ps ← repeated (countOf n) (line (row post)) []
+  n ← line (row stops)
+  ss ← repeated (countOf n) (line (row stop)) []
+  n ← line (row rounds)
   end
-  return (jobOf area posts stops (natAbs rounds))
+  return (jobOf a ps ss n)
 
 -- a refusal, or a job
 pub data Result : Type 0 where

@@ -2,17 +2,15 @@
 -- Assumes nothing.
 use Prim.Native.Nat.{ℕ, suc, _≤_, _<_}
 use mathlib.Core.Path.{_≡_}
-use mathlib.Core.Bool.{Bool, not}
+use mathlib.Core.Bool.{not}
 use mathlib.Core.Logic.{_↔_, _≢_}
 use mathlib.Core.List.{List, [], _∷_, _++_, flatten}
 use mathlib.Core.Option.{none, some}
 use lib.Dec.{T}
-use lib.IntN.{ℤ, natAbs}
+use lib.IntN.{ℤ}
 use lib.ListN.{length, replicate}
-use Rattle.query.specs.Place.{Place, Rect}
-use Rattle.job_line.specs.Form.{Form}
-use Rattle.job_line.specs.Lines.{StopLine, areaLine, countLine, postLine, stopLine, placeInRange, areaInRange, stopInRange, upTo}
-use Rattle.job.specs.Format.{Job, refused, accepted, readJob, emptyArea}
+use Rattle.job_line.specs.Lines.{Kind, area, posts, post, stops, stop, rounds, row, formOf, inRanges}
+use Rattle.job.specs.Format.{Job, countOf, refused, accepted, readJob, emptyArea}
 use Rattle.job.specs.Spelling.{spell, Writable, Allowed}
 use Rattle.refusal.specs.declared.Refusal.{Refusal}
 use Rattle.refusal.specs.declared.Refusal.the-variants.{TooLong, Malformed, OutOfRange, EmptyArea, NoPosts, NoStops, SmallSpace, ShortOutput}
@@ -27,52 +25,23 @@ pub record SpellingLaw (job : Job) : Type 0 where
   pub one-job : (other : Job) → Allowed job → Allowed other → spell job ≡ spell other → job ≡ other
 
 -- ---- refusals
--- the kinds of lines
-pub data Kind : Type 0 where
-  area posts post stops stop rounds : Kind
-
--- what a line of each kind holds
-abbrev pub Held : Kind → Type 0
-Held area = Rect
-Held posts = ℤ
-Held post = Place
-Held stops = ℤ
-Held stop = StopLine
-Held rounds = ℤ
-
-abbrev pub formOf : (k : Kind) → Form (Held k)
-formOf area = areaLine
-formOf posts = countLine "posts="
-formOf post = postLine
-formOf stops = countLine "stops="
-formOf stop = stopLine
-formOf rounds = countLine "rounds="
-
-abbrev pub rangeOf : (k : Kind) → Held k → Bool
-rangeOf area = areaInRange
-rangeOf posts = upTo 64
-rangeOf post = placeInRange
-rangeOf stops = upTo 512
-rangeOf stop = stopInRange
-rangeOf rounds = upTo 1000
-
--- the lines that a line of a count makes due
-abbrev pub dueAfter : (k : Kind) → Held k → List Kind
-dueAfter area v = []
-dueAfter posts n = replicate (natAbs n) post
-dueAfter post v = []
-dueAfter stops n = replicate (natAbs n) stop
-dueAfter stop v = []
-dueAfter rounds n = []
+-- 01 "`posts=n`, then n lines `post=x,y`, `stops=n`, then n lines `stop=x,y,visits`": the lines that a line makes due
+abbrev pub dueAfter : Kind → List ℤ → List Kind
+dueAfter area ns = []
+dueAfter posts ns = replicate (countOf ns) post
+dueAfter post ns = []
+dueAfter stops ns = replicate (countOf ns) stop
+dueAfter stop ns = []
+dueAfter rounds ns = []
 
 -- these lines are, from the top, lines that were due, each with its form and its ranges; and these kinds of lines are due next
 pub data Good : List (List ℕ) → List Kind → Type 0 where
   top : Good [] (area ∷ posts ∷ stops ∷ rounds ∷ [])
-  one-more : {lines : List (List ℕ)} {k : Kind} {due : List Kind} → Good lines (k ∷ due) → (text : List ℕ) (v : Held k) → formOf k text ≡ some (v, []) → T (rangeOf k v) → Good (lines ++ (text ∷ [])) (dueAfter k v ++ due)
+  one-more : {lines : List (List ℕ)} {k : Kind} {due : List Kind} → Good lines (k ∷ due) → (text : List ℕ) (ns : List ℤ) → formOf (row k) text ≡ some (ns, []) → T (inRanges (row k .ranges) ns) → Good (lines ++ (text ∷ [])) (dueAfter k ns ++ due)
 
 -- line n is the first that does not have its form, is missing, or is too much
 pub data FirstMalformed (bytes : List ℕ) (n : ℕ) : Type 0 where
-  no-form : (lines : List (List ℕ)) (rest : List ℕ) (k : Kind) (due : List Kind) → Good lines (k ∷ due) → bytes ≡ flatten lines ++ rest → n ≡ suc (length lines) → formOf k rest ≡ none → FirstMalformed bytes n
+  no-form : (lines : List (List ℕ)) (rest : List ℕ) (k : Kind) (due : List Kind) → Good lines (k ∷ due) → bytes ≡ flatten lines ++ rest → n ≡ suc (length lines) → formOf (row k) rest ≡ none → FirstMalformed bytes n
   too-much : (lines : List (List ℕ)) (rest : List ℕ) → Good lines [] → bytes ≡ flatten lines ++ rest → n ≡ suc (length lines) → rest ≢ [] → FirstMalformed bytes n
 
 -- line n has its form and a value out of range, and every line before it has its form and ranges
@@ -85,9 +54,9 @@ pub record FirstOutOfRange (bytes : List ℕ) (n : ℕ) : Type 0 where
   pub before : Good lines (k ∷ due)
   pub split : bytes ≡ flatten lines ++ rest
   pub number : n ≡ suc (length lines)
-  pub held : Held k
-  pub form : formOf k rest ≡ some (held, after)
-  pub range : T (not (rangeOf k held))
+  pub numbers : List ℤ
+  pub form : formOf (row k) rest ≡ some (numbers, after)
+  pub range : T (not (inRanges (row k .ranges) numbers))
 
 -- the bytes spell a job whose values are all in range, so that only refusals 4 to 6 are left
 pub record Spelled (bytes : List ℕ) : Type 0 where

@@ -2,16 +2,14 @@
 -- Assumes nothing.
 use Prim.Native.Nat.{ℕ, _+_, _≤_}
 use mathlib.Core.Path.{_≡_}
-use mathlib.Core.List.{List, [], map}
-use lib.IntN.{ℤ, pos, natAbs}
+use mathlib.Core.List.{List, [], _∷_, map}
+use lib.IntN.{ℤ, pos}
 use lib.ListN.{length, drop}
-use Rattle.query.specs.Place as Query
-use Rattle.job_line.specs.Lines as Lines
-use Rattle.job_line.specs.Lines.{countLine, postLine, stopLine, placeInRange, stopInRange, upTo}
+use Rattle.job_line.specs.Lines.{posts, post, stops, stop, rounds, row}
 use Rattle.job_line.specs.OneLine.{Reading, fault, got, Reader, line}
 use Rattle.job.specs.Reader.{_>>=_, _>>_, return, repeated, end}
-use Rattle.job_line.specs.Reading.{areaOf, countIn, CountWithin}
-use Rattle.job.specs.Format.{jobOf, checked}
+use Rattle.job_line.specs.Reading.{areaNumbers, countAnswer, answerIn, Within}
+use Rattle.job.specs.Format.{countOf, postOf, stopOf, jobOf, checked}
 use Rattle.job.specs.Record.{jobRecord}
 use Rattle.numbers.specs.Padded.{padded}
 use Rattle.job_line.specs.declared.Area.{Area}
@@ -28,65 +26,65 @@ nextIn s a n (At at) = got a n (drop at s)
 nextIn s a n (Refused why) = fault why
 
 -- so many lines `post=x,y`
-abbrev pub postLines : ℕ → Reader (List Query.Place)
-postLines count = repeated count (line postLine placeInRange) []
+abbrev pub postLines : ℕ → Reader (List (List ℤ))
+postLines count = repeated count (line (row post)) []
 
 -- posts as the arrays hold them
-pub record PostsHold (r : Posts) (places : List Query.Place) : Type 0 where
-  pub count-is : r .count ≡ length places
-  pub x-is : r .x ≡ padded 64 (pos 0) (map (λ p. p .x) places)
-  pub y-is : r .y ≡ padded 64 (pos 0) (map (λ p. p .y) places)
+pub record PostsHold (r : Posts) (lines : List (List ℤ)) : Type 0 where
+  pub count-is : r .count ≡ length lines
+  pub x-is : r .x ≡ padded 64 (pos 0) (map (λ l. postOf l .x) lines)
+  pub y-is : r .y ≡ padded 64 (pos 0) (map (λ l. postOf l .y) lines)
 
 -- what posts are read as from line n on: the arrays hold those read before the refusal, or all
-pub record PostsAt (s : List ℕ) (n : ℕ) (reading : Reading (List Query.Place)) (r : Posts) : Type 0 where
-  pub places : List Query.Place
-  pub hold : PostsHold r places
+pub record PostsAt (s : List ℕ) (n : ℕ) (reading : Reading (List (List ℤ))) (r : Posts) : Type 0 where
+  pub lines : List (List ℤ)
+  pub hold : PostsHold r lines
   pub few : r .count ≤ 64
-  pub is : nextIn s places (n + r .count) (r .next) ≡ reading
+  pub is : nextIn s lines (n + r .count) (r .next) ≡ reading
 
 -- so many lines `stop=x,y,visits`
-abbrev pub stopLines : ℕ → Reader (List Lines.StopLine)
-stopLines count = repeated count (line stopLine stopInRange) []
+abbrev pub stopLines : ℕ → Reader (List (List ℤ))
+stopLines count = repeated count (line (row stop)) []
 
 -- stops as the arrays hold them
-pub record StopsHold (r : Stops) (lines : List Lines.StopLine) : Type 0 where
+pub record StopsHold (r : Stops) (lines : List (List ℤ)) : Type 0 where
   pub count-is : r .count ≡ length lines
-  pub x-is : r .x ≡ padded 512 (pos 0) (map (λ l. l .at .x) lines)
-  pub y-is : r .y ≡ padded 512 (pos 0) (map (λ l. l .at .y) lines)
-  pub visits-is : r .visits ≡ padded 512 0 (map (λ l. natAbs (l .visits)) lines)
+  pub x-is : r .x ≡ padded 512 (pos 0) (map (λ l. stopOf l .at .x) lines)
+  pub y-is : r .y ≡ padded 512 (pos 0) (map (λ l. stopOf l .at .y) lines)
+  pub visits-is : r .visits ≡ padded 512 0 (map (λ l. stopOf l .visits) lines)
 
 -- what stops are read as from line n on: the arrays hold those read before the refusal, or all
-pub record StopsAt (s : List ℕ) (n : ℕ) (reading : Reading (List Lines.StopLine)) (r : Stops) : Type 0 where
-  pub lines : List Lines.StopLine
+pub record StopsAt (s : List ℕ) (n : ℕ) (reading : Reading (List (List ℤ))) (r : Stops) : Type 0 where
+  pub lines : List (List ℤ)
   pub hold : StopsHold r lines
   pub few : r .count ≤ 512
   pub is : nextIn s lines (n + r .count) (r .next) ≡ reading
 
 -- a line of a count, and the lines that it counts
-unfoldable pub allPosts : Reader (List Query.Place)
-unfolding countLine upTo line repeated _>>=_
+unfoldable pub allPosts : Reader (List (List ℤ))
+unfolding line repeated _>>=_
 allPosts = do
-  n ← line (countLine "posts=") (upTo 64)
-  postLines (natAbs n)
+  n ← line (row posts)
+  postLines (countOf n)
 
-unfoldable pub allStops : Reader (List Lines.StopLine)
-unfolding countLine upTo line repeated _>>=_
+unfoldable pub allStops : Reader (List (List ℤ))
+unfolding line repeated _>>=_
 allStops = do
-  n ← line (countLine "stops=") (upTo 512)
-  stopLines (natAbs n)
+  n ← line (row stops)
+  stopLines (countOf n)
 
 -- the last line, and nothing behind it
-unfoldable pub lastLine : Reader ℤ
-unfolding countLine upTo line end return _>>=_ _>>_
+unfoldable pub lastLine : Reader (List ℤ)
+unfolding line end return _>>=_ _>>_
 lastLine = do
-  rounds ← line (countLine "rounds=") (upTo 1000)
+  n ← line (row rounds)
   end
-  return rounds
+  return n
 
 pub record LastAt (s : List ℕ) (at n : ℕ) (r : CountLine) : Type 0 where
-  pub is : countIn s n r ≡ lastLine n (drop at s)
-  pub within : CountWithin s 1000 r
+  pub is : answerIn s n (countAnswer r) ≡ lastLine n (drop at s)
+  pub within : Within s (countAnswer r)
 
 -- refusals 4, 5 and 6 of what the lines hold, or the job
-pub record CheckedAt (area : Area) (posts : Posts) (stops : Stops) (rounds : ℕ) (r : Job) : Type 0 where
-  pub is : {places : List Query.Place} {lines : List Lines.StopLine} → PostsHold posts places → StopsHold stops lines → r ≡ jobRecord (checked (jobOf (areaOf area) places lines rounds))
+pub record CheckedAt (area : Area) (postsRead : Posts) (stopsRead : Stops) (n : ℕ) (r : Job) : Type 0 where
+  pub is : {ps ss : List (List ℤ)} → PostsHold postsRead ps → StopsHold stopsRead ss → r ≡ jobRecord (checked (jobOf (areaNumbers area) ps ss (pos n ∷ [])))

@@ -1,46 +1,68 @@
 -- How a job is spelled, and which jobs can be.
 -- Assumes nothing.
 use Prim.Native.Nat.{ℕ, _≤_}
-use Prim.Native.String.{String}
 use mathlib.Core.Path.{_≡_}
-use mathlib.Core.List.{List, [], _∷_, flatten, flatMap, List·Memᴰ}
-use lib.IntN.{pos}
+use mathlib.Core.List.{List, [], _∷_, _++_, map, flatMap, List·Memᴰ}
+use lib.Dec.{T}
+use lib.IntN.{ℤ, pos}
 use lib.ListN.{length}
 use Rattle.query.specs.Place.{Place, Rect, NonEmpty}
 use Rattle.query.specs.Deck.{Stop, plain}
-use Rattle.query.specs.Range.{PlaceInRange, RectInRange, StopInRange}
-use Rattle.text.specs.Ascii.{bytes, comma, newline}
+use Rattle.text.specs.Ascii.{bytes}
 use Rattle.text.specs.Decimal.{spellInt}
+use Rattle.job_line.specs.Lines.{Kind, area, posts, post, stops, stop, rounds, row, endOf, inRanges}
 use Rattle.job.specs.Format.{Job}
 
-abbrev pub spellArea : Rect → List ℕ
-spellArea r = flatten (bytes "area=" ∷ spellInt (r .xlo) ∷ (comma ∷ []) ∷ spellInt (r .ylo) ∷ (comma ∷ []) ∷ spellInt (r .xhi) ∷ (comma ∷ []) ∷ spellInt (r .yhi) ∷ (newline ∷ []) ∷ [])
+-- ---- the lines of a job
+-- a line: its kind and its numbers
+pub record JobLine : Type 0 where
+  pub kind : Kind
+  pub numbers : List ℤ
 
-abbrev pub spellCount : String → ℕ → List ℕ
-spellCount name n = flatten (bytes name ∷ spellInt (pos n) ∷ (newline ∷ []) ∷ [])
+-- `area=xlo,ylo,xhi,yhi`
+abbrev pub areaLine : Rect → JobLine
+areaLine r = record { kind = area; numbers = r .xlo ∷ r .ylo ∷ r .xhi ∷ r .yhi ∷ [] }
 
-abbrev pub spellPost : Place → List ℕ
-spellPost p = flatten (bytes "post=" ∷ spellInt (p .x) ∷ (comma ∷ []) ∷ spellInt (p .y) ∷ (newline ∷ []) ∷ [])
+-- `posts=n`, `stops=n`, `rounds=n`
+abbrev pub countLine : Kind → ℕ → JobLine
+countLine kind n = record { kind = kind; numbers = pos n ∷ [] }
 
-abbrev pub spellStop : Stop → List ℕ
-spellStop s = flatten (bytes "stop=" ∷ spellInt (s .at .x) ∷ (comma ∷ []) ∷ spellInt (s .at .y) ∷ (comma ∷ []) ∷ spellInt (pos (s .visits)) ∷ (newline ∷ []) ∷ [])
+-- `post=x,y`
+abbrev pub postLine : Place → JobLine
+postLine p = record { kind = post; numbers = p .x ∷ p .y ∷ [] }
 
--- 01 "A job is lines in this order": the bytes of a job
+-- `stop=x,y,visits`
+abbrev pub stopLine : Stop → JobLine
+stopLine s = record { kind = stop; numbers = s .at .x ∷ s .at .y ∷ pos (s .visits) ∷ [] }
+
+-- 01 "A job is lines in this order": the lines of a job
+abbrev pub linesOf : Job → List JobLine
+linesOf job = areaLine (job .deck .area) ∷ countLine posts (length (job .deck .posts)) ∷ (map postLine (job .deck .posts) ++ (countLine stops (length (job .deck .stops)) ∷ (map stopLine (job .deck .stops) ++ (countLine rounds (job .rounds) ∷ []))))
+
+-- ---- their bytes
+-- numbers, each with its end
+unfoldable pub spellNumbers : List ℤ → List ℕ
+unfolding spellInt
+spellNumbers [] = []
+spellNumbers (n ∷ others) = spellInt n ++ (endOf others ∷ spellNumbers others)
+
+-- the key, then the numbers
+unfoldable pub spellLine : JobLine → List ℕ
+unfolding bytes spellNumbers
+spellLine l = row (l .kind) .key ++ spellNumbers (l .numbers)
+
+-- a job's bytes: its lines, one after the other
 unfoldable pub spell : Job → List ℕ
-unfolding flatten flatMap bytes spellInt
-spell job = flatten (spellArea (job .deck .area) ∷ spellCount "posts=" (length (job .deck .posts)) ∷ flatMap spellPost (job .deck .posts) ∷ spellCount "stops=" (length (job .deck .stops)) ∷ flatMap spellStop (job .deck .stops) ∷ spellCount "rounds=" (job .rounds) ∷ [])
+unfolding flatMap spellLine
+spell job = flatMap spellLine (linesOf job)
 
--- the jobs whose every value is in the range of its line. The area may be empty, and posts and stops may be none
+-- ---- which jobs can be spelled
+-- those whose every line has its numbers in range. The area may be empty, and posts and stops may be none
 pub record Writable (job : Job) : Type 0 where
   pub plain-axis : job .deck .axis ≡ plain
-  pub area : RectInRange (job .deck .area)
-  pub posts : (p : Place) → List·Memᴰ p (job .deck .posts) → PlaceInRange p
-  pub most-posts : length (job .deck .posts) ≤ 64
-  pub stops : (stop : Stop) → List·Memᴰ stop (job .deck .stops) → StopInRange stop
-  pub most-stops : length (job .deck .stops) ≤ 512
-  pub rounds : job .rounds ≤ 1000
+  pub in-ranges : (l : JobLine) → List·Memᴰ l (linesOf job) → T (inRanges (row (l .kind) .ranges) (l .numbers))
 
--- the jobs that document 01 allows: 1 to 64 posts, 1 to 512 stops and a non-empty area besides
+-- those that document 01 allows: 1 to 64 posts, 1 to 512 stops and a non-empty area besides
 pub record Allowed (job : Job) : Type 0 where
   pub writable : Writable job
   pub area-full : NonEmpty (job .deck .area)

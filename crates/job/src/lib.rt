@@ -10,8 +10,8 @@ use refusal::Refusal;
 ghost use mathlib.Core.Path.{_≡_};
 ghost use Prim.Native.Nat.{_+_, _≤_};
 ghost use lib.ListN.{drop};
-ghost use Rattle.job_line.specs.Reading.{areaOf};
-ghost use Rattle.job.specs.Format.{emptyArea, readJob, refused};
+ghost use Rattle.job_line.specs.Reading.{areaNumbers};
+ghost use Rattle.job.specs.Format.{areaOf, emptyArea, readJob, refused};
 ghost use Rattle.job.specs.Record.{jobRecord};
 ghost use Rattle.job.specs.Parts.{postLines, stopLines, PostsAt, StopsAt, allPosts, allStops, LastAt, CheckedAt};
 
@@ -183,7 +183,7 @@ fn last_line(s: &[u8], at: usize, line: u64) -> CountLine
 
 // Refusal 4: the area has no point.
 fn empty_area(a: Area) -> bool
-    ensures { λ r. ⌜ r ≡ emptyArea (areaOf a) ⌝ }
+    ensures { λ r. ⌜ r ≡ emptyArea (areaOf (areaNumbers a)) ⌝ }
 {
     if a.xhi < a.xlo { true } else { a.yhi < a.ylo }
 }

@@ -2,14 +2,13 @@
 -- Assumes nothing.
 use mathlib.Core.Path.{_≡_, refl, sym, ap, _∙_}
 use mathlib.Core.List.{List}
-use Prim.Native.Nat.{ℕ, _-_, _≤_}
+use Prim.Native.Nat.{ℕ, _-_}
 use native.Mathlib.Omega.{arith}
-use lib.IntN.{ℤ, natAbs}
-use lib.ListN.{length, drop, length-drop}
-use Rattle.query.specs.Place.{Place, Rect}
-use Rattle.job_line.specs.Lines as Lines
+use lib.IntN.{ℤ, pos, natAbs}
+use lib.ListN.{length, getD, length-drop}
+use Rattle.job_line.specs.Lines.{Row}
 use Rattle.job_line.specs.OneLine.{Reading, fault, got}
-use Rattle.job_line.specs.Reading.{areaIn, countIn, postIn, stopIn, AreaWithin, CountWithin, PostWithin, StopWithin, AreaAt, CountAt, PostAt, StopAt}
+use Rattle.job_line.specs.Reading.{Answer, read, refused, areaAnswer, countAnswer, postAnswer, stopAnswer, answerIn, Within, LineAt}
 use Rattle.job_line.specs.declared.AreaLine.{AreaLine}
 use Rattle.job_line.specs.declared.AreaLine.the-variants as A
 use Rattle.job_line.specs.declared.CountLine.{CountLine}
@@ -19,57 +18,63 @@ use Rattle.job_line.specs.declared.PostLine.the-variants as P
 use Rattle.job_line.specs.declared.StopLine.{StopLine}
 use Rattle.job_line.specs.declared.StopLine.the-variants as S
 
-module _ (s : List ℕ) where
-  -- the place from which on a text is this
-  abbrev placeOf : List ℕ → ℕ
-  placeOf bs = length s - length bs
+-- ---- the answer that stands for a reading
+abbrev answerBack : List ℕ → Reading (List ℤ) → Answer
+answerBack s (fault why) = refused why
+answerBack s (got ns n bs) = read ns (length s - length bs)
 
-  place-back : {at : ℕ} → at ≤ length s → at ≡ placeOf (drop at s)
-  place-back {at} h = omega (arith, length-drop at s)
+answer-back : (s : List ℕ) (n : ℕ) (r : Answer) → Within s r → r ≡ answerBack s (answerIn s n r)
+answer-back s n (read ns next) h = ap (read ns) (omega (arith, length-drop next s))
+answer-back s n (refused why) h = refl
 
-  -- ---- the answer that stands for a reading
-  abbrev areaBack : Reading Rect → AreaLine
-  areaBack (fault why) = A.Refused why
-  areaBack (got a n bs) = A.Read (record { xlo = a .xlo; ylo = a .ylo; xhi = a .xhi; yhi = a .yhi }) (placeOf bs)
+one-answer : {row : Row} {s : List ℕ} {at n : ℕ} {r r′ : Answer} → LineAt row s at n r → LineAt row s at n r′ → r ≡ r′
+one-answer {row} {s} {at} {n} {r} {r′} p q = answer-back s n r (p .within) ∙ ap (answerBack s) (p .is ∙ sym (q .is)) ∙ sym (answer-back s n r′ (q .within))
 
-  area-back : (n : ℕ) (r : AreaLine) → AreaWithin s r → r ≡ areaBack (areaIn s n r)
-  area-back n (A.Read a next) h = ap (A.Read a) (place-back h)
-  area-back n (A.Refused why) h = refl
+-- ---- as the code has it
+abbrev number : List ℤ → ℕ → ℤ
+number ns i = getD ns i (pos 0)
 
-  abbrev countBack : Reading ℤ → CountLine
-  countBack (fault why) = C.Refused why
-  countBack (got z n bs) = C.Read (natAbs z) (placeOf bs)
+abbrev areaBack : Answer → AreaLine
+areaBack (read ns next) = A.Read (record { xlo = number ns 0; ylo = number ns 1; xhi = number ns 2; yhi = number ns 3 }) next
+areaBack (refused why) = A.Refused why
 
-  count-back : (most n : ℕ) (r : CountLine) → CountWithin s most r → r ≡ countBack (countIn s n r)
-  count-back most n (C.Read count next) h = ap (C.Read count) (place-back (h .1))
-  count-back most n (C.Refused why) h = refl
+area-back : (r : AreaLine) → areaBack (areaAnswer r) ≡ r
+area-back (A.Read a next) = refl
+area-back (A.Refused why) = refl
 
-  abbrev postBack : Reading Place → PostLine
-  postBack (fault why) = P.Refused why
-  postBack (got p n bs) = P.Read (p .x) (p .y) (placeOf bs)
+abbrev countBack : Answer → CountLine
+countBack (read ns next) = C.Read (natAbs (number ns 0)) next
+countBack (refused why) = C.Refused why
 
-  post-back : (n : ℕ) (r : PostLine) → PostWithin s r → r ≡ postBack (postIn s n r)
-  post-back n (P.Read x y next) h = ap (P.Read x y) (place-back h)
-  post-back n (P.Refused why) h = refl
+count-back : (r : CountLine) → countBack (countAnswer r) ≡ r
+count-back (C.Read count next) = refl
+count-back (C.Refused why) = refl
 
-  abbrev stopBack : Reading Lines.StopLine → StopLine
-  stopBack (fault why) = S.Refused why
-  stopBack (got l n bs) = S.Read (l .at .x) (l .at .y) (natAbs (l .visits)) (placeOf bs)
+abbrev postBack : Answer → PostLine
+postBack (read ns next) = P.Read (number ns 0) (number ns 1) next
+postBack (refused why) = P.Refused why
 
-  stop-back : (n : ℕ) (r : StopLine) → StopWithin s r → r ≡ stopBack (stopIn s n r)
-  stop-back n (S.Read x y visits next) h = ap (S.Read x y visits) (place-back h)
-  stop-back n (S.Refused why) h = refl
+post-back : (r : PostLine) → postBack (postAnswer r) ≡ r
+post-back (P.Read x y next) = refl
+post-back (P.Refused why) = refl
 
--- ---- one answer
-module _ {s : List ℕ} {at n : ℕ} where
-  pub one-area : {r r′ : AreaLine} → AreaAt s at n r → AreaAt s at n r′ → r ≡ r′
-  one-area {r} {r′} p q = area-back s n r (p .within) ∙ ap (areaBack s) (p .is ∙ sym (q .is)) ∙ sym (area-back s n r′ (q .within))
+abbrev stopBack : Answer → StopLine
+stopBack (read ns next) = S.Read (number ns 0) (number ns 1) (natAbs (number ns 2)) next
+stopBack (refused why) = S.Refused why
 
-  pub one-count : {name : List ℕ} {most : ℕ} {r r′ : CountLine} → CountAt s at name most n r → CountAt s at name most n r′ → r ≡ r′
-  one-count {name} {most} {r} {r′} p q = count-back s most n r (p .within) ∙ ap (countBack s) (p .is ∙ sym (q .is)) ∙ sym (count-back s most n r′ (q .within))
+stop-back : (r : StopLine) → stopBack (stopAnswer r) ≡ r
+stop-back (S.Read x y visits next) = refl
+stop-back (S.Refused why) = refl
 
-  pub one-post : {r r′ : PostLine} → PostAt s at n r → PostAt s at n r′ → r ≡ r′
-  one-post {r} {r′} p q = post-back s n r (p .within) ∙ ap (postBack s) (p .is ∙ sym (q .is)) ∙ sym (post-back s n r′ (q .within))
+module _ {row : Row} {s : List ℕ} {at n : ℕ} where
+  pub one-area : {r r′ : AreaLine} → LineAt row s at n (areaAnswer r) → LineAt row s at n (areaAnswer r′) → r ≡ r′
+  one-area {r} {r′} p q = sym (area-back r) ∙ ap areaBack (one-answer p q) ∙ area-back r′
 
-  pub one-stop : {r r′ : StopLine} → StopAt s at n r → StopAt s at n r′ → r ≡ r′
-  one-stop {r} {r′} p q = stop-back s n r (p .within) ∙ ap (stopBack s) (p .is ∙ sym (q .is)) ∙ sym (stop-back s n r′ (q .within))
+  pub one-count : {r r′ : CountLine} → LineAt row s at n (countAnswer r) → LineAt row s at n (countAnswer r′) → r ≡ r′
+  one-count {r} {r′} p q = sym (count-back r) ∙ ap countBack (one-answer p q) ∙ count-back r′
+
+  pub one-post : {r r′ : PostLine} → LineAt row s at n (postAnswer r) → LineAt row s at n (postAnswer r′) → r ≡ r′
+  one-post {r} {r′} p q = sym (post-back r) ∙ ap postBack (one-answer p q) ∙ post-back r′
+
+  pub one-stop : {r r′ : StopLine} → LineAt row s at n (stopAnswer r) → LineAt row s at n (stopAnswer r′) → r ≡ r′
+  one-stop {r} {r′} p q = sym (stop-back r) ∙ ap stopBack (one-answer p q) ∙ stop-back r′

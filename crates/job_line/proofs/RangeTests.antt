@@ -1,28 +1,21 @@
--- The tests of ranges, part by part.
+-- The tests of ranges, number by number.
 -- Assumes nothing.
 use mathlib.Core.Path.{_≡_, refl, sym, ap, _∙_}
 use mathlib.Core.Bool.{Bool, true, false, _&&_}
-use Prim.Native.Nat.{ℕ}
+use mathlib.Core.List.{List, [], _∷_}
+use Prim.Native.Nat.{ℕ, _≤_, _<_}
 use native.Mathlib.Omega.{arith}
-use lib.IntN.{ℤ, pos, negsuc}
-use lib.Signed.{leZ}
+use borrow.Author.Tests.{ltb-true, le-leb, lt-leb}
+use lib.Dec.{T}
+use lib.IntN.{ℤ, pos, negsuc, natAbs}
+use lib.Signed.{leZ, ltZ, nonNeg}
 use mir.Syntax.{w64}
 use mir.Val.{SFits}
 use Rattle.numbers.specs.Integer.{between}
-use Rattle.query.specs.Place.{Place, Rect}
-use Rattle.job_line.specs.Lines.{coordinateInRange, placeInRange, areaInRange, stopInRange}
+use Rattle.numbers.proofs.Words.{is-true}
 use Rattle.numbers.proofs.WordTests.{back, back-is}
-
--- the first part of a test decides it, or leaves it to the others
-pub and-on : {a b c : Bool} → a ≡ true → b ≡ c → b ≡ a && c
-and-on p q = rw p q
-
-pub and-off : {a : Bool} (c : Bool) → a ≡ false → false ≡ a && c
-and-off c p = rw p
-
-pub and-second : (a b : Bool) → a && b ≡ true → b ≡ true
-and-second true b e = e
-and-second false b e = let z : _≡_ {A = ℕ} 0 1 = cc in absurd (omega arith)
+use Rattle.numbers.proofs.Truth.{and-left, and-right}
+use Rattle.job_line.specs.Lines.{stop, post, Range, coordinates, visits, upTo, row, inRange, inRanges}
 
 module _ {lo hi v : ℤ} (l : SFits w64 lo) (h : SFits w64 hi) (f : SFits w64 v) where
   pub between-on : leZ (back lo) (back v) ≡ true → leZ (back v) (back hi) ≡ between lo hi v
@@ -33,46 +26,84 @@ module _ {lo hi v : ℤ} (l : SFits w64 lo) (h : SFits w64 hi) (f : SFits w64 v)
   unfolding between
   between-off t = let t = rw (back-is l, back-is f) at t in rw t
 
-pub coordinate-held : {v : ℤ} {r : Bool} → SFits w64 v → r ≡ between (negsuc 19999) (pos 20000) (back v) → r ≡ coordinateInRange v
-unfolding coordinateInRange
-coordinate-held f e = rw (back-is f) at e
+pub range-held : (range : Range) {v : ℤ} {r : Bool} → SFits w64 v → r ≡ between (range .low) (range .high) (back v) → r ≡ inRange range v
+unfolding inRange
+range-held range f e = rw (back-is f) at e
 
--- a place whose numbers x and y were tested in this order
-module _ {p : Place} (f : SFits w64 (p .x)) (g : SFits w64 (p .y)) {r : Bool} (first : r ≡ coordinateInRange (back (p .x))) where
-  pub place-on : {t : Bool} → r ≡ true → t ≡ coordinateInRange (back (p .y)) → t ≡ placeInRange p
-  unfolding placeInRange
-  place-on on second = second ∙ rw (back-is g) (and-on (sym (first ∙ ap coordinateInRange (back-is f)) ∙ on) refl)
+-- ---- numbers, one after the other
+pub record Tested (ranges : List Range) (ns : List ℤ) (r : Bool) : Type 0 where
+  pub is : r ≡ inRanges ranges ns
 
-  pub place-off : r ≡ false → false ≡ placeInRange p
-  unfolding placeInRange
-  place-off off = and-off (coordinateInRange (p .y)) (sym (first ∙ ap coordinateInRange (back-is f)) ∙ off)
+pub all-tested : (ranges : List Range) (ns : List ℤ) {r : Bool} → Tested ranges ns r → r ≡ inRanges ranges ns
+all-tested ranges ns t = t .is
 
--- a coordinate that was tested
-pub tested : {v : ℤ} {r t : Bool} → SFits w64 v → r ≡ coordinateInRange (back v) → r ≡ t → coordinateInRange v ≡ t
-tested f e t = sym (e ∙ ap coordinateInRange (back-is f)) ∙ t
+-- the first of them was tested
+module _ {n : ℤ} {r : Bool} (f : SFits w64 n) where
+  first : (range : Range) → r ≡ inRange range (back n) → {t : Bool} → r ≡ t → inRange range n ≡ t
+  first range e g = sym (e ∙ ap (inRange range) (back-is f)) ∙ g
 
-module _ (a : Rect) where
-  pub area-xlo : coordinateInRange (a .xlo) ≡ false → false ≡ areaInRange a
-  unfolding areaInRange
-  area-xlo e = rw e
+  pub ranges-off : {range : Range} {ranges : List Range} {ns : List ℤ} → r ≡ inRange range (back n) → r ≡ false → Tested (range ∷ ranges) (n ∷ ns) false
+  unfolding inRanges
+  ranges-off {range} e g = record { is = rw (first range e g) }
 
-  pub area-ylo : coordinateInRange (a .xlo) ≡ true → coordinateInRange (a .ylo) ≡ false → false ≡ areaInRange a
-  unfolding areaInRange
-  area-ylo d e = rw (d, e)
+  pub ranges-on : {range : Range} {ranges : List Range} {ns : List ℤ} {t : Bool} → r ≡ inRange range (back n) → r ≡ true → Tested ranges ns t → Tested (range ∷ ranges) (n ∷ ns) t
+  unfolding inRanges
+  ranges-on {range} e g others = record { is = rw (first range e g) (others .is) }
 
-  pub area-xhi : coordinateInRange (a .xlo) ≡ true → coordinateInRange (a .ylo) ≡ true → coordinateInRange (a .xhi) ≡ false → false ≡ areaInRange a
-  unfolding areaInRange
-  area-xhi d e f = rw (d, e, f)
+  pub ranges-last : {range : Range} → r ≡ inRange range (back n) → Tested (range ∷ []) (n ∷ []) r
+  unfolding inRanges
+  ranges-last {range} e = record { is = rw (first range e refl) (go r) }
+    where
+      go : (t : Bool) → t ≡ t && true
+      go true = refl
+      go false = refl
 
-  pub area-yhi : {t : Bool} → coordinateInRange (a .xlo) ≡ true → coordinateInRange (a .ylo) ≡ true → coordinateInRange (a .xhi) ≡ true → coordinateInRange (a .yhi) ≡ t → t ≡ areaInRange a
-  unfolding areaInRange
-  area-yhi d e f g = rw (d, e, f, g)
+-- ---- a stop's numbers: its place, tested first, and its visits
+module _ (x y v : ℤ) {r : Bool} (place : r ≡ inRanges (row post .ranges) (x ∷ y ∷ [])) where
+  pub stop-on : {t : Bool} → r ≡ true → t ≡ inRange visits v → t ≡ inRanges (row stop .ranges) (x ∷ y ∷ v ∷ [])
+  unfolding inRanges
+  stop-on on e = e ∙ go (inRange coordinates x) (inRange coordinates y) (inRange visits v) (sym place ∙ on)
+    where
+      go : (a b c : Bool) → a && (b && true) ≡ true → c ≡ a && (b && (c && true))
+      go true true true e = refl
+      go true true false e = refl
+      go true false c e = absurd (is-true _ e)
+      go false b c e = absurd (is-true _ e)
 
-module _ (p : Place) {v : ℤ} (f : SFits w64 v) {r : Bool} (first : r ≡ placeInRange p) where
-  pub stop-on : {t : Bool} → r ≡ true → t ≡ between (pos 1) (pos 65535) (back v) → t ≡ stopInRange (record { at = p; visits = v })
-  unfolding stopInRange
-  stop-on on second = second ∙ rw (back-is f) (and-on (sym first ∙ on) refl)
+  pub stop-off : r ≡ false → false ≡ inRanges (row stop .ranges) (x ∷ y ∷ v ∷ [])
+  unfolding inRanges
+  stop-off off = go (inRange coordinates x) (inRange coordinates y) (inRange visits v) (sym place ∙ off)
+    where
+      go : (a b c : Bool) → a && (b && true) ≡ false → false ≡ a && (b && (c && true))
+      go true true c e = absurd (is-true _ (sym e))
+      go true false c e = refl
+      go false b c e = refl
 
-  pub stop-off : r ≡ false → false ≡ stopInRange (record { at = p; visits = v })
-  unfolding stopInRange
-  stop-off off = and-off (between (pos 1) (pos 65535) v) (sym first ∙ off)
+-- visits in range are not negative
+pub stop-natural : (x y v : ℤ) → inRanges (row stop .ranges) (x ∷ y ∷ v ∷ []) ≡ true → T (nonNeg v)
+unfolding inRanges
+stop-natural x y v e = go v (and-left (inRange visits v) true (and-right (inRange coordinates y) _ (and-right (inRange coordinates x) _ (is-true _ e))))
+  where
+    go : (v : ℤ) → T (inRange visits v) → T (nonNeg v)
+    go (pos v) t = tt
+    go (negsuc v) t = absurd t
+
+-- ---- a count
+pub natural : (z : ℤ) → ltZ z (pos 0) ≡ false → T (nonNeg z)
+natural (pos n) e = tt
+natural (negsuc n) e = absurd (is-true _ (sym e))
+
+pub count-below : (most : ℕ) (z : ℤ) → ltZ z (pos 0) ≡ true → inRanges (upTo most ∷ []) (z ∷ []) ≡ false
+unfolding inRanges
+count-below most (pos n) e = absurd (omega (arith, ltb-true n 0 e))
+count-below most (negsuc n) e = refl
+
+pub count-above : (most : ℕ) (z : ℤ) → T (nonNeg z) → most < natAbs z → inRanges (upTo most ∷ []) (z ∷ []) ≡ false
+unfolding inRanges
+count-above most (pos n) t h = rw (le-leb 0 n (omega arith), lt-leb n most h)
+count-above most (negsuc n) t h = absurd t
+
+pub count-within : (most : ℕ) (z : ℤ) → T (nonNeg z) → natAbs z ≤ most → inRanges (upTo most ∷ []) (z ∷ []) ≡ true
+unfolding inRanges
+count-within most (pos n) t h = rw (le-leb 0 n (omega arith), le-leb n most h)
+count-within most (negsuc n) t h = absurd t

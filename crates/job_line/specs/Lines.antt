@@ -1,75 +1,80 @@
--- Document 01, "Job and report": the form and the ranges of each line of a job.
+-- Document 01, "Job and report": the lines of a job in one table, and the form and the ranges that a line has by its row.
 -- Assumes nothing.
 use Prim.Native.Nat.{ℕ}
-use Prim.Native.String.{String}
-use mathlib.Core.Bool.{Bool, _&&_}
+use mathlib.Core.Bool.{Bool, true, false, _&&_}
+use mathlib.Core.List.{List, [], _∷_}
 use lib.IntN.{ℤ, pos, negsuc}
 use Rattle.numbers.specs.Integer.{between}
-use Rattle.query.specs.Place.{Place, Rect}
 use Rattle.text.specs.Ascii.{bytes, comma, newline}
 use Rattle.job_line.specs.Form.{Form, _>>=_, _>>_, return, key, field}
 
--- a stop line's numbers: its place, and the visits as they are written
-pub record StopLine : Type 0 where
-  pub at : Place
-  pub visits : ℤ
+-- ---- the table
+-- the kinds of lines
+pub data Kind : Type 0 where
+  area posts post stops stop rounds : Kind
 
--- `area=xlo,ylo,xhi,yhi`
-unfoldable pub areaLine : Form Rect
-unfolding bytes key field return _>>=_ _>>_
-areaLine = do
-  key (bytes "area=")
-  xlo ← field comma
-  ylo ← field comma
-  xhi ← field comma
-  yhi ← field newline
-  return (record { xlo = xlo; ylo = ylo; xhi = xhi; yhi = yhi })
+-- the numbers from low to high, both included
+pub record Range : Type 0 where
+  pub low : ℤ
+  pub high : ℤ
 
--- `posts=n`, `stops=n`, `rounds=n`
-unfoldable pub countLine : String → Form ℤ
-unfolding bytes key field return _>>=_ _>>_
-countLine name = do
-  key (bytes name)
-  field newline
+-- 01 "Coordinates are .. −20,000 to 20,000"
+abbrev pub coordinates : Range
+coordinates = record { low = negsuc 19999; high = pos 20000 }
 
--- `post=x,y`
-unfoldable pub postLine : Form Place
-unfolding bytes key field return _>>=_ _>>_
-postLine = do
-  key (bytes "post=")
-  x ← field comma
-  y ← field newline
-  return (record { x = x; y = y })
+-- 01 "each with 1 to 65,535 visits"
+abbrev pub visits : Range
+visits = record { low = pos 1; high = pos 65535 }
 
--- `stop=x,y,visits`
-unfoldable pub stopLine : Form StopLine
-unfolding bytes key field return _>>=_ _>>_
-stopLine = do
-  key (bytes "stop=")
-  x ← field comma
-  y ← field comma
-  visits ← field newline
-  return (record { at = record { x = x; y = y }; visits = visits })
+-- 01 "posts may be written 0 to 64 and stops 0 to 512"; "Rounds: 0 to 1,000"
+abbrev pub upTo : ℕ → Range
+upTo most = record { low = pos 0; high = pos most }
 
--- "Coordinates are .. −20,000 to 20,000"
-unfoldable pub coordinateInRange : ℤ → Bool
+-- a row of the table: a line's key, and the range of each of its numbers, in order
+pub record Row : Type 0 where
+  pub key : List ℕ
+  pub ranges : List Range
+
+-- 01 `area=xlo,ylo,xhi,yhi`, `posts=n`, `post=x,y`, `stops=n`, `stop=x,y,visits`, `rounds=n`
+abbrev pub row : Kind → Row
+row area = record { key = bytes "area="; ranges = coordinates ∷ coordinates ∷ coordinates ∷ coordinates ∷ [] }
+row posts = record { key = bytes "posts="; ranges = upTo 64 ∷ [] }
+row post = record { key = bytes "post="; ranges = coordinates ∷ coordinates ∷ [] }
+row stops = record { key = bytes "stops="; ranges = upTo 512 ∷ [] }
+row stop = record { key = bytes "stop="; ranges = coordinates ∷ coordinates ∷ visits ∷ [] }
+row rounds = record { key = bytes "rounds="; ranges = upTo 1000 ∷ [] }
+
+-- ---- a line by its row
+-- the byte that ends a number: a comma where others follow; 01 "each ended by byte 10" behind the last
+abbrev pub endOf : {A : Type 0} → List A → ℕ
+endOf [] = newline
+endOf (other ∷ others) = comma
+
+-- as many numbers as ranges, each with its end
+unfoldable pub numbers : List Range → Form (List ℤ)
+unfolding field return _>>=_
+numbers [] = return []
+numbers (range ∷ others) = do
+  n ← field (endOf others)
+  ns ← numbers others
+  return (n ∷ ns)
+
+-- the key, then the numbers
+unfoldable pub formOf : Row → Form (List ℤ)
+unfolding bytes key numbers _>>_
+formOf row = do
+  key (row .key)
+  numbers (row .ranges)
+
+-- 01 refusal 3, "a value out of range", is where a number is not in its range
+unfoldable pub inRange : Range → ℤ → Bool
 unfolding between
-coordinateInRange v = between (negsuc 19999) (pos 20000) v
+inRange range n = between (range .low) (range .high) n
 
-unfoldable pub placeInRange : Place → Bool
-unfolding coordinateInRange
-placeInRange p = coordinateInRange (p .x) && coordinateInRange (p .y)
-
-unfoldable pub areaInRange : Rect → Bool
-unfolding coordinateInRange
-areaInRange r = coordinateInRange (r .xlo) && coordinateInRange (r .ylo) && coordinateInRange (r .xhi) && coordinateInRange (r .yhi)
-
--- "each with 1 to 65,535 visits"
-unfoldable pub stopInRange : StopLine → Bool
-unfolding placeInRange between
-stopInRange s = placeInRange (s .at) && between (pos 1) (pos 65535) (s .visits)
-
--- "posts may be written 0 to 64 and stops 0 to 512"; "Rounds: 0 to 1,000"
-unfoldable pub upTo : ℕ → ℤ → Bool
-unfolding between
-upTo most n = between (pos 0) (pos most) n
+-- as many numbers as ranges, each in its own
+unfoldable pub inRanges : List Range → List ℤ → Bool
+unfolding inRange
+inRanges [] [] = true
+inRanges [] (n ∷ ns) = false
+inRanges (range ∷ ranges) [] = false
+inRanges (range ∷ ranges) (n ∷ ns) = inRange range n && inRanges ranges ns

@@ -1,10 +1,11 @@
 -- One line of a job: first by its form (refusal 2), then by its ranges (refusal 3), with lines counted from 1.
 -- Assumes nothing.
 use Prim.Native.Nat.{ℕ, _+_}
-use mathlib.Core.Bool.{Bool, cond}
+use mathlib.Core.Bool.{cond}
 use mathlib.Core.List.{List}
 use mathlib.Core.Option.{Option, none, some}
-use Rattle.job_line.specs.Form.{Form}
+use lib.IntN.{ℤ}
+use Rattle.job_line.specs.Lines.{Row, formOf, inRanges}
 use Rattle.refusal.specs.declared.Refusal.{Refusal}
 use Rattle.refusal.specs.declared.Refusal.the-variants.{Malformed, OutOfRange}
 
@@ -17,9 +18,11 @@ abbrev pub Reader : Type 0 → Type 0
 Reader A = ℕ → List ℕ → Reading A
 
 -- 01 "2 before 3 in a line"
-abbrev pub lineResult : {A : Type 0} → (A → Bool) → ℕ → Option (A × List ℕ) → Reading A
-lineResult inRange n none = fault (Malformed n)
-lineResult inRange n (some r) = cond (inRange (r .0)) (got (r .0) (n + 1) (r .1)) (fault (OutOfRange n))
+abbrev pub lineResult : Row → ℕ → Option (List ℤ × List ℕ) → Reading (List ℤ)
+lineResult row n none = fault (Malformed n)
+lineResult row n (some r) = cond (inRanges (row .ranges) (r .0)) (got (r .0) (n + 1) (r .1)) (fault (OutOfRange n))
 
-unfoldable pub line : {A : Type 0} → Form A → (A → Bool) → Reader A
-line form inRange n bs = lineResult inRange n (form bs)
+-- the numbers of a line that has this row
+unfoldable pub line : Row → Reader (List ℤ)
+unfolding formOf inRanges
+line row n bs = lineResult row n (formOf row bs)

@@ -4,8 +4,9 @@ use refusal::Refusal;
 use text::ParsedNumber;
 ghost use mathlib.Core.Path.{_≡_};
 ghost use Rattle.numbers.specs.Integer.{between};
-ghost use Rattle.job_line.specs.Lines.{coordinateInRange, placeInRange, areaInRange, stopInRange};
-ghost use Rattle.job_line.specs.Reading.{areaOf, placeOf, stopLineOf, FieldAt, AreaAt, CountAt, PostAt, StopAt};
+ghost use mathlib.Core.List.{_∷_, []};
+ghost use Rattle.job_line.specs.Lines.{area, post, stop, coordinates, row, inRange, inRanges};
+ghost use Rattle.job_line.specs.Reading.{areaNumbers, placeNumbers, FieldAt, areaAnswer, countAnswer, postAnswer, stopAnswer, LineAt, countRow};
 
 // An area and a place as a line has them.
 pub struct Area {
@@ -50,13 +51,13 @@ fn between(lo: i64, hi: i64, v: i64) -> bool
 }
 
 fn coordinate_in_range(v: i64) -> bool
-    ensures { λ r. ⌜ r ≡ coordinateInRange v ⌝ }
+    ensures { λ r. ⌜ r ≡ inRange coordinates v ⌝ }
 {
     between(-20000, 20000, v)
 }
 
 fn place_in_range(p: Place) -> bool
-    ensures { λ r. ⌜ r ≡ placeInRange (placeOf p) ⌝ }
+    ensures { λ r. ⌜ r ≡ inRanges (row post .ranges) (placeNumbers p) ⌝ }
 {
     if coordinate_in_range(p.x) {
         coordinate_in_range(p.y)
@@ -66,7 +67,7 @@ fn place_in_range(p: Place) -> bool
 }
 
 fn area_in_range(a: Area) -> bool
-    ensures { λ r. ⌜ r ≡ areaInRange (areaOf a) ⌝ }
+    ensures { λ r. ⌜ r ≡ inRanges (row area .ranges) (areaNumbers a) ⌝ }
 {
     if !coordinate_in_range(a.xlo) {
         return false;
@@ -81,7 +82,7 @@ fn area_in_range(a: Area) -> bool
 }
 
 fn stop_in_range(p: Place, visits: i64) -> bool
-    ensures { λ r. ⌜ r ≡ stopInRange (stopLineOf p visits) ⌝ }
+    ensures { λ r. ⌜ r ≡ inRanges (row stop .ranges) (p .x ∷ p .y ∷ visits ∷ []) ⌝ }
 {
     if place_in_range(p) {
         between(1, 65535, visits)
@@ -110,7 +111,7 @@ fn field(s: &[u8], at: usize, end: u8) -> ParsedNumber
 
 // `area=xlo,ylo,xhi,yhi`
 pub fn area_line(s: &[u8], at: usize, line: u64) -> AreaLine
-    ensures { λ r. ⌜ AreaAt (now (s .entry)) at line r ⌝ }
+    ensures { λ r. ⌜ LineAt (row area) (now (s .entry)) at line (areaAnswer r) ⌝ }
 {
     if !text::starts(s, at, b"area=") {
         return AreaLine::Refused(Refusal::Malformed(line));
@@ -136,7 +137,7 @@ pub fn area_line(s: &[u8], at: usize, line: u64) -> AreaLine
 
 // `posts=n`, `stops=n`, `rounds=n`: a number from 0 to `most` behind `key`.
 pub fn count_line(s: &[u8], at: usize, key: &[u8], most: usize, line: u64) -> CountLine
-    ensures { λ r. ⌜ CountAt (now (s .entry)) at (now (key .entry)) most line r ⌝ }
+    ensures { λ r. ⌜ LineAt (countRow (now (key .entry)) most) (now (s .entry)) at line (countAnswer r) ⌝ }
 {
     if !text::starts(s, at, key) {
         return CountLine::Refused(Refusal::Malformed(line));
@@ -156,7 +157,7 @@ pub fn count_line(s: &[u8], at: usize, key: &[u8], most: usize, line: u64) -> Co
 
 // `post=x,y`
 pub fn post_line(s: &[u8], at: usize, line: u64) -> PostLine
-    ensures { λ r. ⌜ PostAt (now (s .entry)) at line r ⌝ }
+    ensures { λ r. ⌜ LineAt (row post) (now (s .entry)) at line (postAnswer r) ⌝ }
 {
     if !text::starts(s, at, b"post=") {
         return PostLine::Refused(Refusal::Malformed(line));
@@ -175,7 +176,7 @@ pub fn post_line(s: &[u8], at: usize, line: u64) -> PostLine
 
 // `stop=x,y,visits`
 pub fn stop_line(s: &[u8], at: usize, line: u64) -> StopLine
-    ensures { λ r. ⌜ StopAt (now (s .entry)) at line r ⌝ }
+    ensures { λ r. ⌜ LineAt (row stop) (now (s .entry)) at line (stopAnswer r) ⌝ }
 {
     if !text::starts(s, at, b"stop=") {
         return StopLine::Refused(Refusal::Malformed(line));

@@ -8,7 +8,7 @@ use lib.ListN.{length, length-append}
 
 module _ {A : Type 0} where
   -- joined, with one more list behind
-  pub flatten-onto : (ls : List (List A)) (rest : List A) → flatten ls ++ rest ≡ foldr _++_ rest ls
+  flatten-onto : (ls : List (List A)) (rest : List A) → flatten ls ++ rest ≡ foldr _++_ rest ls
   unfolding flatten
   flatten-onto [] rest = refl
   flatten-onto (l ∷ ls) rest = append-assoc l (flatten ls) rest ∙ ap (λ (m : List A). l ++ m) (flatten-onto ls rest)
@@ -16,7 +16,16 @@ module _ {A : Type 0} where
   pub flatten-snoc : (ls : List (List A)) (l rest : List A) → flatten (ls ++ (l ∷ [])) ++ rest ≡ flatten ls ++ (l ++ rest)
   flatten-snoc ls l rest = flatten-onto (ls ++ (l ∷ [])) rest ∙ foldr-append _++_ rest ls (l ∷ []) ∙ sym (flatten-onto ls (l ++ rest))
 
+pub flatMap-append : {A B : Type 0} (f : A → List B) (xs ys : List A) → flatMap f (xs ++ ys) ≡ flatMap f xs ++ flatMap f ys
+unfolding flatMap
+flatMap-append f [] ys = refl
+flatMap-append f (x ∷ xs) ys = ap (λ (l : List _). f x ++ l) (flatMap-append f xs ys) ∙ sym (append-assoc (f x) (flatMap f xs) (flatMap f ys))
+
 -- the same lists, made of other elements
+pub map-each : {A B : Type 0} (f g : A → B) (xs : List A) → ((x : A) → List·Memᴰ x xs → f x ≡ g x) → map f xs ≡ map g xs
+map-each f g [] each = refl
+map-each f g (x ∷ xs) each = ap₂ _∷_ (each x (List·Memᴰ·head refl)) (map-each f g xs (λ y m. each y (List·Memᴰ·tail m)))
+
 pub flatMap-map : {A B C : Type 0} (f : A → List C) (g : B → List C) (h : A → B) (xs : List A) → ((x : A) → List·Memᴰ x xs → f x ≡ g (h x)) → flatMap f xs ≡ flatMap g (map h xs)
 unfolding flatMap
 flatMap-map f g h [] each = refl

@@ -45,6 +45,7 @@ use Rattle.siting.specs.declared.Response.{Response}
 use Rattle.calls.specs.Answers.{gives}
 use Rattle.calls.specs.Call.{turnedDown, reported, reportCall}
 use Rattle.siting.specs.Parts.{stateFor, Solvable, Solved, refusedResponse, Responded}
+use Rattle.job.proofs.JobLaws.{most-rounds}
 use Rattle.job.proofs.ReadDeck.{Spelt, read-accepted, read-rounds, read-deckOf, read-full, sites-ask}
 use Rattle.calls.proofs.Demands.{job-limits, call-accepted}
 
@@ -98,7 +99,7 @@ module _ (job : List ℕ) (j : Held.Job) (e : j ≡ jobRecord (readJob job)) (ro
   rounds-same = read-rounds job j e rounds o spelt
 
   pub rounds-limit : rounds ≤ 1000
-  rounds-limit = omega (arith, rounds-same, spelt .allowed .writable .rounds)
+  rounds-limit = omega (arith, rounds-same, most-rounds (spelt .allowed .writable))
 
   pub solvable : (lent : ℕ) → 5 * (rounds + 1) ≤ lent → Solvable (j .deck) rounds lent
   solvable lent h = let (range, posts, stops) = sites-ask spelt j e in record { range = range; full = read-full spelt j e; posts = posts; stops = stops; rounds-limit = rounds-limit; room = h }

@@ -22,7 +22,6 @@ use Rattle.query.specs.Cost.{cost, before}
 use Rattle.query.specs.Reach.{load}
 use Rattle.query.specs.Bound.{span, bound}
 use Rattle.query.specs.Range.{costLimit, loadLimit}
-use Rattle.job_line.specs.Lines.{placeInRange}
 use Rattle.job.specs.Format.{readJob}
 use Rattle.deck.specs.Sites.{sitesOf}
 use Rattle.pricing.specs.Figures.{costOf, loadOf}
@@ -36,7 +35,7 @@ use Rattle.problem.specs.Problem.{boundOf, Sited, spotOf}
 use Rattle.problem.specs.declared.Spot.{Spot}
 use Rattle.problem.proofs.Coordinates.{spot-back}
 use Rattle.problem.proofs.DeckProblem.{made-bound}
-use Rattle.trial.specs.Opened.{openedRecord, rectAllowed}
+use Rattle.trial.specs.Opened.{openedRecord, placeInRange, rectAllowed}
 use Rattle.trial.specs.Trial.{minusOne, least, beforeFigure, nearFigure, costFigure, loadFigure, boundFigure}
 use Rattle.trial.specs.declared.opened.Opened.{Opened}
 use Rattle.job.proofs.ReadDeck.{Spelt, spelt-range}

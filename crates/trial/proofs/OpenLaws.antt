@@ -14,6 +14,7 @@ use Rattle.job.specs.declared.Job as Held
 use Rattle.deck.specs.declared.Deck.{Deck}
 use Rattle.refusal.specs.declared.Refusal.{Refusal}
 use Rattle.job.specs.declared.Outcome.the-variants.{Accepted}
+use Rattle.job.proofs.JobLaws.{most-rounds}
 use Rattle.job.proofs.Meaning.{accepted-law}
 use Rattle.deck.specs.DeckOf.{deckOf}
 use Rattle.deck.specs.Sites.{sitesOf}
@@ -30,7 +31,7 @@ pub rounds-read : (bytes : List ℕ) (j : Held.Job) (e : j ≡ jobRecord (readJo
 rounds-read bytes j e rounds f =
     let s = read-accepted bytes j e rounds f in
     let g = read-rounds bytes j e rounds f s in
-    (omega (arith, g, s .allowed .writable .rounds), g)
+    (omega (arith, g, most-rounds (s .allowed .writable)), g)
 
 module _ {bytes : List ℕ} (s : Spelt bytes) (j : Held.Job) (e : j ≡ jobRecord (readJob bytes)) where
   pub opened-accepted : (sites : Sites) → sites ≡ sitesRecord (sitesOf (deckOf (j .deck))) → record { accepted = true; deck = j .deck; sites = sites } ≡ openedRecord (readJob bytes)

@@ -10,12 +10,30 @@ use mir.Syntax.{w64}
 use mir.Val.{SFits}
 use Rattle.numbers.proofs.Truth.{and-iff}
 use Rattle.query.specs.Place.{Place, Rect, corner}
-use Rattle.job_line.specs.Lines.{placeInRange}
-use Rattle.job.proofs.RangeLaws.{place-range}
+use Rattle.query.specs.Range.{PlaceInRange}
+use Rattle.job_line.specs.Lines.{coordinates, inRange}
+use Rattle.job.proofs.RangeLaws.{coordinate-range}
 use Rattle.numbers.proofs.WordTests.{back, back-is}
 use Rattle.cuts.specs.CutRecord.{rectOf}
 use Rattle.problem.specs.Problem.{Ranged}
-use Rattle.trial.specs.Opened.{rectAllowed}
+use Rattle.trial.specs.Opened.{placeInRange, rectAllowed}
+
+-- the test holds of the places that are in range, and of no others
+pub place-range : (p : Place) → T (placeInRange p) ↔ PlaceInRange p
+unfolding placeInRange
+place-range p =
+    let both = and-iff (inRange coordinates (p .x)) (inRange coordinates (p .y)) (coordinate-range (p .x)) (coordinate-range (p .y)) in
+    (λ t. record { x-range = both .0 t .0; y-range = both .0 t .1 }, λ h. both .1 (h .x-range, h .y-range))
+
+-- x and y were tested in this order
+module _ {x y : ℤ} (f : SFits w64 x) (g : SFits w64 y) {r : Bool} (first : r ≡ inRange coordinates (back x)) where
+  pub place-on : {t : Bool} → r ≡ true → t ≡ inRange coordinates (back y) → t ≡ placeInRange (record { x = x; y = y })
+  unfolding placeInRange
+  place-on on second = let first = rw (back-is f) at first in second ∙ rw (back-is g, ← first, on)
+
+  pub place-off : r ≡ false → false ≡ placeInRange (record { x = x; y = y })
+  unfolding placeInRange
+  place-off off = let first = rw (back-is f) at first in rw (← first, off)
 
 -- the test holds of the rectangles that are in range and not empty, and of no others
 in-order : (a b : ℤ) → T (leZ a b) ↔ (a ≤ℤ b)

@@ -3,9 +3,9 @@
 use mathlib.Core.Bool.{Bool, true, false, _&&_}
 use mathlib.Core.List.{[]}
 use lib.Signed.{leZ}
-use Rattle.query.specs.Place.{Rect, corner}
+use Rattle.query.specs.Place.{Place, Rect, corner}
 use Rattle.query.specs.Deck as Query
-use Rattle.job_line.specs.Lines.{placeInRange}
+use Rattle.job_line.specs.Lines.{coordinates, inRange}
 use Rattle.job.specs.Format.{Result, refused, accepted}
 use Rattle.deck.specs.DeckOf.{deckRecord, emptyDeck}
 use Rattle.deck.specs.Sites.{sitesOf}
@@ -20,6 +20,11 @@ unfoldable pub openedRecord : Result → Opened
 unfolding openedDeck
 openedRecord (refused why) = record { accepted = false; deck = deckRecord emptyDeck; sites = sitesRecord [] }
 openedRecord (accepted job) = openedDeck (job .deck)
+
+-- a place whose coordinates are in range
+unfoldable pub placeInRange : Place → Bool
+unfolding inRange
+placeInRange p = inRange coordinates (p .x) && inRange coordinates (p .y)
 
 -- a rectangle whose coordinates are in range and whose edges are in order
 unfoldable pub rectAllowed : Rect → Bool

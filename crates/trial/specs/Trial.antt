@@ -16,9 +16,8 @@ use Rattle.query.specs.Grid.{grid}
 use Rattle.query.specs.Cut.{canCut, cutLine}
 use Rattle.refusal.specs.Refusal.{numberOf, lineOf}
 use Rattle.refusal.specs.declared.Refusal.{Refusal}
-use Rattle.job_line.specs.Lines.{placeInRange}
 use Rattle.job.specs.Format.{Job, Result, refused, accepted}
-use Rattle.trial.specs.Opened.{rectAllowed}
+use Rattle.trial.specs.Opened.{placeInRange, rectAllowed}
 
 -- a figure of an accepted job, and none where the job is refused
 abbrev pub onJob : {A : Type 0} → A → (Job → A) → Result → A

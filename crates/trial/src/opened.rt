@@ -10,7 +10,7 @@ ghost use lib.Dec.{T};
 ghost use Rattle.query.specs.Lines.{lines};
 ghost use Rattle.query.specs.Grid.{grid};
 ghost use Rattle.query.specs.Range.{loadLimit};
-ghost use Rattle.job_line.specs.Lines.{coordinateInRange, placeInRange};
+ghost use Rattle.job_line.specs.Lines.{coordinates, inRange};
 ghost use Rattle.job.specs.Format.{readJob};
 ghost use Rattle.deck.specs.DeckOf.{deckOf};
 ghost use Rattle.lines.specs.LineRecord.{linesRecord};
@@ -18,7 +18,7 @@ ghost use Rattle.cuts.specs.CutRecord.{rectOf, cutRecord};
 ghost use Rattle.pricing.specs.Columns.{siteRows, Figure};
 ghost use Rattle.pricing.specs.Figures.{loadOf};
 ghost use Rattle.problem.specs.Problem.{boundOf, Sited, Prepared};
-ghost use Rattle.trial.specs.Opened.{openedRecord, rectAllowed};
+ghost use Rattle.trial.specs.Opened.{openedRecord, placeInRange, rectAllowed};
 ghost use Rattle.trial.specs.Trial.{axisOf};
 
 // A job that was read, and the sites of its deck; none where it is refused.
@@ -64,7 +64,7 @@ pub fn open_job(bytes: &[u8]) -> Opened
 // ---- ranges
 
 fn coordinate_in_range(v: i64) -> bool
-    ensures { λ r. ⌜ r ≡ coordinateInRange v ⌝ }
+    ensures { λ r. ⌜ r ≡ inRange coordinates v ⌝ }
 {
     if -20000 <= v { v <= 20000 } else { false }
 }

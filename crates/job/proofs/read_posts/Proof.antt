@@ -3,8 +3,7 @@
 use native.Mathlib.Omega.{arith}
 use borrow.Author.Needs.{needs}
 use Rattle.text.specs.Ascii.{bytes}
-use Rattle.job.specs.Parts.{postLines}
-use Rattle.job.proofs.PartLaws.{counted-most, all-posts, all-posts-refused}
+use Rattle.job.proofs.PartLaws.{posts-most, all-posts, all-posts-refused}
 use Rattle.job.proofs.read_posts.Statement.{statement}
 use Rattle.job.proofs.read_posts.Tie as tie
 
@@ -22,7 +21,7 @@ add-post-lines c = search needs
 
 post-lines-requires : tie.Need-post-lines-requires
 unfolding bytes
-post-lines-requires c κs = (counted-most "posts=" (λ z. postLines 0) (c .before .before .before .count-line .ensures) (c .before .count .given .1), omega arith)
+post-lines-requires c κs = (posts-most (c .before .before .before .count-line .ensures) (c .before .count .given .1), omega arith)
 
 enum-known-why : tie.Need-enum-known-why
 enum-known-why c = search needs

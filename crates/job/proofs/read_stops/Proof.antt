@@ -3,8 +3,7 @@
 use native.Mathlib.Omega.{arith}
 use borrow.Author.Needs.{needs}
 use Rattle.text.specs.Ascii.{bytes}
-use Rattle.job.specs.Parts.{stopLines}
-use Rattle.job.proofs.PartLaws.{counted-most, all-stops, all-stops-refused}
+use Rattle.job.proofs.PartLaws.{stops-most, all-stops, all-stops-refused}
 use Rattle.job.proofs.read_stops.Statement.{statement}
 use Rattle.job.proofs.read_stops.Tie as tie
 
@@ -22,7 +21,7 @@ add-stop-lines c = search needs
 
 stop-lines-requires : tie.Need-stop-lines-requires
 unfolding bytes
-stop-lines-requires c κs = (counted-most "stops=" (λ z. stopLines 0) (c .before .before .before .count-line .ensures) (c .before .count .given .1), omega arith)
+stop-lines-requires c κs = (stops-most (c .before .before .before .count-line .ensures) (c .before .count .given .1), omega arith)
 
 enum-known-why : tie.Need-enum-known-why
 enum-known-why c = search needs

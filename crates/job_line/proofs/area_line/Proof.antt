@@ -1,10 +1,11 @@
 -- `job_line::area_line` meets its contract.
 -- Assumes nothing.
+use mathlib.Core.Path.{sym, _∙_}
 use native.Mathlib.Omega.{arith}
 use borrow.Author.Needs.{needs}
 use borrow.Author.Tests.{not-true, not-false}
 use Rattle.text.specs.Ascii.{bytes}
-use Rattle.job_line.proofs.LineLaws.{after-key, area-key, area-xlo, area-ylo, area-xhi, area-yhi, area-out, area-in}
+use Rattle.job_line.proofs.LineLaws.{after-key, no-number, number-then-none, number-then, last-number, no-key, key-then, malformed, out-of-range, line-read, field-inside}
 use Rattle.job_line.proofs.area_line.Statement.{statement}
 use Rattle.job_line.proofs.area_line.Tie as tie
 
@@ -16,7 +17,7 @@ starts-requires c κs = search needs
 
 returns : tie.Need-returns
 unfolding bytes
-returns c = area-key _ (c .before .starts .ensures) (not-true _ (c .if1 .taken))
+returns c = malformed (no-key (c .before .starts .ensures) (not-true _ (c .if1 .taken)))
 
 add-field : tie.Need-add-field
 add-field c = omega (arith, after-key (c .before .starts .ensures) (not-false _ (c .if1 .left)))
@@ -34,7 +35,8 @@ returns-2 : tie.Need-returns-2
 unfolding bytes
 returns-2 c =
     let d = c .before .before in
-    area-xlo _ (d .before .before .starts .ensures) (not-false _ (d .before .if1 .left)) (d .field .ensures) (c .enum-told .given .1)
+    malformed (key-then (d .before .before .starts .ensures) (not-false _ (d .before .if1 .left))
+    (no-number (d .field .ensures) (c .enum-told .given .1)))
 
 field-requires-2 : tie.Need-field-requires-2
 field-requires-2 c κs = search needs
@@ -50,8 +52,9 @@ unfolding bytes
 returns-3 c =
     let e = c .before .before in
     let d = e .before .before .before .before in
-    area-ylo _ (d .before .before .starts .ensures) (not-false _ (d .before .if1 .left)) (d .field .ensures) (e .before .before .xlo .given .1)
-    (e .field2 .ensures) (c .enum-told2 .given .1)
+    malformed (key-then (d .before .before .starts .ensures) (not-false _ (d .before .if1 .left))
+    (number-then-none (d .field .ensures) (e .before .before .xlo .given .1)
+    (no-number (e .field2 .ensures) (c .enum-told2 .given .1))))
 
 field-requires-3 : tie.Need-field-requires-3
 field-requires-3 c κs = search needs
@@ -68,8 +71,10 @@ returns-4 c =
     let f = c .before .before in
     let e = f .before .before .before .before in
     let d = e .before .before .before .before in
-    area-xhi _ (d .before .before .starts .ensures) (not-false _ (d .before .if1 .left)) (d .field .ensures) (e .before .before .xlo .given .1)
-    (e .field2 .ensures) (f .before .before .ylo .given .1) (f .field3 .ensures) (c .enum-told3 .given .1)
+    malformed (key-then (d .before .before .starts .ensures) (not-false _ (d .before .if1 .left))
+    (number-then-none (d .field .ensures) (e .before .before .xlo .given .1)
+    (number-then-none (e .field2 .ensures) (f .before .before .ylo .given .1)
+    (no-number (f .field3 .ensures) (c .enum-told3 .given .1)))))
 
 field-requires-4 : tie.Need-field-requires-4
 field-requires-4 c κs = search needs
@@ -87,9 +92,11 @@ returns-5 c =
     let f = g .before .before .before .before in
     let e = f .before .before .before .before in
     let d = e .before .before .before .before in
-    area-yhi _ (d .before .before .starts .ensures) (not-false _ (d .before .if1 .left)) (d .field .ensures) (e .before .before .xlo .given .1)
-    (e .field2 .ensures) (f .before .before .ylo .given .1) (f .field3 .ensures) (g .before .before .xhi .given .1)
-    (g .field4 .ensures) (c .enum-told4 .given .1)
+    malformed (key-then (d .before .before .starts .ensures) (not-false _ (d .before .if1 .left))
+    (number-then-none (d .field .ensures) (e .before .before .xlo .given .1)
+    (number-then-none (e .field2 .ensures) (f .before .before .ylo .given .1)
+    (number-then-none (f .field3 .ensures) (g .before .before .xhi .given .1)
+    (no-number (g .field4 .ensures) (c .enum-told4 .given .1))))))
 
 area-in-range-requires : tie.Need-area-in-range-requires
 area-in-range-requires c κs = search needs
@@ -101,9 +108,12 @@ returns-6 c =
     let f = g .before .before .before .before in
     let e = f .before .before .before .before in
     let d = e .before .before .before .before in
-    area-out _ (d .before .before .starts .ensures) (not-false _ (d .before .if1 .left)) (d .field .ensures) (e .before .before .xlo .given .1)
-    (e .field2 .ensures) (f .before .before .ylo .given .1) (f .field3 .ensures) (g .before .before .xhi .given .1)
-    (g .field4 .ensures) (c .before .before .before .yhi .given .1) (c .before .area-in-range .ensures) (not-true _ (c .if2 .taken))
+    out-of-range (key-then (d .before .before .starts .ensures) (not-false _ (d .before .if1 .left))
+    (number-then (d .field .ensures) (e .before .before .xlo .given .1)
+    (number-then (e .field2 .ensures) (f .before .before .ylo .given .1)
+    (number-then (f .field3 .ensures) (g .before .before .xhi .given .1)
+    (last-number (g .field4 .ensures) (c .before .before .before .yhi .given .1))))))
+    (sym (c .before .area-in-range .ensures) ∙ not-true _ (c .if2 .taken))
 
 returns-7 : tie.Need-returns-7
 unfolding bytes
@@ -112,9 +122,12 @@ returns-7 c =
     let f = g .before .before .before .before in
     let e = f .before .before .before .before in
     let d = e .before .before .before .before in
-    area-in _ (d .before .before .starts .ensures) (not-false _ (d .before .if1 .left)) (d .field .ensures) (e .before .before .xlo .given .1)
-    (e .field2 .ensures) (f .before .before .ylo .given .1) (f .field3 .ensures) (g .before .before .xhi .given .1)
-    (g .field4 .ensures) (c .before .before .before .yhi .given .1) (c .before .area-in-range .ensures) (not-false _ (c .if2 .left))
+    line-read (key-then (d .before .before .starts .ensures) (not-false _ (d .before .if1 .left))
+    (number-then (d .field .ensures) (e .before .before .xlo .given .1)
+    (number-then (e .field2 .ensures) (f .before .before .ylo .given .1)
+    (number-then (f .field3 .ensures) (g .before .before .xhi .given .1)
+    (last-number (g .field4 .ensures) (c .before .before .before .yhi .given .1))))))
+    (sym (c .before .area-in-range .ensures) ∙ not-false _ (c .if2 .left)) (field-inside (g .field4 .ensures) (c .before .before .before .yhi .given .1))
 
 pub area-line-spec : {M : Type 1} → statement M
 area-line-spec =

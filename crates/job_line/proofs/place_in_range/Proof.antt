@@ -1,7 +1,7 @@
 -- `job_line::place_in_range` meets its contract.
 -- Assumes nothing.
 use borrow.Author.Needs.{needs}
-use Rattle.job_line.proofs.RangeTests.{place-on, place-off}
+use Rattle.job_line.proofs.RangeTests.{all-tested, ranges-on, ranges-off, ranges-last}
 use Rattle.job_line.proofs.place_in_range.Statement.{statement}
 use Rattle.job_line.proofs.place_in_range.Tie as tie
 
@@ -12,10 +12,10 @@ coordinate-in-range-requires-2 : tie.Need-coordinate-in-range-requires-2
 coordinate-in-range-requires-2 c κs = search needs
 
 returns : tie.Need-returns
-returns c = place-on (search needs) (search needs) (c .before .before .before .coordinate-in-range .ensures) (c .before .before .if1 .taken) (c .coordinate-in-range2 .ensures)
+returns c = all-tested _ _ (ranges-on (search needs) (c .before .before .before .coordinate-in-range .ensures) (c .before .before .if1 .taken) (ranges-last (search needs) (c .coordinate-in-range2 .ensures)))
 
 returns-2 : tie.Need-returns-2
-returns-2 c = place-off (search needs) (search needs) (c .before .coordinate-in-range .ensures) (c .if1 .left)
+returns-2 c = all-tested _ _ (ranges-off (search needs) (c .before .coordinate-in-range .ensures) (c .if1 .left))
 
 pub place-in-range-spec : {M : Type 1} → statement M
 place-in-range-spec =

@@ -1,10 +1,11 @@
 -- `job_line::post_line` meets its contract.
 -- Assumes nothing.
+use mathlib.Core.Path.{sym, _∙_}
 use native.Mathlib.Omega.{arith}
 use borrow.Author.Needs.{needs}
 use borrow.Author.Tests.{not-true, not-false}
 use Rattle.text.specs.Ascii.{bytes}
-use Rattle.job_line.proofs.LineLaws.{after-key, post-key, post-x, post-y, post-out, post-in}
+use Rattle.job_line.proofs.LineLaws.{after-key, no-number, number-then-none, number-then, last-number, no-key, key-then, malformed, out-of-range, line-read, field-inside}
 use Rattle.job_line.proofs.post_line.Statement.{statement}
 use Rattle.job_line.proofs.post_line.Tie as tie
 
@@ -16,7 +17,7 @@ starts-requires c κs = search needs
 
 returns : tie.Need-returns
 unfolding bytes
-returns c = post-key _ (c .before .starts .ensures) (not-true _ (c .if1 .taken))
+returns c = malformed (no-key (c .before .starts .ensures) (not-true _ (c .if1 .taken)))
 
 add-field : tie.Need-add-field
 add-field c = omega (arith, after-key (c .before .starts .ensures) (not-false _ (c .if1 .left)))
@@ -33,8 +34,9 @@ enum-told c = search needs
 returns-2 : tie.Need-returns-2
 unfolding bytes
 returns-2 c =
-    post-x _ (c .before .before .before .before .starts .ensures) (not-false _ (c .before .before .before .if1 .left))
-    (c .before .before .field .ensures) (c .enum-told .given .1)
+    let d = c .before .before in
+    malformed (key-then (d .before .before .starts .ensures) (not-false _ (d .before .if1 .left))
+    (no-number (d .field .ensures) (c .enum-told .given .1)))
 
 field-requires-2 : tie.Need-field-requires-2
 field-requires-2 c κs = search needs
@@ -48,9 +50,11 @@ enum-told-2 c = search needs
 returns-3 : tie.Need-returns-3
 unfolding bytes
 returns-3 c =
-    let d = c .before .before .before .before .before .before in
-    post-y _ (d .before .before .starts .ensures) (not-false _ (d .before .if1 .left)) (d .field .ensures)
-    (c .before .before .before .before .x .given .1) (c .before .before .field2 .ensures) (c .enum-told2 .given .1)
+    let e = c .before .before in
+    let d = e .before .before .before .before in
+    malformed (key-then (d .before .before .starts .ensures) (not-false _ (d .before .if1 .left))
+    (number-then-none (d .field .ensures) (e .before .before .x .given .1)
+    (no-number (e .field2 .ensures) (c .enum-told2 .given .1))))
 
 place-in-range-requires : tie.Need-place-in-range-requires
 place-in-range-requires c κs = search needs
@@ -60,16 +64,20 @@ unfolding bytes
 returns-4 c =
     let e = c .before .before .before .before .before in
     let d = e .before .before .before .before in
-    post-out _ (d .before .before .starts .ensures) (not-false _ (d .before .if1 .left)) (d .field .ensures)
-    (e .before .before .x .given .1) (e .field2 .ensures) (c .before .before .before .y .given .1) (c .before .place-in-range .ensures) (not-true _ (c .if2 .taken))
+    out-of-range (key-then (d .before .before .starts .ensures) (not-false _ (d .before .if1 .left))
+    (number-then (d .field .ensures) (e .before .before .x .given .1)
+    (last-number (e .field2 .ensures) (c .before .before .before .y .given .1))))
+    (sym (c .before .place-in-range .ensures) ∙ not-true _ (c .if2 .taken))
 
 returns-5 : tie.Need-returns-5
 unfolding bytes
 returns-5 c =
     let e = c .before .before .before .before .before in
     let d = e .before .before .before .before in
-    post-in _ (d .before .before .starts .ensures) (not-false _ (d .before .if1 .left)) (d .field .ensures)
-    (e .before .before .x .given .1) (e .field2 .ensures) (c .before .before .before .y .given .1) (c .before .place-in-range .ensures) (not-false _ (c .if2 .left))
+    line-read (key-then (d .before .before .starts .ensures) (not-false _ (d .before .if1 .left))
+    (number-then (d .field .ensures) (e .before .before .x .given .1)
+    (last-number (e .field2 .ensures) (c .before .before .before .y .given .1))))
+    (sym (c .before .place-in-range .ensures) ∙ not-false _ (c .if2 .left)) (field-inside (e .field2 .ensures) (c .before .before .before .y .given .1))
 
 pub post-line-spec : {M : Type 1} → statement M
 post-line-spec =

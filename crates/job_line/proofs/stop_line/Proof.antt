@@ -1,10 +1,13 @@
 -- `job_line::stop_line` meets its contract.
 -- Assumes nothing.
+use mathlib.Core.Path.{sym, _∙_}
+use mathlib.Core.List.{[], _∷_}
 use native.Mathlib.Omega.{arith}
 use borrow.Author.Needs.{needs}
 use borrow.Author.Tests.{not-true, not-false}
 use Rattle.text.specs.Ascii.{bytes}
-use Rattle.job_line.proofs.LineLaws.{after-key, stop-key, stop-x, stop-y, stop-visits, stop-out, stop-cast, stop-in}
+use Rattle.job_line.proofs.LineLaws.{after-key, no-number, number-then-none, number-then, last-number, no-key, key-then, malformed, out-of-range, line-read, last-natural, field-inside, field-cast}
+use Rattle.job_line.proofs.RangeTests.{stop-natural}
 use Rattle.job_line.proofs.stop_line.Statement.{statement}
 use Rattle.job_line.proofs.stop_line.Tie as tie
 
@@ -16,7 +19,7 @@ starts-requires c κs = search needs
 
 returns : tie.Need-returns
 unfolding bytes
-returns c = stop-key _ (c .before .starts .ensures) (not-true _ (c .if1 .taken))
+returns c = malformed (no-key (c .before .starts .ensures) (not-true _ (c .if1 .taken)))
 
 add-field : tie.Need-add-field
 add-field c = omega (arith, after-key (c .before .starts .ensures) (not-false _ (c .if1 .left)))
@@ -34,7 +37,8 @@ returns-2 : tie.Need-returns-2
 unfolding bytes
 returns-2 c =
     let d = c .before .before in
-    stop-x _ (d .before .before .starts .ensures) (not-false _ (d .before .if1 .left)) (d .field .ensures) (c .enum-told .given .1)
+    malformed (key-then (d .before .before .starts .ensures) (not-false _ (d .before .if1 .left))
+    (no-number (d .field .ensures) (c .enum-told .given .1)))
 
 field-requires-2 : tie.Need-field-requires-2
 field-requires-2 c κs = search needs
@@ -50,8 +54,9 @@ unfolding bytes
 returns-3 c =
     let e = c .before .before in
     let d = e .before .before .before .before in
-    stop-y _ (d .before .before .starts .ensures) (not-false _ (d .before .if1 .left)) (d .field .ensures) (e .before .before .x .given .1)
-    (e .field2 .ensures) (c .enum-told2 .given .1)
+    malformed (key-then (d .before .before .starts .ensures) (not-false _ (d .before .if1 .left))
+    (number-then-none (d .field .ensures) (e .before .before .x .given .1)
+    (no-number (e .field2 .ensures) (c .enum-told2 .given .1))))
 
 field-requires-3 : tie.Need-field-requires-3
 field-requires-3 c κs = search needs
@@ -68,8 +73,10 @@ returns-4 c =
     let f = c .before .before in
     let e = f .before .before .before .before in
     let d = e .before .before .before .before in
-    stop-visits _ (d .before .before .starts .ensures) (not-false _ (d .before .if1 .left)) (d .field .ensures) (e .before .before .x .given .1)
-    (e .field2 .ensures) (f .before .before .y .given .1) (f .field3 .ensures) (c .enum-told3 .given .1)
+    malformed (key-then (d .before .before .starts .ensures) (not-false _ (d .before .if1 .left))
+    (number-then-none (d .field .ensures) (e .before .before .x .given .1)
+    (number-then-none (e .field2 .ensures) (f .before .before .y .given .1)
+    (no-number (f .field3 .ensures) (c .enum-told3 .given .1)))))
 
 stop-in-range-requires : tie.Need-stop-in-range-requires
 stop-in-range-requires c κs = search needs
@@ -80,19 +87,16 @@ returns-5 c =
     let f = c .before .before .before .before .before in
     let e = f .before .before .before .before in
     let d = e .before .before .before .before in
-    stop-out _ (d .before .before .starts .ensures) (not-false _ (d .before .if1 .left)) (d .field .ensures) (e .before .before .x .given .1)
-    (e .field2 .ensures) (f .before .before .y .given .1) (f .field3 .ensures) (c .before .before .before .visits .given .1)
-    (c .before .stop-in-range .ensures) (not-true _ (c .if2 .taken))
+    out-of-range (key-then (d .before .before .starts .ensures) (not-false _ (d .before .if1 .left))
+    (number-then (d .field .ensures) (e .before .before .x .given .1)
+    (number-then (e .field2 .ensures) (f .before .before .y .given .1)
+    (last-number (f .field3 .ensures) (c .before .before .before .visits .given .1)))))
+    (sym (c .before .stop-in-range .ensures) ∙ not-true _ (c .if2 .taken))
 
 cast-t25 : tie.Need-cast-t25
-unfolding bytes
 cast-t25 c =
     let f = c .before .before .before .before .before in
-    let e = f .before .before .before .before in
-    let d = e .before .before .before .before in
-    stop-cast 0 (d .before .before .starts .ensures) (not-false _ (d .before .if1 .left)) (d .field .ensures) (e .before .before .x .given .1)
-    (e .field2 .ensures) (f .before .before .y .given .1) (f .field3 .ensures) (c .before .before .before .visits .given .1)
-    (c .before .stop-in-range .ensures) (not-false _ (c .if2 .left))
+    field-cast (f .field3 .ensures) (c .before .before .before .visits .given .1) (stop-natural _ _ _ (sym (c .before .stop-in-range .ensures) ∙ not-false _ (c .if2 .left)))
 
 returns-6 : tie.Need-returns-6
 unfolding bytes
@@ -100,9 +104,12 @@ returns-6 c =
     let f = c .before .before .before .before .before in
     let e = f .before .before .before .before in
     let d = e .before .before .before .before in
-    stop-in _ (d .before .before .starts .ensures) (not-false _ (d .before .if1 .left)) (d .field .ensures) (e .before .before .x .given .1)
-    (e .field2 .ensures) (f .before .before .y .given .1) (f .field3 .ensures) (c .before .before .before .visits .given .1)
-    (c .before .stop-in-range .ensures) (not-false _ (c .if2 .left))
+    let on = sym (c .before .stop-in-range .ensures) ∙ not-false _ (c .if2 .left) in
+    last-natural (_ ∷ _ ∷ []) _ (stop-natural _ _ _ on) (line-read (key-then (d .before .before .starts .ensures) (not-false _ (d .before .if1 .left))
+    (number-then (d .field .ensures) (e .before .before .x .given .1)
+    (number-then (e .field2 .ensures) (f .before .before .y .given .1)
+    (last-number (f .field3 .ensures) (c .before .before .before .visits .given .1)))))
+    on (field-inside (f .field3 .ensures) (c .before .before .before .visits .given .1)))
 
 pub stop-line-spec : {M : Type 1} → statement M
 stop-line-spec =

@@ -6,15 +6,14 @@ use borrow.Author.Tests.{not-true, not-false}
 use denote.Ref.{now}
 use Rattle.numbers.proofs.Words.{is-true}
 use Rattle.query.specs.Range.{PlaceInRange, costLimit}
-use Rattle.job_line.specs.Lines.{placeInRange}
 use Rattle.job.specs.Format.{readJob}
-use Rattle.job.proofs.RangeLaws.{place-range}
 use Rattle.problem.specs.Problem.{Prepared}
 use Rattle.pricing.specs.Columns.{Figure, rowsOf}
 use Rattle.pricing.specs.Figures.{costOf}
 use Rattle.job.proofs.ReadDeck.{Spelt}
+use Rattle.trial.specs.Opened.{placeInRange}
 use Rattle.trial.proofs.OpenLaws.{open-accepted, open-prepared, open-refused, outside}
-use Rattle.trial.proofs.RectLaws.{tested-place}
+use Rattle.trial.proofs.RectLaws.{place-range, tested-place}
 use Rattle.problem.proofs.Coordinates.{near-places}
 use Rattle.problem.proofs.DeckProblem.{deck-sited}
 use Rattle.trial.proofs.FigureLaws.{priced-figure, cost-answer}

@@ -1,7 +1,7 @@
 -- `trial::opened::place_in_range` meets its contract.
 -- Assumes nothing.
 use borrow.Author.Needs.{needs}
-use Rattle.job_line.proofs.RangeTests.{place-on, place-off}
+use Rattle.trial.proofs.RectLaws.{place-on, place-off}
 use Rattle.trial.proofs.opened.place_in_range.Statement.{statement}
 use Rattle.trial.proofs.opened.place_in_range.Tie as tie
 
