@@ -6,7 +6,7 @@ use Rattle.text.specs.Ascii.{bytes}
 use Rattle.calls.specs.Call.{reportCall}
 use Rattle.calls.specs.Entry.{entry}
 use Rattle.calls.specs.Program.{answerText}
-use Rattle.calls.specs.Exhaustive.{exhaustiveCall}
+use Rattle.calls.specs.CheapestCall.{exhaustiveCall}
 use Rattle.calls.specs.CaseA.{CaseA}
 
 pub case-A : CaseA

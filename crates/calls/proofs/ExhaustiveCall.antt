@@ -16,7 +16,7 @@ use Rattle.job.specs.Format.{Job, Result, refused, accepted, readJob}
 use Rattle.job.proofs.Meaning.{refused-law}
 use Rattle.calls.specs.Answers.{AnswerOf, gives, refusal}
 use Rattle.calls.specs.Call.{jobFigures, reportCall}
-use Rattle.calls.specs.Exhaustive.{cheapestOf, exhaustiveCall}
+use Rattle.calls.specs.CheapestCall.{cheapestOf, exhaustiveCall}
 use Rattle.calls.specs.ExhaustiveCallLaw.{ExhaustiveCallLaw}
 use Rattle.calls.proofs.AnswerLaws.{same-refusal, not-refused}
 use Rattle.calls.proofs.Demands.{read-exactly, figures-are, accepted-one}

@@ -2,9 +2,9 @@
 -- Assumes nothing.
 use Rattle.query.proofs.QueryTheorems.{query-theorems}
 use Rattle.job.proofs.Meaning.{spelling-law}
-use Rattle.job.proofs.Vectors as JobVectors
+use Rattle.job.proofs.JobVectors as JobVectors
 use Rattle.report.proofs.Fits.{report-fits}
-use Rattle.report.proofs.Vectors as ReportVectors
+use Rattle.report.proofs.ReportVectors as ReportVectors
 use Rattle.calls.specs.Theorems.{Theorems}
 use Rattle.calls.proofs.Demands.{demands}
 use Rattle.calls.proofs.EntryLaw.{entry-law}

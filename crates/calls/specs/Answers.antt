@@ -5,8 +5,8 @@ use Rattle.query.specs.Figures.{Figures}
 use Rattle.query.specs.Order.{Priced}
 use Rattle.refusal.specs.Refusal.{numberOf, lineOf}
 use Rattle.refusal.specs.declared.Refusal.{Refusal}
-use Rattle.report.specs.Report.{figuresOf}
-use Rattle.problem.specs.Problem.{pricedOf}
+use Rattle.report.specs.Report.{reportFigures}
+use Rattle.problem.specs.ObjectProblem.{pricedOf}
 use Rattle.calls.specs.declared.Answer.{Answer}
 use Rattle.calls.specs.declared.Answer.the-variants as Answered
 use Rattle.calls.specs.declared.Cheapest.{Cheapest}
@@ -22,7 +22,7 @@ refusal why = refuses (numberOf why) (lineOf why)
 
 -- 01 "Each answer is either a report, itself done or stopped, or one refusal with its line"
 abbrev pub reportAnswer : Answer → AnswerOf Figures
-reportAnswer (Answered.Report r) = gives (figuresOf r)
+reportAnswer (Answered.Report r) = gives (reportFigures r)
 reportAnswer (Answered.Refused why) = refusal why
 
 -- 01 "the place and cost of the cheapest", or one refusal

@@ -12,7 +12,7 @@ use Rattle.calls.specs.Answers.{gives, refuses}
 use Rattle.calls.specs.Call.{reportCall}
 use Rattle.calls.specs.Entry.{entry}
 use Rattle.calls.specs.Program.{answerText}
-use Rattle.calls.specs.Exhaustive.{exhaustiveCall}
+use Rattle.calls.specs.CheapestCall.{exhaustiveCall}
 use Rattle.calls.specs.RefusalTable.{caseA, ended}
 
 abbrev pub printed : List ℕ

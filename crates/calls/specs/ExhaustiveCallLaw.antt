@@ -14,7 +14,7 @@ use Rattle.job.specs.Format.{Job, accepted, readJob}
 use Rattle.job.specs.Meaning.{Condition}
 use Rattle.calls.specs.Answers.{gives, refusal}
 use Rattle.calls.specs.Call.{reportCall}
-use Rattle.calls.specs.Exhaustive.{exhaustiveCall}
+use Rattle.calls.specs.CheapestCall.{exhaustiveCall}
 
 pub record ExhaustiveCallLaw (job : List ℕ) : Type 0 where
   -- "gives refusals 1 to 6 only": those of reading, each exactly under its condition, which 7 and 8 do not have here

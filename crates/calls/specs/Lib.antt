@@ -2,7 +2,7 @@ pub mod Answers
 pub mod Call
 pub mod Entry
 pub mod Program
-pub mod Exhaustive
+pub mod CheapestCall
 pub mod Demands
 pub mod EntryLaw
 pub mod ProgramLaw

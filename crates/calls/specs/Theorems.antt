@@ -7,9 +7,9 @@ use lib.IntN.{ℤ}
 use Rattle.query.specs.QueryTheorems.{QueryTheorems}
 use Rattle.job.specs.Format.{Job}
 use Rattle.job.specs.Meaning.{SpellingLaw}
-use Rattle.job.specs.Vectors as JobVectors
+use Rattle.job.specs.JobVectors.{JobVectors}
 use Rattle.report.specs.Limits.{ReportFits}
-use Rattle.report.specs.Vectors as ReportVectors
+use Rattle.report.specs.ReportVectors.{ReportVectors}
 use Rattle.calls.specs.Demands.{Demands}
 use Rattle.calls.specs.EntryLaw.{EntryLaw}
 use Rattle.calls.specs.ProgramLaw.{ProgramLaw}
@@ -29,7 +29,7 @@ pub record Theorems : Type 0 where
   -- what document 01 works out
   pub refusal-table : RefusalTable
   pub case-A : CaseA
-  pub job-vectors : JobVectors.Vectors
-  pub report-vectors : ReportVectors.Vectors
+  pub job-vectors : JobVectors
+  pub report-vectors : ReportVectors
   -- the rules, for every deck and every number of rounds
   pub rules : QueryTheorems

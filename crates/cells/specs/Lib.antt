@@ -1,2 +1,2 @@
-pub mod Space
+pub mod Entries
 pub mod Steps

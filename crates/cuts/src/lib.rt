@@ -7,7 +7,7 @@ ghost use lib.IntN.{_+ℤ_};
 ghost use Rattle.numbers.specs.Integer.{halfUp, strictlyBetween};
 ghost use Rattle.numbers.specs.Lists.{keep};
 ghost use Rattle.query.specs.Cut.{middleLine};
-ghost use Rattle.lines.specs.LineRecord.{InOrder, gridOf};
+ghost use Rattle.lines.specs.LineRecord.{LinesInOrder, gridOf};
 ghost use Rattle.cuts.specs.CutRecord.{Edges, LineBefore, LineFrom, rectOf, cutAt, cutRecord, firstOf};
 
 // Whether a cell can be cut, and at which line: at an x where `across` is true, else at a y. Where it cannot the others are false and 0.
@@ -52,7 +52,7 @@ fn line_from(ls: &[i64; 514], n: usize, at: usize, hi: i64) -> i64
 // The line strictly between `lo` and `hi` that is closest to their middle, the smaller one on a tie; `lo` where there is none.
 // It is the last before the middle or the first from it on, where an edge stands for one that is not between.
 fn middle_line(ls: &[i64; 514], n: usize, lo: i64, hi: i64) -> i64
-    requires { ⌜ InOrder (now ls) n ⌝ }
+    requires { ⌜ LinesInOrder (now ls) n ⌝ }
     requires { ⌜ Edges lo hi ⌝ }
     ensures { λ r. ⌜ r ≡ middleLine lo hi (keep (strictlyBetween lo hi) (take n (now (ls .entry)))) ⌝ }
 {
@@ -90,8 +90,8 @@ fn first_of(
     bhi: i64,
     across: bool,
 ) -> Cut
-    requires { ⌜ InOrder (now a) na ⌝ }
-    requires { ⌜ InOrder (now b) nb ⌝ }
+    requires { ⌜ LinesInOrder (now a) na ⌝ }
+    requires { ⌜ LinesInOrder (now b) nb ⌝ }
     requires { ⌜ Edges alo ahi ⌝ }
     requires { ⌜ Edges blo bhi ⌝ }
     ensures { λ r. ⌜ r ≡ firstOf across alo ahi (keep (strictlyBetween alo ahi) (take na (now (a .entry)))) blo bhi (keep (strictlyBetween blo bhi) (take nb (now (b .entry)))) ⌝ }
@@ -123,8 +123,8 @@ pub fn find_cut(
     xhi: i64,
     yhi: i64,
 ) -> Cut
-    requires { ⌜ InOrder (now xs) nx ⌝ }
-    requires { ⌜ InOrder (now ys) ny ⌝ }
+    requires { ⌜ LinesInOrder (now xs) nx ⌝ }
+    requires { ⌜ LinesInOrder (now ys) ny ⌝ }
     requires { ⌜ Edges xlo xhi ⌝ }
     requires { ⌜ Edges ylo yhi ⌝ }
     ensures { λ r. ⌜ r ≡ cutRecord (gridOf (now (xs .entry)) nx (now (ys .entry)) ny) (rectOf xlo ylo xhi yhi) ⌝ }

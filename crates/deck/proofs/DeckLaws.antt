@@ -1,4 +1,4 @@
--- The deck that a record holds, column by column: its stops and posts in range, and the columns of its sites.
+-- The deck that a record holds, column by column: its stops and posts in range, and the columns of its objects.
 -- Assumes nothing.
 use mathlib.Core.Path.{_≡_, refl, sym, ap, _∙_}
 use mathlib.Core.List.{List, [], _∷_, _++_, map, zipWith, map-map, map-id, List·Memᴰ, List·Memᴰ·head, List·Memᴰ·tail}
@@ -14,10 +14,10 @@ use Rattle.query.specs.Range.{InRange, StopInRange, PlaceInRange}
 use Rattle.numbers.specs.Padded.{padded}
 use Rattle.deck.specs.declared.Deck.{Deck}
 use Rattle.deck.specs.DeckOf.{places, stopsOf, deckOf, deckRecord}
-use Rattle.deck.specs.Sites.{Site, sitesOf}
+use Rattle.deck.specs.Objects.{Object, objectsOf}
 use Rattle.deck.specs.Ranges.{CoordinatesInRange, VisitsInRange}
-use Rattle.deck.specs.Record.{sitesRecord}
-use Rattle.deck.specs.declared.Sites.{Sites}
+use Rattle.deck.specs.ObjectColumns.{objectsRecord}
+use Rattle.deck.specs.declared.Objects.{Objects}
 use Rattle.deck.proofs.ClosestLaws.{zip-length, zip-at, placeAt, places-length, places-at}
 
 -- ---- lists
@@ -117,39 +117,39 @@ module _ (deck : Deck) (columns : DeckColumns deck) where
     pub post-y-range : CoordinatesInRange 64 (deck .«post_y») (deck .posts)
     post-y-range = record { count = columns .posts; long = columns .post-y; range = λ i h. let r = post-in-range i h .y-range in omega arith }
 
-  -- ---- the record of the deck's sites
-  pub sites-length : length (sitesOf (deckOf deck)) ≡ deck .stops
-  unfolding sitesOf deckOf
-  sites-length = rw length-map (omega (arith, length-take (deck .stops) (allStops deck), stops-long, columns .stops))
+  -- ---- the record of the deck's objects
+  pub objects-length : length (objectsOf (deckOf deck)) ≡ deck .stops
+  unfolding objectsOf deckOf
+  objects-length = rw length-map (omega (arith, length-take (deck .stops) (allStops deck), stops-long, columns .stops))
 
-  column : {D : Type 0} (g : Site → D) → map g (sitesOf (deckOf deck)) ≡ take (deck .stops) (map (λ stop. g (record { at = stop .at; visits = stop .visits; near = near (deckOf deck) stop })) (allStops deck))
-  unfolding sitesOf deckOf
+  column : {D : Type 0} (g : Object → D) → map g (objectsOf (deckOf deck)) ≡ take (deck .stops) (map (λ stop. g (record { at = stop .at; visits = stop .visits; near = near (deckOf deck) stop })) (allStops deck))
+  unfolding objectsOf deckOf
   column g = rw (map-map, map-take)
 
   by-place : {D : Type 0} (g : Stop → D) (h : Place → D) → ((p : Place) (v : ℕ) → g (stopOf p v) ≡ h p) → map g (allStops deck) ≡ map h (places (deck .«stop_x») (deck .«stop_y»))
   unfolding stopsOf
   by-place g h e = zip-first stopOf g h e (places (deck .«stop_x») (deck .«stop_y»)) (deck .visits) (omega (arith, places-long, columns .visits))
 
-  x-column : map (λ (s : Site). s .at .x) (sitesOf (deckOf deck)) ≡ take (deck .stops) (deck .«stop_x»)
-  x-column = rw (column (λ (s : Site). s .at .x), by-place (λ (s : Stop). s .at .x) (λ (p : Place). p .x) (λ p v. refl), places-x (deck .«stop_x») (deck .«stop_y») (omega (arith, columns .stop-x, columns .stop-y)))
+  x-column : map (λ (s : Object). s .at .x) (objectsOf (deckOf deck)) ≡ take (deck .stops) (deck .«stop_x»)
+  x-column = rw (column (λ (s : Object). s .at .x), by-place (λ (s : Stop). s .at .x) (λ (p : Place). p .x) (λ p v. refl), places-x (deck .«stop_x») (deck .«stop_y») (omega (arith, columns .stop-x, columns .stop-y)))
 
-  y-column : map (λ (s : Site). s .at .y) (sitesOf (deckOf deck)) ≡ take (deck .stops) (deck .«stop_y»)
-  y-column = rw (column (λ (s : Site). s .at .y), by-place (λ (s : Stop). s .at .y) (λ (p : Place). p .y) (λ p v. refl), places-y (deck .«stop_x») (deck .«stop_y») (omega (arith, columns .stop-x, columns .stop-y)))
+  y-column : map (λ (s : Object). s .at .y) (objectsOf (deckOf deck)) ≡ take (deck .stops) (deck .«stop_y»)
+  y-column = rw (column (λ (s : Object). s .at .y), by-place (λ (s : Stop). s .at .y) (λ (p : Place). p .y) (λ p v. refl), places-y (deck .«stop_x») (deck .«stop_y») (omega (arith, columns .stop-x, columns .stop-y)))
 
-  visits-column : map (λ (s : Site). s .visits) (sitesOf (deckOf deck)) ≡ take (deck .stops) (deck .visits)
+  visits-column : map (λ (s : Object). s .visits) (objectsOf (deckOf deck)) ≡ take (deck .stops) (deck .visits)
   unfolding stopsOf
-  visits-column = rw (column (λ (s : Site). s .visits), zip-second stopOf (λ (s : Stop). s .visits) (λ v. v) (λ p v. refl) (places (deck .«stop_x») (deck .«stop_y»)) (deck .visits) (omega (arith, places-long, columns .visits)), map-id)
+  visits-column = rw (column (λ (s : Object). s .visits), zip-second stopOf (λ (s : Stop). s .visits) (λ v. v) (λ p v. refl) (places (deck .«stop_x») (deck .«stop_y»)) (deck .visits) (omega (arith, places-long, columns .visits)), map-id)
 
   near-is : (p : Place) (v : ℕ) → near (deckOf deck) (stopOf p v) ≡ closest plain p (take (deck .posts) (places (deck .«post_x») (deck .«post_y»)))
   unfolding near deckOf
   near-is p v = refl
 
-  near-column : map (λ (s : Site). s .near) (sitesOf (deckOf deck)) ≡ take (deck .stops) (map (λ p. closest plain p (take (deck .posts) (places (deck .«post_x») (deck .«post_y»)))) (places (deck .«stop_x») (deck .«stop_y»)))
-  near-column = rw (column (λ (s : Site). s .near), by-place (near (deckOf deck)) (λ (p : Place). closest plain p (take (deck .posts) (places (deck .«post_x») (deck .«post_y»)))) near-is)
+  near-column : map (λ (s : Object). s .near) (objectsOf (deckOf deck)) ≡ take (deck .stops) (map (λ p. closest plain p (take (deck .posts) (places (deck .«post_x») (deck .«post_y»)))) (places (deck .«stop_x») (deck .«stop_y»)))
+  near-column = rw (column (λ (s : Object). s .near), by-place (near (deckOf deck)) (λ (p : Place). closest plain p (take (deck .posts) (places (deck .«post_x») (deck .«post_y»)))) near-is)
 
-  pub record-is : (x y : List ℤ) (visits nears : List ℕ) → x ≡ padded 512 (pos 0) (take (deck .stops) (deck .«stop_x»)) → y ≡ padded 512 (pos 0) (take (deck .stops) (deck .«stop_y»)) → visits ≡ padded 512 0 (take (deck .stops) (deck .visits)) → nears ≡ padded 512 0 (take (deck .stops) (map (λ p. closest plain p (take (deck .posts) (places (deck .«post_x») (deck .«post_y»)))) (places (deck .«stop_x») (deck .«stop_y»)))) → _≡_ {A = Sites} (record { count = deck .stops; x = x; y = y; visits = visits; near = nears }) (sitesRecord (sitesOf (deckOf deck)))
-  unfolding sitesRecord
-  record-is x y visits nears a b c d = rw (a, b, c, d, sites-length, x-column, y-column, visits-column, near-column)
+  pub record-is : (x y : List ℤ) (visits nears : List ℕ) → x ≡ padded 512 (pos 0) (take (deck .stops) (deck .«stop_x»)) → y ≡ padded 512 (pos 0) (take (deck .stops) (deck .«stop_y»)) → visits ≡ padded 512 0 (take (deck .stops) (deck .visits)) → nears ≡ padded 512 0 (take (deck .stops) (map (λ p. closest plain p (take (deck .posts) (places (deck .«post_x») (deck .«post_y»)))) (places (deck .«stop_x») (deck .«stop_y»)))) → _≡_ {A = Objects} (record { count = deck .stops; x = x; y = y; visits = visits; near = nears }) (objectsRecord (objectsOf (deckOf deck)))
+  unfolding objectsRecord
+  record-is x y visits nears a b c d = rw (a, b, c, d, objects-length, x-column, y-column, visits-column, near-column)
 
 -- ---- the record of a deck holds it, but for axis costs, which no record has
 front-places : (ps : List Place) (xs ys : List ℤ) → take (length ps) (places (map (λ p. p .x) ps ++ xs) (map (λ p. p .y) ps ++ ys)) ≡ ps

@@ -1,4 +1,4 @@
--- Natural numbers in signed 32-bit words, as the passes over sites compute with them.
+-- Natural numbers in signed 32-bit words, as the passes over objects compute with them.
 -- Assumes nothing.
 use mathlib.Core.Path.{_≡_}
 use mathlib.Core.Bool.{true, false}

@@ -1,4 +1,4 @@
 pub mod DeckOf
-pub mod Sites
-pub mod Record
+pub mod Objects
+pub mod ObjectColumns
 pub mod Ranges

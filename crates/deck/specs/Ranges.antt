@@ -1,4 +1,4 @@
--- The range of the numbers that sites are made of: coordinates up to 9 × 20,000, so that axis costs up to 9 can scale them.
+-- The range of the numbers that objects are made of: coordinates up to 9 × 20,000, so that axis costs up to 9 can scale them.
 -- Assumes nothing.
 use Prim.Native.Nat.{ℕ, _≤_, _<_}
 use mathlib.Core.Path.{_≡_}

@@ -1,4 +1,4 @@
-// The deck as a record, and its sites: its stops in columns, each with its near.
+// The deck as a record, and its objects: its stops in columns, each with its near.
 ghost use mathlib.Core.Path.{_≡_};
 ghost use mathlib.Core.Bool.{cond};
 ghost use mathlib.Core.List.{map};
@@ -12,8 +12,8 @@ ghost use Rattle.query.specs.Deck.{plain};
 ghost use Rattle.query.specs.Travel.{closest};
 ghost use Rattle.query.specs.Range.{InRange};
 ghost use Rattle.deck.specs.DeckOf.{places, deckOf};
-ghost use Rattle.deck.specs.Sites.{sitesOf};
-ghost use Rattle.deck.specs.Record.{sitesRecord};
+ghost use Rattle.deck.specs.Objects.{objectsOf};
+ghost use Rattle.deck.specs.ObjectColumns.{objectsRecord};
 ghost use Rattle.deck.specs.Ranges.{Near180000, CoordinatesInRange, VisitsInRange};
 
 // A deck, one array a field. The first `posts` and `stops` elements of the arrays count; the others are 0.
@@ -31,8 +31,8 @@ pub struct Deck {
     pub visits: [u64; 512],
 }
 
-// The sites of a deck, one column a field. The first `count` numbers of a column count; the others are 0.
-pub struct Sites {
+// The objects of a deck, one column a field. The first `count` numbers of a column count; the others are 0.
+pub struct Objects {
     pub count: usize,
     pub x: [i32; 512],
     pub y: [i32; 512],
@@ -144,10 +144,10 @@ fn nears<'a>(
     to
 }
 
-// The sites of a deck.
-pub fn of_deck(deck: Deck) -> Sites
+// The objects of a deck.
+pub fn of_deck(deck: Deck) -> Objects
     requires { ⌜ InRange (deckOf deck) × (deck .posts ≤ 64) × (deck .stops ≤ 512) ⌝ }
-    ensures { λ r. ⌜ r ≡ sitesRecord (sitesOf (deckOf deck)) ⌝ }
+    ensures { λ r. ⌜ r ≡ objectsRecord (objectsOf (deckOf deck)) ⌝ }
 {
     let n = deck.stops;
     let k = deck.posts;
@@ -155,7 +155,7 @@ pub fn of_deck(deck: Deck) -> Sites
     let y = coordinates(&deck.stop_y, n);
     let visits = visit_counts(&deck.visits, n);
     let near = nears(&deck.stop_x, &deck.stop_y, n, &deck.post_x, &deck.post_y, k);
-    Sites {
+    Objects {
         count: n,
         x,
         y,

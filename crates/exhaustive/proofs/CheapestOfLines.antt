@@ -7,15 +7,15 @@ use native.Mathlib.Omega.{arith}
 use lib.IntN.{ℤ, pos}
 use lib.ListN.{getD, take, drop, replicate, length-replicate, length-take, drop-of-length-le}
 use Rattle.query.specs.Range.{costLimit}
-use Rattle.deck.specs.Sites.{Site}
-use Rattle.pricing.specs.Figures.{beforeOf}
+use Rattle.deck.specs.Objects.{Object}
+use Rattle.pricing.specs.ObjectFigures.{beforeOf}
 use Rattle.pricing.specs.Columns.{Figure}
 use Rattle.problem.specs.declared.Spot.{Spot}
 use Rattle.numbers.proofs.WordTests.{back}
-use Rattle.exhaustive.specs.Ramps.{LinesInRange, RampSums, SiteSums, SitesAdded, Sweepable}
+use Rattle.exhaustive.specs.Ramps.{LinesInRange, RampSums, ObjectSums, ObjectsAdded, Sweepable}
 use Rattle.exhaustive.specs.Cheapest.{firstCheapest, along, costsAlong, Swept}
-use Rattle.exhaustive.proofs.SiteRamps.{small-back}
-use Rattle.exhaustive.proofs.AllSites.{sums-few}
+use Rattle.exhaustive.proofs.ObjectRamps.{small-back}
+use Rattle.exhaustive.proofs.AllObjects.{sums-few}
 use Rattle.exhaustive.proofs.ChooseLaws.{next-line}
 use Rattle.exhaustive.proofs.CheapestLaws.{cheapest-none, cheapest-append}
 
@@ -33,11 +33,11 @@ zero-ramps = record {
   starts-most = λ k. omega (arith, zeros 515 k);
 }
 
-pub zero-sums : SiteSums (replicate 515 0) (replicate 515 0) (replicate 515 0) (replicate 515 0) 0
+pub zero-sums : ObjectSums (replicate 515 0) (replicate 515 0) (replicate 515 0) (replicate 515 0) 0
 zero-sums = record { up-sums = zero-ramps; down-sums = zero-ramps }
 
--- ---- the columns of sites
-module _ (sites : List Site) (m : ℕ) (ls : List ℤ) (n : ℕ) (v : ℤ) (up us down ds : List ℕ) (before : ℕ) (few : m ≤ 512) (now : Figure (beforeOf sites) costLimit before) (added : SitesAdded sites m ls n v up us down ds) where
+-- ---- the columns of objects
+module _ (objects : List Object) (m : ℕ) (ls : List ℤ) (n : ℕ) (v : ℤ) (up us down ds : List ℕ) (before : ℕ) (few : m ≤ 512) (now : Figure (beforeOf objects) costLimit before) (added : ObjectsAdded objects m ls n v up us down ds) where
   pub sweepable : Sweepable ls n up us down ds before
   sweepable = record {
     before-most = now .within;
@@ -45,28 +45,28 @@ module _ (sites : List Site) (m : ℕ) (ls : List ℤ) (n : ℕ) (v : ℤ) (up u
     enough = λ j h. omega (arith, added .cost j h, now .is);
   }
 
-  pub swept-line : (old costs : List ℕ) → Swept ls n up us down ds before old costs → costs ≡ costsAlong sites ls n v old
-  swept-line old costs s = s .is sites m v added (now .is)
+  pub swept-line : (old costs : List ℕ) → Swept ls n up us down ds before old costs → costs ≡ costsAlong objects ls n v old
+  swept-line old costs s = s .is objects m v added (now .is)
 
 -- ---- line after line
-pub record Compared (sites : List Site) (hs vs : List ℤ) (n : ℕ) (first found : Spot) (i : ℕ) : Type 0 where
+pub record Compared (objects : List Object) (hs vs : List ℤ) (n : ℕ) (first found : Spot) (i : ℕ) : Type 0 where
   pub count : i ≤ n
-  pub left : firstCheapest sites first (flatMap (along hs) (take n vs)) ≡ firstCheapest sites found (flatMap (along hs) (drop i (take n vs)))
+  pub left : firstCheapest objects first (flatMap (along hs) (take n vs)) ≡ firstCheapest objects found (flatMap (along hs) (drop i (take n vs)))
 
-module _ (sites : List Site) (hs vs : List ℤ) (n : ℕ) (first : Spot) where
-  pub compared-none : Compared sites hs vs n first first 0
+module _ (objects : List Object) (hs vs : List ℤ) (n : ℕ) (first : Spot) where
+  pub compared-none : Compared objects hs vs n first first 0
   compared-none = record { count = omega arith; left = refl }
 
-  pub compared-all : {found : Spot} {i : ℕ} → Compared sites hs vs n first found i → n ≤ i → found ≡ firstCheapest sites first (flatMap (along hs) (take n vs))
+  pub compared-all : {found : Spot} {i : ℕ} → Compared objects hs vs n first found i → n ≤ i → found ≡ firstCheapest objects first (flatMap (along hs) (take n vs))
   unfolding flatMap
-  compared-all {found} {i} w h = sym (w .left ∙ rw (drop-of-length-le (take n vs) {i = i} (omega (arith, length-take n vs))) (cheapest-none sites found))
+  compared-all {found} {i} w h = sym (w .left ∙ rw (drop-of-length-le (take n vs) {i = i} (omega (arith, length-take n vs))) (cheapest-none objects found))
 
-  pub compared-more : {found : Spot} {i : ℕ} → LinesInRange vs n → Compared sites hs vs n first found i → i < n → (found′ : Spot) → found′ ≡ firstCheapest sites found (along hs (back (getD vs i (pos 0)))) → Compared sites hs vs n first found′ (i + 1)
+  pub compared-more : {found : Spot} {i : ℕ} → LinesInRange vs n → Compared objects hs vs n first found i → i < n → (found′ : Spot) → found′ ≡ firstCheapest objects found (along hs (back (getD vs i (pos 0)))) → Compared objects hs vs n first found′ (i + 1)
   unfolding flatMap
   compared-more {found} {i} lines w h found′ b =
       let v = getD vs i (pos 0) in
-      let e : found′ ≡ firstCheapest sites found (along hs v) = rw (small-back v (omega (arith, lines .range i h))) at b in
+      let e : found′ ≡ firstCheapest objects found (along hs v) = rw (small-back v (omega (arith, lines .range i h))) at b in
       record {
         count = omega arith;
-        left = w .left ∙ rw (next-line lines i h, e) (cheapest-append sites found (along hs v) (flatMap (along hs) (drop (i + 1) (take n vs))));
+        left = w .left ∙ rw (next-line lines i h, e) (cheapest-append objects found (along hs v) (flatMap (along hs) (drop (i + 1) (take n vs))));
       }

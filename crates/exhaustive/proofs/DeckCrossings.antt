@@ -22,20 +22,20 @@ use Rattle.query.proofs.KeyOrder.{not-earlier}
 use Rattle.query.proofs.LineLaws.{lines-law, lines-range}
 use Rattle.deck.specs.declared.Deck.{Deck}
 use Rattle.deck.specs.DeckOf.{deckOf}
-use Rattle.pricing.specs.Figures.{beforeOf, flagsOf}
+use Rattle.pricing.specs.ObjectFigures.{beforeOf, flagsOf}
 use Rattle.pricing.specs.Columns.{PaidInRange, Figure, BeforeIs, rowsOf, InColumns}
 use Rattle.lines.specs.LineRecord.{linesRecord, gridOf}
-use Rattle.deck.specs.declared.Sites.{Sites}
+use Rattle.deck.specs.declared.Objects.{Objects}
 use Rattle.lines.specs.declared.Lines.{Lines}
 use Rattle.lines.proofs.Indexed.{member-at}
 use Rattle.lines.proofs.DeckLines.{deck-front, lines-in-order}
 use Rattle.pricing.proofs.RecordLaws.{paid-range}
 use Rattle.slots.specs.declared.Cell.{Cell}
 use Rattle.problem.specs.declared.Spot.{Spot}
-use Rattle.problem.specs.Problem.{Prepared, Sited, pricedOf, spotOf, rectIn, Near20000, Ranged, Reaching}
+use Rattle.problem.specs.ObjectProblem.{Prepared, Priceable, pricedOf, spotOf, rectIn, Near20000, Ranged, Reaching}
 use Rattle.numbers.proofs.WordTests.{back}
 use Rattle.problem.proofs.Coordinates.{near-places, spot-back}
-use Rattle.problem.proofs.DeckProblem.{columns-range, sites-count, deck-sited, area-ranged, reaching, coded-is}
+use Rattle.problem.proofs.DeckProblem.{columns-range, objects-count, deck-priceable, area-ranged, reaching, coded-is}
 use Rattle.exhaustive.specs.Ramps.{LinesInRange}
 use Rattle.exhaustive.specs.Cheapest.{firstCheapest, along}
 use Rattle.exhaustive.proofs.CrossingOrder.{InTurn, crossing-turn, cheapest-is}
@@ -73,38 +73,38 @@ module _ (deck : Query.Deck) (range : InRange deck) (full : NonEmpty (deck .area
       let (h, on-h, e) = Memᴰ·of-map (λ (h : ℤ). record { x = v; y = h }) (lines deck y-axis) n in
       rw (← e) (not-earlier (record { x = v; y = h }) (corner (deck .area)) (lines-range deck x-axis full v on-v .0) (lines-range deck y-axis full h on-h .0))
 
--- ---- a deck and its sites
-module _ (deck : Deck) (sites : Sites) (ready : Prepared deck sites) where
-  pub columns : InColumns sites
-  columns = columns-range deck sites ready
+-- ---- a deck and its objects
+module _ (deck : Deck) (objects : Objects) (ready : Prepared deck objects) where
+  pub columns : InColumns objects
+  columns = columns-range deck objects ready
 
-  pub count : sites .count ≤ 512
-  count = sites-count deck sites ready
+  pub count : objects .count ≤ 512
+  count = objects-count deck objects ready
 
-  pub sited : Sited (sites .x) (sites .y) (sites .visits) (sites .near) (sites .count)
-  sited = deck-sited deck sites ready
+  pub priceable : Priceable (objects .x) (objects .y) (objects .visits) (objects .near) (objects .count)
+  priceable = deck-priceable deck objects ready
 
-  pub paid : PaidInRange (sites .visits) (sites .near)
+  pub paid : PaidInRange (objects .visits) (objects .near)
   paid = paid-range columns
 
-  pub before-is : (b : ℕ) → BeforeIs (sites .visits) (sites .near) (sites .count) b → Figure (beforeOf (rowsOf sites)) costLimit b
-  before-is b h = record { is = h .is (sites .x) (sites .y) (columns .x-long) (columns .y-long); within = h .within }
+  pub before-is : (b : ℕ) → BeforeIs (objects .visits) (objects .near) (objects .count) b → Figure (beforeOf (rowsOf objects)) costLimit b
+  before-is b h = record { is = h .is (objects .x) (objects .y) (columns .x-long) (columns .y-long); within = h .within }
 
   module _ (area : Cell) (area-is : rectIn area ≡ deckOf deck .area) where
     pub ranged : Ranged (rectIn area)
-    ranged = area-ranged deck sites ready area area-is
+    ranged = area-ranged deck objects ready area area-is
 
-    pub reaches : (flags : List ℕ) → flags ≡ flagsOf (rowsOf sites) (rectIn area) → Reaching deck area flags
-    reaches = reaching deck sites ready area area-is
+    pub reaches : (flags : List ℕ) → flags ≡ flagsOf (rowsOf objects) (rectIn area) → Reaching deck area flags
+    reaches = reaching deck objects ready area area-is
 
     pub corner-near : Near20000 (back (area .xlo)) (back (area .ylo))
     corner-near = near-places (area .xlo) (area .ylo) (ranged .range .low-corner .x-range) (ranged .range .low-corner .y-range)
 
-    pub answers : (v h : Lines) → v ≡ linesRecord (lines (deckOf deck) x-axis) → h ≡ linesRecord (lines (deckOf deck) y-axis) → (first r : Spot) → first ≡ spotOf (rowsOf sites) (record { x = back (area .xlo); y = back (area .ylo) }) → r ≡ firstCheapest (rowsOf sites) first (flatMap (along (take (h .count) (h .at))) (take (v .count) (v .at))) → pricedOf r ≡ exhaustive (problem (deckOf deck))
+    pub answers : (v h : Lines) → v ≡ linesRecord (lines (deckOf deck) x-axis) → h ≡ linesRecord (lines (deckOf deck) y-axis) → (first r : Spot) → first ≡ spotOf (rowsOf objects) (record { x = back (area .xlo); y = back (area .ylo) }) → r ≡ firstCheapest (rowsOf objects) first (flatMap (along (take (h .count) (h .at))) (take (v .count) (v .at))) → pricedOf r ≡ exhaustive (problem (deckOf deck))
     answers v h ve he first r e b =
-        let corner-first : first ≡ spotOf (rowsOf sites) (corner (rectIn area)) = spot-back (rowsOf sites) (area .xlo) (area .ylo) first (ranged .range .low-corner .x-range) (ranged .range .low-corner .y-range) e in
+        let corner-first : first ≡ spotOf (rowsOf objects) (corner (rectIn area)) = spot-back (rowsOf objects) (area .xlo) (area .ylo) first (ranged .range .low-corner .x-range) (ranged .range .low-corner .y-range) e in
         let vs = deck-front (deckOf deck) x-axis v ve in
         let hs = deck-front (deckOf deck) y-axis h he in
-        ap pricedOf (b ∙ ap (λ (s : Spot). firstCheapest (rowsOf sites) s (flatMap (along (take (h .count) (h .at))) (take (v .count) (v .at)))) corner-first)
-        ∙ cheapest-is (rowsOf sites) (gridOf (v .at) (v .count) (h .at) (h .count)) (rectIn area) (rw (vs, hs) (deck-turn (deckOf deck) (ready .range) (ready .full))) (λ q m. subst (λ (r : Rect). T (not (earlier q (corner r)))) (sym area-is) (deck-corner (deckOf deck) (ready .range) (ready .full) q (rw (vs, hs) at m)))
-        ∙ ap exhaustive (coded-is deck sites ready area area-is v h ve he)
+        ap pricedOf (b ∙ ap (λ (s : Spot). firstCheapest (rowsOf objects) s (flatMap (along (take (h .count) (h .at))) (take (v .count) (v .at)))) corner-first)
+        ∙ cheapest-is (rowsOf objects) (gridOf (v .at) (v .count) (h .at) (h .count)) (rectIn area) (rw (vs, hs) (deck-turn (deckOf deck) (ready .range) (ready .full))) (λ q m. subst (λ (r : Rect). T (not (earlier q (corner r)))) (sym area-is) (deck-corner (deckOf deck) (ready .range) (ready .full) q (rw (vs, hs) at m)))
+        ∙ ap exhaustive (coded-is deck objects ready area area-is v h ve he)

@@ -1,9 +1,9 @@
 pub mod Heights
 pub mod Prefixes
 pub mod RampLaws
-pub mod SiteRamps
+pub mod ObjectRamps
 pub mod TableLaws
-pub mod AllSites
+pub mod AllObjects
 pub mod CheapestLaws
 pub mod CostsAlong
 pub mod SweepLaws

@@ -6,14 +6,14 @@ use Prim.Native.Nat.{ℕ, _+_, _*_, _^_, _≤_, _<_}
 use native.Mathlib.Omega.{arith}
 use lib.IntN.{ℤ, pos, natAbs}
 use lib.ListN.{length, getD, set, length-set}
-use Rattle.deck.specs.Sites.{Site}
-use Rattle.pricing.specs.Figures.{costOf, beforeOf}
+use Rattle.deck.specs.Objects.{Object}
+use Rattle.pricing.specs.ObjectFigures.{costOf, beforeOf}
 use Rattle.numbers.proofs.WordTests.{back}
-use Rattle.exhaustive.specs.Ramps.{heightOf, prefixSum, LinesInRange, RampSums, SitesAdded, Payable, Sweepable}
+use Rattle.exhaustive.specs.Ramps.{heightOf, prefixSum, LinesInRange, RampSums, ObjectsAdded, Payable, Sweepable}
 use Rattle.exhaustive.specs.Cheapest.{costsAlong, Swept}
 use Rattle.exhaustive.proofs.Heights.{height-most}
 use Rattle.exhaustive.proofs.Prefixes.{prefix-none, prefix-more, prefix-most}
-use Rattle.exhaustive.proofs.SiteRamps.{sums-more, small-back}
+use Rattle.exhaustive.proofs.ObjectRamps.{sums-more, small-back}
 use Rattle.exhaustive.proofs.CostsAlong.{costs-none, costs-more}
 
 -- ---- the sums stay small
@@ -32,7 +32,7 @@ pub record Sweeping (ls : List ℤ) (n : ℕ) (up us down ds : List ℕ) (before
   pub up-starts : b ≡ prefixSum us j
   pub downs : c ≡ prefixSum down j
   pub down-starts : d ≡ prefixSum ds j
-  pub written : (sites : List Site) (m : ℕ) (v : ℤ) → SitesAdded sites m ls n v up us down ds → before ≡ beforeOf sites → costs ≡ costsAlong sites ls j v old
+  pub written : (objects : List Object) (m : ℕ) (v : ℤ) → ObjectsAdded objects m ls n v up us down ds → before ≡ beforeOf objects → costs ≡ costsAlong objects ls j v old
 
 module _ (ls : List ℤ) (n : ℕ) (up us down ds : List ℕ) (before : ℕ) (old : List ℕ) where
   pub sweep-none : Sweeping ls n up us down ds before old old 0 0 0 0 0
@@ -43,11 +43,11 @@ module _ (ls : List ℤ) (n : ℕ) (up us down ds : List ℕ) (before : ℕ) (ol
     up-starts = sym (prefix-none us);
     downs = sym (prefix-none down);
     down-starts = sym (prefix-none ds);
-    written = λ sites m v s e. sym (costs-none sites ls v old);
+    written = λ objects m v s e. sym (costs-none objects ls v old);
   }
 
   pub sweep-all : {costs : List ℕ} {a b c d j : ℕ} → Sweeping ls n up us down ds before old costs a b c d j → n ≤ j → Swept ls n up us down ds before old costs
-  sweep-all {j = j} s h = let e : j ≡ n = omega (arith, s .count) in record { is = λ sites m v added f. rw e at (s .written sites m v added f) }
+  sweep-all {j = j} s h = let e : j ≡ n = omega (arith, s .count) in record { is = λ objects m v added f. rw e at (s .written objects m v added f) }
 
   module _ (lines : LinesInRange ls n) (ok : Sweepable ls n up us down ds before) {costs : List ℕ} {a b c d j : ℕ} (s : Sweeping ls n up us down ds before old costs a b c d j) (h : j < n) where
     abbrev y : ℤ
@@ -105,8 +105,8 @@ module _ (ls : List ℤ) (n : ℕ) (up us down ds : List ℕ) (before : ℕ) (ol
         balance : cost + (prefixSum down (j + 1) * heightOf y + prefixSum us (j + 1)) ≡ before + (prefixSum up (j + 1) * heightOf y + prefixSum ds (j + 1))
         balance = rw (t-is, ups-next, up-starts-next, downs-next, down-starts-next) at q
 
-        cost-is : (sites : List Site) (m : ℕ) (v : ℤ) → SitesAdded sites m ls n v up us down ds → before ≡ beforeOf sites → cost ≡ costOf sites (record { x = v; y = y })
-        cost-is sites m v added f = omega (arith, balance, added .cost j h, f)
+        cost-is : (objects : List Object) (m : ℕ) (v : ℤ) → ObjectsAdded objects m ls n v up us down ds → before ≡ beforeOf objects → cost ≡ costOf objects (record { x = v; y = y })
+        cost-is objects m v added f = omega (arith, balance, added .cost j h, f)
 
         pub sweep-more : length old ≡ 514 → (new : ℕ) → new ≡ cost → Sweeping ls n up us down ds before old (set costs j new) (a + getD up j 0) (b + getD us j 0) (c + getD down j 0) (d + getD ds j 0) (j + 1)
         sweep-more l new i = record {
@@ -116,5 +116,5 @@ module _ (ls : List ℤ) (n : ℕ) (up us down ds : List ℕ) (before : ℕ) (ol
           up-starts = up-starts-next;
           downs = downs-next;
           down-starts = down-starts-next;
-          written = λ sites m v added f. costs-more sites ls v old j new (omega (arith, lines .in-order .within, lines .in-order .full)) (omega (arith, lines .in-order .within)) (s .written sites m v added f) (i ∙ cost-is sites m v added f);
+          written = λ objects m v added f. costs-more objects ls v old j new (omega (arith, lines .in-order .within, lines .in-order .full)) (omega (arith, lines .in-order .within)) (s .written objects m v added f) (i ∙ cost-is objects m v added f);
         }

@@ -14,23 +14,23 @@ use Rattle.numbers.proofs.Integer.{order}
 use Rattle.lines.specs.LineRecord.{FirstAtLeast}
 use Rattle.lines.proofs.Indexed.{front-le}
 use Rattle.numbers.proofs.WordTests.{back}
-use Rattle.exhaustive.specs.Ramps.{heightOf, LinesInRange, Filled, Parted, Numbered}
+use Rattle.exhaustive.specs.Ramps.{heightOf, LinesInRange, SlotsFilled, Parted, LineTable}
 use Rattle.exhaustive.proofs.Heights.{height-nat, height-most, height-least, height-le}
-use Rattle.exhaustive.proofs.SiteRamps.{small-back}
+use Rattle.exhaustive.proofs.ObjectRamps.{small-back}
 
 -- ---- slots
 module _ (xs : List ℕ) (from j : ℕ) where
-  pub fill-none : Filled xs from from j xs
+  pub fill-none : SlotsFilled xs from from j xs
   fill-none = record { long = refl; inside = λ t h k. absurd (omega arith); outside = λ t h. refl }
 
-  pub fill-more : (xs′ : List ℕ) (i : ℕ) → Filled xs from i j xs′ → from ≤ i → i < length xs → Filled xs from (i + 1) j (set xs′ i j)
+  pub fill-more : (xs′ : List ℕ) (i : ℕ) → SlotsFilled xs from i j xs′ → from ≤ i → i < length xs → SlotsFilled xs from (i + 1) j (set xs′ i j)
   fill-more xs′ i f g l = record {
     long = length-set xs′ i j ∙ f .long;
     inside = λ t h k. ⊎-elim (λ u. getD-set-other xs′ i t j 0 (λ q. omega (arith, ltb→lt)) ∙ f .inside t h (ltb→lt t i u)) (λ u. let e : i ≡ t = omega (arith, nltb→le) in rw (← e) (getD-set-same xs′ i j 0 (omega (arith, f .long)))) (test (ltb t i));
     outside = λ t h. getD-set-other xs′ i t j 0 (λ q. omega arith) ∙ f .outside t h;
   }
 
-  pub fill-all : (xs′ : List ℕ) (i to : ℕ) → Filled xs from i j xs′ → to ≤ i → Filled xs from to j xs′
+  pub fill-all : (xs′ : List ℕ) (i to : ℕ) → SlotsFilled xs from i j xs′ → to ≤ i → SlotsFilled xs from to j xs′
   fill-all xs′ i to f h = record { long = f .long; inside = λ t g k. f .inside t g (omega arith); outside = f .outside }
 
 -- ---- lines
@@ -53,13 +53,13 @@ module _ (ls : List ℤ) (n : ℕ) (lines : LinesInRange ls n) where
 
   module _ {j from : ℕ} {table : List ℕ} (s : Numbering ls n j from table) where
     -- the slots from `from` on
-    parted-from : (r to : ℕ) (table′ : List ℕ) → Filled table from to r table′ → ((t : ℕ) → from ≤ t → t < to → Parted ls n (t + 980000) r) → (t : ℕ) → t < to → Parted ls n (t + 980000) (getD table′ t 0)
+    parted-from : (r to : ℕ) (table′ : List ℕ) → SlotsFilled table from to r table′ → ((t : ℕ) → from ≤ t → t < to → Parted ls n (t + 980000) r) → (t : ℕ) → t < to → Parted ls n (t + 980000) (getD table′ t 0)
     parted-from r to table′ f each t h =
         ⊎-elim (λ u. subst (Parted ls n (t + 980000)) (sym (f .outside t (ltb→lt t from u))) (s .parted t (ltb→lt t from u)))
         (λ u. subst (Parted ls n (t + 980000)) (sym (f .inside t (nltb→le t from u) h)) (each t (nltb→le t from u) h))
         (test (ltb t from))
 
-    pub numbering-more : j < n → (to : ℕ) (table′ : List ℕ) → to + 979999 ≡ heightOf (getD ls j (pos 0)) → Filled table from to j table′ → Numbering ls n (j + 1) to table′
+    pub numbering-more : j < n → (to : ℕ) (table′ : List ℕ) → to + 979999 ≡ heightOf (getD ls j (pos 0)) → SlotsFilled table from to j table′ → Numbering ls n (j + 1) to table′
     numbering-more h to table′ e f = record {
       count = omega arith;
       long = f .long ∙ s .long;
@@ -67,7 +67,7 @@ module _ (ls : List ℤ) (n : ℕ) (lines : LinesInRange ls n) where
       parted = parted-from j to table′ f (λ t g l. record { within = omega arith; before = λ k q. omega (arith, s .passed k q); after = λ k q p. omega (arith, rising j k q p, e) });
     }
 
-    pub numbering-all : n ≤ j → (table′ : List ℕ) → Filled table from 40001 n table′ → Numbered ls n table′
+    pub numbering-all : n ≤ j → (table′ : List ℕ) → SlotsFilled table from 40001 n table′ → LineTable ls n table′
     numbering-all h table′ f = record {
       long = f .long ∙ s .long;
       parted = λ t g. parted-from n 40001 table′ f (λ t g l. record { within = omega arith; before = λ k q. omega (arith, s .passed k (omega arith)); after = λ k q p. absurd (omega arith) }) t (omega arith);
@@ -116,15 +116,15 @@ module _ (ls : List ℤ) (n : ℕ) (lines : LinesInRange ls n) where
       pub from-above : 1020000 < t → FirstAtLeast ls n start n
       from-above h = first-of (record { within = omega arith; before = λ k l. omega (arith, e, slot-most k l); after = λ k l m. absurd (omega arith) })
 
-      pub table-small : (table : List ℕ) → Numbered ls n table → t ≤ 1020000 → getD table (t - 980000) 0 ≤ 514
+      pub table-small : (table : List ℕ) → LineTable ls n table → t ≤ 1020000 → getD table (t - 980000) 0 ≤ 514
       table-small table s h = omega (arith, s .parted (t - 980000) (omega arith) .within, lines .in-order .within)
 
-      pub from-table : (table : List ℕ) → Numbered ls n table → 980000 ≤ t → t ≤ 1020000 → FirstAtLeast ls n start (getD table (t - 980000) 0)
+      pub from-table : (table : List ℕ) → LineTable ls n table → 980000 ≤ t → t ≤ 1020000 → FirstAtLeast ls n start (getD table (t - 980000) 0)
       from-table table s h l = let q : (t - 980000) + 980000 ≡ heightOf start = omega (arith, e) in first-of (subst (λ (u : ℕ). Parted ls n u (getD table (t - 980000) 0)) q (s .parted (t - 980000) (omega arith)))
 
 -- ---- two tables of the same lines are the same
 parted-one : {ls : List ℤ} {n t r r′ : ℕ} → Parted ls n t r → Parted ls n t r′ → r ≤ r′
 parted-one {r = r} {r′} p q = ⊎-elim (λ u. let l : r′ < r = ltb→lt r′ r u in absurd (omega (arith, p .before r′ l, q .after r′ (omega arith) (omega (arith, p .within))))) (λ u. nltb→le r′ r u) (test (ltb r′ r))
 
-pub numbered-one : {ls : List ℤ} {n : ℕ} {table table′ : List ℕ} → Numbered ls n table → Numbered ls n table′ → table ≡ table′
+pub numbered-one : {ls : List ℤ} {n : ℕ} {table table′ : List ℕ} → LineTable ls n table → LineTable ls n table′ → table ≡ table′
 numbered-one {table = table} {table′} p q = ext-getD 0 table table′ (omega (arith, p .long, q .long)) (λ t h. let a = p .parted t (omega (arith, p .long)) in let b = q .parted t (omega (arith, p .long)) in omega (arith, parted-one a b, parted-one b a))

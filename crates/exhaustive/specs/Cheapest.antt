@@ -9,20 +9,20 @@ use lib.Dec.{ltb}
 use lib.IntN.{ℤ}
 use lib.ListN.{take, drop}
 use Rattle.query.specs.Place.{Place}
-use Rattle.deck.specs.Sites.{Site}
-use Rattle.pricing.specs.Figures.{costOf, beforeOf}
+use Rattle.deck.specs.Objects.{Object}
+use Rattle.pricing.specs.ObjectFigures.{costOf, beforeOf}
 use Rattle.problem.specs.declared.Spot.{Spot}
-use Rattle.problem.specs.Problem.{spotOf}
-use Rattle.exhaustive.specs.Ramps.{SitesAdded}
+use Rattle.problem.specs.ObjectProblem.{spotOf}
+use Rattle.exhaustive.specs.Ramps.{ObjectsAdded}
 
 -- the cheaper of two spots, the first of them where they cost the same
 unfoldable pub cheaperOf : Spot → Spot → Spot
 cheaperOf best p = cond (ltb (p .cost) (best .cost)) p best
 
 -- the cheapest of a spot and some places, the first among equals
-unfoldable pub firstCheapest : List Site → Spot → List Place → Spot
+unfoldable pub firstCheapest : List Object → Spot → List Place → Spot
 unfolding cheaperOf costOf
-firstCheapest sites first places = foldl (λ best p. cheaperOf best (spotOf sites p)) first places
+firstCheapest objects first places = foldl (λ best p. cheaperOf best (spotOf objects p)) first places
 
 -- the crossings of the vertical line at v, in their order
 abbrev pub along : List ℤ → ℤ → List Place
@@ -30,14 +30,14 @@ along horizontal v = map (λ h. record { x = v; y = h }) horizontal
 
 -- an array after the costs of the crossings of the vertical line at v with the first n lines were written to its front: the entries
 -- behind them are as they were
-unfoldable pub costsAlong : List Site → List ℤ → ℕ → ℤ → List ℕ → List ℕ
+unfoldable pub costsAlong : List Object → List ℤ → ℕ → ℤ → List ℕ → List ℕ
 unfolding costOf
-costsAlong sites ls n v old = map (λ h. costOf sites (record { x = v; y = h })) (take n ls) ++ drop n old
+costsAlong objects ls n v old = map (λ h. costOf objects (record { x = v; y = h })) (take n ls) ++ drop n old
 
--- such an array, whatever the sites whose ramps the columns hold
+-- such an array, whatever the objects whose ramps the columns hold
 pub record Swept (ls : List ℤ) (n : ℕ) (up up-at down down-at : List ℕ) (before : ℕ) (old costs : List ℕ) : Type 0 where
-  pub is : (sites : List Site) (m : ℕ) (v : ℤ) → SitesAdded sites m ls n v up up-at down down-at → before ≡ beforeOf sites → costs ≡ costsAlong sites ls n v old
+  pub is : (objects : List Object) (m : ℕ) (v : ℤ) → ObjectsAdded objects m ls n v up up-at down down-at → before ≡ beforeOf objects → costs ≡ costsAlong objects ls n v old
 
--- the cheapest of a spot and the crossings of the vertical line at v, whatever the sites whose costs the array holds
+-- the cheapest of a spot and the crossings of the vertical line at v, whatever the objects whose costs the array holds
 pub record Chosen (ls : List ℤ) (n : ℕ) (v : ℤ) (costs : List ℕ) (first r : Spot) : Type 0 where
-  pub is : (sites : List Site) (old : List ℕ) → costs ≡ costsAlong sites ls n v old → r ≡ firstCheapest sites first (along (take n ls) v)
+  pub is : (objects : List Object) (old : List ℕ) → costs ≡ costsAlong objects ls n v old → r ≡ firstCheapest objects first (along (take n ls) v)

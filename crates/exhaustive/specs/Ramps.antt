@@ -1,5 +1,5 @@
 -- The cost of the places of a vertical line as a sum of ramps. A ramp of weight w from a start s on is w × (t − s) at a height t above s,
--- and 0 below. Along the line at v a site with d = |sx − v| pays for each visit near where near ≤ d; else, with r = near − d, it pays
+-- and 0 below. Along the line at v a object with d = |sx − v| pays for each visit near where near ≤ d; else, with r = near − d, it pays
 -- near, less a ramp from sy − r on, plus two from sy on, less one from sy + r on.
 -- Assumes nothing.
 use Prim.Native.Nat.{ℕ, zero, suc, _+_, _*_, _-_, _≤_, _<_, min, _^_}
@@ -9,9 +9,9 @@ use lib.IntN.{ℤ, pos, natAbs, _+ℤ_}
 use lib.ListN.{length, getD}
 use Rattle.numbers.specs.Integer.{dist}
 use Rattle.query.specs.Range.{costLimit}
-use Rattle.deck.specs.Sites.{Site}
-use Rattle.pricing.specs.Figures.{costOf, beforeOf}
-use Rattle.lines.specs.LineRecord.{InOrder}
+use Rattle.deck.specs.Objects.{Object}
+use Rattle.pricing.specs.ObjectFigures.{costOf, beforeOf}
+use Rattle.lines.specs.LineRecord.{LinesInOrder}
 
 -- how far a coordinate lies above −1,000,000
 unfoldable pub heightOf : ℤ → ℕ
@@ -24,11 +24,11 @@ prefixSum xs (suc n) = prefixSum xs n + getD xs n 0
 
 -- lines in order and in range
 pub record LinesInRange (ls : List ℤ) (n : ℕ) : Type 0 where
-  pub in-order : InOrder ls n
+  pub in-order : LinesInOrder ls n
   pub range : (j : ℕ) → j < n → natAbs (getD ls j (pos 0)) ≤ 20000
 
 -- slots from `from` on that are before `to` hold j now, and those before `from` what they held
-pub record Filled (xs : List ℕ) (from to j : ℕ) (xs′ : List ℕ) : Type 0 where
+pub record SlotsFilled (xs : List ℕ) (from to j : ℕ) (xs′ : List ℕ) : Type 0 where
   pub long : length xs′ ≡ length xs
   pub inside : (t : ℕ) → from ≤ t → t < to → getD xs′ t 0 ≡ j
   pub outside : (t : ℕ) → t < from → getD xs′ t 0 ≡ getD xs t 0
@@ -40,7 +40,7 @@ pub record Parted (ls : List ℤ) (n t r : ℕ) : Type 0 where
   pub after : (k : ℕ) → r ≤ k → k < n → t ≤ heightOf (getD ls k (pos 0))
 
 -- a table of how many are, by heights from that of −20,000 to that of 20,000
-pub record Numbered (ls : List ℤ) (n : ℕ) (table : List ℕ) : Type 0 where
+pub record LineTable (ls : List ℤ) (n : ℕ) (table : List ℕ) : Type 0 where
   pub long : length table ≡ 40001
   pub parted : (t : ℕ) → t ≤ 40000 → Parted ls n (t + 980000) (getD table t 0)
 
@@ -68,8 +68,8 @@ pub record RampAdded (ls : List ℤ) (n : ℕ) (start : ℤ) (w : ℕ) (weights 
   pub sums : (m : ℕ) → RampSums weights starts m → RampSums weights′ starts′ (m + 1)
   pub added : (j : ℕ) → j < n → weightsAt ls weights′ j + startsAt starts j ≡ weightsAt ls weights j + startsAt starts′ j + w * (heightOf (getD ls j (pos 0)) - heightOf start)
 
--- the columns of the ramps that raise the cost and of those that lower it, of at most m sites
-pub record SiteSums (up up-at down down-at : List ℕ) (m : ℕ) : Type 0 where
+-- the columns of the ramps that raise the cost and of those that lower it, of at most m objects
+pub record ObjectSums (up up-at down down-at : List ℕ) (m : ℕ) : Type 0 where
   pub up-sums : RampSums up up-at m
   pub down-sums : RampSums down down-at (2 * m)
 
@@ -80,15 +80,15 @@ raisedAt ls up down-at j = weightsAt ls up j + startsAt down-at j
 abbrev pub loweredAt : List ℤ → List ℕ → List ℕ → ℕ → ℕ
 loweredAt ls down up-at j = weightsAt ls down j + startsAt up-at j
 
--- one site more, along the line at v
-pub record SiteAdded (ls : List ℤ) (n : ℕ) (v sx sy : ℤ) (visits near : ℕ) (up up-at down down-at up′ up-at′ down′ down-at′ : List ℕ) : Type 0 where
-  pub sums : (m : ℕ) → SiteSums up up-at down down-at m → SiteSums up′ up-at′ down′ down-at′ (m + 1)
+-- one object more, along the line at v
+pub record ObjectAdded (ls : List ℤ) (n : ℕ) (v sx sy : ℤ) (visits near : ℕ) (up up-at down down-at up′ up-at′ down′ down-at′ : List ℕ) : Type 0 where
+  pub sums : (m : ℕ) → ObjectSums up up-at down down-at m → ObjectSums up′ up-at′ down′ down-at′ (m + 1)
   pub added : (j : ℕ) → j < n → visits * min near (dist sx v + dist sy (getD ls j (pos 0))) + loweredAt ls down′ up-at′ j + raisedAt ls up down-at j ≡ visits * near + raisedAt ls up′ down-at′ j + loweredAt ls down up-at j
 
--- the columns of m sites along the line at v: the cost at each line is what the sites pay now and what is added, less what is taken off
-pub record SitesAdded (sites : List Site) (m : ℕ) (ls : List ℤ) (n : ℕ) (v : ℤ) (up up-at down down-at : List ℕ) : Type 0 where
-  pub sums : SiteSums up up-at down down-at m
-  pub cost : (j : ℕ) → j < n → costOf sites (record { x = v; y = getD ls j (pos 0) }) + loweredAt ls down up-at j ≡ beforeOf sites + raisedAt ls up down-at j
+-- the columns of m objects along the line at v: the cost at each line is what the objects pay now and what is added, less what is taken off
+pub record ObjectsAdded (objects : List Object) (m : ℕ) (ls : List ℤ) (n : ℕ) (v : ℤ) (up up-at down down-at : List ℕ) : Type 0 where
+  pub sums : ObjectSums up up-at down down-at m
+  pub cost : (j : ℕ) → j < n → costOf objects (record { x = v; y = getD ls j (pos 0) }) + loweredAt ls down up-at j ≡ beforeOf objects + raisedAt ls up down-at j
 
 -- what `cost_at` asks: no sum is too large, and not more is taken off than is there
 pub record Payable (before up up-at down down-at t : ℕ) : Type 0 where
@@ -103,5 +103,5 @@ pub record Payable (before up up-at down down-at t : ℕ) : Type 0 where
 -- what `sweep` asks: at each line not more is taken off than is there
 pub record Sweepable (ls : List ℤ) (n : ℕ) (up up-at down down-at : List ℕ) (before : ℕ) : Type 0 where
   pub before-most : before ≤ costLimit
-  pub sums : SiteSums up up-at down down-at 600
+  pub sums : ObjectSums up up-at down down-at 600
   pub enough : (j : ℕ) → j < n → loweredAt ls down up-at j ≤ before + raisedAt ls up down-at j

@@ -1,8 +1,8 @@
 // The exhaustive search: the cheapest crossing of a deck's lines. Along one vertical line the cost is a sum of ramps (specs/Ramps.antt),
-// so that the costs of all its crossings follow from prefix sums, with no pass over the sites for each. Line by line these costs are
+// so that the costs of all its crossings follow from prefix sums, with no pass over the objects for each. Line by line these costs are
 // written into an array (`costs_along`), and then the cheapest is chosen (`choose`).
 use deck::Deck;
-use deck::Sites;
+use deck::Objects;
 use numbers::abs_diff;
 use problem::Spot;
 ghost use mathlib.Core.Path.{_≡_};
@@ -14,21 +14,21 @@ ghost use Rattle.query.specs.Range.{costLimit};
 ghost use Rattle.query.specs.Problem.{problem};
 ghost use Rattle.query.specs.Exhaustive.{exhaustive};
 ghost use Rattle.deck.specs.DeckOf.{deckOf};
-ghost use Rattle.pricing.specs.Figures.{beforeOf};
-ghost use Rattle.pricing.specs.Columns.{siteRows, SiteInRange, Figure};
+ghost use Rattle.pricing.specs.ObjectFigures.{beforeOf};
+ghost use Rattle.pricing.specs.Columns.{objectRows, ObjectInRange, Figure};
 ghost use Rattle.lines.specs.LineRecord.{FirstAtLeast};
-ghost use Rattle.problem.specs.Problem.{Prepared, Sited, pricedOf};
+ghost use Rattle.problem.specs.ObjectProblem.{Prepared, Priceable, pricedOf};
 ghost use Rattle.exhaustive.specs.Ramps.{
   heightOf,
   LinesInRange,
-  Filled,
-  Numbered,
+  SlotsFilled,
+  LineTable,
   RampSums,
   RampInRange,
   RampAdded,
-  SiteSums,
-  SiteAdded,
-  SitesAdded,
+  ObjectSums,
+  ObjectAdded,
+  ObjectsAdded,
   Payable,
   Sweepable,
 };
@@ -45,7 +45,7 @@ fn height(y: i64) -> u64
 // Puts `j` into the slots from `from` on that are before `to`.
 fn fill(table: &mut [u16; 40001], from: usize, to: usize, j: u16)
     requires { ⌜ (length (now table) ≡ 40001) × (to ≤ 40001) ⌝ }
-    ensures { λ _. ⌜ Filled (now (table .entry)) from to j (now (table .exit)) ⌝ }
+    ensures { λ _. ⌜ SlotsFilled (now (table .entry)) from to j (now (table .exit)) ⌝ }
 {
     let mut i = from;
     while i < to {
@@ -57,7 +57,7 @@ fn fill(table: &mut [u16; 40001], from: usize, to: usize, j: u16)
 // For each coordinate from −20,000 to 20,000, which is where lines are, the number of the first line that is not below it.
 pub fn number_lines(h: &[i64; 514], nh: usize, table: &mut [u16; 40001])
     requires { ⌜ LinesInRange (now h) nh × (length (now table) ≡ 40001) ⌝ }
-    ensures { λ _. ⌜ Numbered (now (h .entry)) nh (now (table .exit)) ⌝ }
+    ensures { λ _. ⌜ LineTable (now (h .entry)) nh (now (table .exit)) ⌝ }
 {
     let mut from: usize = 0;
     let mut j: usize = 0;
@@ -76,7 +76,7 @@ pub fn number_lines(h: &[i64; 514], nh: usize, table: &mut [u16; 40001])
 // up. So if heights get scaled by some b and lines do not, the lookup stays as it is and is asked for another y: for a ramp that starts
 // at s the least y with s ≤ b × y.
 fn line_from(h: &[i64; 514], nh: usize, table: &[u16; 40001], start: i64) -> usize
-    requires { ⌜ LinesInRange (now h) nh × Numbered (now h) nh (now table) × (natAbs start ≤ 900000) ⌝ }
+    requires { ⌜ LinesInRange (now h) nh × LineTable (now h) nh (now table) × (natAbs start ≤ 900000) ⌝ }
     ensures { λ r. ⌜ FirstAtLeast (now (h .entry)) nh start r ⌝ }
 {
     let t = height(start);
@@ -100,7 +100,7 @@ fn add_ramp(
     start: i64,
     w: u64,
 )
-    requires { ⌜ LinesInRange (now h) nh × RampSums (now weights) (now starts) 2000 × RampInRange start w × Numbered (now h) nh (now table) ⌝ }
+    requires { ⌜ LinesInRange (now h) nh × RampSums (now weights) (now starts) 2000 × RampInRange start w × LineTable (now h) nh (now table) ⌝ }
     ensures { λ _. ⌜ RampAdded (now (h .entry)) nh start w (now (weights .entry)) (now (starts .entry)) (now (weights .exit)) (now (starts .exit)) ⌝ }
 {
     let k = line_from(h, nh, table, start);
@@ -108,8 +108,8 @@ fn add_ramp(
     starts[k] = starts[k] + w * height(start);
 }
 
-// Adds the ramps of a site along the vertical line at `v`. A site that is not nearer to the line than to its closest post has none.
-fn add_site(
+// Adds the ramps of a object along the vertical line at `v`. A object that is not nearer to the line than to its closest post has none.
+fn add_object(
     h: &[i64; 514],
     nh: usize,
     table: &[u16; 40001],
@@ -123,8 +123,8 @@ fn add_site(
     visits: u64,
     near: u64,
 )
-    requires { ⌜ LinesInRange (now h) nh × (natAbs v ≤ 20000) × SiteSums (now up) (now «up_at») (now down) (now «down_at») 600 × SiteInRange sx sy visits near × Numbered (now h) nh (now table) ⌝ }
-    ensures { λ _. ⌜ SiteAdded (now (h .entry)) nh v sx sy visits near (now (up .entry)) (now («up_at» .entry)) (now (down .entry)) (now («down_at» .entry)) (now (up .exit)) (now («up_at» .exit)) (now (down .exit)) (now («down_at» .exit)) ⌝ }
+    requires { ⌜ LinesInRange (now h) nh × (natAbs v ≤ 20000) × ObjectSums (now up) (now «up_at») (now down) (now «down_at») 600 × ObjectInRange sx sy visits near × LineTable (now h) nh (now table) ⌝ }
+    ensures { λ _. ⌜ ObjectAdded (now (h .entry)) nh v sx sy visits near (now (up .entry)) (now («up_at» .entry)) (now (down .entry)) (now («down_at» .entry)) (now (up .exit)) (now («up_at» .exit)) (now (down .exit)) (now («down_at» .exit)) ⌝ }
 {
     let d = abs_diff(sx, v);
     if near <= d {
@@ -136,8 +136,8 @@ fn add_site(
     add_ramp(h, nh, table, down, down_at, sy + r, visits);
 }
 
-// The ramps of all sites along the vertical line at `v`, in columns that were 0.
-fn add_sites<'a>(
+// The ramps of all objects along the vertical line at `v`, in columns that were 0.
+fn add_objects<'a>(
     xs: &'a [i32; 512],
     ys: &'a [i32; 512],
     visits: &'a [u32; 512],
@@ -152,14 +152,14 @@ fn add_sites<'a>(
     down: &mut [u64; 515],
     down_at: &mut [u64; 515],
 )
-    requires { ⌜ Sited (now xs) (now ys) (now visits) (now near) n × LinesInRange (now h) nh × (natAbs v ≤ 20000) × SiteSums (now up) (now «up_at») (now down) (now «down_at») 0 × Numbered (now h) nh (now table) ⌝ }
-    ensures { λ _. ⌜ SitesAdded (siteRows (now (xs .entry)) (now (ys .entry)) (now (visits .entry)) (now (near .entry)) n) n (now (h .entry)) nh v (now (up .exit)) (now («up_at» .exit)) (now (down .exit)) (now («down_at» .exit)) ⌝ }
+    requires { ⌜ Priceable (now xs) (now ys) (now visits) (now near) n × LinesInRange (now h) nh × (natAbs v ≤ 20000) × ObjectSums (now up) (now «up_at») (now down) (now «down_at») 0 × LineTable (now h) nh (now table) ⌝ }
+    ensures { λ _. ⌜ ObjectsAdded (objectRows (now (xs .entry)) (now (ys .entry)) (now (visits .entry)) (now (near .entry)) n) n (now (h .entry)) nh v (now (up .exit)) (now («up_at» .exit)) (now (down .exit)) (now («down_at» .exit)) ⌝ }
 {
     let mut i: usize = 0;
     while i < n {
         let sx = xs[i] as i64;
         let sy = ys[i] as i64;
-        add_site(
+        add_object(
             h,
             nh,
             table,
@@ -250,14 +250,14 @@ pub fn costs_along<'a>(
     before: u64,
     costs: &mut [u64; 514],
 )
-    requires { ⌜ Sited (now xs) (now ys) (now visits) (now near) n × LinesInRange (now h) nh × (natAbs v ≤ 20000) × Figure (beforeOf (siteRows (now xs) (now ys) (now visits) (now near) n)) costLimit before × Numbered (now h) nh (now table) × (length (now costs) ≡ 514) ⌝ }
-    ensures { λ _. ⌜ now (costs .exit) ≡ costsAlong (siteRows (now (xs .entry)) (now (ys .entry)) (now (visits .entry)) (now (near .entry)) n) (now (h .entry)) nh v (now (costs .entry)) ⌝ }
+    requires { ⌜ Priceable (now xs) (now ys) (now visits) (now near) n × LinesInRange (now h) nh × (natAbs v ≤ 20000) × Figure (beforeOf (objectRows (now xs) (now ys) (now visits) (now near) n)) costLimit before × LineTable (now h) nh (now table) × (length (now costs) ≡ 514) ⌝ }
+    ensures { λ _. ⌜ now (costs .exit) ≡ costsAlong (objectRows (now (xs .entry)) (now (ys .entry)) (now (visits .entry)) (now (near .entry)) n) (now (h .entry)) nh v (now (costs .entry)) ⌝ }
 {
     let mut up = [0u64; 515];
     let mut up_at = [0u64; 515];
     let mut down = [0u64; 515];
     let mut down_at = [0u64; 515];
-    add_sites(
+    add_objects(
         xs,
         ys,
         visits,
@@ -306,9 +306,9 @@ fn cheapest_on<'a>(
     costs: &mut [u64; 514],
     first: Spot,
 ) -> Spot
-    requires { ⌜ Sited (now xs) (now ys) (now visits) (now near) n × LinesInRange (now h) nh × (natAbs v ≤ 20000) × Figure (beforeOf (siteRows (now xs) (now ys) (now visits) (now near) n)) costLimit before × Numbered (now h) nh (now table) × (length (now costs) ≡ 514) ⌝ }
-    ensures chosen { λ r. ⌜ r ≡ firstCheapest (siteRows (now (xs .entry)) (now (ys .entry)) (now (visits .entry)) (now (near .entry)) n) first (along (take nh (now (h .entry))) v) ⌝ }
-    ensures priced { λ _. ⌜ now (costs .exit) ≡ costsAlong (siteRows (now (xs .entry)) (now (ys .entry)) (now (visits .entry)) (now (near .entry)) n) (now (h .entry)) nh v (now (costs .entry)) ⌝ }
+    requires { ⌜ Priceable (now xs) (now ys) (now visits) (now near) n × LinesInRange (now h) nh × (natAbs v ≤ 20000) × Figure (beforeOf (objectRows (now xs) (now ys) (now visits) (now near) n)) costLimit before × LineTable (now h) nh (now table) × (length (now costs) ≡ 514) ⌝ }
+    ensures chosen { λ r. ⌜ r ≡ firstCheapest (objectRows (now (xs .entry)) (now (ys .entry)) (now (visits .entry)) (now (near .entry)) n) first (along (take nh (now (h .entry))) v) ⌝ }
+    ensures priced { λ _. ⌜ now (costs .exit) ≡ costsAlong (objectRows (now (xs .entry)) (now (ys .entry)) (now (visits .entry)) (now (near .entry)) n) (now (h .entry)) nh v (now (costs .entry)) ⌝ }
 {
     costs_along(xs, ys, visits, near, n, h, nh, table, v, before, costs);
     choose(h, nh, v, costs, first)
@@ -329,8 +329,8 @@ fn cheapest_of<'a>(
     before: u64,
     first: Spot,
 ) -> Spot
-    requires { ⌜ Sited (now xs) (now ys) (now visits) (now near) n × LinesInRange (now v) nv × LinesInRange (now h) nh × Figure (beforeOf (siteRows (now xs) (now ys) (now visits) (now near) n)) costLimit before × Numbered (now h) nh (now table) ⌝ }
-    ensures { λ r. ⌜ r ≡ firstCheapest (siteRows (now (xs .entry)) (now (ys .entry)) (now (visits .entry)) (now (near .entry)) n) first (flatMap (along (take nh (now (h .entry)))) (take nv (now (v .entry)))) ⌝ }
+    requires { ⌜ Priceable (now xs) (now ys) (now visits) (now near) n × LinesInRange (now v) nv × LinesInRange (now h) nh × Figure (beforeOf (objectRows (now xs) (now ys) (now visits) (now near) n)) costLimit before × LineTable (now h) nh (now table) ⌝ }
+    ensures { λ r. ⌜ r ≡ firstCheapest (objectRows (now (xs .entry)) (now (ys .entry)) (now (visits .entry)) (now (near .entry)) n) first (flatMap (along (take nh (now (h .entry)))) (take nv (now (v .entry)))) ⌝ }
 {
     let mut costs = [0u64; 514];
     let mut found = first;
@@ -356,34 +356,34 @@ fn cheapest_of<'a>(
 }
 
 // The cheapest crossing of a deck's lines, the earliest among equals, with its cost.
-pub fn cheapest(deck: Deck, sites: Sites) -> Spot
-    requires { ⌜ Prepared deck sites ⌝ }
+pub fn cheapest(deck: Deck, objects: Objects) -> Spot
+    requires { ⌜ Prepared deck objects ⌝ }
     ensures { λ r. ⌜ pricedOf r ≡ exhaustive (problem (deckOf deck)) ⌝ }
 {
     let area = problem::area_of(deck);
-    let flags = problem::flags_of(area, sites);
+    let flags = problem::flags_of(area, objects);
     let v = problem::vertical(deck, area, flags);
     let h = problem::horizontal(deck, area, flags);
-    let n = sites.count;
+    let n = objects.count;
     let nv = v.count;
     let nh = h.count;
     let mut table = [0u16; 40001];
     number_lines(&h.at, nh, &mut table);
-    let before = pricing::before(&sites.visits, &sites.near, n);
+    let before = pricing::before(&objects.visits, &objects.near, n);
     let first = problem::priced(
-        &sites.x,
-        &sites.y,
-        &sites.visits,
-        &sites.near,
+        &objects.x,
+        &objects.y,
+        &objects.visits,
+        &objects.near,
         n,
         area.xlo,
         area.ylo,
     );
     cheapest_of(
-        &sites.x,
-        &sites.y,
-        &sites.visits,
-        &sites.near,
+        &objects.x,
+        &objects.y,
+        &objects.visits,
+        &objects.near,
         n,
         &v.at,
         nv,

@@ -1,4 +1,4 @@
-pub mod Vectors
+pub mod JobVectors
 pub mod FormLaws
 pub mod RangeLaws
 pub mod ReaderLaws

@@ -18,7 +18,7 @@ use Rattle.query.specs.Place.{Rect, NonEmpty}
 use Rattle.query.specs.Deck.{AxisCosts}
 use Rattle.query.specs.Range.{InRange}
 use Rattle.job_line.specs.OneLine.{Reading, fault, got}
-use Rattle.job.specs.Format.{Job, jobLines, Result, refused, accepted, emptyArea, checked, resultOf, readJob}
+use Rattle.job.specs.Format.{Job, jobLines, Result, refused, accepted, emptyArea, checked, readingResult, readJob}
 use Rattle.job.specs.Spelling.{spell, Writable, Allowed}
 use Rattle.job.specs.Meaning.{AcceptedLaw, SpellingLaw, top, Spelled, Condition, RefusedLaw}
 use Rattle.refusal.specs.declared.Refusal.{Refusal}
@@ -53,20 +53,20 @@ read-says : (bytes : List ℕ) → Says (readJob bytes) bytes
 unfolding readJob flatten
 read-says bytes = cond-ind (λ (r : Result). Says r bytes) (ltb 16384 (length bytes)) (λ t. ltb→lt 16384 (length bytes) t) (λ t. go (nltb→le 16384 (length bytes) t) (jobLines 1 bytes) refl)
   where
-    go : length bytes ≤ 16384 → (r : Reading Job) → jobLines 1 bytes ≡ r → Says (resultOf r) bytes
+    go : length bytes ≤ 16384 → (r : Reading Job) → jobLines 1 bytes ≡ r → Says (readingResult r) bytes
     go short (fault why) e = first-fault bytes short top refl refl (job-faults 1 bytes why .0 e)
     go short (got job n rest) e = let (spelled, w) = job-got 1 bytes job n rest e in checked-says bytes job short spelled w
 
 -- ---- no other result is so
-read-short : (bytes : List ℕ) → length bytes ≤ 16384 → readJob bytes ≡ resultOf (jobLines 1 bytes)
+read-short : (bytes : List ℕ) → length bytes ≤ 16384 → readJob bytes ≡ readingResult (jobLines 1 bytes)
 unfolding readJob
 read-short bytes short = cond-false (ltb 16384 (length bytes)) _ _ (le→nltb 16384 (length bytes) short)
 
 read-fault : (bytes : List ℕ) (why : Refusal) → length bytes ≤ 16384 → Faults allDue 1 bytes why → readJob bytes ≡ refused why
-read-fault bytes why short f = read-short bytes short ∙ ap resultOf (job-faults 1 bytes why .1 f)
+read-fault bytes why short f = read-short bytes short ∙ ap readingResult (job-faults 1 bytes why .1 f)
 
 read-checked : (bytes : List ℕ) (job : Job) → length bytes ≤ 16384 → bytes ≡ spell job → Writable job → readJob bytes ≡ checked job
-read-checked bytes job short e w = read-short bytes short ∙ ap (λ (bs : List ℕ). resultOf (jobLines 1 bs)) e ∙ ap resultOf (job-gets 1 job w .1)
+read-checked bytes job short e w = read-short bytes short ∙ ap (λ (bs : List ℕ). readingResult (jobLines 1 bs)) e ∙ ap readingResult (job-gets 1 job w .1)
 
 condition-read : (bytes : List ℕ) (why : Refusal) → Condition why bytes → readJob bytes ≡ refused why
 unfolding readJob checked

@@ -17,7 +17,7 @@ use Rattle.numbers.specs.Padded.{padded}
 use Rattle.numbers.proofs.Padded.{padded-map}
 use Rattle.job_line.specs.Reading.{countAnswer, postAnswer, stopAnswer, answerIn, LineAt}
 use Rattle.job.specs.Format.{countOf, postOf, stopOf}
-use Rattle.job.specs.Parts.{postLines, stopLines, allPosts, allStops, lastLine, PostsAt, StopsAt, LastAt}
+use Rattle.job.specs.ManyLines.{postLines, stopLines, allPosts, allStops, lastLine, PostsAt, StopsAt, LastAt}
 use Rattle.refusal.specs.declared.Refusal.{Refusal}
 use Rattle.refusal.specs.declared.Refusal.the-variants.{Malformed}
 use Rattle.job_line.specs.declared.CountLine.{CountLine}

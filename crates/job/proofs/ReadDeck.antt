@@ -10,7 +10,7 @@ use Rattle.query.specs.Deck as Query
 use Rattle.query.specs.Range.{InRange}
 use Rattle.job.specs.Format.{Job, Result, refused, accepted, readJob}
 use Rattle.job.specs.Spelling.{Allowed}
-use Rattle.job.specs.Record.{jobRecord}
+use Rattle.job.specs.JobRecord.{jobRecord}
 use Rattle.job.specs.declared.Job as Held
 use Rattle.refusal.specs.declared.Refusal.{Refusal}
 use Rattle.job.specs.declared.Outcome.{Outcome}
@@ -79,7 +79,7 @@ module _ {bytes : List ℕ} (s : Spelt bytes) where
     pub read-full : NonEmpty (deckOf (j .deck) .area)
     read-full = subst (λ (deck : Query.Deck). NonEmpty (deck .area)) (sym read-deckOf) (s .allowed .area-full)
 
-    -- what `sites` asks
-    pub sites-ask : InRange (deckOf (j .deck)) × (j .deck .posts ≤ 64) × (j .deck .stops ≤ 512)
+    -- what `objects` asks
+    pub objects-ask : InRange (deckOf (j .deck)) × (j .deck .posts ≤ 64) × (j .deck .stops ≤ 512)
     unfolding deckRecord
-    sites-ask = (subst InRange (sym read-deckOf) spelt-range, rw (read-deck bytes j e s) (most-posts (s .allowed .writable)), rw (read-deck bytes j e s) (most-stops (s .allowed .writable)))
+    objects-ask = (subst InRange (sym read-deckOf) spelt-range, rw (read-deck bytes j e s) (most-posts (s .allowed .writable)), rw (read-deck bytes j e s) (most-stops (s .allowed .writable)))

@@ -16,11 +16,11 @@ use Rattle.job_line.specs.Lines.{area, posts, stops, rounds, row}
 use Rattle.job_line.specs.OneLine.{Reading, fault, got, Reader, line}
 use Rattle.job.specs.Reader.{andThen, end}
 use Rattle.job.specs.Format as Format
-use Rattle.job.specs.Format.{refused, accepted, areaOf, countOf, postOf, stopOf, jobOf, emptyArea, checked, jobLines, resultOf, readJob}
-use Rattle.job.specs.Record.{jobRecord}
+use Rattle.job.specs.Format.{refused, accepted, areaOf, countOf, postOf, stopOf, jobOf, emptyArea, checked, jobLines, readingResult, readJob}
+use Rattle.job.specs.JobRecord.{jobRecord}
 use Rattle.numbers.specs.Padded.{padded}
 use Rattle.job_line.specs.Reading.{areaNumbers, areaAnswer, countAnswer, answerIn, LineAt}
-use Rattle.job.specs.Parts.{postLines, stopLines, allPosts, allStops, lastLine, nextIn, PostsHold, StopsHold, PostsAt, StopsAt, LastAt, CheckedAt}
+use Rattle.job.specs.ManyLines.{postLines, stopLines, allPosts, allStops, lastLine, nextIn, PostsHold, StopsHold, PostsAt, StopsAt, LastAt, CheckedAt}
 use Rattle.job_line.specs.declared.Area.{Area}
 use Rattle.job_line.specs.declared.AreaLine.{AreaLine}
 use Rattle.job_line.specs.declared.AreaLine.the-variants as A
@@ -167,7 +167,7 @@ pub read-long : (s : List ℕ) → 16384 < length s → refused TooLong ≡ read
 unfolding readJob
 read-long s h = rw (lt-ltb 16384 (length s) h)
 
-read-short : (s : List ℕ) → length s ≤ 16384 → readJob s ≡ resultOf (jobLines 1 s)
+read-short : (s : List ℕ) → length s ≤ 16384 → readJob s ≡ readingResult (jobLines 1 s)
 unfolding readJob
 read-short s short = rw (le-ltb 16384 (length s) short)
 

@@ -73,11 +73,11 @@ unfoldable pub checked : Job → Result
 unfolding emptyArea
 checked job = cond (emptyArea (job .deck .area)) (refused EmptyArea) (cond (nonEmpty (job .deck .posts)) (cond (nonEmpty (job .deck .stops)) (accepted job) (refused NoStops)) (refused NoPosts))
 
-abbrev pub resultOf : Reading Job → Result
-resultOf (fault why) = refused why
-resultOf (got job n bs) = checked job
+abbrev pub readingResult : Reading Job → Result
+readingResult (fault why) = refused why
+readingResult (got job n bs) = checked job
 
 -- 01 "more than 16,384 bytes"; "Order: 1; then line by line from the top ..; then 4 to 8"
 unfoldable pub readJob : List ℕ → Result
 unfolding jobLines checked
-readJob bytes = cond (ltb 16384 (length bytes)) (refused TooLong) (resultOf (jobLines 1 bytes))
+readJob bytes = cond (ltb 16384 (length bytes)) (refused TooLong) (readingResult (jobLines 1 bytes))

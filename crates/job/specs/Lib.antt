@@ -2,6 +2,6 @@ pub mod Reader
 pub mod Format
 pub mod Spelling
 pub mod Meaning
-pub mod Record
-pub mod Vectors
-pub mod Parts
+pub mod JobRecord
+pub mod JobVectors
+pub mod ManyLines

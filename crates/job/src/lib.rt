@@ -12,8 +12,8 @@ ghost use Prim.Native.Nat.{_+_, _≤_};
 ghost use lib.ListN.{drop};
 ghost use Rattle.job_line.specs.Reading.{areaNumbers};
 ghost use Rattle.job.specs.Format.{areaOf, emptyArea, readJob, refused};
-ghost use Rattle.job.specs.Record.{jobRecord};
-ghost use Rattle.job.specs.Parts.{postLines, stopLines, PostsAt, StopsAt, allPosts, allStops, LastAt, CheckedAt};
+ghost use Rattle.job.specs.JobRecord.{jobRecord};
+ghost use Rattle.job.specs.ManyLines.{postLines, stopLines, PostsAt, StopsAt, allPosts, allStops, LastAt, CheckedAt};
 
 pub enum Outcome {
     Accepted(u64),

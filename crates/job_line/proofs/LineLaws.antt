@@ -15,7 +15,7 @@ use mir.Syntax.{w64}
 use mir.Val.{Fits, SFits}
 use Rattle.text.specs.Ascii.{newline}
 use Rattle.text.specs.Numeral.{number}
-use Rattle.text.specs.Reading.{startsWith, ByteIs, Starts, NumberAt}
+use Rattle.text.specs.TextReading.{startsWith, ByteIs, Starts, NumberAt}
 use Rattle.text.specs.declared.ParsedNumber.{ParsedNumber}
 use Rattle.text.specs.declared.ParsedNumber.the-variants.{Read, Fault}
 use Rattle.text.proofs.KeyLaws.{byte-there}

@@ -5,7 +5,7 @@ use mathlib.Core.Path.{_≡_}
 use mathlib.Core.List.{List, [], _∷_}
 use lib.IntN.{ℤ, pos}
 use lib.ListN.{length, drop}
-use Rattle.text.specs.Reading.{numberIn, NumberWithin}
+use Rattle.text.specs.TextReading.{numberIn, NumberWithin}
 use Rattle.text.specs.declared.ParsedNumber.{ParsedNumber}
 use Rattle.job_line.specs.Form.{field}
 use Rattle.job_line.specs.Lines.{Row, upTo}

@@ -29,14 +29,14 @@ use Rattle.cuts.specs.CutRecord.{rectOf, cutRecord}
 use Rattle.cuts.specs.declared.Cut.{Cut}
 use Rattle.numbers.proofs.Words.{difference, difference-fits}
 use Rattle.deck.specs.DeckOf.{deckOf}
-use Rattle.deck.specs.Record.{sitesRecord}
-use Rattle.deck.specs.Sites.{sitesOf}
-use Rattle.deck.specs.declared.Sites.{Sites}
-use Rattle.pricing.specs.Figures.{costOf, loadOf}
+use Rattle.deck.specs.ObjectColumns.{objectsRecord}
+use Rattle.deck.specs.Objects.{objectsOf}
+use Rattle.deck.specs.declared.Objects.{Objects}
+use Rattle.pricing.specs.ObjectFigures.{costOf, loadOf}
 use Rattle.job.proofs.ReadDeck.{Spelt}
 use Rattle.pricing.proofs.RecordLaws.{made-cost, made-load}
 use Rattle.lines.specs.declared.Lines.{Lines}
-use Rattle.problem.specs.Problem.{boundOf, Ranged, Prepared}
+use Rattle.problem.specs.ObjectProblem.{boundOf, Ranged, Prepared}
 use Rattle.problem.proofs.Coordinates.{rect-back}
 use Rattle.problem.proofs.DeckProblem.{plain-axis, made-bound}
 use Rattle.trial.specs.Opened.{openedRecord, rectAllowed}
@@ -80,24 +80,24 @@ sumTo-same f g e (suc k) = rw (e k, sumTo-same f g e k)
 pub same-sum : {f : ℕ → ℕ} (g : ℕ → ℕ) (k : ℕ) {limit n : ℕ} → ((t : ℕ) → f t ≡ g t) → Figure (sumTo f k) limit n → Figure (sumTo g k) limit n
 same-sum {f} g k e fig = record { is = fig .is ∙ sumTo-same f g e k; within = fig .within }
 
--- ---- the sums of a deck and its sites, by the kernel's number
+-- ---- the sums of a deck and its objects, by the kernel's number
 abbrev SumIs : Held.Deck → ℕ → ℕ → ℕ → Type 0
 SumIs deck which k n = Figure (sumTo (turn (deckOf deck) which) k) (100000 * costLimit) n
 
-module _ (deck : Held.Deck) (sites : Sites) (h : Prepared deck sites) (which k : ℕ) {n : ℕ} where
-  pub cost-sum : which ≡ 0 → Figure (sumTo (λ t. costOf (rowsOf sites) (placeAt t)) k) (100000 * costLimit) n → SumIs deck which k n
-  cost-sum e fig = rw e (same-sum (costTurn (deckOf deck)) k (λ t. made-cost (deckOf deck) (h .range) sites (h .sites-are) (plain-axis deck) (placeAt t)) fig)
+module _ (deck : Held.Deck) (objects : Objects) (h : Prepared deck objects) (which k : ℕ) {n : ℕ} where
+  pub cost-sum : which ≡ 0 → Figure (sumTo (λ t. costOf (rowsOf objects) (placeAt t)) k) (100000 * costLimit) n → SumIs deck which k n
+  cost-sum e fig = rw e (same-sum (costTurn (deckOf deck)) k (λ t. made-cost (deckOf deck) (h .range) objects (h .objects-are) (plain-axis deck) (placeAt t)) fig)
 
-  pub load-sum : which ≡ 1 → Figure (sumTo (λ t. loadOf (rowsOf sites) (rectAt t)) k) (100000 * costLimit) n → SumIs deck which k n
-  load-sum e fig = rw e (same-sum (loadTurn (deckOf deck)) k (λ t. made-load (deckOf deck) (h .range) sites (h .sites-are) (plain-axis deck) (rectAt t)) fig)
+  pub load-sum : which ≡ 1 → Figure (sumTo (λ t. loadOf (rowsOf objects) (rectAt t)) k) (100000 * costLimit) n → SumIs deck which k n
+  load-sum e fig = rw e (same-sum (loadTurn (deckOf deck)) k (λ t. made-load (deckOf deck) (h .range) objects (h .objects-are) (plain-axis deck) (rectAt t)) fig)
 
-  pub bound-sum : which ≡ 2 → Figure (sumTo (λ t. positive (boundOf (rowsOf sites) (rectAt t))) k) (100000 * costLimit) n → SumIs deck which k n
-  bound-sum e fig = rw e (same-sum (boundTurn (deckOf deck)) k (λ t. ap positive (made-bound (deckOf deck) (plain-axis deck) (h .range) sites (h .sites-are) (rectAt t))) fig)
+  pub bound-sum : which ≡ 2 → Figure (sumTo (λ t. positive (boundOf (rowsOf objects) (rectAt t))) k) (100000 * costLimit) n → SumIs deck which k n
+  bound-sum e fig = rw e (same-sum (boundTurn (deckOf deck)) k (λ t. ap positive (made-bound (deckOf deck) (plain-axis deck) (h .range) objects (h .objects-are) (rectAt t))) fig)
 
   pub cut-sum : which ≡ 3 → (v u : Lines) → v ≡ linesRecord (lines (deckOf deck) x-axis) → u ≡ linesRecord (lines (deckOf deck) y-axis) → Figure (sumTo (λ t. positive (cutRecord (gridOf (v .at) (v .count) (u .at) (u .count)) (rectAt t) .at)) k) (100000 * costLimit) n → SumIs deck which k n
   cut-sum e v u a b fig = rw e (same-sum (cutTurn (deckOf deck)) k (λ t. ap (λ (c : Cut). positive (c .at)) (found-cut deck v u (rectAt t) a b)) fig)
 
-  pub near-sum : which ≡ 4 → Figure (sumTo (λ t. getD (sitesRecord (sitesOf (deckOf deck)) .near) (t % 512) 0) k) (100000 * costLimit) n → SumIs deck which k n
+  pub near-sum : which ≡ 4 → Figure (sumTo (λ t. getD (objectsRecord (objectsOf (deckOf deck)) .near) (t % 512) 0) k) (100000 * costLimit) n → SumIs deck which k n
   near-sum e fig = rw e fig
 
 -- ---- what `kernel_sum` answers

@@ -15,8 +15,8 @@ use Rattle.query.specs.Reach.{load}
 use Rattle.query.specs.Bound.{bound}
 use Rattle.query.specs.Grid.{grid}
 use Rattle.job.specs.Format.{Result}
-use Rattle.deck.specs.Sites.{sitesOf}
-use Rattle.deck.specs.Record.{sitesRecord}
+use Rattle.deck.specs.Objects.{objectsOf}
+use Rattle.deck.specs.ObjectColumns.{objectsRecord}
 use Rattle.cuts.specs.CutRecord.{cutRecord}
 use Rattle.trial.specs.Trial.{onJob, minusOne, least}
 
@@ -62,7 +62,7 @@ cutTurn deck t = positive (cutRecord (grid deck) (rectAt t) .at)
 
 -- the near of stop t, over and over; 0 behind the last
 abbrev pub nearTurn : Deck → ℕ → ℕ
-nearTurn deck t = getD (sitesRecord (sitesOf deck) .near) (t % 512) 0
+nearTurn deck t = getD (objectsRecord (objectsOf deck) .near) (t % 512) 0
 
 -- the same by the kernel's number
 abbrev pub turn : Deck → ℕ → ℕ → ℕ

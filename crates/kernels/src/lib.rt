@@ -7,14 +7,14 @@ ghost use Prim.Native.Nat.{_*_, _%_, _≤_};
 ghost use lib.ListN.{getD};
 ghost use Rattle.query.specs.Range.{InRange, costLimit};
 ghost use Rattle.job.specs.Format.{readJob};
-ghost use Rattle.pricing.specs.Columns.{siteRows, Figure};
+ghost use Rattle.pricing.specs.Columns.{objectRows, Figure};
 ghost use Rattle.deck.specs.DeckOf.{deckOf};
-ghost use Rattle.deck.specs.Record.{sitesRecord};
-ghost use Rattle.deck.specs.Sites.{sitesOf};
-ghost use Rattle.pricing.specs.Figures.{costOf, loadOf};
-ghost use Rattle.lines.specs.LineRecord.{InOrder, gridOf};
+ghost use Rattle.deck.specs.ObjectColumns.{objectsRecord};
+ghost use Rattle.deck.specs.Objects.{objectsOf};
+ghost use Rattle.pricing.specs.ObjectFigures.{costOf, loadOf};
+ghost use Rattle.lines.specs.LineRecord.{LinesInOrder, gridOf};
 ghost use Rattle.cuts.specs.CutRecord.{cutRecord};
-ghost use Rattle.problem.specs.Problem.{boundOf, Sited, Prepared};
+ghost use Rattle.problem.specs.ObjectProblem.{boundOf, Priceable, Prepared};
 ghost use Rattle.kernels.specs.Sums.{sumTo, Spread, placeAt, rectAt, positive, turn, kernelSum};
 
 // A number of -20,000 to 20,000 for each turn.
@@ -39,8 +39,8 @@ fn costs<'a>(
     n: usize,
     k: u64,
 ) -> u64
-    requires { ⌜ Sited (now xs) (now ys) (now visits) (now near) n × (k ≤ 100000) ⌝ }
-    ensures { λ r. ⌜ Figure (sumTo (λ t. costOf (siteRows (now (xs .entry)) (now (ys .entry)) (now (visits .entry)) (now (near .entry)) n) (placeAt t)) k) (100000 * costLimit) r ⌝ }
+    requires { ⌜ Priceable (now xs) (now ys) (now visits) (now near) n × (k ≤ 100000) ⌝ }
+    ensures { λ r. ⌜ Figure (sumTo (λ t. costOf (objectRows (now (xs .entry)) (now (ys .entry)) (now (visits .entry)) (now (near .entry)) n) (placeAt t)) k) (100000 * costLimit) r ⌝ }
 {
     let mut sum: u64 = 0;
     let mut t: u64 = 0;
@@ -62,8 +62,8 @@ fn loads<'a>(
     n: usize,
     k: u64,
 ) -> u64
-    requires { ⌜ Sited (now xs) (now ys) (now visits) (now near) n × (k ≤ 100000) ⌝ }
-    ensures { λ r. ⌜ Figure (sumTo (λ t. loadOf (siteRows (now (xs .entry)) (now (ys .entry)) (now (visits .entry)) (now (near .entry)) n) (rectAt t)) k) (100000 * costLimit) r ⌝ }
+    requires { ⌜ Priceable (now xs) (now ys) (now visits) (now near) n × (k ≤ 100000) ⌝ }
+    ensures { λ r. ⌜ Figure (sumTo (λ t. loadOf (objectRows (now (xs .entry)) (now (ys .entry)) (now (visits .entry)) (now (near .entry)) n) (rectAt t)) k) (100000 * costLimit) r ⌝ }
 {
     let mut sum: u64 = 0;
     let mut t: u64 = 0;
@@ -86,8 +86,8 @@ fn bounds<'a>(
     n: usize,
     k: u64,
 ) -> u64
-    requires { ⌜ Sited (now xs) (now ys) (now visits) (now near) n × (k ≤ 100000) ⌝ }
-    ensures { λ r. ⌜ Figure (sumTo (λ t. positive (boundOf (siteRows (now (xs .entry)) (now (ys .entry)) (now (visits .entry)) (now (near .entry)) n) (rectAt t))) k) (100000 * costLimit) r ⌝ }
+    requires { ⌜ Priceable (now xs) (now ys) (now visits) (now near) n × (k ≤ 100000) ⌝ }
+    ensures { λ r. ⌜ Figure (sumTo (λ t. positive (boundOf (objectRows (now (xs .entry)) (now (ys .entry)) (now (visits .entry)) (now (near .entry)) n) (rectAt t))) k) (100000 * costLimit) r ⌝ }
 {
     let mut sum: u64 = 0;
     let mut t: u64 = 0;
@@ -104,7 +104,7 @@ fn bounds<'a>(
 }
 
 fn cuts(xs: &[i64; 514], nx: usize, ys: &[i64; 514], ny: usize, k: u64) -> u64
-    requires { ⌜ InOrder (now xs) nx × InOrder (now ys) ny × (k ≤ 100000) ⌝ }
+    requires { ⌜ LinesInOrder (now xs) nx × LinesInOrder (now ys) ny × (k ≤ 100000) ⌝ }
     ensures { λ r. ⌜ Figure (sumTo (λ t. positive (cutRecord (gridOf (now (xs .entry)) nx (now (ys .entry)) ny) (rectAt t) .at)) k) (100000 * costLimit) r ⌝ }
 {
     let mut sum: u64 = 0;
@@ -121,10 +121,10 @@ fn cuts(xs: &[i64; 514], nx: usize, ys: &[i64; 514], ny: usize, k: u64) -> u64
     sum
 }
 
-// The near of stop t of the deck's sites.
+// The near of stop t of the deck's objects.
 fn near_at(deck: Deck, t: u64) -> u64
     requires { ⌜ InRange (deckOf deck) × (deck .posts ≤ 64) × (deck .stops ≤ 512) ⌝ }
-    ensures { λ r. ⌜ Figure (getD (sitesRecord (sitesOf (deckOf deck)) .near) (t % 512) 0) 720000 r ⌝ }
+    ensures { λ r. ⌜ Figure (getD (objectsRecord (objectsOf (deckOf deck)) .near) (t % 512) 0) 720000 r ⌝ }
 {
     let s = deck::of_deck(deck);
     let near = s.near;
@@ -134,7 +134,7 @@ fn near_at(deck: Deck, t: u64) -> u64
 
 fn nears(deck: Deck, k: u64) -> u64
     requires { ⌜ (InRange (deckOf deck) × (deck .posts ≤ 64) × (deck .stops ≤ 512)) × (k ≤ 100000) ⌝ }
-    ensures { λ r. ⌜ Figure (sumTo (λ t. getD (sitesRecord (sitesOf (deckOf deck)) .near) (t % 512) 0) k) (100000 * costLimit) r ⌝ }
+    ensures { λ r. ⌜ Figure (sumTo (λ t. getD (objectsRecord (objectsOf (deckOf deck)) .near) (t % 512) 0) k) (100000 * costLimit) r ⌝ }
 {
     let mut sum: u64 = 0;
     let mut t: u64 = 0;
@@ -147,10 +147,10 @@ fn nears(deck: Deck, k: u64) -> u64
 
 // What a kernel gives over k turns, summed: cost, load, bounds above 0, cuts above 0, near.
 fn sum_of(o: Opened, which: u64, k: u64) -> u64
-    requires { ⌜ Prepared (o .deck) (o .sites) × (which ≤ 4) × (k ≤ 100000) ⌝ }
+    requires { ⌜ Prepared (o .deck) (o .objects) × (which ≤ 4) × (k ≤ 100000) ⌝ }
     ensures { λ r. ⌜ Figure (sumTo (turn (deckOf (o .deck)) which) k) (100000 * costLimit) r ⌝ }
 {
-    let s = o.sites;
+    let s = o.objects;
     let n = s.count;
     if which == 0 {
         return costs(&s.x, &s.y, &s.visits, &s.near, n, k);

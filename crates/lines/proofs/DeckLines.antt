@@ -17,7 +17,7 @@ use Rattle.query.specs.Lines.{stopCoordinates, lines, gaps}
 use Rattle.query.specs.Grid.{grid}
 use Rattle.query.proofs.LineLaws.{lines-law}
 use Rattle.numbers.specs.Padded.{padded}
-use Rattle.lines.specs.LineRecord.{InOrder, flagged, marked, linesBetween, linesRecord, gridOf}
+use Rattle.lines.specs.LineRecord.{LinesInOrder, flagged, marked, linesBetween, linesRecord, gridOf}
 use Rattle.lines.specs.declared.Lines.{Lines}
 use Rattle.lines.proofs.LineRecordLaws.{linesBetween-length, record-front, record-in-order}
 use Rattle.numbers.proofs.Padded.{padded-front}
@@ -70,7 +70,7 @@ module _ (deck : Deck) (axis : Axis) where
       let at : Stop → ℤ = λ stop. coordinate axis (stop .at) in
       rw lines-is (omega (arith, linesBetween-length (low-edge axis (deck .area)) (high-edge axis (deck .area)) (map at stops), length-map stops at, keep-length (reach deck (deck .area)) (deck .stops)))
 
-  pub lines-in-order : length (deck .stops) ≤ 512 → InOrder (linesRecord (lines deck axis) .at) (linesRecord (lines deck axis) .count)
+  pub lines-in-order : length (deck .stops) ≤ 512 → LinesInOrder (linesRecord (lines deck axis) .at) (linesRecord (lines deck axis) .count)
   lines-in-order h = record-in-order (lines deck axis) (lines-law deck axis .increasing) (omega (arith, lines-few))
 
   -- an array that holds the flags in front

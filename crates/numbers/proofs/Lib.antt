@@ -7,7 +7,7 @@ pub mod Orders
 pub mod Increasing
 pub mod Sums
 pub mod Joined
-pub mod Rows
+pub mod NumberRows
 pub mod Words
 pub mod Padded
 pub mod WordTests

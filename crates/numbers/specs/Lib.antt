@@ -1,4 +1,4 @@
 pub mod Integer
 pub mod Lists
-pub mod Rows
+pub mod NumberRows
 pub mod Padded

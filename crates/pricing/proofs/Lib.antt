@@ -1,5 +1,5 @@
 pub mod ColumnLaws
-pub mod SiteLaws
+pub mod ObjectLaws
 pub mod TurnLaws
 pub mod ExcessLaws
 pub mod RecordLaws

@@ -1,4 +1,4 @@
--- One turn of each pass of pricing: what the code computes of a row, read from words, is the site's part of the figure.
+-- One turn of each pass of pricing: what the code computes of a row, read from words, is the object's part of the figure.
 -- Assumes nothing.
 use mathlib.Core.Path.{_≡_, refl, _∙_}
 use mathlib.Core.Bool.{cond}
@@ -16,18 +16,18 @@ use Rattle.numbers.proofs.Truth.{cond-ind}
 use Rattle.query.specs.Place.{Place, Rect}
 use Rattle.query.specs.Reach.{closestPoint}
 use Rattle.numbers.specs.Padded.{padded}
-use Rattle.deck.specs.Sites.{Site}
-use Rattle.pricing.specs.Figures.{reaches}
-use Rattle.pricing.specs.Columns.{siteRows, ColumnsInRange, PaidInRange, ReachInRange, EdgesInRange, BeforeIs, FlagsAre}
+use Rattle.deck.specs.Objects.{Object}
+use Rattle.pricing.specs.ObjectFigures.{reaches}
+use Rattle.pricing.specs.Columns.{objectRows, ColumnsInRange, PaidInRange, ReachInRange, EdgesInRange, BeforeIs, FlagsAre}
 use Rattle.deck.specs.Ranges.{Near180000}
 use Rattle.deck.proofs.WordLaws.{coordinate}
 use Rattle.deck.proofs.TravelLaws.{travel-plain, place-word}
 use Rattle.pricing.proofs.ExcessLaws.{away}
-use Rattle.pricing.proofs.SiteLaws.{paidBy, paidNow, borneBy, flagBy, beforeOf-sum, flagsOf-map}
+use Rattle.pricing.proofs.ObjectLaws.{paidBy, paidNow, borneBy, flagBy, beforeOf-sum, flagsOf-map}
 use Rattle.numbers.proofs.Padded.{padded-none, padded-more}
-use Rattle.pricing.proofs.ColumnLaws.{siteAt, siteRows-none, siteRows-more, siteRows-length, Passed, passed-none, passed-more, passed-all, has-row}
+use Rattle.pricing.proofs.ColumnLaws.{objectAt, objectRows-none, objectRows-more, objectRows-length, Passed, passed-none, passed-more, passed-all, has-row}
 
-reaches-away : (r : Rect) (s : Site) → reaches r s ≡ ltb (away (s .at .x) (s .at .y) (r .xlo) (r .ylo) (r .xhi) (r .yhi)) (s .near)
+reaches-away : (r : Rect) (s : Object) → reaches r s ≡ ltb (away (s .at .x) (s .at .y) (r .xlo) (r .ylo) (r .xhi) (r .yhi)) (s .near)
 unfolding reaches closestPoint
 reaches-away r s = rw travel-plain
 
@@ -58,8 +58,8 @@ module _ (xs ys : List ℤ) (vs ns : List ℕ) (range : ColumnsInRange xs ys vs 
 
     pub load-more : (rect : Rect) (r : ℕ) → Passed (borneBy rect) 65535 xs ys vs ns n sum i → r ≡ cond (ltb (away (toZ w32 (ofZ w32 (getD xs i (pos 0)))) (toZ w32 (ofZ w32 (getD ys i (pos 0)))) (rect .xlo) (rect .ylo) (rect .xhi) (rect .yhi)) (getD ns i 0)) (getD vs i 0) 0 → Passed (borneBy rect) 65535 xs ys vs ns n (sum + r) (i + 1)
     load-more rect r passed e =
-        let q : r ≡ borneBy rect (siteAt xs ys vs ns i) = e ∙ rw (x-word, y-word, reaches-away) in
-        passed-more (borneBy rect) 65535 xs ys vs ns n r passed h (has-row xs ys vs ns range i (omega arith)) q (rw q (cond-ind (λ (k : ℕ). k ≤ 65535) (reaches rect (siteAt xs ys vs ns i)) (λ t. range .visits-range i) (λ t. omega arith)))
+        let q : r ≡ borneBy rect (objectAt xs ys vs ns i) = e ∙ rw (x-word, y-word, reaches-away) in
+        passed-more (borneBy rect) 65535 xs ys vs ns n r passed h (has-row xs ys vs ns range i (omega arith)) q (rw q (cond-ind (λ (k : ℕ). k ≤ 65535) (reaches rect (objectAt xs ys vs ns i)) (λ t. range .visits-range i) (λ t. omega arith)))
 
 -- ---- `before`, wherever the rows lie
 pub record PaidSoFar (vs ns : List ℕ) (n sum i : ℕ) : Type 0 where
@@ -92,22 +92,22 @@ row-place {xs} {ys} range i = place-word {x = getD xs i (pos 0)} {y = getD ys i 
 
 pub record FlaggedSoFar (xs ys : List ℤ) (ns : List ℕ) (n : ℕ) (rect : Rect) (flags : List ℕ) (i : ℕ) : Type 0 where
   pub count : i ≤ n
-  pub flagged : (vs : List ℕ) → length vs ≡ 512 → flags ≡ padded 512 0 (map (flagBy rect) (siteRows xs ys vs ns i))
+  pub flagged : (vs : List ℕ) → length vs ≡ 512 → flags ≡ padded 512 0 (map (flagBy rect) (objectRows xs ys vs ns i))
 
 module _ (xs ys : List ℤ) (ns : List ℕ) (n : ℕ) (rect : Rect) where
   pub flagged-none : FlaggedSoFar xs ys ns n rect (replicate 512 0) 0
-  flagged-none = record { count = omega arith; flagged = λ vs e. rw (siteRows-none, padded-none) }
+  flagged-none = record { count = omega arith; flagged = λ vs e. rw (objectRows-none, padded-none) }
 
   pub flagged-more : {flags : List ℕ} {i : ℕ} (r : ℕ) → n ≤ 512 → ReachInRange xs ys ns → FlaggedSoFar xs ys ns n rect flags i → i < n
       → r ≡ cond (ltb (away (toZ w32 (ofZ w32 (getD xs i (pos 0)))) (toZ w32 (ofZ w32 (getD ys i (pos 0)))) (rect .xlo) (rect .ylo) (rect .xhi) (rect .yhi)) (getD ns i 0)) 1 0
       → FlaggedSoFar xs ys ns n rect (set flags i r) (i + 1)
   flagged-more {flags} {i} r most range so-far h e = record { count = omega arith; flagged = next }
     where
-      next : (vs : List ℕ) → length vs ≡ 512 → set flags i r ≡ padded 512 0 (map (flagBy rect) (siteRows xs ys vs ns (i + 1)))
+      next : (vs : List ℕ) → length vs ≡ 512 → set flags i r ≡ padded 512 0 (map (flagBy rect) (objectRows xs ys vs ns (i + 1)))
       next vs f =
-          let q : r ≡ flagBy rect (siteAt xs ys vs ns i) = e ∙ rw (coordinate (getD xs i (pos 0)) (range .x-range i), coordinate (getD ys i (pos 0)) (range .y-range i), reaches-away) in
-          let k : length (map (flagBy rect) (siteRows xs ys vs ns i)) ≡ i = length-map (siteRows xs ys vs ns i) (flagBy rect) ∙ siteRows-length 512 xs ys vs ns (range .x-long) (range .y-long) f (range .near-long) i (omega arith) in
-          rw (so-far .flagged vs f, padded-more 512 0 _ i r k (omega arith), siteRows-more xs ys vs ns i (record { x-row = omega arith; y-row = omega arith; visits-row = omega arith; near-row = omega arith }), map-append, q)
+          let q : r ≡ flagBy rect (objectAt xs ys vs ns i) = e ∙ rw (coordinate (getD xs i (pos 0)) (range .x-range i), coordinate (getD ys i (pos 0)) (range .y-range i), reaches-away) in
+          let k : length (map (flagBy rect) (objectRows xs ys vs ns i)) ≡ i = length-map (objectRows xs ys vs ns i) (flagBy rect) ∙ objectRows-length 512 xs ys vs ns (range .x-long) (range .y-long) f (range .near-long) i (omega arith) in
+          rw (so-far .flagged vs f, padded-more 512 0 _ i r k (omega arith), objectRows-more xs ys vs ns i (record { x-row = omega arith; y-row = omega arith; visits-row = omega arith; near-row = omega arith }), map-append, q)
 
   pub flagged-all : {flags : List ℕ} {i : ℕ} → FlaggedSoFar xs ys ns n rect flags i → n ≤ i → FlagsAre xs ys ns n rect flags
   flagged-all {flags} {i} so-far h = record { is = λ vs e. let k : i ≡ n = omega arith in so-far .flagged vs e ∙ rw (k, flagsOf-map) }

@@ -1,4 +1,4 @@
--- Sites as the code holds them: a column for each number, of which the first so many count.
+-- Objects as the code holds them: a column for each number, of which the first so many count.
 -- Assumes nothing.
 use Prim.Native.Nat.{ℕ, _≤_}
 use mathlib.Core.Bool.{cond}
@@ -10,12 +10,12 @@ use lib.ListN.{length, getD, take}
 use Rattle.numbers.specs.Integer.{dist}
 use Rattle.query.specs.Place.{Rect}
 use Rattle.query.specs.Range.{travelLimit, loadLimit, costLimit}
-use Rattle.deck.specs.Sites.{Site}
-use Rattle.deck.specs.declared.Sites.{Sites}
+use Rattle.deck.specs.Objects.{Object}
+use Rattle.deck.specs.declared.Objects.{Objects}
 use Rattle.deck.specs.Ranges.{Near180000}
-use Rattle.pricing.specs.Figures.{beforeOf, flagsOf}
+use Rattle.pricing.specs.ObjectFigures.{beforeOf, flagsOf}
 
-unfoldable pub rows : List ℤ → List ℤ → List ℕ → List ℕ → List Site
+unfoldable pub rows : List ℤ → List ℤ → List ℕ → List ℕ → List Object
 rows [] ys vs ns = []
 rows (x ∷ xs) [] vs ns = []
 rows (x ∷ xs) (y ∷ ys) [] ns = []
@@ -23,9 +23,9 @@ rows (x ∷ xs) (y ∷ ys) (v ∷ vs) [] = []
 rows (x ∷ xs) (y ∷ ys) (v ∷ vs) (n ∷ ns) = record { at = record { x = x; y = y }; visits = v; near = n } ∷ rows xs ys vs ns
 
 -- the first n rows
-unfoldable pub siteRows : List ℤ → List ℤ → List ℕ → List ℕ → ℕ → List Site
+unfoldable pub objectRows : List ℤ → List ℤ → List ℕ → List ℕ → ℕ → List Object
 unfolding rows
-siteRows xs ys vs ns n = take n (rows xs ys vs ns)
+objectRows xs ys vs ns n = take n (rows xs ys vs ns)
 
 -- columns of 512 numbers, and the range of these: coordinates up to 9 × 20,000, so that axis costs up to 9 can scale them
 pub record ColumnsInRange (xs ys : List ℤ) (vs ns : List ℕ) : Type 0 where
@@ -38,11 +38,11 @@ pub record ColumnsInRange (xs ys : List ℤ) (vs ns : List ℕ) : Type 0 where
   pub visits-range : (i : ℕ) → getD vs i 0 ≤ 65535
   pub near-range : (i : ℕ) → getD ns i 0 ≤ 720000
 
--- the rows that a record of sites counts, and its columns in range
-abbrev pub rowsOf : Sites → List Site
-rowsOf r = siteRows (r .x) (r .y) (r .visits) (r .near) (r .count)
+-- the rows that a record of objects counts, and its columns in range
+abbrev pub rowsOf : Objects → List Object
+rowsOf r = objectRows (r .x) (r .y) (r .visits) (r .near) (r .count)
 
-abbrev pub InColumns : Sites → Type 0
+abbrev pub InColumns : Objects → Type 0
 InColumns r = ColumnsInRange (r .x) (r .y) (r .visits) (r .near)
 
 -- the two columns that `before` reads
@@ -69,7 +69,7 @@ pub record EdgesInRange (xlo ylo xhi yhi : ℤ) : Type 0 where
   pub deep : ylo ≤ℤ yhi
 
 -- one row of such columns
-pub record SiteInRange (x y : ℤ) (v n : ℕ) : Type 0 where
+pub record ObjectInRange (x y : ℤ) (v n : ℕ) : Type 0 where
   pub x-range : natAbs x ≤ 180000
   pub y-range : natAbs y ≤ 180000
   pub visits-range : v ≤ 65535
@@ -96,9 +96,9 @@ pub record Figure (figure limit r : ℕ) : Type 0 where
 
 -- r is `before` of the first n rows, wherever they lie
 pub record BeforeIs (vs ns : List ℕ) (n r : ℕ) : Type 0 where
-  pub is : (xs ys : List ℤ) → length xs ≡ 512 → length ys ≡ 512 → r ≡ beforeOf (siteRows xs ys vs ns n)
+  pub is : (xs ys : List ℤ) → length xs ≡ 512 → length ys ≡ 512 → r ≡ beforeOf (objectRows xs ys vs ns n)
   pub within : r ≤ costLimit
 
 -- r says which of the first n rows reach a rectangle, whatever their visits
 pub record FlagsAre (xs ys : List ℤ) (ns : List ℕ) (n : ℕ) (rect : Rect) (r : List ℕ) : Type 0 where
-  pub is : (vs : List ℕ) → length vs ≡ 512 → r ≡ flagsOf (siteRows xs ys vs ns n) rect
+  pub is : (vs : List ℕ) → length vs ≡ 512 → r ≡ flagsOf (objectRows xs ys vs ns n) rect

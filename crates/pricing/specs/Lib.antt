@@ -1,2 +1,2 @@
-pub mod Figures
+pub mod ObjectFigures
 pub mod Columns

@@ -1,4 +1,4 @@
-// The price of a place or a rectangle, over columns of sites: one pass each, in 32-bit columns, so that the passes can be vectorised.
+// The price of a place or a rectangle, over columns of objects: one pass each, in 32-bit columns, so that the passes can be vectorised.
 use deck::travelled;
 use numbers::half_up;
 ghost use mathlib.Core.Path.{_≡_};
@@ -10,12 +10,12 @@ ghost use lib.Signed.{_≤ℤ_};
 ghost use Rattle.numbers.specs.Integer.{dist, clamp, halfUp};
 ghost use Rattle.query.specs.Range.{loadLimit, costLimit};
 ghost use Rattle.deck.specs.Ranges.{Near180000};
-ghost use Rattle.pricing.specs.Figures.{costOf, loadOf};
-ghost use Rattle.pricing.specs.Columns.{siteRows, ColumnsInRange, SiteInRange, PaidInRange, ReachInRange, BoundInRange, EdgesInRange, excessOf, Figure, BeforeIs, FlagsAre};
+ghost use Rattle.pricing.specs.ObjectFigures.{costOf, loadOf};
+ghost use Rattle.pricing.specs.Columns.{objectRows, ColumnsInRange, ObjectInRange, PaidInRange, ReachInRange, BoundInRange, EdgesInRange, excessOf, Figure, BeforeIs, FlagsAre};
 
-// What a site pays for a post at (x, y): its visits times the smaller of its near and its travel there.
+// What a object pays for a post at (x, y): its visits times the smaller of its near and its travel there.
 fn paid(sx: i32, sy: i32, visits: u32, near: u32, x: i32, y: i32) -> u64
-    requires { ⌜ SiteInRange sx sy visits near × Near180000 x y ⌝ }
+    requires { ⌜ ObjectInRange sx sy visits near × Near180000 x y ⌝ }
     ensures { λ r. ⌜ r ≡ visits * min near (dist sx x + dist sy y) ⌝ }
 {
     let t = travelled(sx, sy, x, y);
@@ -35,7 +35,7 @@ pub fn cost<'a>(
     y: i32,
 ) -> u64
     requires { ⌜ (n ≤ 512) × ColumnsInRange (now xs) (now ys) (now visits) (now near) × Near180000 x y ⌝ }
-    ensures { λ r. ⌜ Figure (costOf (siteRows (now (xs .entry)) (now (ys .entry)) (now (visits .entry)) (now (near .entry)) n) (record { x = x; y = y })) costLimit r ⌝ }
+    ensures { λ r. ⌜ Figure (costOf (objectRows (now (xs .entry)) (now (ys .entry)) (now (visits .entry)) (now (near .entry)) n) (record { x = x; y = y })) costLimit r ⌝ }
 {
     let mut sum: u64 = 0;
     let mut i: usize = 0;
@@ -62,7 +62,7 @@ fn outside(v: i32, lo: i32, hi: i32) -> i32
     excess(lo, v) + excess(v, hi)
 }
 
-// Whether a site's travel to the closest point of a rectangle is less than its near.
+// Whether a object's travel to the closest point of a rectangle is less than its near.
 fn reached(sx: i32, sy: i32, near: u32, xlo: i32, ylo: i32, xhi: i32, yhi: i32) -> bool
     requires { ⌜ Near180000 sx sy × (near ≤ 720000) × EdgesInRange xlo ylo xhi yhi ⌝ }
     ensures { λ r. ⌜ r ≡ ltb (dist sx (clamp xlo xhi sx) + dist sy (clamp ylo yhi sy)) near ⌝ }
@@ -71,9 +71,9 @@ fn reached(sx: i32, sy: i32, near: u32, xlo: i32, ylo: i32, xhi: i32, yhi: i32) 
     outside(sx, xlo, xhi) + outside(sy, ylo, yhi) < n
 }
 
-// A site's part of the load of a rectangle: its visits where it reaches it.
+// A object's part of the load of a rectangle: its visits where it reaches it.
 fn borne(sx: i32, sy: i32, visits: u32, near: u32, xlo: i32, ylo: i32, xhi: i32, yhi: i32) -> u32
-    requires { ⌜ SiteInRange sx sy visits near × EdgesInRange xlo ylo xhi yhi ⌝ }
+    requires { ⌜ ObjectInRange sx sy visits near × EdgesInRange xlo ylo xhi yhi ⌝ }
     ensures { λ r. ⌜ r ≡ cond (ltb (dist sx (clamp xlo xhi sx) + dist sy (clamp ylo yhi sy)) near) visits 0 ⌝ }
 {
     if reached(sx, sy, near, xlo, ylo, xhi, yhi) {
@@ -96,7 +96,7 @@ pub fn load<'a>(
     yhi: i32,
 ) -> u64
     requires { ⌜ (n ≤ 512) × ColumnsInRange (now xs) (now ys) (now visits) (now near) × EdgesInRange xlo ylo xhi yhi ⌝ }
-    ensures { λ r. ⌜ Figure (loadOf (siteRows (now (xs .entry)) (now (ys .entry)) (now (visits .entry)) (now (near .entry)) n) (record { xlo = xlo; ylo = ylo; xhi = xhi; yhi = yhi })) loadLimit r ⌝ }
+    ensures { λ r. ⌜ Figure (loadOf (objectRows (now (xs .entry)) (now (ys .entry)) (now (visits .entry)) (now (near .entry)) n) (record { xlo = xlo; ylo = ylo; xhi = xhi; yhi = yhi })) loadLimit r ⌝ }
 {
     let mut sum: u32 = 0;
     let mut i: usize = 0;
@@ -107,7 +107,7 @@ pub fn load<'a>(
     sum as u64
 }
 
-// What all sites pay with the posts that there are.
+// What all objects pay with the posts that there are.
 pub fn before<'a>(visits: &'a [u32; 512], near: &'a [u32; 512], n: usize) -> u64
     requires { ⌜ (n ≤ 512) × PaidInRange (now visits) (now near) ⌝ }
     ensures { λ r. ⌜ BeforeIs (now (visits .entry)) (now (near .entry)) n r ⌝ }
@@ -132,7 +132,7 @@ pub fn bound(c00: u64, c01: u64, c10: u64, c11: u64, span: u64, load: u64) -> i6
     half_up((larger as i64) - ((span * load) as i64))
 }
 
-// 1 for a site that reaches a rectangle, and 0 for one that does not.
+// 1 for a object that reaches a rectangle, and 0 for one that does not.
 fn flag(sx: i32, sy: i32, near: u32, xlo: i32, ylo: i32, xhi: i32, yhi: i32) -> u8
     requires { ⌜ Near180000 sx sy × (near ≤ 720000) × EdgesInRange xlo ylo xhi yhi ⌝ }
     ensures { λ r. ⌜ r ≡ cond (ltb (dist sx (clamp xlo xhi sx) + dist sy (clamp ylo yhi sy)) near) 1 0 ⌝ }
@@ -144,7 +144,7 @@ fn flag(sx: i32, sy: i32, near: u32, xlo: i32, ylo: i32, xhi: i32, yhi: i32) -> 
     }
 }
 
-// Which sites reach a rectangle.
+// Which objects reach a rectangle.
 pub fn reach_flags<'a>(
     xs: &'a [i32; 512],
     ys: &'a [i32; 512],

@@ -11,16 +11,16 @@ use mir.ValLaws.{toZ-ofZ}
 use Rattle.numbers.proofs.Words.{word-fits}
 use Rattle.query.specs.Place.{Rect}
 use Rattle.query.specs.Range.{RectInRange}
-use Rattle.deck.specs.Sites.{Site}
+use Rattle.deck.specs.Objects.{Object}
 use Rattle.deck.specs.Ranges.{Near180000}
-use Rattle.pricing.specs.Figures.{costOf}
+use Rattle.pricing.specs.ObjectFigures.{costOf}
 use Rattle.pricing.specs.Columns.{EdgesInRange}
 use Rattle.cuts.specs.CutRecord.{Edges}
 use Rattle.deck.proofs.WordLaws.{narrow-fits, narrowed}
 use Rattle.deck.proofs.TravelLaws.{narrow, narrow-place}
 use Rattle.numbers.proofs.WordTests.{back}
 use Rattle.problem.specs.declared.Spot.{Spot}
-use Rattle.problem.specs.Problem.{spotOf, Near20000, Ranged}
+use Rattle.problem.specs.ObjectProblem.{spotOf, Near20000, Ranged}
 
 -- ---- coordinates as words
 pub near-back : (z : ℤ) → natAbs z ≤ 20000 → back z ≡ z
@@ -50,11 +50,11 @@ edges-narrow r h =
 pub place-narrow : (x y : ℤ) → Near20000 x y → Near180000 (narrow x) (narrow y)
 place-narrow x y h = narrow-place x y (omega arith) (omega arith)
 
-pub priced-is : (sites : List Site) (x y : ℤ) (r : ℕ) → Near20000 x y → r ≡ costOf sites (record { x = narrow x; y = narrow y }) → _≡_ {A = Spot} (record { x = back x; y = back y; cost = r }) (spotOf sites (record { x = x; y = y }))
-priced-is sites x y r h e = rw (e, narrowed x (omega arith), narrowed y (omega arith), near-back x (h .x-range), near-back y (h .y-range))
+pub priced-is : (objects : List Object) (x y : ℤ) (r : ℕ) → Near20000 x y → r ≡ costOf objects (record { x = narrow x; y = narrow y }) → _≡_ {A = Spot} (record { x = back x; y = back y; cost = r }) (spotOf objects (record { x = x; y = y }))
+priced-is objects x y r h e = rw (e, narrowed x (omega arith), narrowed y (omega arith), near-back x (h .x-range), near-back y (h .y-range))
 
-pub spot-back : (sites : List Site) (x y : ℤ) (r : Spot) → natAbs x ≤ 20000 → natAbs y ≤ 20000 → r ≡ spotOf sites (record { x = back x; y = back y }) → r ≡ spotOf sites (record { x = x; y = y })
-spot-back sites x y r h k e = rw (near-back x h, near-back y k) at e
+pub spot-back : (objects : List Object) (x y : ℤ) (r : Spot) → natAbs x ≤ 20000 → natAbs y ≤ 20000 → r ≡ spotOf objects (record { x = back x; y = back y }) → r ≡ spotOf objects (record { x = x; y = y })
+spot-back objects x y r h k e = rw (near-back x h, near-back y k) at e
 
 pub near-places : (x y : ℤ) → natAbs x ≤ 20000 → natAbs y ≤ 20000 → Near20000 (back x) (back y)
 near-places x y h k = rw (near-back x h, near-back y k) (record { x-range = h; y-range = k })

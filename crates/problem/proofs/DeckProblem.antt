@@ -22,21 +22,21 @@ use Rattle.query.proofs.BoundLaws.{bound-is, cornerSum-is}
 use Rattle.query.proofs.Ranges.{figure-limits}
 use Rattle.deck.specs.declared.Deck.{Deck}
 use Rattle.deck.specs.DeckOf.{places, stopsOf, deckOf}
-use Rattle.deck.specs.Sites.{Site, sitesOf}
-use Rattle.deck.specs.Record.{sitesRecord}
-use Rattle.deck.specs.declared.Sites.{Sites}
+use Rattle.deck.specs.Objects.{Object, objectsOf}
+use Rattle.deck.specs.ObjectColumns.{objectsRecord}
+use Rattle.deck.specs.declared.Objects.{Objects}
 use Rattle.deck.proofs.DeckLaws.{DeckColumns}
 use Rattle.deck.proofs.TravelLaws.{narrow}
-use Rattle.pricing.specs.Figures.{costOf, loadOf, flagsOf}
+use Rattle.pricing.specs.ObjectFigures.{costOf, loadOf, flagsOf}
 use Rattle.pricing.specs.Columns.{FlagsAre, rowsOf, InColumns}
-use Rattle.pricing.proofs.SiteLaws.{cost-law, load-law, flags-law}
+use Rattle.pricing.proofs.ObjectLaws.{cost-law, load-law, flags-law}
 use Rattle.pricing.proofs.RecordLaws.{made-rows, made-range, made-most, made-cost}
-use Rattle.lines.specs.LineRecord.{Rows, marked, linesBetween, linesRecord, gridOf}
+use Rattle.lines.specs.LineRecord.{MarkedRows, marked, linesBetween, linesRecord, gridOf}
 use Rattle.lines.specs.declared.Lines.{Lines}
 use Rattle.lines.proofs.DeckLines.{deck-grid, coordinates, reached, lines-marked, lines-in-order, padded-reached}
 use Rattle.slots.specs.declared.Cell.{Cell}
 use Rattle.numbers.proofs.WordTests.{back, fitting}
-use Rattle.problem.specs.Problem.{boundOf, siteProblem, Sited, Lined, rectIn, unbounded, Ranged, Reaching, Prepared}
+use Rattle.problem.specs.ObjectProblem.{boundOf, objectProblem, Priceable, Lined, rectIn, unbounded, Ranged, Reaching, Prepared}
 use Rattle.problem.proofs.Coordinates.{near-back, rect-narrow}
 
 -- ---- the area and the axis costs
@@ -48,9 +48,9 @@ pub plain-axis : (deck : Deck) → deckOf deck .axis ≡ plain
 unfolding deckOf
 plain-axis deck = refl
 
--- ---- which sites reach it
-pub flags-are : (sites : Sites) (r : Rect) (flags : List ℕ) → RectInRange r → InColumns sites → FlagsAre (sites .x) (sites .y) (sites .near) (sites .count) (record { xlo = narrow (r .xlo); ylo = narrow (r .ylo); xhi = narrow (r .xhi); yhi = narrow (r .yhi) }) flags → flags ≡ flagsOf (rowsOf sites) r
-flags-are sites r flags h range f = f .is (sites .visits) (range .visits-long) ∙ ap (flagsOf (rowsOf sites)) (rect-narrow r h)
+-- ---- which objects reach it
+pub flags-are : (objects : Objects) (r : Rect) (flags : List ℕ) → RectInRange r → InColumns objects → FlagsAre (objects .x) (objects .y) (objects .near) (objects .count) (record { xlo = narrow (r .xlo); ylo = narrow (r .ylo); xhi = narrow (r .xhi); yhi = narrow (r .yhi) }) flags → flags ≡ flagsOf (rowsOf objects) r
+flags-are objects r flags h range f = f .is (objects .visits) (range .visits-long) ∙ ap (flagsOf (rowsOf objects)) (rect-narrow r h)
 
 -- ---- the columns of the stops
 column-x : (n : ℕ) (xs ys : List ℤ) (vs : List ℕ) → length xs ≡ length ys → length xs ≡ length vs → take n xs ≡ map (λ stop. coordinate x-axis (stop .at)) (take n (stopsOf (places xs ys) vs))
@@ -102,58 +102,58 @@ module _ (deck : Deck) (columns : DeckColumns deck) where
         (ap (λ (r : Rect). linesBetween (r .ylo) (r .yhi) (marked (deck .«stop_y») flags (deck .stops))) (h .area-is) ∙ lines-marked (deckOf deck) y-axis (deck .«stop_y») flags (deck .stops) coords-y (flags-front y-axis)))
 
 -- ---- the problem
-pub boundOf-is : (sites : List Site) (r : Rect) → boundOf sites r ≡ halfUp (pos (max (costOf sites (record { x = r .xlo; y = r .ylo }) + costOf sites (record { x = r .xhi; y = r .yhi })) (costOf sites (record { x = r .xlo; y = r .yhi }) + costOf sites (record { x = r .xhi; y = r .ylo }))) -ℤ pos (span plain r * loadOf sites r))
+pub boundOf-is : (objects : List Object) (r : Rect) → boundOf objects r ≡ halfUp (pos (max (costOf objects (record { x = r .xlo; y = r .ylo }) + costOf objects (record { x = r .xhi; y = r .yhi })) (costOf objects (record { x = r .xlo; y = r .yhi }) + costOf objects (record { x = r .xhi; y = r .ylo }))) -ℤ pos (span plain r * loadOf objects r))
 unfolding boundOf
-boundOf-is sites r = refl
+boundOf-is objects r = refl
 
 module _ (deck : Query.Deck) (e : deck .axis ≡ plain) where
-  bound-law : (r : Rect) → boundOf (sitesOf deck) r ≡ bound deck r
+  bound-law : (r : Rect) → boundOf (objectsOf deck) r ≡ bound deck r
   bound-law r =
-      boundOf-is (sitesOf deck) r
+      boundOf-is (objectsOf deck) r
       ∙ (λ i. halfUp (pos (max (cost-law deck e (record { x = r .xlo; y = r .ylo }) i + cost-law deck e (record { x = r .xhi; y = r .yhi }) i) (cost-law deck e (record { x = r .xlo; y = r .yhi }) i + cost-law deck e (record { x = r .xhi; y = r .ylo }) i)) -ℤ pos (span (sym e i) r * load-law deck e r i)))
       ∙ ap (λ (m : ℕ). halfUp (pos m -ℤ pos (span (deck .axis) r * load deck r))) (sym (cornerSum-is deck r))
       ∙ sym (bound-is deck r)
 
-  -- the bound by a record of the deck's sites
-  pub made-bound : InRange deck → (sites : Sites) → sites ≡ sitesRecord (sitesOf deck) → (r : Rect) → boundOf (rowsOf sites) r ≡ bound deck r
-  made-bound range sites f r = ap (λ (l : List Site). boundOf l r) (made-rows deck range sites f) ∙ bound-law r
+  -- the bound by a record of the deck's objects
+  pub made-bound : InRange deck → (objects : Objects) → objects ≡ objectsRecord (objectsOf deck) → (r : Rect) → boundOf (rowsOf objects) r ≡ bound deck r
+  made-bound range objects f r = ap (λ (l : List Object). boundOf l r) (made-rows deck range objects f) ∙ bound-law r
 
-  pub deck-problem : siteProblem (sitesOf deck) (grid deck) (deck .area) ≡ problem deck
+  pub deck-problem : objectProblem (objectsOf deck) (grid deck) (deck .area) ≡ problem deck
   unfolding problem
   deck-problem = λ i. record { area = deck .area; rules = record { grid = grid deck; price = λ p. cost-law deck e p i; bound = λ r. bound-law r i } }
 
--- ---- a deck and its sites
--- the problem that the code holds: the rows of its sites, and its lines
-abbrev pub codedProblem : Sites → Cell → Lines → Lines → Problem
-codedProblem sites area v h = siteProblem (rowsOf sites) (gridOf (v .at) (v .count) (h .at) (h .count)) (rectIn area)
+-- ---- a deck and its objects
+-- the problem that the code holds: the rows of its objects, and its lines
+abbrev pub codedProblem : Objects → Cell → Lines → Lines → Problem
+codedProblem objects area v h = objectProblem (rowsOf objects) (gridOf (v .at) (v .count) (h .at) (h .count)) (rectIn area)
 
-module _ (deck : Deck) (sites : Sites) (prepared : Prepared deck sites) where
-  rows-are : rowsOf sites ≡ sitesOf (deckOf deck)
-  rows-are = made-rows (deckOf deck) (prepared .range) sites (prepared .sites-are)
+module _ (deck : Deck) (objects : Objects) (prepared : Prepared deck objects) where
+  rows-are : rowsOf objects ≡ objectsOf (deckOf deck)
+  rows-are = made-rows (deckOf deck) (prepared .range) objects (prepared .objects-are)
 
-  pub columns-range : InColumns sites
-  columns-range = made-range (deckOf deck) (prepared .range) sites (prepared .sites-are)
+  pub columns-range : InColumns objects
+  columns-range = made-range (deckOf deck) (prepared .range) objects (prepared .objects-are)
 
-  pub sites-count : sites .count ≤ 512
-  sites-count = made-most (deckOf deck) (prepared .range) sites (prepared .sites-are)
+  pub objects-count : objects .count ≤ 512
+  objects-count = made-most (deckOf deck) (prepared .range) objects (prepared .objects-are)
 
-  pub deck-sited : Sited (sites .x) (sites .y) (sites .visits) (sites .near) (sites .count)
-  deck-sited = record { count = sites-count; range = columns-range; cost-limit = λ p. rw (made-cost (deckOf deck) (prepared .range) sites (prepared .sites-are) (plain-axis deck) p) (figure-limits (deckOf deck) (prepared .range) .cost-limit p) }
+  pub deck-priceable : Priceable (objects .x) (objects .y) (objects .visits) (objects .near) (objects .count)
+  deck-priceable = record { count = objects-count; range = columns-range; cost-limit = λ p. rw (made-cost (deckOf deck) (prepared .range) objects (prepared .objects-are) (plain-axis deck) p) (figure-limits (deckOf deck) (prepared .range) .cost-limit p) }
 
   module _ (area : Cell) (area-is : rectIn area ≡ deckOf deck .area) where
     pub area-ranged : Ranged (rectIn area)
     area-ranged = rw area-is (record { range = prepared .range .area; full = prepared .full })
 
-    pub reaching : (flags : List ℕ) → flags ≡ flagsOf (rowsOf sites) (rectIn area) → Reaching deck area flags
+    pub reaching : (flags : List ℕ) → flags ≡ flagsOf (rowsOf objects) (rectIn area) → Reaching deck area flags
     reaching flags e = record { posts = prepared .posts; stops = prepared .stops; area-is = area-is; ranged = area-ranged .range; flags-are = e ∙ (λ i. flagsOf (rows-are i) (area-is i)) }
 
     module _ (v h : Lines) (ve : v ≡ linesRecord (lines (deckOf deck) x-axis)) (he : h ≡ linesRecord (lines (deckOf deck) y-axis)) where
       pub deck-lined : Lined (v .at) (v .count) (h .at) (h .count)
       deck-lined = rw (ve, he) (record { across = lines-in-order (deckOf deck) x-axis (prepared .range .most-stops); deep = lines-in-order (deckOf deck) y-axis (prepared .range .most-stops) })
 
-      pub coded-is : codedProblem sites area v h ≡ problem (deckOf deck)
-      coded-is = (λ i. siteProblem (rows-are i) (deck-grid (deckOf deck) v h ve he i) (area-is i)) ∙ deck-problem (deckOf deck) (plain-axis deck)
+      pub coded-is : codedProblem objects area v h ≡ problem (deckOf deck)
+      coded-is = (λ i. objectProblem (rows-are i) (deck-grid (deckOf deck) v h ve he i) (area-is i)) ∙ deck-problem (deckOf deck) (plain-axis deck)
 
 -- what `find_lines` asks of columns that are full
-pub rows-full : (coords : List ℤ) (flags : List ℕ) (n : ℕ) → n ≤ 512 → length coords ≡ 512 → length flags ≡ 512 → Rows coords flags n
+pub rows-full : (coords : List ℤ) (flags : List ℕ) (n : ℕ) → n ≤ 512 → length coords ≡ 512 → length flags ≡ 512 → MarkedRows coords flags n
 rows-full coords flags n h e f = record { within = h; coords-full = omega arith; flags-full = omega arith }

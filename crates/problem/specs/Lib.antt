@@ -1,1 +1,1 @@
-pub mod Problem
+pub mod ObjectProblem

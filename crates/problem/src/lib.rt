@@ -1,6 +1,6 @@
 // The problem of a deck as both searches take it: its area, its lines, and places with their costs.
 use deck::Deck;
-use deck::Sites;
+use deck::Objects;
 use lines::Lines;
 use slots::Cell;
 ghost use mathlib.Core.Path.{_≡_};
@@ -8,10 +8,10 @@ ghost use Prim.Native.Nat.{_≤_};
 ghost use Rattle.query.specs.Place.{x-axis, y-axis};
 ghost use Rattle.query.specs.Lines.{lines};
 ghost use Rattle.deck.specs.DeckOf.{deckOf};
-ghost use Rattle.pricing.specs.Figures.{flagsOf};
-ghost use Rattle.pricing.specs.Columns.{siteRows, rowsOf, InColumns};
+ghost use Rattle.pricing.specs.ObjectFigures.{flagsOf};
+ghost use Rattle.pricing.specs.Columns.{objectRows, rowsOf, InColumns};
 ghost use Rattle.lines.specs.LineRecord.{linesRecord};
-ghost use Rattle.problem.specs.Problem.{Sited, spotOf, spotAt, rectIn, unbounded, Near20000, Ranged, Reaching};
+ghost use Rattle.problem.specs.ObjectProblem.{Priceable, spotOf, spotAt, rectIn, unbounded, Near20000, Ranged, Reaching};
 
 // A place with its cost.
 pub struct Spot {
@@ -30,8 +30,8 @@ pub fn priced<'a>(
     x: i64,
     y: i64,
 ) -> Spot
-    requires { ⌜ Sited (now xs) (now ys) (now visits) (now near) n × Near20000 x y ⌝ }
-    ensures { λ r. ⌜ r ≡ spotOf (siteRows (now (xs .entry)) (now (ys .entry)) (now (visits .entry)) (now (near .entry)) n) (record { x = x; y = y }) ⌝ }
+    requires { ⌜ Priceable (now xs) (now ys) (now visits) (now near) n × Near20000 x y ⌝ }
+    ensures { λ r. ⌜ r ≡ spotOf (objectRows (now (xs .entry)) (now (ys .entry)) (now (visits .entry)) (now (near .entry)) n) (record { x = x; y = y }) ⌝ }
 {
     let cost = pricing::cost(xs, ys, visits, near, n, x as i32, y as i32);
     place(x, y, cost)
@@ -57,16 +57,16 @@ pub fn area_of(deck: Deck) -> Cell
     }
 }
 
-// Which of a deck's sites reach its area.
-pub fn flags_of(area: Cell, sites: Sites) -> [u8; 512]
-    requires { ⌜ InColumns sites × (sites .count ≤ 512) × Ranged (rectIn area) ⌝ }
-    ensures { λ r. ⌜ r ≡ flagsOf (rowsOf sites) (rectIn area) ⌝ }
+// Which of a deck's objects reach its area.
+pub fn flags_of(area: Cell, objects: Objects) -> [u8; 512]
+    requires { ⌜ InColumns objects × (objects .count ≤ 512) × Ranged (rectIn area) ⌝ }
+    ensures { λ r. ⌜ r ≡ flagsOf (rowsOf objects) (rectIn area) ⌝ }
 {
-    let n = sites.count;
+    let n = objects.count;
     pricing::reach_flags(
-        &sites.x,
-        &sites.y,
-        &sites.near,
+        &objects.x,
+        &objects.y,
+        &objects.near,
         n,
         area.xlo as i32,
         area.ylo as i32,

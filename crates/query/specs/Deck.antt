@@ -17,7 +17,7 @@ pub record AxisCosts : Type 0 where
 abbrev pub plain : AxisCosts
 plain = record { a = 1; b = 1 }
 
--- 01 "posts", "stops", "area": the sites S, the objects O, the query region Q
+-- 01 "posts", "stops", "area": the objects S, the objects O, the query region Q
 pub record Deck : Type 0 where
   pub axis : AxisCosts
   pub area : Rect

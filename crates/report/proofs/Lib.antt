@@ -1,3 +1,3 @@
 pub mod TextLaws
 pub mod Fits
-pub mod Vectors
+pub mod ReportVectors

@@ -1,4 +1,4 @@
 pub mod Report
 pub mod Text
 pub mod Limits
-pub mod Vectors
+pub mod ReportVectors

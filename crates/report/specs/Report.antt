@@ -6,9 +6,9 @@ use Rattle.report.specs.declared.Report.{Report}
 use Rattle.report.specs.declared.State.{State}
 use Rattle.report.specs.declared.State.the-variants.{Done, Stopped}
 
-abbrev pub stateOf : State → Query.State
-stateOf Done = Query.done
-stateOf Stopped = Query.stopped
+abbrev pub reportState : State → Query.State
+reportState Done = Query.done
+reportState Stopped = Query.stopped
 
-abbrev pub figuresOf : Report → Figures
-figuresOf r = record { state = stateOf (r .state); at = record { x = r .x; y = r .y }; high = r .high; low = r .low; before = r .before; rounds = r .rounds }
+abbrev pub reportFigures : Report → Figures
+reportFigures r = record { state = reportState (r .state); at = record { x = r .x; y = r .y }; high = r .high; low = r .low; before = r .before; rounds = r .rounds }

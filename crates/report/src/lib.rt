@@ -7,7 +7,7 @@ ghost use Rattle.refusal.specs.Refusal.{numberOf, lineOf};
 ghost use Rattle.text.specs.Ascii.{bytes, comma};
 ghost use Rattle.text.specs.Decimal.{spellNat, spellInt};
 ghost use Rattle.write.specs.Written.{Overwrote, Wrote};
-ghost use Rattle.report.specs.Report.{stateOf, figuresOf};
+ghost use Rattle.report.specs.Report.{reportState, reportFigures};
 ghost use Rattle.report.specs.Text.{stateText, reportText, refusalText};
 ghost use Rattle.query.specs.Range.{FiguresInRange};
 
@@ -49,7 +49,7 @@ fn put_key_int(out: &mut [u8], at: usize, key: &[u8], z: i64) -> usize
 // The lines of a report, each but for its byte 10, which stands before the next one's key.
 fn put_state(out: &mut [u8], at: usize, state: State) -> usize
     requires { ⌜ at + 13 ≤ length (now out) ⌝ }
-    ensures { λ r. ⌜ Wrote (now (out .entry)) at (bytes "state=" ++ stateText (stateOf state)) (now (out .exit)) r ⌝ }
+    ensures { λ r. ⌜ Wrote (now (out .entry)) at (bytes "state=" ++ stateText (reportState state)) (now (out .exit)) r ⌝ }
 {
     let next = write::put(out, at, b"state=");
     match state {
@@ -78,8 +78,8 @@ fn put_costs(out: &mut [u8], at: usize, high: u64, low: i64, before: u64) -> usi
 // The report at the start of `out`, and its length.
 pub fn write_report(out: &mut [u8], r: Report) -> usize
     requires { ⌜ 128 ≤ length (now out) ⌝ }
-    requires { ⌜ FiguresInRange 1000 (figuresOf r) ⌝ }
-    ensures { λ n. ⌜ Overwrote (now (out .entry)) (reportText (figuresOf r)) (now (out .exit)) n ⌝ }
+    requires { ⌜ FiguresInRange 1000 (reportFigures r) ⌝ }
+    ensures { λ n. ⌜ Overwrote (now (out .entry)) (reportText (reportFigures r)) (now (out .exit)) n ⌝ }
 {
     let state = r.state;
     let end = put_state(out, 0, state);

@@ -15,8 +15,8 @@ use Rattle.query.specs.Grid.{Grid}
 use Rattle.query.specs.Cut.{canCut, cutLine, cutBefore, cutAfter, newCorners}
 use Rattle.query.specs.Range.{RectInRange}
 use Rattle.query.proofs.CutLaws.{cut-law}
-use Rattle.deck.specs.Sites.{Site}
-use Rattle.pricing.specs.Figures.{costOf}
+use Rattle.deck.specs.Objects.{Object}
+use Rattle.pricing.specs.ObjectFigures.{costOf}
 use Rattle.cuts.specs.CutRecord.{isX, cutAt, cutRecord}
 use Rattle.cuts.specs.declared.Cut.{Cut}
 use Rattle.cuts.proofs.CutRecordLaws.{cutRecord-cut}
@@ -25,7 +25,7 @@ use Rattle.slots.specs.declared.Costs.{Costs}
 use Rattle.problem.specs.declared.Spot.{Spot}
 use Rattle.search.specs.declared.halves.Halves.{Halves}
 use Rattle.search.specs.Run.{cornerCosts, cellFor, lowCorner, highCorner, firstRect, secondRect, firstCosts, secondCosts, halvesOf}
-use Rattle.problem.specs.Problem.{pricedOf, spotOf, Ranged}
+use Rattle.problem.specs.ObjectProblem.{pricedOf, spotOf, Ranged}
 
 -- ---- by axis
 pub first-is : (axis : Axis) (v : ℤ) (r : Rect) → firstRect r (highCorner (isX axis) v r) ≡ cutBefore axis v r
@@ -40,13 +40,13 @@ pub corners-are : (axis : Axis) (v : ℤ) (r : Rect) → newCorners axis v r ≡
 corners-are x-axis v r = refl
 corners-are y-axis v r = refl
 
-first-costs-are : (sites : List Site) (b : Bool) (v : ℤ) (r : Rect) → firstCosts b (cornerCosts sites r) (costOf sites (lowCorner b v r)) (costOf sites (highCorner b v r)) ≡ cornerCosts sites (firstRect r (highCorner b v r))
-first-costs-are sites true v r = refl
-first-costs-are sites false v r = refl
+first-costs-are : (objects : List Object) (b : Bool) (v : ℤ) (r : Rect) → firstCosts b (cornerCosts objects r) (costOf objects (lowCorner b v r)) (costOf objects (highCorner b v r)) ≡ cornerCosts objects (firstRect r (highCorner b v r))
+first-costs-are objects true v r = refl
+first-costs-are objects false v r = refl
 
-second-costs-are : (sites : List Site) (b : Bool) (v : ℤ) (r : Rect) → secondCosts b (cornerCosts sites r) (costOf sites (lowCorner b v r)) (costOf sites (highCorner b v r)) ≡ cornerCosts sites (secondRect r (lowCorner b v r))
-second-costs-are sites true v r = refl
-second-costs-are sites false v r = refl
+second-costs-are : (objects : List Object) (b : Bool) (v : ℤ) (r : Rect) → secondCosts b (cornerCosts objects r) (costOf objects (lowCorner b v r)) (costOf objects (highCorner b v r)) ≡ cornerCosts objects (secondRect r (lowCorner b v r))
+second-costs-are objects true v r = refl
+second-costs-are objects false v r = refl
 
 -- ---- ranges
 middle-range : (lo v hi : ℤ) → natAbs lo ≤ 20000 → natAbs hi ≤ 20000 → lo <ℤ v → v <ℤ hi → natAbs v ≤ 20000
@@ -89,19 +89,19 @@ module _ (G : Grid) (r : Rect) (can : T (canCut G r)) (cut : Cut) (e : cut ≡ c
     second-range = both .1
 
 -- ---- the parts as the code makes them
-module _ (sites : List Site) (r : Rect) (k : Costs) (costs : k ≡ cornerCosts sites r) (cut : Cut) (low high : Spot) (low-is : low ≡ spotOf sites (lowCorner (cut .across) (cut .at) r)) (high-is : high ≡ spotOf sites (highCorner (cut .across) (cut .at) r)) where
+module _ (objects : List Object) (r : Rect) (k : Costs) (costs : k ≡ cornerCosts objects r) (cut : Cut) (low high : Spot) (low-is : low ≡ spotOf objects (lowCorner (cut .across) (cut .at) r)) (high-is : high ≡ spotOf objects (highCorner (cut .across) (cut .at) r)) where
   pub first-rect-is : (q : Rect) → q ≡ firstRect r (pricedOf high .at) → q ≡ firstRect r (highCorner (cut .across) (cut .at) r)
   first-rect-is q e = rw high-is at e
 
   pub second-rect-is : (q : Rect) → q ≡ secondRect r (pricedOf low .at) → q ≡ secondRect r (lowCorner (cut .across) (cut .at) r)
   second-rect-is q e = rw low-is at e
 
-  pub first-costs-is : (l : Costs) → l ≡ firstCosts (cut .across) k (low .cost) (high .cost) → l ≡ cornerCosts sites (firstRect r (highCorner (cut .across) (cut .at) r))
-  first-costs-is l e = (rw (costs, low-is, high-is) at e) ∙ first-costs-are sites (cut .across) (cut .at) r
+  pub first-costs-is : (l : Costs) → l ≡ firstCosts (cut .across) k (low .cost) (high .cost) → l ≡ cornerCosts objects (firstRect r (highCorner (cut .across) (cut .at) r))
+  first-costs-is l e = (rw (costs, low-is, high-is) at e) ∙ first-costs-are objects (cut .across) (cut .at) r
 
-  pub second-costs-is : (l : Costs) → l ≡ secondCosts (cut .across) k (low .cost) (high .cost) → l ≡ cornerCosts sites (secondRect r (lowCorner (cut .across) (cut .at) r))
-  second-costs-is l e = (rw (costs, low-is, high-is) at e) ∙ second-costs-are sites (cut .across) (cut .at) r
+  pub second-costs-is : (l : Costs) → l ≡ secondCosts (cut .across) k (low .cost) (high .cost) → l ≡ cornerCosts objects (secondRect r (lowCorner (cut .across) (cut .at) r))
+  second-costs-is l e = (rw (costs, low-is, high-is) at e) ∙ second-costs-are objects (cut .across) (cut .at) r
 
-pub halves-are : (sites : List Site) (r : Rect) (cut : Cut) (low high : Spot) (first second : Cell) (fk sk : Costs) → low ≡ spotOf sites (lowCorner (cut .across) (cut .at) r) → high ≡ spotOf sites (highCorner (cut .across) (cut .at) r) → first ≡ cellFor sites (firstRect r (highCorner (cut .across) (cut .at) r)) → fk ≡ cornerCosts sites (firstRect r (highCorner (cut .across) (cut .at) r)) → second ≡ cellFor sites (secondRect r (lowCorner (cut .across) (cut .at) r)) → sk ≡ cornerCosts sites (secondRect r (lowCorner (cut .across) (cut .at) r)) → _≡_ {A = Halves} (record { low = low; high = high; first = first; «first_costs» = fk; second = second; «second_costs» = sk }) (halvesOf sites cut r)
+pub halves-are : (objects : List Object) (r : Rect) (cut : Cut) (low high : Spot) (first second : Cell) (fk sk : Costs) → low ≡ spotOf objects (lowCorner (cut .across) (cut .at) r) → high ≡ spotOf objects (highCorner (cut .across) (cut .at) r) → first ≡ cellFor objects (firstRect r (highCorner (cut .across) (cut .at) r)) → fk ≡ cornerCosts objects (firstRect r (highCorner (cut .across) (cut .at) r)) → second ≡ cellFor objects (secondRect r (lowCorner (cut .across) (cut .at) r)) → sk ≡ cornerCosts objects (secondRect r (lowCorner (cut .across) (cut .at) r)) → _≡_ {A = Halves} (record { low = low; high = high; first = first; «first_costs» = fk; second = second; «second_costs» = sk }) (halvesOf objects cut r)
 unfolding halvesOf
-halves-are sites r cut low high first second fk sk a b c d e f = λ i. record { low = a i; high = b i; first = c i; «first_costs» = d i; second = e i; «second_costs» = f i }
+halves-are objects r cut low high first second fk sk a b c d e f = λ i. record { low = a i; high = b i; first = c i; «first_costs» = d i; second = e i; «second_costs» = f i }

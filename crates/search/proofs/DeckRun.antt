@@ -22,15 +22,15 @@ use Rattle.query.proofs.FigureRanges.{run-in-range}
 use Rattle.deck.specs.declared.Deck.{Deck}
 use Rattle.deck.specs.DeckOf.{deckOf}
 use Rattle.lines.specs.LineRecord.{linesRecord}
-use Rattle.deck.specs.declared.Sites.{Sites}
+use Rattle.deck.specs.declared.Objects.{Objects}
 use Rattle.lines.specs.declared.Lines.{Lines}
 use Rattle.slots.specs.declared.Cell.{Cell}
-use Rattle.search.specs.declared.run.State.{State}
+use Rattle.search.specs.declared.run.Running.{Running}
 use Rattle.search.specs.declared.run.Found.{Found}
 use Rattle.slots.specs.Numbering.{Numbered, cellsIn}
 use Rattle.search.specs.Run.{searchOf, Holds, Steady, foundOf, Searched}
 use Rattle.problem.proofs.DeckProblem.{codedProblem, coded-is}
-use Rattle.problem.specs.Problem.{Prepared, rectIn}
+use Rattle.problem.specs.ObjectProblem.{Prepared, rectIn}
 use Rattle.pricing.specs.Columns.{rowsOf}
 use Rattle.cells.proofs.Numbers.{order-numbers}
 use Rattle.search.proofs.RunLaws.{cells-are, holds-any}
@@ -45,22 +45,22 @@ module _ (deck : Query.Deck) (range : InRange deck) (full : NonEmpty (deck .area
   }
 
 -- ---- a search
-module _ (deck : Deck) (sites : Sites) (prepared : Prepared deck sites) (area : Cell) (area-is : rectIn area ≡ deckOf deck .area) (v h : Lines) (ve : v ≡ linesRecord (lines (deckOf deck) x-axis)) (he : h ≡ linesRecord (lines (deckOf deck) y-axis)) where
+module _ (deck : Deck) (objects : Objects) (prepared : Prepared deck objects) (area : Cell) (area-is : rectIn area ≡ deckOf deck .area) (v h : Lines) (ve : v ≡ linesRecord (lines (deckOf deck) x-axis)) (he : h ≡ linesRecord (lines (deckOf deck) y-axis)) where
   abbrev coded : Problem
-  coded = codedProblem sites area v h
+  coded = codedProblem objects area v h
 
   deck-coded : coded ≡ problem (deckOf deck)
-  deck-coded = coded-is deck sites prepared area area-is v h ve he
+  deck-coded = coded-is deck objects prepared area area-is v h ve he
 
   pub coded-steady : Steady coded
   coded-steady = subst Steady (sym deck-coded) (deck-steady (deckOf deck) (prepared .range) (prepared .full))
 
-  pub searched : (rounds : ℕ) (s : List ℤ) (o t : List ℕ) (st : State) → Numbered o → Holds (rowsOf sites) (run coded rounds) 0 (cellsIn s o) t st → (before after : List ℤ) (r : Found) → r ≡ foundOf (searchOf (cellsIn s o) [] st) → after ≡ filled (length before) (cellsIn s (take (st .tail - st .head) (drop (st .head) o))) → Searched deck rounds before after r
+  pub searched : (rounds : ℕ) (s : List ℤ) (o t : List ℕ) (st : Running) → Numbered o → Holds (rowsOf objects) (run coded rounds) 0 (cellsIn s o) t st → (before after : List ℤ) (r : Found) → r ≡ foundOf (searchOf (cellsIn s o) [] st) → after ≡ filled (length before) (cellsIn s (take (st .tail - st .head) (drop (st .head) o))) → Searched deck rounds before after r
   unfolding space
   searched rounds s o t st numbered holds before after r found written = record {
-    found = found ∙ ap foundOf (holds-any coded (rowsOf sites) rounds 0 (cellsIn s o) t st holds ∙ ap (λ (P : Problem). run P rounds) deck-coded);
+    found = found ∙ ap foundOf (holds-any coded (rowsOf objects) rounds 0 (cellsIn s o) t st holds ∙ ap (λ (P : Problem). run P rounds) deck-coded);
     cells =
         written
         ∙ ap (filled (length before)) (sym (order-numbers s o t (st .head) (st .tail - st .head) (omega (arith, numbered .long, holds .in-turn, holds .ends))))
-        ∙ ap (λ (l : List Order.Cell). filled (length before) (allNumbers l)) (cells-are coded (rowsOf sites) rounds 0 (cellsIn s o) t st holds ∙ ap (λ (P : Problem). run P rounds .live) deck-coded);
+        ∙ ap (λ (l : List Order.Cell). filled (length before) (allNumbers l)) (cells-are coded (rowsOf objects) rounds 0 (cellsIn s o) t st holds ∙ ap (λ (P : Problem). run P rounds .live) deck-coded);
   }

@@ -19,13 +19,13 @@ use Rattle.query.specs.Order.{Priced, precedes, pricedKey, cellKey, better, cel
 use Rattle.query.specs.Search.{isLive, bestOf, otherCorners, startBest}
 use Rattle.query.proofs.Best.{bestOf-nil, bestOf-cons}
 use Rattle.query.proofs.KeyOrder.{cellBefore-strict}
-use Rattle.deck.specs.Sites.{Site}
+use Rattle.deck.specs.Objects.{Object}
 use Rattle.problem.specs.declared.Spot.{Spot}
 use Rattle.slots.specs.Slot.{Entry, entryCell}
-use Rattle.cells.specs.Space.{entries, entryBefore}
-use Rattle.cells.specs.Steps.{InOrder}
+use Rattle.cells.specs.Entries.{entries, entryBefore}
+use Rattle.cells.specs.Steps.{EntriesInOrder}
 use Rattle.search.specs.Run.{cornerCosts, improved, bestCorner, withLive, Added}
-use Rattle.problem.specs.Problem.{siteRules, siteProblem, pricedOf, spotOf}
+use Rattle.problem.specs.ObjectProblem.{objectRules, objectProblem, pricedOf, spotOf}
 use Rattle.cells.proofs.SpaceLaws.{keep-insert-in, keep-insert-out, keep-agree, cells-insert, insert-in-order}
 
 -- ---- one more entry, if it is live
@@ -92,11 +92,11 @@ module _ (G : Grid) (best : Priced) where
   pub keep-live : (cs : List Query.Cell) → ((c : Query.Cell) → List·Memᴰ c cs → T (canCut G (c .rect))) → keep (λ c. precedes (cellKey c) (pricedKey best)) cs ≡ keep (isLive G best) cs
   keep-live cs h = keep-agree (λ c. precedes (cellKey c) (pricedKey best)) (isLive G best) cs (λ c m. live-precedes G best c (holds (canCut G (c .rect)) (h c m)) (precedes (cellKey c) (pricedKey best)) refl)
 
-  with-in-order : (e : Entry) (es : List Entry) → InOrder es → InOrder (withLive G best e es)
+  with-in-order : (e : Entry) (es : List Entry) → EntriesInOrder es → EntriesInOrder (withLive G best e es)
   unfolding withLive
   with-in-order e es order = go (isLive G best (entryCell e))
     where
-      go : (b : Bool) → InOrder (cond b (insertBy entryBefore e es) es)
+      go : (b : Bool) → EntriesInOrder (cond b (insertBy entryBefore e es) es)
       go true = insert-in-order e es order
       go false = order
 
@@ -109,7 +109,7 @@ module _ (G : Grid) (best : Priced) where
       go false m = inr m
 
 -- entries in order are so with one more
-pub added-in-order : (G : Grid) (best : Priced) (e : Entry) (head tail : ℕ) (s s′ : List ℤ) (t t′ : List ℕ) (r : ℕ) → Added G best e head tail s t s′ t′ r → InOrder (entries s t head (tail - head)) → InOrder (entries s′ t′ r (tail - r))
+pub added-in-order : (G : Grid) (best : Priced) (e : Entry) (head tail : ℕ) (s s′ : List ℤ) (t t′ : List ℕ) (r : ℕ) → Added G best e head tail s t s′ t′ r → EntriesInOrder (entries s t head (tail - head)) → EntriesInOrder (entries s′ t′ r (tail - r))
 added-in-order G best e head tail s s′ t t′ r added order = rw (added .entries-are) (with-in-order G best e (entries s t head (tail - head)) order)
 
 pub single : (G : Grid) (best : Priced) (x : Query.Cell) → withCell G best x [] ≡ keep (isLive G best) (x ∷ [])
@@ -125,21 +125,21 @@ improved-is best p = go (better (pricedOf p) (pricedOf best))
     go true = refl
     go false = refl
 
-module _ (sites : List Site) (G : Grid) where
-  best-more : (best : Spot) (p : Place) (ps : List Place) → bestOf (siteRules sites G) (pricedOf best) (p ∷ ps) ≡ bestOf (siteRules sites G) (pricedOf (improved best (spotOf sites p))) ps
-  best-more best p ps = rw (bestOf-cons (siteRules sites G) (pricedOf best) p ps, improved-is best (spotOf sites p))
+module _ (objects : List Object) (G : Grid) where
+  best-more : (best : Spot) (p : Place) (ps : List Place) → bestOf (objectRules objects G) (pricedOf best) (p ∷ ps) ≡ bestOf (objectRules objects G) (pricedOf (improved best (spotOf objects p))) ps
+  best-more best p ps = rw (bestOf-cons (objectRules objects G) (pricedOf best) p ps, improved-is best (spotOf objects p))
 
-  pub best-two : (best : Spot) (p q : Place) → bestOf (siteRules sites G) (pricedOf best) (p ∷ q ∷ []) ≡ pricedOf (improved (improved best (spotOf sites p)) (spotOf sites q))
-  best-two best p q = best-more best p (q ∷ []) ∙ best-more (improved best (spotOf sites p)) q [] ∙ bestOf-nil (siteRules sites G) (pricedOf (improved (improved best (spotOf sites p)) (spotOf sites q)))
+  pub best-two : (best : Spot) (p q : Place) → bestOf (objectRules objects G) (pricedOf best) (p ∷ q ∷ []) ≡ pricedOf (improved (improved best (spotOf objects p)) (spotOf objects q))
+  best-two best p q = best-more best p (q ∷ []) ∙ best-more (improved best (spotOf objects p)) q [] ∙ bestOf-nil (objectRules objects G) (pricedOf (improved (improved best (spotOf objects p)) (spotOf objects q)))
 
-  pub start-best : (area : Rect) → pricedOf (bestCorner area (cornerCosts sites area)) ≡ startBest (siteProblem sites G area)
+  pub start-best : (area : Rect) → pricedOf (bestCorner area (cornerCosts objects area)) ≡ startBest (objectProblem objects G area)
   unfolding startBest otherCorners bestCorner
   start-best area =
-      let c₁ = spotOf sites (corner area) in
-      let c₂ = improved c₁ (spotOf sites (record { x = area .xlo; y = area .yhi })) in
-      let c₃ = improved c₂ (spotOf sites (record { x = area .xhi; y = area .ylo })) in
-      let c₄ = improved c₃ (spotOf sites (record { x = area .xhi; y = area .yhi })) in
+      let c₁ = spotOf objects (corner area) in
+      let c₂ = improved c₁ (spotOf objects (record { x = area .xlo; y = area .yhi })) in
+      let c₃ = improved c₂ (spotOf objects (record { x = area .xhi; y = area .ylo })) in
+      let c₄ = improved c₃ (spotOf objects (record { x = area .xhi; y = area .yhi })) in
       sym (best-more c₁ (record { x = area .xlo; y = area .yhi }) (record { x = area .xhi; y = area .ylo } ∷ record { x = area .xhi; y = area .yhi } ∷ [])
       ∙ best-more c₂ (record { x = area .xhi; y = area .ylo }) (record { x = area .xhi; y = area .yhi } ∷ [])
       ∙ best-more c₃ (record { x = area .xhi; y = area .yhi }) []
-      ∙ bestOf-nil (siteRules sites G) (pricedOf c₄))
+      ∙ bestOf-nil (objectRules objects G) (pricedOf c₄))

@@ -20,20 +20,20 @@ use Rattle.query.specs.Order.{Priced, precedes, pricedKey, cellKey}
 use Rattle.query.specs.Range.{RectInRange, costLimit}
 use Rattle.query.specs.Search.{Search, isLive, cellOf, bestOf, startBest, start, cellsAfter, bestAfter, roundOn, round}
 use Rattle.query.proofs.CellsAfter.{after-is}
-use Rattle.deck.specs.Sites.{Site}
-use Rattle.pricing.specs.Figures.{costOf}
+use Rattle.deck.specs.Objects.{Object}
+use Rattle.pricing.specs.ObjectFigures.{costOf}
 use Rattle.cuts.specs.CutRecord.{isX, cutAt, cutRecord}
 use Rattle.cuts.specs.declared.Cut.{Cut}
 use Rattle.slots.specs.declared.Cell.{Cell}
 use Rattle.slots.specs.declared.Costs.{Costs}
 use Rattle.problem.specs.declared.Spot.{Spot}
 use Rattle.search.specs.declared.halves.Halves.{Halves}
-use Rattle.search.specs.declared.run.State.{State}
+use Rattle.search.specs.declared.run.Running.{Running}
 use Rattle.slots.specs.Slot.{Entry, queryCell, entryCell, cellAt, costsAt}
-use Rattle.cells.specs.Space.{keyOf, entries}
-use Rattle.cells.specs.Steps.{InOrder, Trimmed}
+use Rattle.cells.specs.Entries.{keyOf, entries}
+use Rattle.cells.specs.Steps.{EntriesInOrder, Trimmed}
 use Rattle.search.specs.Run.{cornerCosts, cellFor, improved, bestCorner, lowCorner, highCorner, halvesOf, withLive, Cutting, Takeable, Added, Costed, searchOf, Holds}
-use Rattle.problem.specs.Problem.{siteRules, siteProblem, pricedOf, rectIn, Ranged}
+use Rattle.problem.specs.ObjectProblem.{objectRules, objectProblem, pricedOf, rectIn, Ranged}
 use Rattle.numbers.proofs.WordTests.{back, fitting}
 use Rattle.cells.proofs.Trims.{trimmed-live}
 use Rattle.cells.proofs.SpaceLaws.{cells-keep, cells-in-order, rest-in-order, entries-first, entries-none}
@@ -42,7 +42,7 @@ use Rattle.search.proofs.CutParts.{first-is, second-is, corners-are, cu
 use Rattle.search.proofs.LiveLaws.{withCell, keep-two, map-with, keep-live, with-cases, single, best-two, start-best}
 
 -- ---- a start
-pub search-is : (s : List ℤ) (t : List ℕ) (st : State) → searchOf s t st ≡ record { best = pricedOf (st .best); live = map entryCell (entries s t (st .head) (st .tail - st .head)); cuts = st .cuts }
+pub search-is : (s : List ℤ) (t : List ℕ) (st : Running) → searchOf s t st ≡ record { best = pricedOf (st .best); live = map entryCell (entries s t (st .head) (st .tail - st .head)); cuts = st .cuts }
 unfolding searchOf
 search-is s t st = refl
 
@@ -50,17 +50,17 @@ start-is : (P : Problem) → start P ≡ record { best = startBest P; live = kee
 unfolding start
 start-is P = refl
 
-pub started : (sites : List Site) (G : Grid) (c area : Cell) (k : Costs) (best : Spot) (s s′ : List ℤ) (t t′ : List ℕ) (head : ℕ) → k ≡ cornerCosts sites (rectIn area) → best ≡ bestCorner (rectIn area) k → c ≡ cellFor sites (rectIn area) → Added G (pricedOf best) (record { cell = c; costs = k }) 1001 1001 s t s′ t′ head → Holds sites (start (siteProblem sites G (rectIn area))) 1000 s′ t′ (record { head = head; tail = 1001; best = best; cuts = 0 })
-started sites G c area k best s s′ t t′ head costs best-is cell added = record { is = is; costed = record { each = costed }; low-head = omega (arith, added .by-one); in-turn = added .down; ends = omega arith }
+pub started : (objects : List Object) (G : Grid) (c area : Cell) (k : Costs) (best : Spot) (s s′ : List ℤ) (t t′ : List ℕ) (head : ℕ) → k ≡ cornerCosts objects (rectIn area) → best ≡ bestCorner (rectIn area) k → c ≡ cellFor objects (rectIn area) → Added G (pricedOf best) (record { cell = c; costs = k }) 1001 1001 s t s′ t′ head → Holds objects (start (objectProblem objects G (rectIn area))) 1000 s′ t′ (record { head = head; tail = 1001; best = best; cuts = 0 })
+started objects G c area k best s s′ t t′ head costs best-is cell added = record { is = is; costed = record { each = costed }; low-head = omega (arith, added .by-one); in-turn = added .down; ends = omega arith }
   where
     P : Problem
-    P = siteProblem sites G (rectIn area)
+    P = objectProblem objects G (rectIn area)
 
     e : Entry
     e = record { cell = c; costs = k }
 
     bests : pricedOf best ≡ startBest P
-    bests = ap pricedOf (best-is ∙ ap (bestCorner (rectIn area)) costs) ∙ start-best sites G (rectIn area)
+    bests = ap pricedOf (best-is ∙ ap (bestCorner (rectIn area)) costs) ∙ start-best objects G (rectIn area)
 
     one : entries s′ t′ head (1001 - head) ≡ withLive G (pricedOf best) e []
     one = added .entries-are ∙ ap (withLive G (pricedOf best) e) (entries-none s t 1001)
@@ -76,7 +76,7 @@ started sites G c area k best s s′ t t′ head costs best-is cell added = reco
     is : searchOf s′ t′ (record { head = head; tail = 1001; best = best; cuts = 0 }) ≡ start P
     is = search-is s′ t′ (record { head = head; tail = 1001; best = best; cuts = 0 }) ∙ (λ i. record { best = bests i; live = cells i; cuts = 0 }) ∙ sym (start-is P)
 
-    costed : (f : Entry) → List·Memᴰ f (entries s′ t′ head (1001 - head)) → f .costs ≡ cornerCosts sites (entryCell f .rect)
+    costed : (f : Entry) → List·Memᴰ f (entries s′ t′ head (1001 - head)) → f .costs ≡ cornerCosts objects (entryCell f .rect)
     costed f m = ⊎-elim (λ (q : f ≡ e). rw (q, cell) costs) (λ n. absurd (List·Memᴰ·not-nil n)) (with-cases G (pricedOf best) e [] (subst (List·Memᴰ f) one m))
 
 -- ---- a round
@@ -84,29 +84,29 @@ round-on : (R : Rules) (s : Search) (c : Query.Cell) (cs : List Query.Cell) → 
 unfolding round roundOn
 round-on R s c cs e = ap (roundOn R s) e
 
-module _ (sites : List Site) (G : Grid) (c : Cell) (can : T (canCut G (rectIn c))) where
+module _ (objects : List Object) (G : Grid) (c : Cell) (can : T (canCut G (rectIn c))) where
   abbrev R : Rules
-  R = siteRules sites G
+  R = objectRules objects G
 
   abbrev halves : Halves
-  halves = halvesOf sites (cutRecord G (rectIn c)) (rectIn c)
+  halves = halvesOf objects (cutRecord G (rectIn c)) (rectIn c)
 
   cut : cutRecord G (rectIn c) ≡ cutAt (isX (cutLine G (rectIn c) .axis)) (cutLine G (rectIn c) .at)
   cut = cut-is G (rectIn c) can (cutRecord G (rectIn c)) refl
 
   first-cell : queryCell (halves .first) ≡ cellOf R (cutBefore (cutLine G (rectIn c) .axis) (cutLine G (rectIn c) .at) (rectIn c))
   unfolding halvesOf
-  first-cell = rw cut (ap (λ (r : Rect). queryCell (cellFor sites r)) (first-is (cutLine G (rectIn c) .axis) (cutLine G (rectIn c) .at) (rectIn c)))
+  first-cell = rw cut (ap (λ (r : Rect). queryCell (cellFor objects r)) (first-is (cutLine G (rectIn c) .axis) (cutLine G (rectIn c) .at) (rectIn c)))
 
   second-cell : queryCell (halves .second) ≡ cellOf R (cutAfter (cutLine G (rectIn c) .axis) (cutLine G (rectIn c) .at) (rectIn c))
   unfolding halvesOf
-  second-cell = rw cut (ap (λ (r : Rect). queryCell (cellFor sites r)) (second-is (cutLine G (rectIn c) .axis) (cutLine G (rectIn c) .at) (rectIn c)))
+  second-cell = rw cut (ap (λ (r : Rect). queryCell (cellFor objects r)) (second-is (cutLine G (rectIn c) .axis) (cutLine G (rectIn c) .at) (rectIn c)))
 
-  first-costed : halves .«first_costs» ≡ cornerCosts sites (rectIn (halves .first))
+  first-costed : halves .«first_costs» ≡ cornerCosts objects (rectIn (halves .first))
   unfolding halvesOf
   first-costed = refl
 
-  second-costed : halves .«second_costs» ≡ cornerCosts sites (rectIn (halves .second))
+  second-costed : halves .«second_costs» ≡ cornerCosts objects (rectIn (halves .second))
   unfolding halvesOf
   second-costed = refl
 
@@ -118,9 +118,9 @@ module _ (sites : List Site) (G : Grid) (c : Cell) (can : T (canCut G (rectIn c)
   unfolding halvesOf
   best-after best =
       rw (bestAfter-is (pricedOf best), corners-are (cutLine G (rectIn c) .axis) (cutLine G (rectIn c) .at) (rectIn c), cut)
-      (sym (best-two sites G best (lowCorner (isX (cutLine G (rectIn c) .axis)) (cutLine G (rectIn c) .at) (rectIn c)) (highCorner (isX (cutLine G (rectIn c) .axis)) (cutLine G (rectIn c) .at) (rectIn c))))
+      (sym (best-two objects G best (lowCorner (isX (cutLine G (rectIn c) .axis)) (cutLine G (rectIn c) .at) (rectIn c)) (highCorner (isX (cutLine G (rectIn c) .axis)) (cutLine G (rectIn c) .at) (rectIn c))))
 
-  module _ (k : Costs) (rest : List Entry) (best : Spot) (order : InOrder rest) (cuttable : (e : Entry) → List·Memᴰ e rest → T (canCut G (entryCell e .rect))) where
+  module _ (k : Costs) (rest : List Entry) (best : Spot) (order : EntriesInOrder rest) (cuttable : (e : Entry) → List·Memᴰ e rest → T (canCut G (entryCell e .rect))) where
     abbrev best′ : Spot
     best′ = improved (improved best (halves .low)) (halves .high)
 
@@ -159,16 +159,16 @@ module _ (sites : List Site) (G : Grid) (c : Cell) (can : T (canCut G (rectIn c)
           (λ i. record { best = q i; live = (cells ∙ ap (λ (x : Priced). keep (isLive G x) (cellsAfter R (queryCell c) (map entryCell rest))) q) i; cuts = n i })
           ∙ sym (round-on R s (queryCell c) (map entryCell rest) l)
 
-      pub round-costed : Costed sites rest → Costed sites es₃
+      pub round-costed : Costed objects rest → Costed objects es₃
       round-costed h = record { each = λ f m. ⊎-elim (λ (q : f ≡ firstEntry). rw q first-costed) (λ n. ⊎-elim (λ (q : f ≡ secondEntry). rw q second-costed) (λ o. h .each f (keep-from (λ e. precedes (cellKey (entryCell e)) (pricedKey (pricedOf best′))) rest (subst (List·Memᴰ f) trimmed o))) (with-cases G (pricedOf best′) secondEntry es₁ (subst (List·Memᴰ f) behind n))) (with-cases G (pricedOf best′) firstEntry es₂ (subst (List·Memᴰ f) front m)) }
 
 -- ---- what the steps of a round ask of its cut
-module _ (sites : List Site) (hv : Halves) where
-  pub halves-limit : (limit : (p : Place) → costOf sites p ≤ costLimit) (cut : Cut) (r : Rect) → hv ≡ halvesOf sites cut r → (hv .low .cost ≤ costLimit) × (hv .high .cost ≤ costLimit)
+module _ (objects : List Object) (hv : Halves) where
+  pub halves-limit : (limit : (p : Place) → costOf objects p ≤ costLimit) (cut : Cut) (r : Rect) → hv ≡ halvesOf objects cut r → (hv .low .cost ≤ costLimit) × (hv .high .cost ≤ costLimit)
   unfolding halvesOf
   halves-limit limit cut r e = rw e (limit (lowCorner (cut .across) (cut .at) r), limit (highCorner (cut .across) (cut .at) r))
 
-  pub halves-ranged : (G : Grid) (r : Rect) → T (canCut G r) → Ranged r → hv ≡ halvesOf sites (cutRecord G r) r → RectInRange (rectIn (hv .first)) × RectInRange (rectIn (hv .second))
+  pub halves-ranged : (G : Grid) (r : Rect) → T (canCut G r) → Ranged r → hv ≡ halvesOf objects (cutRecord G r) r → RectInRange (rectIn (hv .first)) × RectInRange (rectIn (hv .second))
   unfolding halvesOf
   halves-ranged G r can h e = rw e (first-range G r can (cutRecord G r) refl h .range, second-range G r can (cutRecord G r) refl h .range)
 
@@ -178,7 +178,7 @@ limit-of r best p e h g = rw e (improved-limit best p costLimit h g)
 pub trim-key : (s : List ℤ) (head tail cost r : ℕ) (x y : ℤ) → mag x < 2 ^ 63 → mag y < 2 ^ 63 → Trimmed s head tail (keyOf (pos cost) (back x) (back y)) r → Trimmed s head tail (keyOf (pos cost) x y) r
 trim-key s head tail cost r x y f g h = rw (fitting x f, fitting y g) at h
 
-module _ (sites : List Site) (G : Grid) (s : List ℤ) (t : List ℕ) (st : State) (h : Takeable sites G s t st) (c : Cell) (k : Costs) (ce : c ≡ cellAt s (st .head)) (ke : k ≡ costsAt t (st .head)) where
+module _ (objects : List Object) (G : Grid) (s : List ℤ) (t : List ℕ) (st : Running) (h : Takeable objects G s t st) (c : Cell) (k : Costs) (ce : c ≡ cellAt s (st .head)) (ke : k ≡ costsAt t (st .head)) where
   abbrev others : List Entry
   others = entries s t (st .head + 1) (st .tail - (st .head + 1))
 
@@ -191,17 +191,17 @@ module _ (sites : List Site) (G : Grid) (s : List ℤ) (t : List ℕ) (st : Stat
   other : (e : Entry) → List·Memᴰ e others → List·Memᴰ e (entries s t (st .head) (st .tail - st .head))
   other e m = rw split (List·Memᴰ·tail m)
 
-  pub cutting : Cutting sites G c k
+  pub cutting : Cutting objects G c k
   cutting = record { ranged = rw ce (h .ranged); can-cut = h .can-cut (record { cell = c; costs = k }) taken; costs = h .costed .each (record { cell = c; costs = k }) taken }
 
-  pub rounded : (hv : Halves) → hv ≡ halvesOf sites (cutRecord G (rectIn c)) (rectIn c) → (b best : Spot) → b ≡ improved (st .best) (hv .low) → best ≡ improved b (hv .high) → (tail : ℕ) → Trimmed s (st .head + 1) (st .tail) (keyOf (pos (best .cost)) (best .x) (best .y)) tail → (s₁ : List ℤ) (t₁ : List ℕ) (behind : ℕ) → Added G (pricedOf best) (record { cell = hv .second; costs = hv .«second_costs» }) (st .head + 1) tail s t s₁ t₁ behind → (s₂ : List ℤ) (t₂ : List ℕ) (front : ℕ) → Added G (pricedOf best) (record { cell = hv .first; costs = hv .«first_costs» }) behind tail s₁ t₁ s₂ t₂ front → Holds sites (round (siteRules sites G) (searchOf s t st)) (st .head - 1) s₂ t₂ (record { head = front; tail = tail; best = best; cuts = st .cuts + 1 })
+  pub rounded : (hv : Halves) → hv ≡ halvesOf objects (cutRecord G (rectIn c)) (rectIn c) → (b best : Spot) → b ≡ improved (st .best) (hv .low) → best ≡ improved b (hv .high) → (tail : ℕ) → Trimmed s (st .head + 1) (st .tail) (keyOf (pos (best .cost)) (best .x) (best .y)) tail → (s₁ : List ℤ) (t₁ : List ℕ) (behind : ℕ) → Added G (pricedOf best) (record { cell = hv .second; costs = hv .«second_costs» }) (st .head + 1) tail s t s₁ t₁ behind → (s₂ : List ℤ) (t₂ : List ℕ) (front : ℕ) → Added G (pricedOf best) (record { cell = hv .first; costs = hv .«first_costs» }) behind tail s₁ t₁ s₂ t₂ front → Holds objects (round (objectRules objects G) (searchOf s t st)) (st .head - 1) s₂ t₂ (record { head = front; tail = tail; best = best; cuts = st .cuts + 1 })
   rounded hv hve b best be bests tail trimmed s₁ t₁ behind one s₂ t₂ front two =
       let all : best ≡ improved (improved (st .best) (halves .low)) (halves .high) = bests ∙ (λ i. improved ((be ∙ ap (λ (x : Halves). improved (st .best) (x .low)) hve) i) (hve i .high)) in
       let es₁ : entries s t (st .head + 1) (tail - (st .head + 1)) ≡ keep (λ e. precedes (cellKey (entryCell e)) (pricedKey (pricedOf best))) others = trimmed-live s (st .head + 1) (st .tail) (pricedKey (pricedOf best)) tail trimmed t turn in
       go best all hv hve es₁ (one .entries-are) (two .entries-are)
     where
       halves : Halves
-      halves = halvesOf sites (cutRecord G (rectIn c)) (rectIn c)
+      halves = halvesOf objects (cutRecord G (rectIn c)) (rectIn c)
 
       can : T (canCut G (rectIn c))
       can = cutting .can-cut
@@ -209,17 +209,17 @@ module _ (sites : List Site) (G : Grid) (s : List ℤ) (t : List ℕ) (st : Stat
       cuttable : (e : Entry) → List·Memᴰ e others → T (canCut G (entryCell e .rect))
       cuttable e m = h .can-cut e (other e m)
 
-      turn : InOrder others
+      turn : EntriesInOrder others
       turn = rest-in-order s t (st .head) (st .tail) (h .some) (h .in-order)
 
-      go : (best : Spot) → best ≡ improved (improved (st .best) (halves .low)) (halves .high) → (hv : Halves) → hv ≡ halves → entries s t (st .head + 1) (tail - (st .head + 1)) ≡ keep (λ e. precedes (cellKey (entryCell e)) (pricedKey (pricedOf best))) others → entries s₁ t₁ behind (tail - behind) ≡ withLive G (pricedOf best) (record { cell = hv .second; costs = hv .«second_costs» }) (entries s t (st .head + 1) (tail - (st .head + 1))) → entries s₂ t₂ front (tail - front) ≡ withLive G (pricedOf best) (record { cell = hv .first; costs = hv .«first_costs» }) (entries s₁ t₁ behind (tail - behind)) → Holds sites (round (siteRules sites G) (searchOf s t st)) (st .head - 1) s₂ t₂ (record { head = front; tail = tail; best = best; cuts = st .cuts + 1 })
+      go : (best : Spot) → best ≡ improved (improved (st .best) (halves .low)) (halves .high) → (hv : Halves) → hv ≡ halves → entries s t (st .head + 1) (tail - (st .head + 1)) ≡ keep (λ e. precedes (cellKey (entryCell e)) (pricedKey (pricedOf best))) others → entries s₁ t₁ behind (tail - behind) ≡ withLive G (pricedOf best) (record { cell = hv .second; costs = hv .«second_costs» }) (entries s t (st .head + 1) (tail - (st .head + 1))) → entries s₂ t₂ front (tail - front) ≡ withLive G (pricedOf best) (record { cell = hv .first; costs = hv .«first_costs» }) (entries s₁ t₁ behind (tail - behind)) → Holds objects (round (objectRules objects G) (searchOf s t st)) (st .head - 1) s₂ t₂ (record { head = front; tail = tail; best = best; cuts = st .cuts + 1 })
       go best be hv he es₁ es₂ es₃ =
           let f₁ : entries s t (st .head + 1) (tail - (st .head + 1)) ≡ keep (λ e. precedes (cellKey (entryCell e)) (pricedKey (pricedOf (improved (improved (st .best) (halves .low)) (halves .high))))) others = rw be at es₁ in
           let f₂ : entries s₁ t₁ behind (tail - behind) ≡ withLive G (pricedOf (improved (improved (st .best) (halves .low)) (halves .high))) (record { cell = halves .second; costs = halves .«second_costs» }) (entries s t (st .head + 1) (tail - (st .head + 1))) = rw (be, he) at es₂ in
           let f₃ : entries s₂ t₂ front (tail - front) ≡ withLive G (pricedOf (improved (improved (st .best) (halves .low)) (halves .high))) (record { cell = halves .first; costs = halves .«first_costs» }) (entries s₁ t₁ behind (tail - behind)) = rw (be, he) at es₃ in
           record {
-            is = search-is s₂ t₂ (record { head = front; tail = tail; best = best; cuts = st .cuts + 1 }) ∙ rw be (round-search sites G c can k others (st .best) turn cuttable (entries s t (st .head + 1) (tail - (st .head + 1))) (entries s₁ t₁ behind (tail - behind)) (entries s₂ t₂ front (tail - front)) f₁ f₂ f₃ (searchOf s t st) (ap (λ (x : Search). x .best) (search-is s t st)) (ap (λ (x : Search). x .live) (search-is s t st) ∙ ap (map entryCell) split) (st .cuts + 1) (add-one (st .cuts) ∙ ap suc (sym (ap (λ (x : Search). x .cuts) (search-is s t st)))));
-            costed = round-costed sites G c can k others (st .best) turn cuttable (entries s t (st .head + 1) (tail - (st .head + 1))) (entries s₁ t₁ behind (tail - behind)) (entries s₂ t₂ front (tail - front)) f₁ f₂ f₃ (record { each = λ e m. h .costed .each e (other e m) });
+            is = search-is s₂ t₂ (record { head = front; tail = tail; best = best; cuts = st .cuts + 1 }) ∙ rw be (round-search objects G c can k others (st .best) turn cuttable (entries s t (st .head + 1) (tail - (st .head + 1))) (entries s₁ t₁ behind (tail - behind)) (entries s₂ t₂ front (tail - front)) f₁ f₂ f₃ (searchOf s t st) (ap (λ (x : Search). x .best) (search-is s t st)) (ap (λ (x : Search). x .live) (search-is s t st) ∙ ap (map entryCell) split) (st .cuts + 1) (add-one (st .cuts) ∙ ap suc (sym (ap (λ (x : Search). x .cuts) (search-is s t st)))));
+            costed = round-costed objects G c can k others (st .best) turn cuttable (entries s t (st .head + 1) (tail - (st .head + 1))) (entries s₁ t₁ behind (tail - behind)) (entries s₂ t₂ front (tail - front)) f₁ f₂ f₃ (record { each = λ e m. h .costed .each e (other e m) });
             low-head = omega (arith, one .by-one, two .by-one);
             in-turn = omega (arith, one .down, two .down, trimmed .from-head);
             ends = omega (arith, trimmed .to-tail, h .ends);

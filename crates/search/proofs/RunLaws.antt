@@ -24,15 +24,15 @@ use Rattle.query.specs.Search.{Search, isLive, start, roundOn, round, run}
 use Rattle.query.specs.Figures as Figures
 use Rattle.query.proofs.SearchLaws.{run-in-order, partition-law}
 use Rattle.query.proofs.Counts.{cuts-most, live-count}
-use Rattle.deck.specs.Sites.{Site}
+use Rattle.deck.specs.Objects.{Object}
 use Rattle.slots.specs.declared.Cell.{Cell}
-use Rattle.search.specs.declared.run.State.{State}
+use Rattle.search.specs.declared.run.Running.{Running}
 use Rattle.search.specs.declared.run.Found.{Found}
 use Rattle.slots.specs.Slot.{Entry, queryCell, entryCell, cellAt, entryAt}
-use Rattle.cells.specs.Space.{entries}
-use Rattle.cells.specs.Steps.{InOrder}
+use Rattle.cells.specs.Entries.{entries}
+use Rattle.cells.specs.Steps.{EntriesInOrder}
 use Rattle.search.specs.Run.{searchOf, Takeable, Holds, Steady, Answerable, isDone, foundOf}
-use Rattle.problem.specs.Problem.{pricedOf}
+use Rattle.problem.specs.ObjectProblem.{pricedOf}
 use Rattle.numbers.proofs.WordTests.{back, fitting}
 use Rattle.cells.proofs.SpaceLaws.{cells-in-order, entries-first, entries-none, entries-length}
 use Rattle.search.proofs.RoundLaws.{search-is}
@@ -57,15 +57,15 @@ rounds-run P zero = refl
 rounds-run P (suc n) = ap (round (P .rules)) (rounds-run P n)
 
 -- ---- the loop
-module _ (sites : List Site) (R : Rules) where
-  pub holds-first : (x : Search) (s : List ℤ) (t : List ℕ) (st : State) → Holds sites x 1000 s t st → Holds sites (roundsFrom R 0 (searchOf s t st)) (1000 - 0) s t st
+module _ (objects : List Object) (R : Rules) where
+  pub holds-first : (x : Search) (s : List ℤ) (t : List ℕ) (st : Running) → Holds objects x 1000 s t st → Holds objects (roundsFrom R 0 (searchOf s t st)) (1000 - 0) s t st
   holds-first x s t st h = record { is = sym (rounds-none R (searchOf s t st)); costed = h .costed; low-head = h .low-head; in-turn = h .in-turn; ends = h .ends }
 
-  pub holds-more : (k : ℕ) (x : Search) (s s′ : List ℤ) (t t′ : List ℕ) (st st′ : State) → Holds sites (roundsFrom R k x) (1000 - k) s t st → Holds sites (round R (searchOf s t st)) (st .head - 1) s′ t′ st′ → Holds sites (roundsFrom R (k + 1) x) (1000 - (k + 1)) s′ t′ st′
+  pub holds-more : (k : ℕ) (x : Search) (s s′ : List ℤ) (t t′ : List ℕ) (st st′ : Running) → Holds objects (roundsFrom R k x) (1000 - k) s t st → Holds objects (round R (searchOf s t st)) (st .head - 1) s′ t′ st′ → Holds objects (roundsFrom R (k + 1) x) (1000 - (k + 1)) s′ t′ st′
   holds-more k x s s′ t t′ st st′ h g = record { is = g .is ∙ ap (round R) (h .is) ∙ sym (rounds-more R k x); costed = g .costed; low-head = omega (arith, h .low-head, g .low-head); in-turn = g .in-turn; ends = g .ends }
 
-pub holds-run : (sites : List Site) (P : Problem) (k lowest : ℕ) (x : Search) (s : List ℤ) (t : List ℕ) (st : State) → x ≡ start P → Holds sites (roundsFrom (P .rules) k x) lowest s t st → Holds sites (run P k) lowest s t st
-holds-run sites P k lowest x s t st e h = record { is = h .is ∙ ap (roundsFrom (P .rules) k) e ∙ rounds-run P k; costed = h .costed; low-head = h .low-head; in-turn = h .in-turn; ends = h .ends }
+pub holds-run : (objects : List Object) (P : Problem) (k lowest : ℕ) (x : Search) (s : List ℤ) (t : List ℕ) (st : Running) → x ≡ start P → Holds objects (roundsFrom (P .rules) k x) lowest s t st → Holds objects (run P k) lowest s t st
+holds-run objects P k lowest x s t st e h = record { is = h .is ∙ ap (roundsFrom (P .rules) k) e ∙ rounds-run P k; costed = h .costed; low-head = h .low-head; in-turn = h .in-turn; ends = h .ends }
 
 -- ---- once no cell is live, rounds change nothing
 pub stays : (P : Problem) (k m : ℕ) → k ≤ m → run P k .live ≡ [] → run P m ≡ run P k
@@ -79,14 +79,14 @@ unfolding entries
 cells-any s t u a zero = refl
 cells-any s t u a (suc n) = ap (λ (l : List Query.Cell). queryCell (cellAt s a) ∷ l) (cells-any s t u (a + 1) n)
 
-search-any : (s : List ℤ) (t u : List ℕ) (st : State) → searchOf s t st ≡ searchOf s u st
+search-any : (s : List ℤ) (t u : List ℕ) (st : Running) → searchOf s t st ≡ searchOf s u st
 search-any s t u st = search-is s t st ∙ (λ i. record { best = pricedOf (st .best); live = cells-any s t u (st .head) (st .tail - st .head) i; cuts = st .cuts }) ∙ sym (search-is s u st)
 
 pub no-entries : (s : List ℤ) (t : List ℕ) (head tail : ℕ) → tail ≤ head → entries s t head (tail - head) ≡ []
 no-entries s t head tail h = let z : tail - head ≡ 0 = omega arith in rw z (entries-none s t head)
 
 -- ---- a state that holds a run
-module _ (P : Problem) (sites : List Site) (n lowest : ℕ) (s : List ℤ) (t : List ℕ) (st : State) (h : Holds sites (run P n) lowest s t st) where
+module _ (P : Problem) (objects : List Object) (n lowest : ℕ) (s : List ℤ) (t : List ℕ) (st : Running) (h : Holds objects (run P n) lowest s t st) where
   pub cells-are : map entryCell (entries s t (st .head) (st .tail - st .head)) ≡ run P n .live
   cells-are = ap (λ (x : Search). x .live) (sym (search-is s t st) ∙ h .is)
 
@@ -102,16 +102,16 @@ module _ (P : Problem) (sites : List Site) (n lowest : ℕ) (s : List ℤ) (t : 
   pub no-cells : st .tail ≤ st .head → run P n .live ≡ []
   no-cells g = sym cells-are ∙ ap (map entryCell) (no-entries s t (st .head) (st .tail) g)
 
-  pub ended : (m : ℕ) → n ≤ m → st .tail ≤ st .head → Holds sites (run P m) 0 s t st
+  pub ended : (m : ℕ) → n ≤ m → st .tail ≤ st .head → Holds objects (run P m) 0 s t st
   ended m k g = record { is = h .is ∙ sym (stays P n m k (no-cells g)); costed = h .costed; low-head = omega arith; in-turn = h .in-turn; ends = h .ends }
 
-  pub finished : (m : ℕ) → n ≡ m → Holds sites (run P m) 0 s t st
+  pub finished : (m : ℕ) → n ≡ m → Holds objects (run P m) 0 s t st
   finished m e = record { is = h .is ∙ ap (run P) e; costed = h .costed; low-head = omega arith; in-turn = h .in-turn; ends = h .ends }
 
   pub cell-count : st .tail - st .head ≤ n + 1
   cell-count = omega (arith, live-count P n, ap length (sym cells-are), length-map (entries s t (st .head) (st .tail - st .head)) entryCell, entries-length s t (st .head) (st .tail - st .head))
 
-  ordered : (u : List ℕ) → InOrder (entries s u (st .head) (st .tail - st .head))
+  ordered : (u : List ℕ) → EntriesInOrder (entries s u (st .head) (st .tail - st .head))
   ordered u = cells-in-order (entries s u (st .head) (st .tail - st .head)) .0 (subst (Pairwise (λ c d. T (not (cellBefore d c)))) (sym cells-are ∙ cells-any s t u (st .head) (st .tail - st .head)) (run-in-order P n))
 
   pub answerable : Steady P → Answerable s st
@@ -121,7 +121,7 @@ module _ (P : Problem) (sites : List Site) (n lowest : ℕ) (s : List ℤ) (t : 
   holds-any = search-any s [] t st ∙ h .is
 
   -- what a round asks
-  pub takeable : Steady P → n < 1000 → 1 ≤ lowest → st .head < st .tail → Takeable sites (P .rules .grid) s t st
+  pub takeable : Steady P → n < 1000 → 1 ≤ lowest → st .head < st .tail → Takeable objects (P .rules .grid) s t st
   unfolding isLive
   takeable steady few low some = record {
     some = some;
@@ -177,7 +177,7 @@ module _ (c : Query.Cell) (cs : List Query.Cell) (p : Pairwise (λ c d. T (not (
   unfolding smallest
   least-first = least-cons h (c .bound) (map (λ d. d .bound) cs) ∙ least-stays smallest (map (λ d. d .bound) cs) (λ b m. let k = bound-of b m in let l = smallest-le in omega (arith, order))
 
-module _ (s : List ℤ) (st : State) (h : Answerable s st) where
+module _ (s : List ℤ) (st : Running) (h : Answerable s st) where
   low-of-search : Figures.low (searchOf s [] st) ≡ leastBy ltZ (pos (st .best .cost)) (map (λ c. c .bound) (map entryCell (entries s [] (st .head) (st .tail - st .head))))
   low-of-search = ap Figures.low (search-is s [] st) ∙ low-is (record { best = pricedOf (st .best); live = map entryCell (entries s [] (st .head) (st .tail - st .head)); cuts = st .cuts })
 
@@ -187,7 +187,7 @@ module _ (s : List ℤ) (st : State) (h : Answerable s st) where
   pub low-some : st .head < st .tail → (b : Bool) → ltZ (cellAt s (st .head) .bound) (pos (st .best .cost)) ≡ b → cond b (cellAt s (st .head) .bound) (pos (st .best .cost)) ≡ Figures.low (searchOf s [] st)
   low-some g b e =
       let split = entries-first s [] (st .head) (st .tail) g in
-      let sorted = cells-in-order (entryAt s [] (st .head) ∷ entries s [] (st .head + 1) (st .tail - (st .head + 1))) .1 (subst InOrder split (h .in-order)) in
+      let sorted = cells-in-order (entryAt s [] (st .head) ∷ entries s [] (st .head + 1) (st .tail - (st .head + 1))) .1 (subst EntriesInOrder split (h .in-order)) in
       sym (low-of-search ∙ ap (λ (es : List Entry). leastBy ltZ (pos (st .best .cost)) (map (λ c. c .bound) (map entryCell es))) split ∙ least-first (queryCell (cellAt s (st .head))) (map entryCell (entries s [] (st .head + 1) (st .tail - (st .head + 1)))) sorted (pos (st .best .cost)) ∙ ap (λ (q : Bool). cond q (cellAt s (st .head) .bound) (pos (st .best .cost))) e)
 
   done-of : (es : List Entry) (d : Bool) → d ≡ leb (length es) 0 → d ≡ isDone (map entryCell es)

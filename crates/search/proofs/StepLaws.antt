@@ -19,8 +19,8 @@ use Rattle.query.specs.Deck.{plain}
 use Rattle.query.specs.Bound.{span}
 use Rattle.query.specs.Range.{RectInRange, costLimit, loadLimit}
 use Rattle.query.specs.Order.{precedes, better}
-use Rattle.deck.specs.Sites.{Site}
-use Rattle.pricing.specs.Figures.{costOf, loadOf}
+use Rattle.deck.specs.Objects.{Object}
+use Rattle.pricing.specs.ObjectFigures.{costOf, loadOf}
 use Rattle.pricing.specs.Columns.{BoundInRange, Figure}
 use Rattle.cuts.specs.CutRecord.{Edges}
 use Rattle.cuts.specs.declared.Cut.{Cut}
@@ -28,10 +28,10 @@ use Rattle.deck.proofs.TravelLaws.{narrow}
 use Rattle.slots.specs.declared.Cell.{Cell}
 use Rattle.slots.specs.declared.Costs.{Costs}
 use Rattle.problem.specs.declared.Spot.{Spot}
-use Rattle.cells.specs.Space.{keyOf}
+use Rattle.cells.specs.Entries.{keyOf}
 use Rattle.search.specs.Run.{cornerCosts, cellFor, CostsInRange, improved, bestCorner, lowCorner, highCorner, CutInRange}
 use Rattle.problem.proofs.Coordinates.{near-back, rect-narrow, spot-back}
-use Rattle.problem.specs.Problem.{pricedOf, spotOf, rectIn, boundOf, Ranged, spotAt}
+use Rattle.problem.specs.ObjectProblem.{pricedOf, spotOf, rectIn, boundOf, Ranged, spotAt}
 use Rattle.numbers.proofs.WordTests.{back, fitting}
 use Rattle.cells.proofs.Keys.{KeyFits, key-back}
 
@@ -91,48 +91,48 @@ span-is r a b h f g =
     record { is = omega arith; within = omega arith }
 
 -- ---- the load and the bound of a cell
-pub load-narrow : (sites : List Site) (r : Rect) (l : ℕ) → RectInRange r → Figure (loadOf sites (record { xlo = narrow (r .xlo); ylo = narrow (r .ylo); xhi = narrow (r .xhi); yhi = narrow (r .yhi) })) loadLimit l → Figure (loadOf sites r) loadLimit l
-load-narrow sites r l h f = rw (rect-narrow r h) at f
+pub load-narrow : (objects : List Object) (r : Rect) (l : ℕ) → RectInRange r → Figure (loadOf objects (record { xlo = narrow (r .xlo); ylo = narrow (r .ylo); xhi = narrow (r .xhi); yhi = narrow (r .yhi) })) loadLimit l → Figure (loadOf objects r) loadLimit l
+load-narrow objects r l h f = rw (rect-narrow r h) at f
 
-module _ (sites : List Site) (limit : (p : Place) → costOf sites p ≤ costLimit) (r : Rect) (k : Costs) (costs : k ≡ cornerCosts sites r) where
+module _ (objects : List Object) (limit : (p : Place) → costOf objects p ≤ costLimit) (r : Rect) (k : Costs) (costs : k ≡ cornerCosts objects r) where
   pub bound-range : (s l : ℕ) → s ≤ 80000 → l ≤ loadLimit → BoundInRange (k .c00) (k .c01) (k .c10) (k .c11) s l
   bound-range s l h g = rw costs (record { corner-00 = limit (record { x = r .xlo; y = r .ylo }); corner-01 = limit (record { x = r .xlo; y = r .yhi }); corner-10 = limit (record { x = r .xhi; y = r .ylo }); corner-11 = limit (record { x = r .xhi; y = r .yhi }); span-limit = omega arith; load-limit = g })
 
-  pub bound-is : (s l : ℕ) (b : ℤ) → s ≡ span plain r → l ≡ loadOf sites r → b ≡ halfUp (pos (max (k .c00 + k .c11) (k .c01 + k .c10)) -ℤ pos (s * l)) → b ≡ boundOf sites r
+  pub bound-is : (s l : ℕ) (b : ℤ) → s ≡ span plain r → l ≡ loadOf objects r → b ≡ halfUp (pos (max (k .c00 + k .c11) (k .c01 + k .c10)) -ℤ pos (s * l)) → b ≡ boundOf objects r
   unfolding boundOf
   bound-is s l b e f g = rw (costs, e, f) at g
 
-pub cell-back : (sites : List Site) (c : Cell) (b : ℤ) → RectInRange (rectIn c) → mag b < 2 ^ 63 → b ≡ boundOf sites (rectIn c) → _≡_ {A = Cell} (record { xlo = back (c .xlo); ylo = back (c .ylo); xhi = back (c .xhi); yhi = back (c .yhi); bound = back b }) (cellFor sites (rectIn c))
-cell-back sites c b h f e = λ i. record { xlo = near-back (c .xlo) (h .low-corner .x-range) i; ylo = near-back (c .ylo) (h .low-corner .y-range) i; xhi = near-back (c .xhi) (h .high-corner .x-range) i; yhi = near-back (c .yhi) (h .high-corner .y-range) i; bound = (fitting b f ∙ e) i }
+pub cell-back : (objects : List Object) (c : Cell) (b : ℤ) → RectInRange (rectIn c) → mag b < 2 ^ 63 → b ≡ boundOf objects (rectIn c) → _≡_ {A = Cell} (record { xlo = back (c .xlo); ylo = back (c .ylo); xhi = back (c .xhi); yhi = back (c .yhi); bound = back b }) (cellFor objects (rectIn c))
+cell-back objects c b h f e = λ i. record { xlo = near-back (c .xlo) (h .low-corner .x-range) i; ylo = near-back (c .ylo) (h .low-corner .y-range) i; xhi = near-back (c .xhi) (h .high-corner .x-range) i; yhi = near-back (c .yhi) (h .high-corner .y-range) i; bound = (fitting b f ∙ e) i }
 
 -- ---- the new corners
-module _ (sites : List Site) (c : Cell) (cut : Cut) (r : Spot) (h : CutInRange c cut) where
-  pub low-across : cut .across ≡ true → r ≡ spotOf sites (record { x = back (cut .at); y = back (c .ylo) }) → r ≡ spotOf sites (lowCorner (cut .across) (cut .at) (rectIn c))
-  low-across t e = rw t (spot-back sites (cut .at) (c .ylo) r (h .at-range) (h .ranged .low-corner .y-range) e)
+module _ (objects : List Object) (c : Cell) (cut : Cut) (r : Spot) (h : CutInRange c cut) where
+  pub low-across : cut .across ≡ true → r ≡ spotOf objects (record { x = back (cut .at); y = back (c .ylo) }) → r ≡ spotOf objects (lowCorner (cut .across) (cut .at) (rectIn c))
+  low-across t e = rw t (spot-back objects (cut .at) (c .ylo) r (h .at-range) (h .ranged .low-corner .y-range) e)
 
-  pub low-deep : cut .across ≡ false → r ≡ spotOf sites (record { x = back (c .xlo); y = back (cut .at) }) → r ≡ spotOf sites (lowCorner (cut .across) (cut .at) (rectIn c))
-  low-deep t e = rw t (spot-back sites (c .xlo) (cut .at) r (h .ranged .low-corner .x-range) (h .at-range) e)
+  pub low-deep : cut .across ≡ false → r ≡ spotOf objects (record { x = back (c .xlo); y = back (cut .at) }) → r ≡ spotOf objects (lowCorner (cut .across) (cut .at) (rectIn c))
+  low-deep t e = rw t (spot-back objects (c .xlo) (cut .at) r (h .ranged .low-corner .x-range) (h .at-range) e)
 
-  pub high-across : cut .across ≡ true → r ≡ spotOf sites (record { x = back (cut .at); y = back (c .yhi) }) → r ≡ spotOf sites (highCorner (cut .across) (cut .at) (rectIn c))
-  high-across t e = rw t (spot-back sites (cut .at) (c .yhi) r (h .at-range) (h .ranged .high-corner .y-range) e)
+  pub high-across : cut .across ≡ true → r ≡ spotOf objects (record { x = back (cut .at); y = back (c .yhi) }) → r ≡ spotOf objects (highCorner (cut .across) (cut .at) (rectIn c))
+  high-across t e = rw t (spot-back objects (cut .at) (c .yhi) r (h .at-range) (h .ranged .high-corner .y-range) e)
 
-  pub high-deep : cut .across ≡ false → r ≡ spotOf sites (record { x = back (c .xhi); y = back (cut .at) }) → r ≡ spotOf sites (highCorner (cut .across) (cut .at) (rectIn c))
-  high-deep t e = rw t (spot-back sites (c .xhi) (cut .at) r (h .ranged .high-corner .x-range) (h .at-range) e)
+  pub high-deep : cut .across ≡ false → r ≡ spotOf objects (record { x = back (c .xhi); y = back (cut .at) }) → r ≡ spotOf objects (highCorner (cut .across) (cut .at) (rectIn c))
+  high-deep t e = rw t (spot-back objects (c .xhi) (cut .at) r (h .ranged .high-corner .x-range) (h .at-range) e)
 
 -- ---- the corners of a cell
 pub cost-of : (r : Spot) (x y : ℤ) {cost k : ℕ} → r ≡ spotAt x y cost → cost ≤ k → r .cost ≤ k
 cost-of r x y e h = rw e h
 
-pub corner-costs : (sites : List Site) (r : Rect) → RectInRange r → (a b c d : Spot) → a ≡ spotOf sites (record { x = back (r .xlo); y = back (r .ylo) }) → b ≡ spotOf sites (record { x = back (r .xlo); y = back (r .yhi) }) → c ≡ spotOf sites (record { x = back (r .xhi); y = back (r .ylo) }) → d ≡ spotOf sites (record { x = back (r .xhi); y = back (r .yhi) }) → _≡_ {A = Costs} (record { c00 = a .cost; c01 = b .cost; c10 = c .cost; c11 = d .cost }) (cornerCosts sites r)
-corner-costs sites r h a b c d ea eb ec ed = rw (ea, eb, ec, ed, near-back (r .xlo) (h .low-corner .x-range), near-back (r .ylo) (h .low-corner .y-range), near-back (r .xhi) (h .high-corner .x-range), near-back (r .yhi) (h .high-corner .y-range))
+pub corner-costs : (objects : List Object) (r : Rect) → RectInRange r → (a b c d : Spot) → a ≡ spotOf objects (record { x = back (r .xlo); y = back (r .ylo) }) → b ≡ spotOf objects (record { x = back (r .xlo); y = back (r .yhi) }) → c ≡ spotOf objects (record { x = back (r .xhi); y = back (r .ylo) }) → d ≡ spotOf objects (record { x = back (r .xhi); y = back (r .yhi) }) → _≡_ {A = Costs} (record { c00 = a .cost; c01 = b .cost; c10 = c .cost; c11 = d .cost }) (cornerCosts objects r)
+corner-costs objects r h a b c d ea eb ec ed = rw (ea, eb, ec, ed, near-back (r .xlo) (h .low-corner .x-range), near-back (r .ylo) (h .low-corner .y-range), near-back (r .xhi) (h .high-corner .x-range), near-back (r .yhi) (h .high-corner .y-range))
 
 pub best-corner-is : (c : Cell) (k : Costs) → mag (c .xlo) < 2 ^ 63 → mag (c .ylo) < 2 ^ 63 → mag (c .xhi) < 2 ^ 63 → mag (c .yhi) < 2 ^ 63 → (p₀₀ p₀₁ p₁₀ p₁₁ one two three : Spot) → p₀₀ ≡ spotAt (back (c .xlo)) (back (c .ylo)) (k .c00) → p₀₁ ≡ spotAt (back (c .xlo)) (back (c .yhi)) (k .c01) → p₁₀ ≡ spotAt (back (c .xhi)) (back (c .ylo)) (k .c10) → p₁₁ ≡ spotAt (back (c .xhi)) (back (c .yhi)) (k .c11) → one ≡ improved p₀₀ p₀₁ → two ≡ improved one p₁₀ → three ≡ improved two p₁₁ → three ≡ bestCorner (rectIn c) k
 unfolding bestCorner
 best-corner-is c k f₀ f₁ f₂ f₃ p₀₀ p₀₁ p₁₀ p₁₁ one two three e₀₀ e₀₁ e₁₀ e₁₁ a b d = rw (d, b, a, e₀₀, e₀₁, e₁₀, e₁₁, fitting (c .xlo) f₀, fitting (c .ylo) f₁, fitting (c .xhi) f₂, fitting (c .yhi) f₃)
 
 -- ---- what a start asks of the area's cell
-pub costs-limit : (sites : List Site) → ((p : Place) → costOf sites p ≤ costLimit) → (r : Rect) (k : Costs) → k ≡ cornerCosts sites r → CostsInRange k
-costs-limit sites limit r k e = rw e (record { corner-00 = limit (record { x = r .xlo; y = r .ylo }); corner-01 = limit (record { x = r .xlo; y = r .yhi }); corner-10 = limit (record { x = r .xhi; y = r .ylo }); corner-11 = limit (record { x = r .xhi; y = r .yhi }) })
+pub costs-limit : (objects : List Object) → ((p : Place) → costOf objects p ≤ costLimit) → (r : Rect) (k : Costs) → k ≡ cornerCosts objects r → CostsInRange k
+costs-limit objects limit r k e = rw e (record { corner-00 = limit (record { x = r .xlo; y = r .ylo }); corner-01 = limit (record { x = r .xlo; y = r .yhi }); corner-10 = limit (record { x = r .xhi; y = r .ylo }); corner-11 = limit (record { x = r .xhi; y = r .yhi }) })
 
 pub best-limit : (r : Rect) (k : Costs) (best : Spot) → CostsInRange k → best ≡ bestCorner r k → best .cost ≤ costLimit
 unfolding bestCorner
@@ -142,5 +142,5 @@ best-limit r k best h e =
     let two = improved one (spotAt (r .xhi) (r .ylo) (k .c10)) in
     rw e (improved-limit two (spotAt (r .xhi) (r .yhi) (k .c11)) costLimit (improved-limit one (spotAt (r .xhi) (r .ylo) (k .c10)) costLimit (improved-limit p₀₀ (spotAt (r .xlo) (r .yhi) (k .c01)) costLimit (h .corner-00) (h .corner-01)) (h .corner-10)) (h .corner-11))
 
-pub cell-range : (sites : List Site) (r : Rect) (c : Cell) → c ≡ cellFor sites r → RectInRange r → RectInRange (rectIn c)
-cell-range sites r c e h = rw e h
+pub cell-range : (objects : List Object) (r : Rect) (c : Cell) → c ≡ cellFor objects r → RectInRange r → RectInRange (rectIn c)
+cell-range objects r c e h = rw e h

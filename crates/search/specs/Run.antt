@@ -20,29 +20,29 @@ use Rattle.query.specs.Space.{space}
 use Rattle.query.specs.Range.{RectInRange, costLimit}
 use Rattle.deck.specs.declared.Deck.{Deck}
 use Rattle.deck.specs.DeckOf.{deckOf}
-use Rattle.deck.specs.Sites.{Site}
-use Rattle.pricing.specs.Figures.{costOf}
+use Rattle.deck.specs.Objects.{Object}
+use Rattle.pricing.specs.ObjectFigures.{costOf}
 use Rattle.lines.specs.LineRecord as Lines
-use Rattle.deck.specs.declared.Sites.{Sites}
+use Rattle.deck.specs.declared.Objects.{Objects}
 use Rattle.cuts.specs.declared.Cut.{Cut}
 use Rattle.slots.specs.declared.Cell.{Cell}
 use Rattle.slots.specs.declared.Costs.{Costs}
-use Rattle.problem.specs.Problem.{boundOf, pricedOf, spotOf, rectIn, Ranged, spotAt, Prepared}
+use Rattle.problem.specs.ObjectProblem.{boundOf, pricedOf, spotOf, rectIn, Ranged, spotAt, Prepared}
 use Rattle.problem.specs.declared.Spot.{Spot}
 use Rattle.search.specs.declared.halves.Halves.{Halves}
-use Rattle.search.specs.declared.run.State.{State}
+use Rattle.search.specs.declared.run.Running.{Running}
 use Rattle.search.specs.declared.run.Found.{Found}
 use Rattle.slots.specs.Slot.{Entry, entryCell, cellAt}
-use Rattle.cells.specs.Space.{entries, entryBefore}
-use Rattle.cells.specs.Steps.{InOrder}
+use Rattle.cells.specs.Entries.{entries, entryBefore}
+use Rattle.cells.specs.Steps.{EntriesInOrder}
 
 -- ---- cells with the costs of their corners, and the better of two places
 -- the costs of the corners of a rectangle, and its cell
-abbrev pub cornerCosts : List Site → Rect → Costs
-cornerCosts sites r = record { c00 = costOf sites (record { x = r .xlo; y = r .ylo }); c01 = costOf sites (record { x = r .xlo; y = r .yhi }); c10 = costOf sites (record { x = r .xhi; y = r .ylo }); c11 = costOf sites (record { x = r .xhi; y = r .yhi }) }
+abbrev pub cornerCosts : List Object → Rect → Costs
+cornerCosts objects r = record { c00 = costOf objects (record { x = r .xlo; y = r .ylo }); c01 = costOf objects (record { x = r .xlo; y = r .yhi }); c10 = costOf objects (record { x = r .xhi; y = r .ylo }); c11 = costOf objects (record { x = r .xhi; y = r .yhi }) }
 
-abbrev pub cellFor : List Site → Rect → Cell
-cellFor sites r = record { xlo = r .xlo; ylo = r .ylo; xhi = r .xhi; yhi = r .yhi; bound = boundOf sites r }
+abbrev pub cellFor : List Object → Rect → Cell
+cellFor objects r = record { xlo = r .xlo; ylo = r .ylo; xhi = r .xhi; yhi = r .yhi; bound = boundOf objects r }
 
 -- the better of two
 unfoldable pub improved : Spot → Spot → Spot
@@ -86,18 +86,18 @@ secondCosts true k low high = record { c00 = low; c01 = high; c10 = k .c10; c11 
 secondCosts false k low high = record { c00 = low; c01 = k .c01; c10 = high; c11 = k .c11 }
 
 -- what a cut makes of a cell
-unfoldable pub halvesOf : List Site → Cut → Rect → Halves
+unfoldable pub halvesOf : List Object → Cut → Rect → Halves
 unfolding costOf boundOf
-halvesOf sites cut r =
+halvesOf objects cut r =
     let low = lowCorner (cut .across) (cut .at) r in
     let high = highCorner (cut .across) (cut .at) r in
-    record { low = spotOf sites low; high = spotOf sites high; first = cellFor sites (firstRect r high); «first_costs» = cornerCosts sites (firstRect r high); second = cellFor sites (secondRect r low); «second_costs» = cornerCosts sites (secondRect r low) }
+    record { low = spotOf objects low; high = spotOf objects high; first = cellFor objects (firstRect r high); «first_costs» = cornerCosts objects (firstRect r high); second = cellFor objects (secondRect r low); «second_costs» = cornerCosts objects (secondRect r low) }
 
 -- a cell that is cut, and its corners' costs
-pub record Cutting (sites : List Site) (G : Grid) (c : Cell) (k : Costs) : Type 0 where
+pub record Cutting (objects : List Object) (G : Grid) (c : Cell) (k : Costs) : Type 0 where
   pub ranged : Ranged (rectIn c)
   pub can-cut : T (canCut G (rectIn c))
-  pub costs : k ≡ cornerCosts sites (rectIn c)
+  pub costs : k ≡ cornerCosts objects (rectIn c)
 
 -- a cell whose edges and cut line are in range
 pub record CutInRange (c : Cell) (cut : Cut) : Type 0 where
@@ -115,7 +115,7 @@ pub record Addable (s : List ℤ) (t : List ℕ) (head tail : ℕ) (c : Cell) (b
   pub room : 1 ≤ head
   pub in-turn : head ≤ tail
   pub ends : tail ≤ 1001
-  pub in-order : InOrder (entries s t head (tail - head))
+  pub in-order : EntriesInOrder (entries s t head (tail - head))
   pub ranged : RectInRange (rectIn c)
   pub cost-limit : best .cost ≤ costLimit
 
@@ -126,17 +126,17 @@ pub record Added (G : Grid) (best : Priced) (e : Entry) (head tail : ℕ) (s : L
   pub entries-are : entries s′ t′ r (tail - r) ≡ withLive G best e (entries s t head (tail - head))
 
 -- each has the costs of its corners
-pub record Costed (sites : List Site) (es : List Entry) : Type 0 where
-  pub each : (e : Entry) → List·Memᴰ e es → e .costs ≡ cornerCosts sites (entryCell e .rect)
+pub record Costed (objects : List Object) (es : List Entry) : Type 0 where
+  pub each : (e : Entry) → List·Memᴰ e es → e .costs ≡ cornerCosts objects (entryCell e .rect)
 
 -- ---- the search
 -- the search that a state and the work space hold
-unfoldable pub searchOf : List ℤ → List ℕ → State → Search
+unfoldable pub searchOf : List ℤ → List ℕ → Running → Search
 unfolding entries
 searchOf s t st = record { best = pricedOf (st .best); live = map entryCell (entries s t (st .head) (st .tail - st .head)); cuts = st .cuts }
 
 -- what a round asks
-pub record Takeable (sites : List Site) (G : Grid) (s : List ℤ) (t : List ℕ) (st : State) : Type 0 where
+pub record Takeable (objects : List Object) (G : Grid) (s : List ℤ) (t : List ℕ) (st : Running) : Type 0 where
   pub some : st .head < st .tail
   pub room : 1 ≤ st .head
   pub ends : st .tail ≤ 1001
@@ -144,13 +144,13 @@ pub record Takeable (sites : List Site) (G : Grid) (s : List ℤ) (t : List ℕ)
   pub cost-limit : st .best .cost ≤ costLimit
   pub ranged : Ranged (rectIn (cellAt s (st .head)))
   pub can-cut : (e : Entry) → List·Memᴰ e (entries s t (st .head) (st .tail - st .head)) → T (canCut G (entryCell e .rect))
-  pub costed : Costed sites (entries s t (st .head) (st .tail - st .head))
-  pub in-order : InOrder (entries s t (st .head) (st .tail - st .head))
+  pub costed : Costed objects (entries s t (st .head) (st .tail - st .head))
+  pub in-order : EntriesInOrder (entries s t (st .head) (st .tail - st .head))
 
 -- a state and a work space that hold a search, with the lowest head
-pub record Holds (sites : List Site) (search : Search) (lowest : ℕ) (s : List ℤ) (t : List ℕ) (st : State) : Type 0 where
+pub record Holds (objects : List Object) (search : Search) (lowest : ℕ) (s : List ℤ) (t : List ℕ) (st : Running) : Type 0 where
   pub is : searchOf s t st ≡ search
-  pub costed : Costed sites (entries s t (st .head) (st .tail - st .head))
+  pub costed : Costed objects (entries s t (st .head) (st .tail - st .head))
   pub low-head : lowest ≤ st .head
   pub in-turn : st .head ≤ st .tail
   pub ends : st .tail ≤ 1001
@@ -162,11 +162,11 @@ pub record Steady (P : Problem) : Type 0 where
 
 -- ---- the answer
 -- a state whose cells are in order
-pub record Answerable (s : List ℤ) (st : State) : Type 0 where
+pub record Answerable (s : List ℤ) (st : Running) : Type 0 where
   pub in-turn : st .head ≤ st .tail
   pub ends : st .tail ≤ 1001
   pub cost-limit : st .best .cost ≤ costLimit
-  pub in-order : InOrder (entries s [] (st .head) (st .tail - st .head))
+  pub in-order : EntriesInOrder (entries s [] (st .head) (st .tail - st .head))
 
 abbrev pub isDone : List Query.Cell → Bool
 isDone [] = true
@@ -176,9 +176,9 @@ unfoldable pub foundOf : Search → Found
 unfolding Figures.low
 foundOf s = record { done = isDone (s .live); x = s .best .at .x; y = s .best .at .y; high = Figures.high s; low = Figures.low s; cuts = s .cuts }
 
--- what a search asks: a deck and its sites, and room for the cells of so many rounds
-pub record Ready (deck : Deck) (sites : Sites) (rounds lent : ℕ) : Type 0 where
-  pub prepared : Prepared deck sites
+-- what a search asks: a deck and its objects, and room for the cells of so many rounds
+pub record Ready (deck : Deck) (objects : Objects) (rounds lent : ℕ) : Type 0 where
+  pub prepared : Prepared deck objects
   pub rounds-limit : rounds ≤ 1000
   pub room : 5 * (rounds + 1) ≤ lent
 

@@ -10,12 +10,12 @@ ghost use Rattle.numbers.specs.Integer.{dist};
 ghost use Rattle.query.specs.Deck.{plain};
 ghost use Rattle.query.specs.Bound as Bound;
 ghost use Rattle.query.specs.Range.{costLimit, loadLimit, RectInRange};
-ghost use Rattle.pricing.specs.Figures.{loadOf};
-ghost use Rattle.pricing.specs.Columns.{siteRows, Figure};
+ghost use Rattle.pricing.specs.ObjectFigures.{loadOf};
+ghost use Rattle.pricing.specs.Columns.{objectRows, Figure};
 ghost use Rattle.lines.specs.LineRecord.{gridOf};
 ghost use Rattle.cuts.specs.CutRecord.{Edges, cutRecord};
 ghost use Rattle.search.specs.Run.{cornerCosts, cellFor, improved, lowCorner, highCorner, firstRect, secondRect, firstCosts, secondCosts, halvesOf, Cutting, CutInRange};
-ghost use Rattle.problem.specs.Problem.{Sited, Lined, pricedOf, spotOf, rectIn, Ranged};
+ghost use Rattle.problem.specs.ObjectProblem.{Priceable, Lined, pricedOf, spotOf, rectIn, Ranged};
 
 // What a cut makes of a cell: its two new corners, and its two parts with the costs of their corners.
 pub struct Halves {
@@ -63,8 +63,8 @@ fn load_of<'a>(
     n: usize,
     c: Cell,
 ) -> u64
-    requires { ⌜ Sited (now xs) (now ys) (now visits) (now near) n × Ranged (rectIn c) ⌝ }
-    ensures { λ r. ⌜ Figure (loadOf (siteRows (now (xs .entry)) (now (ys .entry)) (now (visits .entry)) (now (near .entry)) n) (rectIn c)) loadLimit r ⌝ }
+    requires { ⌜ Priceable (now xs) (now ys) (now visits) (now near) n × Ranged (rectIn c) ⌝ }
+    ensures { λ r. ⌜ Figure (loadOf (objectRows (now (xs .entry)) (now (ys .entry)) (now (visits .entry)) (now (near .entry)) n) (rectIn c)) loadLimit r ⌝ }
 {
     pricing::load(
         xs,
@@ -89,8 +89,8 @@ pub(crate) fn bounded<'a>(
     c: Cell,
     k: Costs,
 ) -> Cell
-    requires { ⌜ Sited (now xs) (now ys) (now visits) (now near) n × Ranged (rectIn c) × (k ≡ cornerCosts (siteRows (now xs) (now ys) (now visits) (now near) n) (rectIn c)) ⌝ }
-    ensures { λ r. ⌜ r ≡ cellFor (siteRows (now (xs .entry)) (now (ys .entry)) (now (visits .entry)) (now (near .entry)) n) (rectIn c) ⌝ }
+    requires { ⌜ Priceable (now xs) (now ys) (now visits) (now near) n × Ranged (rectIn c) × (k ≡ cornerCosts (objectRows (now xs) (now ys) (now visits) (now near) n) (rectIn c)) ⌝ }
+    ensures { λ r. ⌜ r ≡ cellFor (objectRows (now (xs .entry)) (now (ys .entry)) (now (visits .entry)) (now (near .entry)) n) (rectIn c) ⌝ }
 {
     let load = load_of(xs, ys, visits, near, n, c);
     let bound = pricing::bound(k.c00, k.c01, k.c10, k.c11, span(c), load);
@@ -121,8 +121,8 @@ fn low_corner<'a>(
     c: Cell,
     cut: Cut,
 ) -> Spot
-    requires { ⌜ Sited (now xs) (now ys) (now visits) (now near) n × CutInRange c cut ⌝ }
-    ensures { λ r. ⌜ r ≡ spotOf (siteRows (now (xs .entry)) (now (ys .entry)) (now (visits .entry)) (now (near .entry)) n) (lowCorner (cut .across) (cut .at) (rectIn c)) ⌝ }
+    requires { ⌜ Priceable (now xs) (now ys) (now visits) (now near) n × CutInRange c cut ⌝ }
+    ensures { λ r. ⌜ r ≡ spotOf (objectRows (now (xs .entry)) (now (ys .entry)) (now (visits .entry)) (now (near .entry)) n) (lowCorner (cut .across) (cut .at) (rectIn c)) ⌝ }
 {
     if cut.across {
         return problem::priced(xs, ys, visits, near, n, cut.at, c.ylo);
@@ -140,8 +140,8 @@ fn high_corner<'a>(
     c: Cell,
     cut: Cut,
 ) -> Spot
-    requires { ⌜ Sited (now xs) (now ys) (now visits) (now near) n × CutInRange c cut ⌝ }
-    ensures { λ r. ⌜ r ≡ spotOf (siteRows (now (xs .entry)) (now (ys .entry)) (now (visits .entry)) (now (near .entry)) n) (highCorner (cut .across) (cut .at) (rectIn c)) ⌝ }
+    requires { ⌜ Priceable (now xs) (now ys) (now visits) (now near) n × CutInRange c cut ⌝ }
+    ensures { λ r. ⌜ r ≡ spotOf (objectRows (now (xs .entry)) (now (ys .entry)) (now (visits .entry)) (now (near .entry)) n) (highCorner (cut .across) (cut .at) (rectIn c)) ⌝ }
 {
     if cut.across {
         return problem::priced(xs, ys, visits, near, n, cut.at, c.yhi);
@@ -229,8 +229,8 @@ pub(crate) fn halve<'a>(
     c: Cell,
     k: Costs,
 ) -> Halves
-    requires { ⌜ Sited (now xs) (now ys) (now visits) (now near) n × Lined (now v) nv (now h) nh × Cutting (siteRows (now xs) (now ys) (now visits) (now near) n) (gridOf (now v) nv (now h) nh) c k ⌝ }
-    ensures { λ r. ⌜ r ≡ halvesOf (siteRows (now (xs .entry)) (now (ys .entry)) (now (visits .entry)) (now (near .entry)) n) (cutRecord (gridOf (now (v .entry)) nv (now (h .entry)) nh) (rectIn c)) (rectIn c) ⌝ }
+    requires { ⌜ Priceable (now xs) (now ys) (now visits) (now near) n × Lined (now v) nv (now h) nh × Cutting (objectRows (now xs) (now ys) (now visits) (now near) n) (gridOf (now v) nv (now h) nh) c k ⌝ }
+    ensures { λ r. ⌜ r ≡ halvesOf (objectRows (now (xs .entry)) (now (ys .entry)) (now (visits .entry)) (now (near .entry)) n) (cutRecord (gridOf (now (v .entry)) nv (now (h .entry)) nh) (rectIn c)) (rectIn c) ⌝ }
 {
     let cut = cut_of(v, nv, h, nh, c);
     let low = low_corner(xs, ys, visits, near, n, c, cut);

@@ -1,7 +1,7 @@
 // The search by cells: its start, its rounds and what it answers.
 use crate::halves;
 use deck::Deck;
-use deck::Sites;
+use deck::Objects;
 use lines::Lines;
 use problem::Spot;
 use slots::Cell;
@@ -13,15 +13,15 @@ ghost use lib.ListN.{length};
 ghost use Rattle.query.specs.Search as Search;
 ghost use Rattle.query.specs.Range.{costLimit, RectInRange};
 ghost use Rattle.query.specs.Figures as Figures;
-ghost use Rattle.pricing.specs.Columns.{siteRows};
+ghost use Rattle.pricing.specs.Columns.{objectRows};
 ghost use Rattle.lines.specs.LineRecord.{gridOf};
 ghost use Rattle.slots.specs.Slot.{queryCell};
 ghost use Rattle.slots.specs.Numbering.{cellsIn, costsIn, Numbered};
 ghost use Rattle.search.specs.Run.{cornerCosts, CostsInRange, bestCorner, Addable, Added, searchOf, Takeable, Holds, Steady, Answerable, foundOf, Ready, Searched};
-ghost use Rattle.problem.specs.Problem.{siteRules, siteProblem, Sited, Lined, pricedOf, rectIn, Ranged};
+ghost use Rattle.problem.specs.ObjectProblem.{objectRules, objectProblem, Priceable, Lined, pricedOf, rectIn, Ranged};
 
 // A search while it runs: where its live cells stand in the order, the best place so far and the cuts made.
-pub struct State {
+pub struct Running {
     pub head: usize,
     pub tail: usize,
     pub best: Spot,
@@ -89,10 +89,10 @@ fn round<'a>(
     s: &mut [i64; 5005],
     t: &mut [u64; 4004],
     o: &mut [u16; 1001],
-    st: State,
-) -> State
-    requires { ⌜ Sited (now xs) (now ys) (now visits) (now near) n × Lined (now v) nv (now h) nh × Takeable (siteRows (now xs) (now ys) (now visits) (now near) n) (gridOf (now v) nv (now h) nh) (cellsIn (now s) (now o)) (costsIn (now t) (now o)) st × Numbered (now o) ⌝ }
-    ensures { λ r. ⌜ Holds (siteRows (now (xs .entry)) (now (ys .entry)) (now (visits .entry)) (now (near .entry)) n) (Search.round (siteRules (siteRows (now (xs .entry)) (now (ys .entry)) (now (visits .entry)) (now (near .entry)) n) (gridOf (now (v .entry)) nv (now (h .entry)) nh)) (searchOf (cellsIn (now (s .entry)) (now (o .entry))) (costsIn (now (t .entry)) (now (o .entry))) st)) (st .head - 1) (cellsIn (now (s .exit)) (now (o .exit))) (costsIn (now (t .exit)) (now (o .exit))) r × Numbered (now (o .exit)) ⌝ }
+    st: Running,
+) -> Running
+    requires { ⌜ Priceable (now xs) (now ys) (now visits) (now near) n × Lined (now v) nv (now h) nh × Takeable (objectRows (now xs) (now ys) (now visits) (now near) n) (gridOf (now v) nv (now h) nh) (cellsIn (now s) (now o)) (costsIn (now t) (now o)) st × Numbered (now o) ⌝ }
+    ensures { λ r. ⌜ Holds (objectRows (now (xs .entry)) (now (ys .entry)) (now (visits .entry)) (now (near .entry)) n) (Search.round (objectRules (objectRows (now (xs .entry)) (now (ys .entry)) (now (visits .entry)) (now (near .entry)) n) (gridOf (now (v .entry)) nv (now (h .entry)) nh)) (searchOf (cellsIn (now (s .entry)) (now (o .entry))) (costsIn (now (t .entry)) (now (o .entry))) st)) (st .head - 1) (cellsIn (now (s .exit)) (now (o .exit))) (costsIn (now (t .exit)) (now (o .exit))) r × Numbered (now (o .exit)) ⌝ }
 {
     let head = st.head;
     let c = slots::cell_at(s, o, head);
@@ -119,7 +119,7 @@ fn round<'a>(
         best,
     );
     let front = add(v, nv, h, nh, s, t, o, behind, tail, first, first_k, best);
-    State {
+    Running {
         head: front,
         tail,
         best,
@@ -136,8 +136,8 @@ fn corners<'a>(
     n: usize,
     c: Cell,
 ) -> Costs
-    requires { ⌜ Sited (now xs) (now ys) (now visits) (now near) n × RectInRange (rectIn c) ⌝ }
-    ensures { λ r. ⌜ r ≡ cornerCosts (siteRows (now (xs .entry)) (now (ys .entry)) (now (visits .entry)) (now (near .entry)) n) (rectIn c) ⌝ }
+    requires { ⌜ Priceable (now xs) (now ys) (now visits) (now near) n × RectInRange (rectIn c) ⌝ }
+    ensures { λ r. ⌜ r ≡ cornerCosts (objectRows (now (xs .entry)) (now (ys .entry)) (now (visits .entry)) (now (near .entry)) n) (rectIn c) ⌝ }
 {
     let front = problem::priced(xs, ys, visits, near, n, c.xlo, c.ylo);
     let left = problem::priced(xs, ys, visits, near, n, c.xlo, c.yhi);
@@ -178,15 +178,15 @@ fn start<'a>(
     t: &mut [u64; 4004],
     o: &mut [u16; 1001],
     area: Cell,
-) -> State
-    requires { ⌜ Sited (now xs) (now ys) (now visits) (now near) n × Lined (now v) nv (now h) nh × Ranged (rectIn area) × Numbered (now o) ⌝ }
-    ensures { λ r. ⌜ Holds (siteRows (now (xs .entry)) (now (ys .entry)) (now (visits .entry)) (now (near .entry)) n) (Search.start (siteProblem (siteRows (now (xs .entry)) (now (ys .entry)) (now (visits .entry)) (now (near .entry)) n) (gridOf (now (v .entry)) nv (now (h .entry)) nh) (rectIn area))) 1000 (cellsIn (now (s .exit)) (now (o .exit))) (costsIn (now (t .exit)) (now (o .exit))) r × Numbered (now (o .exit)) ⌝ }
+) -> Running
+    requires { ⌜ Priceable (now xs) (now ys) (now visits) (now near) n × Lined (now v) nv (now h) nh × Ranged (rectIn area) × Numbered (now o) ⌝ }
+    ensures { λ r. ⌜ Holds (objectRows (now (xs .entry)) (now (ys .entry)) (now (visits .entry)) (now (near .entry)) n) (Search.start (objectProblem (objectRows (now (xs .entry)) (now (ys .entry)) (now (visits .entry)) (now (near .entry)) n) (gridOf (now (v .entry)) nv (now (h .entry)) nh) (rectIn area))) 1000 (cellsIn (now (s .exit)) (now (o .exit))) (costsIn (now (t .exit)) (now (o .exit))) r × Numbered (now (o .exit)) ⌝ }
 {
     let k = corners(xs, ys, visits, near, n, area);
     let best = best_corner(area, k);
     let c = halves::bounded(xs, ys, visits, near, n, area, k);
     let head = add(v, nv, h, nh, s, t, o, 1001, 1001, c, k, best);
-    State {
+    Running {
         head,
         tail: 1001,
         best,
@@ -210,9 +210,9 @@ fn run_of<'a>(
     o: &mut [u16; 1001],
     area: Cell,
     rounds: u64,
-) -> State
-    requires { ⌜ Sited (now xs) (now ys) (now visits) (now near) n × Lined (now v) nv (now h) nh × Ranged (rectIn area) × (rounds ≤ 1000) × Steady (siteProblem (siteRows (now xs) (now ys) (now visits) (now near) n) (gridOf (now v) nv (now h) nh) (rectIn area)) × Numbered (now o) ⌝ }
-    ensures { λ r. ⌜ Holds (siteRows (now (xs .entry)) (now (ys .entry)) (now (visits .entry)) (now (near .entry)) n) (Search.run (siteProblem (siteRows (now (xs .entry)) (now (ys .entry)) (now (visits .entry)) (now (near .entry)) n) (gridOf (now (v .entry)) nv (now (h .entry)) nh) (rectIn area)) rounds) 0 (cellsIn (now (s .exit)) (now (o .exit))) (costsIn (now (t .exit)) (now (o .exit))) r × Numbered (now (o .exit)) ⌝ }
+) -> Running
+    requires { ⌜ Priceable (now xs) (now ys) (now visits) (now near) n × Lined (now v) nv (now h) nh × Ranged (rectIn area) × (rounds ≤ 1000) × Steady (objectProblem (objectRows (now xs) (now ys) (now visits) (now near) n) (gridOf (now v) nv (now h) nh) (rectIn area)) × Numbered (now o) ⌝ }
+    ensures { λ r. ⌜ Holds (objectRows (now (xs .entry)) (now (ys .entry)) (now (visits .entry)) (now (near .entry)) n) (Search.run (objectProblem (objectRows (now (xs .entry)) (now (ys .entry)) (now (visits .entry)) (now (near .entry)) n) (gridOf (now (v .entry)) nv (now (h .entry)) nh) (rectIn area)) rounds) 0 (cellsIn (now (s .exit)) (now (o .exit))) (costsIn (now (t .exit)) (now (o .exit))) r × Numbered (now (o .exit)) ⌝ }
 {
     let mut st = start(xs, ys, visits, near, n, v, nv, h, nh, s, t, o, area);
     let mut k: u64 = 0;
@@ -227,7 +227,7 @@ fn run_of<'a>(
 }
 
 // The least of the best cost and the bounds of the live cells, which are in order.
-fn low_of<'a>(s: &'a [i64; 5005], o: &'a [u16; 1001], st: State) -> i64
+fn low_of<'a>(s: &'a [i64; 5005], o: &'a [u16; 1001], st: Running) -> i64
     requires { ⌜ Answerable (cellsIn (now s) (now o)) st × Numbered (now o) ⌝ }
     ensures { λ r. ⌜ r ≡ Figures.low (searchOf (cellsIn (now (s .entry)) (now (o .entry))) [] st) ⌝ }
 {
@@ -245,7 +245,7 @@ fn low_of<'a>(s: &'a [i64; 5005], o: &'a [u16; 1001], st: State) -> i64
 }
 
 // What a search answers at its end.
-fn answer<'a>(s: &'a [i64; 5005], o: &'a [u16; 1001], st: State) -> Found
+fn answer<'a>(s: &'a [i64; 5005], o: &'a [u16; 1001], st: Running) -> Found
     requires { ⌜ Answerable (cellsIn (now s) (now o)) st × Numbered (now o) ⌝ }
     ensures { λ r. ⌜ r ≡ foundOf (searchOf (cellsIn (now (s .entry)) (now (o .entry))) [] st) ⌝ }
 {
@@ -261,16 +261,16 @@ fn answer<'a>(s: &'a [i64; 5005], o: &'a [u16; 1001], st: State) -> Found
     }
 }
 
-// The search of a deck whose sites are given, for at most so many rounds: its answer, with its live cells in the cell space.
-pub fn search(deck: Deck, sites: Sites, rounds: u64, cells: &mut [i64]) -> Found
-    requires { ⌜ Ready deck sites rounds (length (now cells)) ⌝ }
+// The search of a deck whose objects are given, for at most so many rounds: its answer, with its live cells in the cell space.
+pub fn search(deck: Deck, objects: Objects, rounds: u64, cells: &mut [i64]) -> Found
+    requires { ⌜ Ready deck objects rounds (length (now cells)) ⌝ }
     ensures { λ r. ⌜ Searched deck rounds (now (cells .entry)) (now (cells .exit)) r ⌝ }
 {
     let area = problem::area_of(deck);
-    let flags = problem::flags_of(area, sites);
+    let flags = problem::flags_of(area, objects);
     let v = problem::vertical(deck, area, flags);
     let h = problem::horizontal(deck, area, flags);
-    let n = sites.count;
+    let n = objects.count;
     let nv = v.count;
     let nh = h.count;
     let mut s = [0i64; 5005];
@@ -278,10 +278,10 @@ pub fn search(deck: Deck, sites: Sites, rounds: u64, cells: &mut [i64]) -> Found
     let mut o = [0u16; 1001];
     slots::number(&mut o);
     let st = run_of(
-        &sites.x,
-        &sites.y,
-        &sites.visits,
-        &sites.near,
+        &objects.x,
+        &objects.y,
+        &objects.visits,
+        &objects.near,
         n,
         &v.at,
         nv,

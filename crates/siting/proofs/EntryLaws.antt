@@ -19,7 +19,7 @@ use Rattle.query.specs.Figures.{figures}
 use Rattle.refusal.specs.Refusal.{numberOf, lineOf}
 use Rattle.job.specs.Format.{refused}
 use Rattle.refusal.specs.declared.Refusal.{Refusal}
-use Rattle.report.specs.Report.{figuresOf}
+use Rattle.report.specs.Report.{reportFigures}
 use Rattle.report.specs.Text.{reportText, refusalText}
 use Rattle.write.specs.Written.{overwritten, Overwrote}
 use Rattle.report.proofs.Fits.{report-fits}
@@ -32,7 +32,7 @@ use Rattle.calls.specs.Answers.{reportAnswer}
 use Rattle.calls.specs.Call.{Left, ownSpace}
 use Rattle.calls.specs.Entry.{resultOf, returned, entry}
 use Rattle.calls.specs.Program.{textOf, answerText, textRecord}
-use Rattle.siting.specs.Parts.{textWritten, Responded}
+use Rattle.siting.specs.Response.{textWritten, Responded}
 
 -- ---- refusal numbers as signed words
 pub minus-fits : (why : Refusal) (n : ℕ) → n ≡ numberOf why → SFits w64 (toZ w64 0 -ℤ toZ w64 n)
@@ -83,7 +83,7 @@ module _ (job : List ℕ) (cells : List ℤ) (out : List ℕ) (r : Response) (s 
   pub text-report : (x : Report) → r .answer ≡ Answered.Report x → record { length = r .bytes; bytes = out } ≡ textRecord (answerText job)
   unfolding textRecord textOf
   text-report x e =
-      let text = reportText (figuresOf x) in
+      let text = reportText (reportFigures x) in
       let f : Overwrote (replicate 128 0) text out (r .bytes) = subst (λ (a : Answer). Overwrote (replicate 128 0) (textWritten a) out (r .bytes)) e (s .filled) in
       held text f (omega (arith, s .few, f .number)) ∙ sym (ap textRecord (text-is ∙ ap (λ (a : Answer). textOf (reportAnswer a)) e))
 

@@ -9,29 +9,29 @@ use Rattle.query.specs.Order.{Priced}
 use Rattle.query.specs.Problem.{problem}
 use Rattle.query.specs.Exhaustive as Query
 use Rattle.job.specs.Format.{Job, refused, accepted, readJob}
-use Rattle.job.specs.Record.{jobRecord}
+use Rattle.job.specs.JobRecord.{jobRecord}
 use Rattle.job.specs.declared.Job as Held
 use Rattle.job.specs.declared.Outcome.the-variants.{Accepted, Refused}
 use Rattle.refusal.specs.declared.Refusal.{Refusal}
 use Rattle.deck.specs.DeckOf.{deckOf}
-use Rattle.deck.specs.Sites.{sitesOf}
-use Rattle.deck.specs.Record.{sitesRecord}
-use Rattle.deck.specs.declared.Sites.{Sites}
-use Rattle.problem.specs.Problem.{pricedOf, Prepared}
+use Rattle.deck.specs.Objects.{objectsOf}
+use Rattle.deck.specs.ObjectColumns.{objectsRecord}
+use Rattle.deck.specs.declared.Objects.{Objects}
+use Rattle.problem.specs.ObjectProblem.{pricedOf, Prepared}
 use Rattle.problem.specs.declared.Spot.{Spot}
 use Rattle.calls.specs.declared.Cheapest.the-variants as Cheapest
 use Rattle.calls.specs.Answers.{gives, cheapestAnswer}
-use Rattle.calls.specs.Exhaustive.{exhaustiveCall}
-use Rattle.job.proofs.ReadDeck.{read-accepted, read-refused, read-deckOf, read-full, sites-ask}
+use Rattle.calls.specs.CheapestCall.{exhaustiveCall}
+use Rattle.job.proofs.ReadDeck.{read-accepted, read-refused, read-deckOf, read-full, objects-ask}
 use Rattle.calls.proofs.ExhaustiveCall.{call-accepted, call-refused}
 
 module _ (job : List ℕ) (j : Held.Job) (e : j ≡ jobRecord (readJob job)) where
   -- what `cheapest` asks
-  pub exhaustive-ready : (rounds : ℕ) → j .outcome ≡ Accepted rounds → (sites : Sites) → sites ≡ sitesRecord (sitesOf (deckOf (j .deck))) → Prepared (j .deck) sites
-  exhaustive-ready rounds o sites f =
+  pub exhaustive-ready : (rounds : ℕ) → j .outcome ≡ Accepted rounds → (objects : Objects) → objects ≡ objectsRecord (objectsOf (deckOf (j .deck))) → Prepared (j .deck) objects
+  exhaustive-ready rounds o objects f =
       let s = read-accepted job j e rounds o in
-      let (range, posts, stops) = sites-ask s j e in
-      record { sites-are = f; range = range; full = read-full s j e; posts = posts; stops = stops }
+      let (range, posts, stops) = objects-ask s j e in
+      record { objects-are = f; range = range; full = read-full s j e; posts = posts; stops = stops }
 
   pub exhaustive-found : (rounds : ℕ) → j .outcome ≡ Accepted rounds → (s : Spot) → pricedOf s ≡ Query.exhaustive (problem (deckOf (j .deck))) → cheapestAnswer (Cheapest.At s) ≡ exhaustiveCall job
   exhaustive-found rounds o s f =

@@ -21,18 +21,18 @@ use Rattle.query.specs.Space.{space}
 use Rattle.query.specs.Range.{FiguresInRange}
 use Rattle.query.proofs.FigureRanges.{run-in-range}
 use Rattle.job.specs.Format.{Job, readJob}
-use Rattle.job.specs.Record.{jobRecord}
+use Rattle.job.specs.JobRecord.{jobRecord}
 use Rattle.job.specs.declared.Job as Held
 use Rattle.deck.specs.declared.Deck.{Deck}
 use Rattle.job.specs.declared.Outcome.the-variants.{Accepted}
 use Rattle.refusal.specs.declared.Refusal.{Refusal}
 use Rattle.deck.specs.DeckOf.{deckOf}
-use Rattle.deck.specs.Sites.{sitesOf}
-use Rattle.deck.specs.Record.{sitesRecord}
+use Rattle.deck.specs.Objects.{objectsOf}
+use Rattle.deck.specs.ObjectColumns.{objectsRecord}
 use Rattle.pricing.specs.Columns.{BeforeIs}
-use Rattle.deck.specs.declared.Sites.{Sites}
+use Rattle.deck.specs.declared.Objects.{Objects}
 use Rattle.pricing.proofs.RecordLaws.{made-range, made-before}
-use Rattle.report.specs.Report.{stateOf, figuresOf}
+use Rattle.report.specs.Report.{reportState, reportFigures}
 use Rattle.report.specs.Text.{reportText}
 use Rattle.write.specs.Written.{overwritten, Overwrote}
 use Rattle.report.specs.declared.Report.{Report}
@@ -44,23 +44,23 @@ use Rattle.calls.specs.declared.Answer.the-variants as Answered
 use Rattle.siting.specs.declared.Response.{Response}
 use Rattle.calls.specs.Answers.{gives}
 use Rattle.calls.specs.Call.{turnedDown, reported, reportCall}
-use Rattle.siting.specs.Parts.{stateFor, Solvable, Solved, refusedResponse, Responded}
+use Rattle.siting.specs.Response.{stateFor, Solvable, Solved, refusedResponse, Responded}
 use Rattle.job.proofs.JobLaws.{most-rounds}
-use Rattle.job.proofs.ReadDeck.{Spelt, read-accepted, read-rounds, read-deckOf, read-full, sites-ask}
+use Rattle.job.proofs.ReadDeck.{Spelt, read-accepted, read-rounds, read-deckOf, read-full, objects-ask}
 use Rattle.calls.proofs.Demands.{job-limits, call-accepted}
 
 -- ---- solve
-state-is : (cells : List Query.Cell) → stateOf (stateFor (isDone cells)) ≡ Figures.stateOf cells
+state-is : (cells : List Query.Cell) → reportState (stateFor (isDone cells)) ≡ Figures.stateOf cells
 state-is [] = refl
 state-is (c ∷ cs) = refl
 
-found-report : (deck : Deck) (n : ℕ) (f : Found) (state : State) (b : ℕ) → f ≡ foundOf (run (problem (deckOf deck)) n) → state ≡ stateFor (f .done) → b ≡ before (deckOf deck) → figuresOf (record { state = state; x = f .x; y = f .y; high = f .high; low = f .low; before = b; rounds = f .cuts }) ≡ figures (deckOf deck) n
+found-report : (deck : Deck) (n : ℕ) (f : Found) (state : State) (b : ℕ) → f ≡ foundOf (run (problem (deckOf deck)) n) → state ≡ stateFor (f .done) → b ≡ before (deckOf deck) → reportFigures (record { state = state; x = f .x; y = f .y; high = f .high; low = f .low; before = b; rounds = f .cuts }) ≡ figures (deckOf deck) n
 unfolding figures Figures.figuresOf foundOf
 found-report deck n f state b e s h = rw (s, e, h, state-is (run (problem (deckOf deck)) n .live))
 
-module _ (deck : Deck) (n lent : ℕ) (h : Solvable deck n lent) (sites : Sites) (e : sites ≡ sitesRecord (sitesOf (deckOf deck))) where
-  pub before-is : (b : ℕ) → BeforeIs (sites .visits) (sites .near) (sites .count) b → b ≡ before (deckOf deck)
-  before-is b f = let range = made-range (deckOf deck) (h .range) sites e in f .is (sites .x) (sites .y) (range .x-long) (range .y-long) ∙ made-before (deckOf deck) (h .range) sites e
+module _ (deck : Deck) (n lent : ℕ) (h : Solvable deck n lent) (objects : Objects) (e : objects ≡ objectsRecord (objectsOf (deckOf deck))) where
+  pub before-is : (b : ℕ) → BeforeIs (objects .visits) (objects .near) (objects .count) b → b ≡ before (deckOf deck)
+  before-is b f = let range = made-range (deckOf deck) (h .range) objects e in f .is (objects .x) (objects .y) (range .x-long) (range .y-long) ∙ made-before (deckOf deck) (h .range) objects e
 
   figures-range : FiguresInRange n (figures (deckOf deck) n)
   figures-range = run-in-range (deckOf deck) (h .range) (h .full) n .figures-range
@@ -78,7 +78,7 @@ module _ (deck : Deck) (n lent : ℕ) (h : Solvable deck n lent) (sites : Sites)
   unfolding figures Figures.figuresOf foundOf
   low-word f e = toZ-ofZ w64 (f .low) (word-fits w64 (f .low) (rw e (omega (arith, figures-range .low-limit))))
 
-  pub solved : (cells cells′ : List ℤ) (f : Found) (state : State) (b : ℕ) → BeforeIs (sites .visits) (sites .near) (sites .count) b → Searched deck n cells cells′ f → state ≡ stateFor (f .done) → Solved deck n cells cells′ (record { state = state; x = toZ w64 (ofZ w64 (f .x)); y = toZ w64 (ofZ w64 (f .y)); high = f .high; low = toZ w64 (ofZ w64 (f .low)); before = b; rounds = f .cuts })
+  pub solved : (cells cells′ : List ℤ) (f : Found) (state : State) (b : ℕ) → BeforeIs (objects .visits) (objects .near) (objects .count) b → Searched deck n cells cells′ f → state ≡ stateFor (f .done) → Solved deck n cells cells′ (record { state = state; x = toZ w64 (ofZ w64 (f .x)); y = toZ w64 (ofZ w64 (f .y)); high = f .high; low = toZ w64 (ofZ w64 (f .low)); before = b; rounds = f .cuts })
   solved cells cells′ f state b g s t = record { report = rw (place-x f (s .found), place-y f (s .found), low-word f (s .found)) (found-report deck n f state b (s .found) t (before-is b g)); cells = s .cells }
 
 -- ---- respond
@@ -86,7 +86,7 @@ pub respond-refused : (job : List ℕ) (cells : List ℤ) (out : List ℕ) (why 
 unfolding overwritten
 respond-refused job cells out why e r f = subst (Responded job cells out cells out) (sym f) (record { left = sym e; filled = record { number = refl; content = refl }; few = omega arith })
 
-reported-is : (job : Job) (cells cells′ : List ℤ) (out out′ : List ℕ) (r : Report) (text : List ℕ) → figuresOf r ≡ figures (job .deck) (job .rounds) → cells′ ≡ space (job .deck) (job .rounds) (length cells) → text ≡ reportText (figures (job .deck) (job .rounds)) → out′ ≡ overwritten text out → record { answer = gives (figuresOf r); cells = cells′; out = out′ } ≡ reported job cells out
+reported-is : (job : Job) (cells cells′ : List ℤ) (out out′ : List ℕ) (r : Report) (text : List ℕ) → reportFigures r ≡ figures (job .deck) (job .rounds) → cells′ ≡ space (job .deck) (job .rounds) (length cells) → text ≡ reportText (figures (job .deck) (job .rounds)) → out′ ≡ overwritten text out → record { answer = gives (reportFigures r); cells = cells′; out = out′ } ≡ reported job cells out
 unfolding reported
 reported-is job cells cells′ out out′ r text e f g h = rw (h, g, f, e)
 
@@ -102,23 +102,23 @@ module _ (job : List ℕ) (j : Held.Job) (e : j ≡ jobRecord (readJob job)) (ro
   rounds-limit = omega (arith, rounds-same, most-rounds (spelt .allowed .writable))
 
   pub solvable : (lent : ℕ) → 5 * (rounds + 1) ≤ lent → Solvable (j .deck) rounds lent
-  solvable lent h = let (range, posts, stops) = sites-ask spelt j e in record { range = range; full = read-full spelt j e; posts = posts; stops = stops; rounds-limit = rounds-limit; room = h }
+  solvable lent h = let (range, posts, stops) = objects-ask spelt j e in record { range = range; full = read-full spelt j e; posts = posts; stops = stops; rounds-limit = rounds-limit; room = h }
 
   module _ (cells cells′ : List ℤ) (r : Report) (s : Solved (j .deck) rounds cells cells′ r) where
-    solved-figures : figuresOf r ≡ figures (spelt .job .deck) (spelt .job .rounds)
+    solved-figures : reportFigures r ≡ figures (spelt .job .deck) (spelt .job .rounds)
     solved-figures = s .report ∙ ap (λ (deck : Deck.Deck). figures deck rounds) (read-deckOf spelt j e) ∙ ap (λ (n : ℕ). figures (spelt .job .deck) n) rounds-same
 
     solved-cells : cells′ ≡ space (spelt .job .deck) (spelt .job .rounds) (length cells)
     solved-cells = s .cells ∙ ap (λ (deck : Deck.Deck). space deck rounds (length cells)) (read-deckOf spelt j e) ∙ ap (λ (n : ℕ). space (spelt .job .deck) n (length cells)) rounds-same
 
-    pub report-limits : FiguresInRange 1000 (figuresOf r)
+    pub report-limits : FiguresInRange 1000 (reportFigures r)
     report-limits = subst (FiguresInRange 1000) (sym solved-figures) (job-limits (spelt .job) (spelt .allowed))
 
-    pub respond-reported : (out out′ : List ℕ) (n : ℕ) → 5 * (rounds + 1) ≤ length cells → 128 ≤ length out → Overwrote out (reportText (figuresOf r)) out′ n → Responded job cells out cells′ out′ (record { answer = Answered.Report r; bytes = n })
+    pub respond-reported : (out out′ : List ℕ) (n : ℕ) → 5 * (rounds + 1) ≤ length cells → 128 ≤ length out → Overwrote out (reportText (reportFigures r)) out′ n → Responded job cells out cells′ out′ (record { answer = Answered.Report r; bytes = n })
     respond-reported out out′ n h k f = record {
       left =
-          reported-is (spelt .job) cells cells′ out out′ r (reportText (figuresOf r)) solved-figures solved-cells (ap reportText solved-figures) (f .content)
+          reported-is (spelt .job) cells cells′ out out′ r (reportText (reportFigures r)) solved-figures solved-cells (ap reportText solved-figures) (f .content)
           ∙ sym (call-accepted job cells out (spelt .job) (record { read = spelt .read; space = omega (arith, rounds-same, h); output = k }));
       filled = f;
-      few = omega (arith, f .number, report-fits .report-fits (figuresOf r) report-limits);
+      few = omega (arith, f .number, report-fits .report-fits (reportFigures r) report-limits);
     }

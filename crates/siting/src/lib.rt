@@ -16,8 +16,8 @@ ghost use Rattle.calls.specs.Answers.{reportAnswer, cheapestAnswer};
 ghost use Rattle.calls.specs.Call.{reportCall};
 ghost use Rattle.calls.specs.Entry.{entry};
 ghost use Rattle.calls.specs.Program.{answerText, textRecord};
-ghost use Rattle.calls.specs.Exhaustive.{exhaustiveCall};
-ghost use Rattle.siting.specs.Parts.{stateFor, Solvable, Solved, refusedResponse, Responded};
+ghost use Rattle.calls.specs.CheapestCall.{exhaustiveCall};
+ghost use Rattle.siting.specs.Response.{stateFor, Solvable, Solved, refusedResponse, Responded};
 
 // An answer, and how many bytes it has written.
 struct Response {
@@ -36,10 +36,10 @@ fn solve(deck: Deck, rounds: u64, cells: &mut [i64]) -> Report
     requires { ⌜ Solvable deck rounds (length (now cells)) ⌝ }
     ensures { λ r. ⌜ Solved deck rounds (now (cells .entry)) (now (cells .exit)) r ⌝ }
 {
-    let sites = deck::of_deck(deck);
-    let n = sites.count;
-    let before = pricing::before(&sites.visits, &sites.near, n);
-    let found = run::search(deck, sites, rounds, cells);
+    let objects = deck::of_deck(deck);
+    let n = objects.count;
+    let before = pricing::before(&objects.visits, &objects.near, n);
+    let found = run::search(deck, objects, rounds, cells);
     let state = state_of(found.done);
     Report {
         state,
@@ -117,8 +117,8 @@ pub fn exhaustive(job: &[u8]) -> Cheapest
     let deck = j.deck;
     match outcome {
         Outcome::Accepted(_) => {
-            let sites = deck::of_deck(deck);
-            Cheapest::At(exhaustive::cheapest(deck, sites))
+            let objects = deck::of_deck(deck);
+            Cheapest::At(exhaustive::cheapest(deck, objects))
         }
         Outcome::Refused(why) => Cheapest::Refused(why),
     }

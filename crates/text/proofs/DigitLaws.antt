@@ -17,7 +17,7 @@ use lib.Seq.{drop-drop, take-suc, getD-drop, take-all}
 use Rattle.numbers.proofs.Truth.{test, cond-ind, cond-true, cond-false, and-right}
 use Rattle.text.specs.Ascii.{isDigit, zeroDigit}
 use Rattle.text.specs.Numeral.{digits, valueOf, natural}
-use Rattle.text.specs.Reading.{startsWith, ByteIs, DigitAt, DigitsAt, NaturalAt}
+use Rattle.text.specs.TextReading.{startsWith, ByteIs, DigitAt, DigitsAt, NaturalAt}
 use Rattle.text.specs.declared.ParsedNatural.the-variants.{Read}
 
 -- ---- one digit

@@ -11,7 +11,7 @@ use borrow.Author.Tests.{eqb-true}
 use lib.Dec.{eqb}
 use lib.ListN.{length, getD, drop, length-drop, drop-of-length-le}
 use lib.Seq.{drop-cons, drop-drop}
-use Rattle.text.specs.Reading.{startsWith, ByteIs}
+use Rattle.text.specs.TextReading.{startsWith, ByteIs}
 
 -- one byte more of a text
 pub drop-next : (s : List ℕ) (at : ℕ) → at < length s → drop at s ≡ getD s at 0 ∷ drop (at + 1) s

@@ -16,7 +16,7 @@ use mir.Val.{SFits, ofZ, toZ}
 use mir.ValLaws.{toZ-pos, toZ-ofZ}
 use Rattle.text.specs.Ascii.{minus}
 use Rattle.text.specs.Numeral.{digits, valueOf, isNatural, natural, negative, number}
-use Rattle.text.specs.Reading.{startsWith, ByteIs, NaturalAt, NegativeAt, NumberAt}
+use Rattle.text.specs.TextReading.{startsWith, ByteIs, NaturalAt, NegativeAt, NumberAt}
 use Rattle.text.specs.declared.ParsedNatural.{ParsedNatural}
 use Rattle.text.specs.declared.ParsedNatural.the-variants as N
 use Rattle.text.specs.declared.ParsedNumber.{ParsedNumber}

@@ -1,4 +1,4 @@
 pub mod Ascii
 pub mod Numeral
 pub mod Decimal
-pub mod Reading
+pub mod TextReading

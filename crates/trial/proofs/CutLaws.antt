@@ -21,7 +21,7 @@ use Rattle.job.specs.Format.{Result, refused, accepted, readJob}
 use Rattle.deck.specs.declared.Deck.{Deck}
 use Rattle.numbers.proofs.WordTests.{back}
 use Rattle.deck.specs.DeckOf.{deckOf}
-use Rattle.lines.specs.LineRecord.{linesRecord, gridOf, InOrder}
+use Rattle.lines.specs.LineRecord.{linesRecord, gridOf, LinesInOrder}
 use Rattle.cuts.specs.CutRecord.{rectOf, cutAt, isX, cutRecord}
 use Rattle.lines.specs.declared.Lines.{Lines}
 use Rattle.cuts.specs.declared.Cut.{Cut}
@@ -37,8 +37,8 @@ use Rattle.trial.proofs.RectLaws.{Fits4, rect-held}
 
 -- ---- lines that were found: what `find_cut` asks of them, and what it answers
 module _ (deck : Deck) where
-  pub found-in-order : InRange (deckOf deck) → (axis : Axis) (r : Lines) → r ≡ linesRecord (lines (deckOf deck) axis) → InOrder (r .at) (r .count)
-  found-in-order h axis r e = subst (λ (k : Lines). InOrder (k .at) (k .count)) (sym e) (lines-in-order (deckOf deck) axis (h .most-stops))
+  pub found-in-order : InRange (deckOf deck) → (axis : Axis) (r : Lines) → r ≡ linesRecord (lines (deckOf deck) axis) → LinesInOrder (r .at) (r .count)
+  found-in-order h axis r e = subst (λ (k : Lines). LinesInOrder (k .at) (k .count)) (sym e) (lines-in-order (deckOf deck) axis (h .most-stops))
 
   pub found-cut : (v u : Lines) (r : Rect) → v ≡ linesRecord (lines (deckOf deck) x-axis) → u ≡ linesRecord (lines (deckOf deck) y-axis) → cutRecord (gridOf (v .at) (v .count) (u .at) (u .count)) r ≡ cutRecord (grid (deckOf deck)) r
   found-cut v u r e f = ap (λ (G : Grid). cutRecord G r) (deck-grid (deckOf deck) v u e f)

@@ -9,7 +9,7 @@ use Rattle.query.specs.Place.{NonEmpty}
 use Rattle.query.specs.Deck as Query
 use Rattle.query.specs.Range.{InRange}
 use Rattle.job.specs.Format.{Job, Result, refused, accepted, readJob}
-use Rattle.job.specs.Record.{jobRecord}
+use Rattle.job.specs.JobRecord.{jobRecord}
 use Rattle.job.specs.declared.Job as Held
 use Rattle.deck.specs.declared.Deck.{Deck}
 use Rattle.refusal.specs.declared.Refusal.{Refusal}
@@ -17,11 +17,11 @@ use Rattle.job.specs.declared.Outcome.the-variants.{Accepted}
 use Rattle.job.proofs.JobLaws.{most-rounds}
 use Rattle.job.proofs.Meaning.{accepted-law}
 use Rattle.deck.specs.DeckOf.{deckOf}
-use Rattle.deck.specs.Sites.{sitesOf}
-use Rattle.deck.specs.Record.{sitesRecord}
-use Rattle.deck.specs.declared.Sites.{Sites}
-use Rattle.job.proofs.ReadDeck.{differ, Spelt, read-accepted, read-deck, read-rounds, read-deckOf, read-full, sites-ask}
-use Rattle.problem.specs.Problem.{Prepared}
+use Rattle.deck.specs.Objects.{objectsOf}
+use Rattle.deck.specs.ObjectColumns.{objectsRecord}
+use Rattle.deck.specs.declared.Objects.{Objects}
+use Rattle.job.proofs.ReadDeck.{differ, Spelt, read-accepted, read-deck, read-rounds, read-deckOf, read-full, objects-ask}
+use Rattle.problem.specs.ObjectProblem.{Prepared}
 use Rattle.trial.specs.Opened.{openedDeck, openedRecord}
 use Rattle.trial.specs.Trial.{onJob}
 use Rattle.trial.specs.declared.opened.Opened.{Opened}
@@ -34,11 +34,11 @@ rounds-read bytes j e rounds f =
     (omega (arith, g, most-rounds (s .allowed .writable)), g)
 
 module _ {bytes : List ℕ} (s : Spelt bytes) (j : Held.Job) (e : j ≡ jobRecord (readJob bytes)) where
-  pub opened-accepted : (sites : Sites) → sites ≡ sitesRecord (sitesOf (deckOf (j .deck))) → record { accepted = true; deck = j .deck; sites = sites } ≡ openedRecord (readJob bytes)
+  pub opened-accepted : (objects : Objects) → objects ≡ objectsRecord (objectsOf (deckOf (j .deck))) → record { accepted = true; deck = j .deck; objects = objects } ≡ openedRecord (readJob bytes)
   unfolding openedRecord openedDeck
-  opened-accepted sites f = rw (s .read, f, read-deckOf s j e, read-deck bytes j e s)
+  opened-accepted objects f = rw (s .read, f, read-deckOf s j e, read-deck bytes j e s)
 
-pub opened-refused : (bytes : List ℕ) (j : Held.Job) (why : Refusal) → j ≡ jobRecord (readJob bytes) → readJob bytes ≡ refused why → record { accepted = false; deck = j .deck; sites = sitesRecord [] } ≡ openedRecord (readJob bytes)
+pub opened-refused : (bytes : List ℕ) (j : Held.Job) (why : Refusal) → j ≡ jobRecord (readJob bytes) → readJob bytes ≡ refused why → record { accepted = false; deck = j .deck; objects = objectsRecord [] } ≡ openedRecord (readJob bytes)
 unfolding openedRecord jobRecord
 opened-refused bytes j why e f = rw (e, f)
 
@@ -56,9 +56,9 @@ module _ (bytes : List ℕ) (o : Opened) (e : o ≡ openedRecord (readJob bytes)
   unfolding openedRecord
   open-record s = e ∙ ap openedRecord (s .read)
 
-  pub open-sites : (s : Spelt bytes) → o .sites ≡ sitesRecord (sitesOf (s .job .deck))
+  pub open-objects : (s : Spelt bytes) → o .objects ≡ objectsRecord (objectsOf (s .job .deck))
   unfolding openedDeck
-  open-sites s = ap (λ (k : Opened). k .sites) (open-record s)
+  open-objects s = ap (λ (k : Opened). k .objects) (open-record s)
 
   module _ (s : Spelt bytes) where
     deck-read : o .deck ≡ jobRecord (readJob bytes) .deck
@@ -68,11 +68,11 @@ module _ (bytes : List ℕ) (o : Opened) (e : o ≡ openedRecord (readJob bytes)
     pub open-deck : deckOf (o .deck) ≡ s .job .deck
     open-deck = ap deckOf deck-read ∙ read-deckOf s (jobRecord (readJob bytes)) refl
 
-    pub open-prepared : Prepared (o .deck) (o .sites)
+    pub open-prepared : Prepared (o .deck) (o .objects)
     open-prepared =
-        let (range, posts, stops) = sites-ask s (jobRecord (readJob bytes)) refl in
+        let (range, posts, stops) = objects-ask s (jobRecord (readJob bytes)) refl in
         record {
-          sites-are = open-sites s ∙ ap (λ (deck : Query.Deck). sitesRecord (sitesOf deck)) (sym open-deck);
+          objects-are = open-objects s ∙ ap (λ (deck : Query.Deck). objectsRecord (objectsOf deck)) (sym open-deck);
           range = subst (λ (d : Deck). InRange (deckOf d)) (sym deck-read) range;
           full = subst (λ (d : Deck). NonEmpty (deckOf d .area)) (sym deck-read) (read-full s (jobRecord (readJob bytes)) refl);
           posts = subst (λ (d : Deck). d .posts ≤ 64) (sym deck-read) posts;

@@ -15,7 +15,7 @@ use Rattle.job_line.specs.Lines.{coordinates, inRange}
 use Rattle.job.proofs.RangeLaws.{coordinate-range}
 use Rattle.numbers.proofs.WordTests.{back, back-is}
 use Rattle.cuts.specs.CutRecord.{rectOf}
-use Rattle.problem.specs.Problem.{Ranged}
+use Rattle.problem.specs.ObjectProblem.{Ranged}
 use Rattle.trial.specs.Opened.{placeInRange, rectAllowed}
 
 -- the test holds of the places that are in range, and of no others

@@ -1,4 +1,4 @@
--- A job that was read, with the sites of its deck, as the code holds it; and what is asked of a place or rectangle that is priced.
+-- A job that was read, with the objects of its deck, as the code holds it; and what is asked of a place or rectangle that is priced.
 -- Assumes nothing.
 use mathlib.Core.Bool.{Bool, true, false, _&&_}
 use mathlib.Core.List.{[]}
@@ -8,17 +8,17 @@ use Rattle.query.specs.Deck as Query
 use Rattle.job_line.specs.Lines.{coordinates, inRange}
 use Rattle.job.specs.Format.{Result, refused, accepted}
 use Rattle.deck.specs.DeckOf.{deckRecord, emptyDeck}
-use Rattle.deck.specs.Sites.{sitesOf}
-use Rattle.deck.specs.Record.{sitesRecord}
+use Rattle.deck.specs.Objects.{objectsOf}
+use Rattle.deck.specs.ObjectColumns.{objectsRecord}
 use Rattle.trial.specs.declared.opened.Opened.{Opened}
 
 unfoldable pub openedDeck : Query.Deck → Opened
-unfolding sitesRecord deckRecord sitesOf
-openedDeck deck = record { accepted = true; deck = deckRecord deck; sites = sitesRecord (sitesOf deck) }
+unfolding objectsRecord deckRecord objectsOf
+openedDeck deck = record { accepted = true; deck = deckRecord deck; objects = objectsRecord (objectsOf deck) }
 
 unfoldable pub openedRecord : Result → Opened
 unfolding openedDeck
-openedRecord (refused why) = record { accepted = false; deck = deckRecord emptyDeck; sites = sitesRecord [] }
+openedRecord (refused why) = record { accepted = false; deck = deckRecord emptyDeck; objects = objectsRecord [] }
 openedRecord (accepted job) = openedDeck (job .deck)
 
 -- a place whose coordinates are in range

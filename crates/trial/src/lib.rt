@@ -79,7 +79,7 @@ fn before(job: &[u8]) -> i64
     if !o.accepted {
         return -1;
     }
-    let s = o.sites;
+    let s = o.objects;
     let n = s.count;
     pricing::before(&s.visits, &s.near, n) as i64
 }
@@ -92,7 +92,7 @@ fn near(job: &[u8], i: usize) -> i64
     if !o.accepted {
         return -1;
     }
-    let s = o.sites;
+    let s = o.objects;
     let n = s.count;
     let nears = s.near;
     if i < n { nears[i] as i64 } else { -1 }
@@ -109,7 +109,7 @@ fn cost(job: &[u8], x: i64, y: i64) -> i64
     if !opened::place_in_range(x, y) {
         return -1;
     }
-    let s = o.sites;
+    let s = o.objects;
     let n = s.count;
     let p = problem::priced(&s.x, &s.y, &s.visits, &s.near, n, x, y);
     p.cost as i64
@@ -126,7 +126,7 @@ fn load(job: &[u8], xlo: i64, ylo: i64, xhi: i64, yhi: i64) -> i64
     if !opened::rect_allowed(xlo, ylo, xhi, yhi) {
         return -1;
     }
-    let s = o.sites;
+    let s = o.objects;
     let n = s.count;
     opened::load_in(&s.x, &s.y, &s.visits, &s.near, n, xlo, ylo, xhi, yhi) as i64
 }
@@ -142,7 +142,7 @@ fn bound(job: &[u8], xlo: i64, ylo: i64, xhi: i64, yhi: i64) -> i64
     if !opened::rect_allowed(xlo, ylo, xhi, yhi) {
         return -9223372036854775808;
     }
-    let s = o.sites;
+    let s = o.objects;
     let n = s.count;
     opened::bound_in(&s.x, &s.y, &s.visits, &s.near, n, xlo, ylo, xhi, yhi)
 }

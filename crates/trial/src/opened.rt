@@ -1,7 +1,7 @@
-// A job that was read with the sites of its deck, and what is asked of both: ranges, figures over the columns of sites, lines and cuts.
+// A job that was read with the objects of its deck, and what is asked of both: ranges, figures over the columns of objects, lines and cuts.
 use cuts::Cut;
 use deck::Deck;
-use deck::Sites;
+use deck::Objects;
 use job::Outcome;
 use lines::Lines;
 use numbers::abs_diff;
@@ -15,17 +15,17 @@ ghost use Rattle.job.specs.Format.{readJob};
 ghost use Rattle.deck.specs.DeckOf.{deckOf};
 ghost use Rattle.lines.specs.LineRecord.{linesRecord};
 ghost use Rattle.cuts.specs.CutRecord.{rectOf, cutRecord};
-ghost use Rattle.pricing.specs.Columns.{siteRows, Figure};
-ghost use Rattle.pricing.specs.Figures.{loadOf};
-ghost use Rattle.problem.specs.Problem.{boundOf, Sited, Prepared};
+ghost use Rattle.pricing.specs.Columns.{objectRows, Figure};
+ghost use Rattle.pricing.specs.ObjectFigures.{loadOf};
+ghost use Rattle.problem.specs.ObjectProblem.{boundOf, Priceable, Prepared};
 ghost use Rattle.trial.specs.Opened.{openedRecord, placeInRange, rectAllowed};
 ghost use Rattle.trial.specs.Trial.{axisOf};
 
-// A job that was read, and the sites of its deck; none where it is refused.
+// A job that was read, and the objects of its deck; none where it is refused.
 pub struct Opened {
     pub accepted: bool,
     pub deck: Deck,
-    pub sites: Sites,
+    pub objects: Objects,
 }
 
 pub fn open_job(bytes: &[u8]) -> Opened
@@ -36,11 +36,11 @@ pub fn open_job(bytes: &[u8]) -> Opened
     let deck = j.deck;
     match outcome {
         Outcome::Accepted(_) => {
-            let sites = deck::of_deck(deck);
+            let objects = deck::of_deck(deck);
             Opened {
                 accepted: true,
                 deck,
-                sites,
+                objects,
             }
         }
         Outcome::Refused(_) => {
@@ -49,7 +49,7 @@ pub fn open_job(bytes: &[u8]) -> Opened
             Opened {
                 accepted: false,
                 deck,
-                sites: Sites {
+                objects: Objects {
                     count: 0,
                     x: coordinates,
                     y: coordinates,
@@ -91,7 +91,7 @@ pub fn rect_allowed(xlo: i64, ylo: i64, xhi: i64, yhi: i64) -> bool
     if xlo <= xhi { ylo <= yhi } else { false }
 }
 
-// ---- figures over columns of sites
+// ---- figures over columns of objects
 
 pub fn load_in<'a>(
     xs: &'a [i32; 512],
@@ -104,8 +104,8 @@ pub fn load_in<'a>(
     xhi: i64,
     yhi: i64,
 ) -> u64
-    requires { ⌜ Sited (now xs) (now ys) (now visits) (now near) n × T (rectAllowed (rectOf xlo ylo xhi yhi)) ⌝ }
-    ensures { λ r. ⌜ Figure (loadOf (siteRows (now (xs .entry)) (now (ys .entry)) (now (visits .entry)) (now (near .entry)) n) (rectOf xlo ylo xhi yhi)) loadLimit r ⌝ }
+    requires { ⌜ Priceable (now xs) (now ys) (now visits) (now near) n × T (rectAllowed (rectOf xlo ylo xhi yhi)) ⌝ }
+    ensures { λ r. ⌜ Figure (loadOf (objectRows (now (xs .entry)) (now (ys .entry)) (now (visits .entry)) (now (near .entry)) n) (rectOf xlo ylo xhi yhi)) loadLimit r ⌝ }
 {
     pricing::load(
         xs,
@@ -131,8 +131,8 @@ pub fn bound_in<'a>(
     xhi: i64,
     yhi: i64,
 ) -> i64
-    requires { ⌜ Sited (now xs) (now ys) (now visits) (now near) n × T (rectAllowed (rectOf xlo ylo xhi yhi)) ⌝ }
-    ensures { λ r. ⌜ r ≡ boundOf (siteRows (now (xs .entry)) (now (ys .entry)) (now (visits .entry)) (now (near .entry)) n) (rectOf xlo ylo xhi yhi) ⌝ }
+    requires { ⌜ Priceable (now xs) (now ys) (now visits) (now near) n × T (rectAllowed (rectOf xlo ylo xhi yhi)) ⌝ }
+    ensures { λ r. ⌜ r ≡ boundOf (objectRows (now (xs .entry)) (now (ys .entry)) (now (visits .entry)) (now (near .entry)) n) (rectOf xlo ylo xhi yhi) ⌝ }
 {
     let c00 = problem::priced(xs, ys, visits, near, n, xlo, ylo);
     let c01 = problem::priced(xs, ys, visits, near, n, xlo, yhi);
@@ -151,11 +151,11 @@ pub fn bound_in<'a>(
 
 // The lines of the area along an axis: at an x where `across` is true.
 pub fn lines_of(o: Opened, across: bool) -> Lines
-    requires { ⌜ Prepared (o .deck) (o .sites) ⌝ }
+    requires { ⌜ Prepared (o .deck) (o .objects) ⌝ }
     ensures { λ r. ⌜ r ≡ linesRecord (lines (deckOf (o .deck)) (axisOf across)) ⌝ }
 {
     let d = o.deck;
-    let s = o.sites;
+    let s = o.objects;
     let area = problem::area_of(d);
     let flags = problem::flags_of(area, s);
     if across {
@@ -166,7 +166,7 @@ pub fn lines_of(o: Opened, across: bool) -> Lines
 }
 
 pub fn cut_of(o: Opened, xlo: i64, ylo: i64, xhi: i64, yhi: i64) -> Cut
-    requires { ⌜ Prepared (o .deck) (o .sites) × T (rectAllowed (rectOf xlo ylo xhi yhi)) ⌝ }
+    requires { ⌜ Prepared (o .deck) (o .objects) × T (rectAllowed (rectOf xlo ylo xhi yhi)) ⌝ }
     ensures { λ r. ⌜ r ≡ cutRecord (grid (deckOf (o .deck))) (rectOf xlo ylo xhi yhi) ⌝ }
 {
     let v = lines_of(o, true);

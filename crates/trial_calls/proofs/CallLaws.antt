@@ -22,10 +22,10 @@ use Rattle.job.specs.Format.{Result, refused, accepted, readJob}
 use Rattle.refusal.specs.declared.Refusal.{Refusal}
 use Rattle.job.proofs.Meaning.{refused-law, allowed-in-range}
 use Rattle.job.proofs.RefusalLaws.{condition-line}
-use Rattle.report.specs.Report.{figuresOf}
+use Rattle.report.specs.Report.{reportFigures}
 use Rattle.query.specs.Range.{FiguresInRange}
 use Rattle.report.specs.declared.Report.{Report}
-use Rattle.problem.specs.Problem.{pricedOf}
+use Rattle.problem.specs.ObjectProblem.{pricedOf}
 use Rattle.problem.specs.declared.Spot.{Spot}
 use Rattle.problem.proofs.Coordinates.{near-back}
 use Rattle.calls.specs.declared.Answer.{Answer}
@@ -34,7 +34,7 @@ use Rattle.calls.specs.declared.Cheapest.{Cheapest}
 use Rattle.calls.specs.declared.Cheapest.the-variants as Cheapest
 use Rattle.calls.specs.Answers.{AnswerOf, gives, refusal, reportAnswer, cheapestAnswer}
 use Rattle.calls.specs.Call.{Left, reportCall}
-use Rattle.calls.specs.Exhaustive.{exhaustiveCall}
+use Rattle.calls.specs.CheapestCall.{exhaustiveCall}
 use Rattle.calls.specs.Demands.{Applies, in-reading, small-space, short-output}
 use Rattle.calls.proofs.AnswerLaws.{same-given, not-refused}
 use Rattle.calls.proofs.Demands.{job-limits, read-exactly, accepted-one, figures-are, demands}
@@ -59,11 +59,11 @@ module _ (job : List ℕ) (cells : List ℤ) (out : List ℕ) (answer : Answer) 
   answer-is = sym (ap (λ (l : Left). l .answer) e)
 
   -- the report's figures are in range
-  pub limits : (r : Report) → answer ≡ Answered.Report r → FiguresInRange 1000 (figuresOf r)
+  pub limits : (r : Report) → answer ≡ Answered.Report r → FiguresInRange 1000 (reportFigures r)
   limits r a =
       let f = answer-is ∙ ap reportAnswer a in
-      let (j, ok) = accepted-one job cells out (figuresOf r) f in
-      subst (FiguresInRange 1000) (figures-are job cells out j (figuresOf r) ok f) (job-limits j (read-exactly job j .0 (ok .read) .1))
+      let (j, ok) = accepted-one job cells out (reportFigures r) f in
+      subst (FiguresInRange 1000) (figures-are job cells out j (reportFigures r) ok f) (job-limits j (read-exactly job j .0 (ok .read) .1))
 
   -- the line of a refusal is small
   pub report-line : (why : Refusal) → answer ≡ Answered.Refused why → lineOf why ≤ 16385
@@ -100,24 +100,24 @@ module _ {answer : Answer} (why : Refusal) (a : answer ≡ Answered.Refused why)
   refusal-answer h = rw a (number-at (answerNumbers (refusal why)) which (suc (suc (suc (suc (suc (suc (suc (which - 7)))))))) _ (omega arith) refl)
 
 -- as the code holds them
-module _ (r : Report) (h : FiguresInRange 1000 (figuresOf r)) (which : ℕ) where
-  pub x-figure : which ≡ 1 → toZ w64 (ofZ w64 (r .x)) ≡ getD (reportNumbers (figuresOf r)) which least
-  x-figure e = number-at (reportNumbers (figuresOf r)) which 1 _ e (near-back (r .x) (h .place .x-range))
+module _ (r : Report) (h : FiguresInRange 1000 (reportFigures r)) (which : ℕ) where
+  pub x-figure : which ≡ 1 → toZ w64 (ofZ w64 (r .x)) ≡ getD (reportNumbers (reportFigures r)) which least
+  x-figure e = number-at (reportNumbers (reportFigures r)) which 1 _ e (near-back (r .x) (h .place .x-range))
 
-  pub y-figure : which ≡ 2 → toZ w64 (ofZ w64 (r .y)) ≡ getD (reportNumbers (figuresOf r)) which least
-  y-figure e = number-at (reportNumbers (figuresOf r)) which 2 _ e (near-back (r .y) (h .place .y-range))
+  pub y-figure : which ≡ 2 → toZ w64 (ofZ w64 (r .y)) ≡ getD (reportNumbers (reportFigures r)) which least
+  y-figure e = number-at (reportNumbers (reportFigures r)) which 2 _ e (near-back (r .y) (h .place .y-range))
 
-  pub high-figure : which ≡ 3 → toZ w64 (r .high) ≡ getD (reportNumbers (figuresOf r)) which least
-  high-figure e = number-at (reportNumbers (figuresOf r)) which 3 _ e (toZ-pos w64 (r .high) (omega (arith, h .high-limit)))
+  pub high-figure : which ≡ 3 → toZ w64 (r .high) ≡ getD (reportNumbers (reportFigures r)) which least
+  high-figure e = number-at (reportNumbers (reportFigures r)) which 3 _ e (toZ-pos w64 (r .high) (omega (arith, h .high-limit)))
 
-  pub low-figure : which ≡ 4 → toZ w64 (ofZ w64 (r .low)) ≡ getD (reportNumbers (figuresOf r)) which least
-  low-figure e = number-at (reportNumbers (figuresOf r)) which 4 _ e (toZ-ofZ w64 (r .low) (word-fits w64 (r .low) (omega (arith, h .low-limit))))
+  pub low-figure : which ≡ 4 → toZ w64 (ofZ w64 (r .low)) ≡ getD (reportNumbers (reportFigures r)) which least
+  low-figure e = number-at (reportNumbers (reportFigures r)) which 4 _ e (toZ-ofZ w64 (r .low) (word-fits w64 (r .low) (omega (arith, h .low-limit))))
 
-  pub before-figure : which ≡ 5 → toZ w64 (r .before) ≡ getD (reportNumbers (figuresOf r)) which least
-  before-figure e = number-at (reportNumbers (figuresOf r)) which 5 _ e (toZ-pos w64 (r .before) (omega (arith, h .before-limit)))
+  pub before-figure : which ≡ 5 → toZ w64 (r .before) ≡ getD (reportNumbers (reportFigures r)) which least
+  before-figure e = number-at (reportNumbers (reportFigures r)) which 5 _ e (toZ-pos w64 (r .before) (omega (arith, h .before-limit)))
 
-  pub rounds-figure : which ≡ 6 → toZ w64 (r .rounds) ≡ getD (reportNumbers (figuresOf r)) which least
-  rounds-figure e = number-at (reportNumbers (figuresOf r)) which 6 _ e (toZ-pos w64 (r .rounds) (omega (arith, h .rounds-limit)))
+  pub rounds-figure : which ≡ 6 → toZ w64 (r .rounds) ≡ getD (reportNumbers (reportFigures r)) which least
+  rounds-figure e = number-at (reportNumbers (reportFigures r)) which 6 _ e (toZ-pos w64 (r .rounds) (omega (arith, h .rounds-limit)))
 
 -- ---- the call `exhaustive`
 module _ (job : List ℕ) (answer : Cheapest) (e : cheapestAnswer answer ≡ exhaustiveCall job) where

@@ -7,16 +7,16 @@ use report::Report;
 use report::State;
 ghost use mathlib.Core.Path.{_≡_};
 ghost use lib.ListN.{getD};
-ghost use Rattle.report.specs.Report.{stateOf, figuresOf};
-ghost use Rattle.problem.specs.Problem.{pricedOf};
+ghost use Rattle.report.specs.Report.{reportState, reportFigures};
+ghost use Rattle.problem.specs.ObjectProblem.{pricedOf};
 ghost use Rattle.query.specs.Range.{FiguresInRange};
 ghost use Rattle.calls.specs.Call.{reportCall};
-ghost use Rattle.calls.specs.Exhaustive.{exhaustiveCall};
+ghost use Rattle.calls.specs.CheapestCall.{exhaustiveCall};
 ghost use Rattle.trial.specs.Trial.{least};
 ghost use Rattle.trial_calls.specs.Calls.{called, stateNumber, reportNumbers, figureFor, SpotInRange, spotNumbers, cheapestFigure};
 
 fn state_number(state: State) -> i64
-    ensures { λ r. ⌜ r ≡ stateNumber (stateOf state) ⌝ }
+    ensures { λ r. ⌜ r ≡ stateNumber (reportState state) ⌝ }
 {
     match state {
         State::Done => 0,
@@ -26,8 +26,8 @@ fn state_number(state: State) -> i64
 
 // A number that a report carries: state, x, y, high, low, before, rounds; then 0 twice, for no refusal. The least number behind them.
 fn figure(r: Report, which: u64) -> i64
-    requires { ⌜ FiguresInRange 1000 (figuresOf r) ⌝ }
-    ensures { λ v. ⌜ v ≡ getD (reportNumbers (figuresOf r)) which least ⌝ }
+    requires { ⌜ FiguresInRange 1000 (reportFigures r) ⌝ }
+    ensures { λ v. ⌜ v ≡ getD (reportNumbers (reportFigures r)) which least ⌝ }
 {
     if which == 0 {
         let state = r.state;

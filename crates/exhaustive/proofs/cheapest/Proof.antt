@@ -1,4 +1,4 @@
--- `exhaustive::cheapest` meets its contract: the lines and sites are the deck's, so that the best over them is the cheapest crossing.
+-- `exhaustive::cheapest` meets its contract: the lines and objects are the deck's, so that the best over them is the cheapest crossing.
 -- Assumes nothing.
 use Prim.Native.Nat.{ℕ}
 use mathlib.Core.Path.{ap}
@@ -6,8 +6,8 @@ use lib.ListN.{length-replicate}
 use borrow.Author.Needs.{needs}
 use Rattle.query.specs.Place.{x-axis, y-axis}
 use Rattle.deck.specs.DeckOf.{deckOf}
-use Rattle.problem.specs.Problem.{rectIn}
-use Rattle.exhaustive.proofs.DeckCrossings.{deck-lines, columns, count, sited, paid, before-is, ranged, reaches, corner-near, answers}
+use Rattle.problem.specs.ObjectProblem.{rectIn}
+use Rattle.exhaustive.proofs.DeckCrossings.{deck-lines, columns, count, priceable, paid, before-is, ranged, reaches, corner-near, answers}
 use Rattle.exhaustive.proofs.cheapest.Statement.{statement}
 use Rattle.exhaustive.proofs.cheapest.Tie as tie
 
@@ -35,7 +35,7 @@ before-requires c κs = let p = c .before .before .before .before .before .befor
 priced-requires : tie.Need-priced-requires
 priced-requires c κs =
     let a = c .before .before .before .before .before .before .before .before .before .before .before .before .before .before .before .before .before .before in
-    (sited _ _ (a .before .pre), corner-near _ _ (a .before .pre) (a .area-of .result) (ap rectIn (a .area-of .ensures)))
+    (priceable _ _ (a .before .pre), corner-near _ _ (a .before .pre) (a .area-of .result) (ap rectIn (a .area-of .ensures)))
 
 cheapest-of-requires : tie.Need-cheapest-of-requires
 cheapest-of-requires c κs =
@@ -45,7 +45,7 @@ cheapest-of-requires c κs =
     let a = v .before .before in
     let p = a .before .pre in
     let deck = deckOf (a .before .args .deck) in
-    (sited _ _ p, deck-lines deck (p .range) (p .full) x-axis _ (v .vertical .ensures), deck-lines deck (p .range) (p .full) y-axis _ (h .horizontal .ensures), before-is _ _ p _ (c .before .before .before .before .before .before .before .before .before .before .before .before .before .before .before .before .before .before .before2 .ensures), lines .number-lines .ensures)
+    (priceable _ _ p, deck-lines deck (p .range) (p .full) x-axis _ (v .vertical .ensures), deck-lines deck (p .range) (p .full) y-axis _ (h .horizontal .ensures), before-is _ _ p _ (c .before .before .before .before .before .before .before .before .before .before .before .before .before .before .before .before .before .before .before2 .ensures), lines .number-lines .ensures)
 
 returns : tie.Need-returns
 returns c =

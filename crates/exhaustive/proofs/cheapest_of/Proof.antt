@@ -6,15 +6,15 @@ use native.Mathlib.Omega.{arith}
 use lib.IntN.{pos}
 use lib.ListN.{length, getD, take, length-replicate}
 use denote.Ref.{now}
-use Rattle.pricing.specs.Columns.{siteRows}
-use Rattle.exhaustive.proofs.SiteRamps.{small-back}
+use Rattle.pricing.specs.Columns.{objectRows}
+use Rattle.exhaustive.proofs.ObjectRamps.{small-back}
 use Rattle.exhaustive.proofs.CostsAlong.{costs-length}
 use Rattle.exhaustive.proofs.CheapestOfLines.{Compared, compared-none, compared-more, compared-all}
 use Rattle.exhaustive.proofs.cheapest_of.Statement.{statement}
 use Rattle.exhaustive.proofs.cheapest_of.Tie as tie
 
 abbrev Inv-loop : tie.InvT-loop
-Inv-loop xs ys visits near n v nv h nh table before costs₀ found₀ i₀ costs found i = (length costs ≡ 514) × Compared (siteRows xs ys visits near n) (take nh h) v nv found₀ found i
+Inv-loop xs ys visits near n v nv h nh table before costs₀ found₀ i₀ costs found i = (length costs ≡ 514) × Compared (objectRows xs ys visits near n) (take nh h) v nv found₀ found i
 
 abbrev μ-loop : tie.MeasureT-loop
 μ-loop xs ys visits near n v nv h nh table before costs₀ found₀ i₀ costs found i = nv - i

@@ -1,22 +1,22 @@
--- `exhaustive::costs_along` meets its contract: the columns start at 0, and hold the ramps of all sites when they are swept.
+-- `exhaustive::costs_along` meets its contract: the columns start at 0, and hold the ramps of all objects when they are swept.
 -- Assumes nothing.
 use Rattle.numbers.proofs.WordTests.{back-is}
 use Rattle.exhaustive.proofs.CheapestOfLines.{zero-sums, sweepable, swept-line}
 use Rattle.exhaustive.proofs.costs_along.Statement.{statement}
 use Rattle.exhaustive.proofs.costs_along.Tie as tie
 
-add-sites-requires : tie.Need-add-sites-requires
-add-sites-requires c κs = let s = c .before .before .before .before in (s .pre .0, s .pre .1, rw (back-is (s .fits .v)) (s .pre .2), zero-sums, s .pre .4)
+add-objects-requires : tie.Need-add-objects-requires
+add-objects-requires c κs = let s = c .before .before .before .before in (s .pre .0, s .pre .1, rw (back-is (s .fits .v)) (s .pre .2), zero-sums, s .pre .4)
 
 sweep-requires : tie.Need-sweep-requires
 sweep-requires c κs =
     let s = c .before .before .before .before .before .before .before .before .before .before in
-    (s .pre .1, sweepable _ _ _ _ _ _ _ _ _ _ (s .pre .0 .count) (s .pre .3) (c .before .before .before .before .before .add-sites .ensures), s .pre .5)
+    (s .pre .1, sweepable _ _ _ _ _ _ _ _ _ _ (s .pre .0 .count) (s .pre .3) (c .before .before .before .before .before .add-objects .ensures), s .pre .5)
 
 returns : tie.Need-returns
 returns c =
     let s = c .before .before .before .before .before .before .before .before .before .before .before in
-    rw (back-is (s .fits .v)) at (swept-line _ _ _ _ _ _ _ _ _ _ (s .pre .0 .count) (s .pre .3) (c .before .before .before .before .before .before .add-sites .ensures) _ _ (c .sweep .ensures))
+    rw (back-is (s .fits .v)) at (swept-line _ _ _ _ _ _ _ _ _ _ (s .pre .0 .count) (s .pre .3) (c .before .before .before .before .before .before .add-objects .ensures) _ _ (c .sweep .ensures))
 
 pub costs-along-spec : {M : Type 1} → statement M
-costs-along-spec = tie.close (tie.spec add-sites-requires sweep-requires returns)
+costs-along-spec = tie.close (tie.spec add-objects-requires sweep-requires returns)

@@ -2,13 +2,13 @@
 -- Assumes nothing.
 use Prim.Native.Nat.{_-_, _≤_}
 use native.Mathlib.Omega.{arith}
-use Rattle.exhaustive.specs.Ramps.{Filled}
+use Rattle.exhaustive.specs.Ramps.{SlotsFilled}
 use Rattle.exhaustive.proofs.TableLaws.{fill-none, fill-more, fill-all}
 use Rattle.exhaustive.proofs.fill.Statement.{statement}
 use Rattle.exhaustive.proofs.fill.Tie as tie
 
 abbrev Inv-loop : tie.InvT-loop
-Inv-loop table₀ from to j i₀ table i = (from ≤ i) × Filled table₀ from i j table
+Inv-loop table₀ from to j i₀ table i = (from ≤ i) × SlotsFilled table₀ from i j table
 
 abbrev μ-loop : tie.MeasureT-loop
 μ-loop table₀ from to j i₀ table i = to - i

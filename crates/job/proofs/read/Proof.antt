@@ -2,7 +2,7 @@
 -- Assumes nothing.
 use mathlib.Core.Path.{ap, _∙_}
 use borrow.Author.Needs.{needs}
-use Rattle.job.specs.Record.{jobRecord}
+use Rattle.job.specs.JobRecord.{jobRecord}
 use Rattle.job.proofs.ReadLaws.{read-long, read-area, read-posts, read-stops, read-last, read-all}
 use Rattle.job.proofs.read.Statement.{statement}
 use Rattle.job.proofs.read.Tie as tie

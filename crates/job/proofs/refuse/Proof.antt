@@ -1,7 +1,7 @@
 -- `job::refuse` meets its contract.
 -- Assumes nothing.
 use mathlib.Core.Path.{refl}
-use Rattle.job.specs.Record.{jobRecord}
+use Rattle.job.specs.JobRecord.{jobRecord}
 use Rattle.job.proofs.refuse.Statement.{statement}
 use Rattle.job.proofs.refuse.Tie as tie
 

@@ -4,8 +4,8 @@ use mathlib.Core.Path.{ap, _∙_}
 use Prim.Native.Nat.{_-_}
 use mir.Syntax.{w64}
 use mir.ValLaws.{toZ-ofZ}
-use Rattle.pricing.specs.Columns.{siteRows}
-use Rattle.problem.specs.Problem.{boundOf}
+use Rattle.pricing.specs.Columns.{objectRows}
+use Rattle.problem.specs.ObjectProblem.{boundOf}
 use Rattle.kernels.specs.Sums.{rectAt, positive}
 use Rattle.kernels.proofs.SumLaws.{Summed, summed-none, summed-more, summed-all, rect-turn, rect-ok}
 use borrow.Author.Needs.{needs}
@@ -14,7 +14,7 @@ use Rattle.kernels.proofs.bounds.Statement.{statement}
 use Rattle.kernels.proofs.bounds.Tie as tie
 
 abbrev Inv-loop : tie.InvT-loop
-Inv-loop xs ys visits near n k sum₀ t₀ sum t = Summed (λ t. positive (boundOf (siteRows xs ys visits near n) (rectAt t))) 1 k sum t
+Inv-loop xs ys visits near n k sum₀ t₀ sum t = Summed (λ t. positive (boundOf (objectRows xs ys visits near n) (rectAt t))) 1 k sum t
 
 abbrev μ-loop : tie.MeasureT-loop
 μ-loop xs ys visits near n k sum₀ t₀ sum t = k - t

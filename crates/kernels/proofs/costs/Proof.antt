@@ -3,8 +3,8 @@
 use mathlib.Core.Path.{ap, _∙_}
 use Prim.Native.Nat.{_-_}
 use Rattle.query.specs.Range.{costLimit}
-use Rattle.pricing.specs.Columns.{siteRows}
-use Rattle.pricing.specs.Figures.{costOf}
+use Rattle.pricing.specs.Columns.{objectRows}
+use Rattle.pricing.specs.ObjectFigures.{costOf}
 use Rattle.problem.proofs.Coordinates.{near-places}
 use Rattle.trial.proofs.FigureLaws.{priced-figure}
 use Rattle.kernels.specs.Sums.{placeAt}
@@ -14,7 +14,7 @@ use Rattle.kernels.proofs.costs.Statement.{statement}
 use Rattle.kernels.proofs.costs.Tie as tie
 
 abbrev Inv-loop : tie.InvT-loop
-Inv-loop xs ys visits near n k sum₀ t₀ sum t = Summed (λ t. costOf (siteRows xs ys visits near n) (placeAt t)) costLimit k sum t
+Inv-loop xs ys visits near n k sum₀ t₀ sum t = Summed (λ t. costOf (objectRows xs ys visits near n) (placeAt t)) costLimit k sum t
 
 abbrev μ-loop : tie.MeasureT-loop
 μ-loop xs ys visits near n k sum₀ t₀ sum t = k - t

@@ -3,8 +3,8 @@
 use mathlib.Core.Path.{ap, _∙_}
 use Prim.Native.Nat.{_-_}
 use Rattle.query.specs.Range.{loadLimit}
-use Rattle.pricing.specs.Columns.{siteRows}
-use Rattle.pricing.specs.Figures.{loadOf}
+use Rattle.pricing.specs.Columns.{objectRows}
+use Rattle.pricing.specs.ObjectFigures.{loadOf}
 use Rattle.kernels.specs.Sums.{rectAt}
 use Rattle.kernels.proofs.SumLaws.{Summed, summed-none, summed-more, summed-all, rect-turn, rect-ok}
 use native.Mathlib.Omega.{arith}
@@ -12,7 +12,7 @@ use Rattle.kernels.proofs.loads.Statement.{statement}
 use Rattle.kernels.proofs.loads.Tie as tie
 
 abbrev Inv-loop : tie.InvT-loop
-Inv-loop xs ys visits near n k sum₀ t₀ sum t = Summed (λ t. loadOf (siteRows xs ys visits near n) (rectAt t)) loadLimit k sum t
+Inv-loop xs ys visits near n k sum₀ t₀ sum t = Summed (λ t. loadOf (objectRows xs ys visits near n) (rectAt t)) loadLimit k sum t
 
 abbrev μ-loop : tie.MeasureT-loop
 μ-loop xs ys visits near n k sum₀ t₀ sum t = k - t

@@ -3,7 +3,7 @@
 use mathlib.Core.Path.{ap}
 use Prim.Native.Nat.{_%_}
 use lib.ListN.{getD}
-use Rattle.deck.specs.declared.Sites.{Sites}
+use Rattle.deck.specs.declared.Objects.{Objects}
 use Rattle.pricing.proofs.RecordLaws.{made-range}
 use borrow.Author.Needs.{needs}
 use Rattle.kernels.proofs.near_at.Statement.{statement}
@@ -26,7 +26,7 @@ returns c =
     let s = c .before .before in
     let at = s .args .t % 512 in
     record {
-      is = ap (λ (k : Sites). getD (k .near) at 0) (c .before .of-deck .ensures);
+      is = ap (λ (k : Objects). getD (k .near) at 0) (c .before .of-deck .ensures);
       within = made-range _ (s .pre .0) _ (c .before .of-deck .ensures) .near-range at;
     }
 

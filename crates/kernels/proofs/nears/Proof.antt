@@ -3,15 +3,15 @@
 use Prim.Native.Nat.{_-_, _%_}
 use lib.ListN.{getD}
 use Rattle.deck.specs.DeckOf.{deckOf}
-use Rattle.deck.specs.Record.{sitesRecord}
-use Rattle.deck.specs.Sites.{sitesOf}
+use Rattle.deck.specs.ObjectColumns.{objectsRecord}
+use Rattle.deck.specs.Objects.{objectsOf}
 use Rattle.kernels.proofs.SumLaws.{Summed, summed-none, summed-more, summed-all}
 use native.Mathlib.Omega.{arith}
 use Rattle.kernels.proofs.nears.Statement.{statement}
 use Rattle.kernels.proofs.nears.Tie as tie
 
 abbrev Inv-loop : tie.InvT-loop
-Inv-loop deck k sum₀ t₀ sum t = Summed (λ t. getD (sitesRecord (sitesOf (deckOf deck)) .near) (t % 512) 0) 720000 k sum t
+Inv-loop deck k sum₀ t₀ sum t = Summed (λ t. getD (objectsRecord (objectsOf (deckOf deck)) .near) (t % 512) 0) 720000 k sum t
 
 abbrev μ-loop : tie.MeasureT-loop
 μ-loop deck k sum₀ t₀ sum t = k - t

@@ -2,26 +2,26 @@
 -- Assumes nothing.
 use native.Mathlib.Omega.{arith}
 use Rattle.query.specs.Place.{x-axis, y-axis}
-use Rattle.problem.proofs.DeckProblem.{deck-sited}
+use Rattle.problem.proofs.DeckProblem.{deck-priceable}
 use Rattle.trial.proofs.CutLaws.{found-in-order}
 use Rattle.kernels.proofs.SumLaws.{cost-sum, load-sum, bound-sum, cut-sum, near-sum}
 use Rattle.kernels.proofs.sum_of.Statement.{statement}
 use Rattle.kernels.proofs.sum_of.Tie as tie
 
 costs-requires : tie.Need-costs-requires
-costs-requires c κs = let h = c .before .before .before .before .before .before .before .pre in (deck-sited _ _ (h .0), h .2)
+costs-requires c κs = let h = c .before .before .before .before .before .before .before .pre in (deck-priceable _ _ (h .0), h .2)
 
 returns : tie.Need-returns
 returns c = cost-sum _ _ (c .before .before .before .before .before .before .before .before .pre .0) _ _ (c .before .before .before .before .before .before .if1 .taken) (c .costs .ensures)
 
 loads-requires : tie.Need-loads-requires
-loads-requires c κs = let h = c .before .before .before .before .before .before .before .before .pre in (deck-sited _ _ (h .0), h .2)
+loads-requires c κs = let h = c .before .before .before .before .before .before .before .before .pre in (deck-priceable _ _ (h .0), h .2)
 
 returns-2 : tie.Need-returns-2
 returns-2 c = load-sum _ _ (c .before .before .before .before .before .before .before .before .before .pre .0) _ _ (c .before .before .before .before .before .before .if2 .taken) (c .loads .ensures)
 
 bounds-requires : tie.Need-bounds-requires
-bounds-requires c κs = let h = c .before .before .before .before .before .before .before .before .before .pre in (deck-sited _ _ (h .0), h .2)
+bounds-requires c κs = let h = c .before .before .before .before .before .before .before .before .before .pre in (deck-priceable _ _ (h .0), h .2)
 
 returns-3 : tie.Need-returns-3
 returns-3 c = bound-sum _ _ (c .before .before .before .before .before .before .before .before .before .before .pre .0) _ _ (c .before .before .before .before .before .before .if3 .taken) (c .bounds .ensures)

@@ -7,7 +7,7 @@ use mir.Syntax.{w32}
 use mir.Val.{toZ}
 use Rattle.deck.proofs.WordLaws.{coordinate}
 use Rattle.deck.proofs.TravelLaws.{place-word}
-use Rattle.pricing.proofs.SiteLaws.{paidBy, costOf-sum}
+use Rattle.pricing.proofs.ObjectLaws.{paidBy, costOf-sum}
 use Rattle.pricing.proofs.ColumnLaws.{Passed, passed-none, passed-all, row-range}
 use Rattle.pricing.proofs.TurnLaws.{x-word, y-word, cost-more}
 use Rattle.pricing.proofs.cost.Statement.{statement}

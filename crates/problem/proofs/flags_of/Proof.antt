@@ -1,7 +1,7 @@
 -- `problem::flags_of` meets its contract: the area's edges are in range, so that `reach_flags` sees them as they are.
 -- Assumes nothing.
 use Rattle.pricing.proofs.RecordLaws.{reach-range}
-use Rattle.problem.specs.Problem.{rectIn}
+use Rattle.problem.specs.ObjectProblem.{rectIn}
 use Rattle.problem.proofs.DeckProblem.{flags-are}
 use Rattle.problem.proofs.Coordinates.{near-narrow, edges-narrow}
 use Rattle.problem.proofs.flags_of.Statement.{statement}

@@ -14,7 +14,7 @@ use Rattle.text.specs.Ascii.{bytes}
 use Rattle.write.specs.Written.{Wrote}
 use Rattle.report.specs.declared.Report.{Report}
 use Rattle.query.specs.Range.{FiguresInRange}
-use Rattle.report.specs.Report.{stateOf, figuresOf}
+use Rattle.report.specs.Report.{reportState, reportFigures}
 use Rattle.report.proofs.TextLaws.{placePart, costsPart, length-state, length-place, length-costs, length-rounds, report-filled}
 use Rattle.report.proofs.write_report.Statement.{statement}
 use Rattle.report.proofs.write_report.Tie as tie
@@ -24,10 +24,10 @@ back : (z : ℤ) → natAbs z < 2 ^ 63 → toZ w64 (ofZ w64 z) ≡ z
 back (pos n) h = toZ-ofZ w64 (pos n) (record { sfits = h })
 back (negsuc n) h = toZ-ofZ w64 (negsuc n) (record { sfits = omega arith })
 
-place-wrote : {m m′ : List ℕ} {e e′ : ℕ} (r : Report) → FiguresInRange 1000 (figuresOf r) → Wrote m e (placePart (toZ w64 (ofZ w64 (r .x))) (toZ w64 (ofZ w64 (r .y)))) m′ e′ → Wrote m e (placePart (r .x) (r .y)) m′ e′
+place-wrote : {m m′ : List ℕ} {e e′ : ℕ} (r : Report) → FiguresInRange 1000 (reportFigures r) → Wrote m e (placePart (toZ w64 (ofZ w64 (r .x))) (toZ w64 (ofZ w64 (r .y)))) m′ e′ → Wrote m e (placePart (r .x) (r .y)) m′ e′
 place-wrote r h w = rw (back (r .x) (omega (arith, h .place .x-range)), back (r .y) (omega (arith, h .place .y-range))) at w
 
-costs-wrote : {m m′ : List ℕ} {e e′ : ℕ} (r : Report) → FiguresInRange 1000 (figuresOf r) → Wrote m e (costsPart (r .high) (toZ w64 (ofZ w64 (r .low))) (r .before)) m′ e′ → Wrote m e (costsPart (r .high) (r .low) (r .before)) m′ e′
+costs-wrote : {m m′ : List ℕ} {e e′ : ℕ} (r : Report) → FiguresInRange 1000 (reportFigures r) → Wrote m e (costsPart (r .high) (toZ w64 (ofZ w64 (r .low))) (r .before)) m′ e′ → Wrote m e (costsPart (r .high) (r .low) (r .before)) m′ e′
 costs-wrote r h w = rw (back (r .low) (omega (arith, h .low-limit))) at w
 
 -- the calls that a call stands behind
@@ -51,7 +51,7 @@ record Room (end : ℕ) (out : List ℕ) (most : ℕ) : Type 0 where
 state-room : (c : tie.After-put-state) → Room (c .put-state .result) (c .put-state .last .0) 13
 unfolding bytes
 state-room c = record {
-  end-most = omega (arith, c .put-state .ensures .next, length-state (stateOf (start c .args .r .state)));
+  end-most = omega (arith, c .put-state .ensures .next, length-state (reportState (start c .args .r .state)));
   room = omega (arith, c .put-state .kept .0, start c .pre .0);
 }
 
@@ -117,7 +117,7 @@ returns c =
     let at-state = state at-place in
     let r = start at-state .args .r in
     let h = start at-state .pre .1 in
-    report-filled (figuresOf r) (at-state .put-state .ensures) (place-wrote r h (at-place .put-place .ensures)) (costs-wrote r h (at-costs .put-costs .ensures)) (at-rounds .put-key-nat .ensures .0) (c .before .before .put .ensures)
+    report-filled (reportFigures r) (at-state .put-state .ensures) (place-wrote r h (at-place .put-place .ensures)) (costs-wrote r h (at-costs .put-costs .ensures)) (at-rounds .put-key-nat .ensures .0) (c .before .before .put .ensures)
 
 pub write-report-spec : {M : Type 1} → statement M
 write-report-spec =

@@ -1,6 +1,6 @@
 -- `siting::exhaustive` meets its contract.
 -- Assumes nothing.
-use Rattle.job.proofs.ReadDeck.{read-accepted, sites-ask}
+use Rattle.job.proofs.ReadDeck.{read-accepted, objects-ask}
 use Rattle.siting.proofs.ExhaustiveLaws.{exhaustive-ready, exhaustive-found, exhaustive-refused}
 use borrow.Author.Needs.{needs}
 use Rattle.siting.proofs.exhaustive.Statement.{statement}
@@ -13,7 +13,7 @@ enum-told : tie.Need-enum-told
 enum-told c = search needs
 
 of-deck-requires : tie.Need-of-deck-requires
-of-deck-requires c κs = let e = c .before .before .before .read .ensures in sites-ask (read-accepted _ _ e _ (c .enum-told .given .1)) _ e
+of-deck-requires c κs = let e = c .before .before .before .read .ensures in objects-ask (read-accepted _ _ e _ (c .enum-told .given .1)) _ e
 
 cheapest-requires : tie.Need-cheapest-requires
 cheapest-requires c κs = exhaustive-ready _ _ (c .before .before .before .before .read .ensures) _ (c .before .enum-told .given .1) _ (c .of-deck .ensures)

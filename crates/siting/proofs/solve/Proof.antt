@@ -1,4 +1,4 @@
--- `siting::solve` meets its contract: the figures are those of the search and of the sites.
+-- `siting::solve` meets its contract: the figures are those of the search and of the objects.
 -- Assumes nothing.
 use Rattle.pricing.proofs.RecordLaws.{made-most, made-range, paid-range}
 use Rattle.siting.proofs.SolveLaws.{solved}

@@ -2,11 +2,11 @@
 -- Assumes nothing.
 use borrow.Author.Tests.{not-true, not-false}
 use denote.Ref.{now}
-use Rattle.problem.specs.Problem.{Prepared}
+use Rattle.problem.specs.ObjectProblem.{Prepared}
 use Rattle.job.proofs.ReadDeck.{Spelt}
 use Rattle.trial.proofs.OpenLaws.{open-accepted, open-prepared, open-refused}
 use Rattle.pricing.proofs.RecordLaws.{paid-range}
-use Rattle.problem.proofs.DeckProblem.{columns-range, sites-count}
+use Rattle.problem.proofs.DeckProblem.{columns-range, objects-count}
 use Rattle.trial.proofs.FigureLaws.{before-answer}
 use borrow.Author.Needs.{needs}
 use native.Mathlib.Omega.{arith}
@@ -17,7 +17,7 @@ use Rattle.trial.proofs.before.Tie as tie
 spelt : (c : tie.Else1) → Spelt (now (c .before .before .before .before .args .job))
 spelt c = open-accepted _ _ (c .before .before .open-job .ensures) (not-false _ (c .if1 .left))
 
-ready : (c : tie.Else1) → Prepared (c .before .before .open-job .result .deck) (c .before .before .open-job .result .sites)
+ready : (c : tie.Else1) → Prepared (c .before .before .open-job .result .deck) (c .before .before .open-job .result .objects)
 ready c = open-prepared _ _ (c .before .before .open-job .ensures) (spelt c)
 
 open-job-requires : tie.Need-open-job-requires
@@ -27,7 +27,7 @@ returns : tie.Need-returns
 returns c = open-refused _ _ (c .before .before .open-job .ensures) _ _ (not-true _ (c .if1 .taken))
 
 before-requires : tie.Need-before-requires
-before-requires c κs = let d = c .before .before .before .before in (sites-count _ _ (ready d), paid-range (columns-range _ _ (ready d)))
+before-requires c κs = let d = c .before .before .before .before in (objects-count _ _ (ready d), paid-range (columns-range _ _ (ready d)))
 
 cast-result : tie.Need-cast-result
 cast-result c = omega (arith, c .before2 .ensures .within)

@@ -9,14 +9,14 @@ use denote.Ref.{now}
 use Rattle.numbers.proofs.Words.{is-true}
 use Rattle.query.specs.Place.{Rect}
 use Rattle.cuts.specs.CutRecord.{rectOf}
-use Rattle.problem.specs.Problem.{Prepared}
+use Rattle.problem.specs.ObjectProblem.{Prepared}
 use Rattle.trial.specs.Opened.{rectAllowed}
 use Rattle.job.proofs.ReadDeck.{Spelt}
 use Rattle.trial.proofs.OpenLaws.{open-accepted, open-prepared, open-refused, outside}
 use Rattle.trial.proofs.RectLaws.{Fits4, rect-held, tested-rect}
 use mir.Syntax.{w64}
 use mir.ValLaws.{toZ-ofZ}
-use Rattle.problem.proofs.DeckProblem.{deck-sited}
+use Rattle.problem.proofs.DeckProblem.{deck-priceable}
 use Rattle.trial.proofs.FigureLaws.{bound-answer}
 use borrow.Author.Needs.{needs}
 use Rattle.trial.proofs.bound.Statement.{statement}
@@ -26,7 +26,7 @@ use Rattle.trial.proofs.bound.Tie as tie
 spelt : (c : tie.Else1) → Spelt (now (c .before .before .before .before .args .job))
 spelt c = open-accepted _ _ (c .before .before .open-job .ensures) (not-false _ (c .if1 .left))
 
-ready : (c : tie.Else1) → Prepared (c .before .before .open-job .result .deck) (c .before .before .open-job .result .sites)
+ready : (c : tie.Else1) → Prepared (c .before .before .open-job .result .deck) (c .before .before .open-job .result .objects)
 ready c = open-prepared _ _ (c .before .before .open-job .ensures) (spelt c)
 
 -- the rectangle is allowed, or not
@@ -52,7 +52,7 @@ returns-2 : tie.Need-returns-2
 returns-2 c = outside _ _ _ (readJob (now (c .before .before .before .before .before .before .args .job))) (off c)
 
 bound-in-requires : tie.Need-bound-in-requires
-bound-in-requires c κs = let d = c .before .before .before .before .before .before in (deck-sited _ _ (ready (d .before .before)), subst (λ (r : Rect). T (rectAllowed r)) (sym (rect-held (fits (d .before .before .before .before .before .before)))) (is-true _ (on d)))
+bound-in-requires c κs = let d = c .before .before .before .before .before .before in (deck-priceable _ _ (ready (d .before .before)), subst (λ (r : Rect). T (rectAllowed r)) (sym (rect-held (fits (d .before .before .before .before .before .before)))) (is-true _ (on d)))
 
 returns-3 : tie.Need-returns-3
 returns-3 c = let d = c .before .before .before .before .before .before .before in toZ-ofZ w64 _ (record { sfits = c .bound-in .ok }) ∙ bound-answer (d .before .before .before .before .open-job .ensures) (spelt (d .before .before)) (fits (d .before .before .before .before .before .before)) (on d) (c .bound-in .ensures)

@@ -9,7 +9,7 @@ use denote.Ref.{now}
 use Rattle.numbers.proofs.Words.{is-true}
 use Rattle.query.specs.Place.{Rect}
 use Rattle.cuts.specs.CutRecord.{rectOf}
-use Rattle.problem.specs.Problem.{Prepared}
+use Rattle.problem.specs.ObjectProblem.{Prepared}
 use Rattle.trial.specs.Opened.{rectAllowed}
 use Rattle.job.proofs.ReadDeck.{Spelt}
 use Rattle.trial.proofs.OpenLaws.{open-accepted, open-prepared, open-refused}
@@ -25,7 +25,7 @@ use Rattle.trial.proofs.cut_line.Tie as tie
 spelt : (c : tie.Else1) → Spelt (now (c .before .before .before .before .args .job))
 spelt c = open-accepted _ _ (c .before .before .open-job .ensures) (not-false _ (c .if1 .left))
 
-ready : (c : tie.Else1) → Prepared (c .before .before .open-job .result .deck) (c .before .before .open-job .result .sites)
+ready : (c : tie.Else1) → Prepared (c .before .before .open-job .result .deck) (c .before .before .open-job .result .objects)
 ready c = open-prepared _ _ (c .before .before .open-job .ensures) (spelt c)
 
 -- the rectangle is allowed, or not

@@ -2,10 +2,10 @@
 -- Assumes nothing.
 use borrow.Author.Tests.{not-true, not-false}
 use denote.Ref.{now}
-use Rattle.problem.specs.Problem.{Prepared}
+use Rattle.problem.specs.ObjectProblem.{Prepared}
 use Rattle.job.proofs.ReadDeck.{Spelt}
 use Rattle.trial.proofs.OpenLaws.{open-accepted, open-prepared, open-refused}
-use Rattle.problem.proofs.DeckProblem.{sites-count}
+use Rattle.problem.proofs.DeckProblem.{objects-count}
 use Rattle.trial.proofs.FigureLaws.{near-range, near-answer, near-none}
 use borrow.Author.Needs.{needs}
 use native.Mathlib.Omega.{arith}
@@ -16,7 +16,7 @@ use Rattle.trial.proofs.near.Tie as tie
 spelt : (c : tie.Else1) → Spelt (now (c .before .before .before .before .args .job))
 spelt c = open-accepted _ _ (c .before .before .open-job .ensures) (not-false _ (c .if1 .left))
 
-ready : (c : tie.Else1) → Prepared (c .before .before .open-job .result .deck) (c .before .before .open-job .result .sites)
+ready : (c : tie.Else1) → Prepared (c .before .before .open-job .result .deck) (c .before .before .open-job .result .objects)
 ready c = open-prepared _ _ (c .before .before .open-job .ensures) (spelt c)
 
 open-job-requires : tie.Need-open-job-requires
@@ -26,10 +26,10 @@ returns : tie.Need-returns
 returns c = open-refused _ _ (c .before .before .open-job .ensures) _ _ (not-true _ (c .if1 .taken))
 
 mul-result : tie.Need-mul-result
-mul-result c = omega (arith, sites-count _ _ (ready (c .before .before .before)))
+mul-result c = omega (arith, objects-count _ _ (ready (c .before .before .before)))
 
 array-read-result : tie.Need-array-read-result
-array-read-result c = omega (arith, sites-count _ _ (ready (c .before .before .before)))
+array-read-result c = omega (arith, objects-count _ _ (ready (c .before .before .before)))
 
 cast-result : tie.Need-cast-result
 cast-result c = let d = c .before .before .before in omega (arith, near-range (d .before .before .open-job .ensures) (spelt d) (c .before .before .before .before .before .before .before .args .i))

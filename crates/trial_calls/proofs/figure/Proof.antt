@@ -5,7 +5,7 @@ use mathlib.Core.Path.{_∙_}
 use native.Mathlib.Omega.{arith}
 use mir.Syntax.{w64}
 use mir.ValLaws.{toZ-ofZ}
-use Rattle.report.specs.Report.{figuresOf}
+use Rattle.report.specs.Report.{reportFigures}
 use Rattle.trial.proofs.NumberLaws.{number-at}
 use Rattle.trial_calls.specs.Calls.{reportNumbers}
 use Rattle.trial_calls.proofs.CallLaws.{not-refused-figure, no-figure, x-figure, y-figure, high-figure, low-figure, before-figure, rounds-figure}
@@ -17,7 +17,7 @@ state-number-requires : tie.Need-state-number-requires
 state-number-requires c κs = search needs
 
 returns : tie.Need-returns
-returns c = number-at (reportNumbers (figuresOf (c .before .before .args .r))) _ 0 _ (c .before .if1 .taken) (toZ-ofZ w64 _ (record { sfits = c .state-number .ok }) ∙ c .state-number .ensures)
+returns c = number-at (reportNumbers (reportFigures (c .before .before .args .r))) _ 0 _ (c .before .if1 .taken) (toZ-ofZ w64 _ (record { sfits = c .state-number .ok }) ∙ c .state-number .ensures)
 
 returns-2 : tie.Need-returns-2
 returns-2 c = let s = c .before .before .before in x-figure (s .args .r) (s .pre) _ (c .before .if2 .taken)
@@ -54,10 +54,10 @@ seven c =
     omega (arith, four, c .before .before .if5 .left, c .before .if6 .left, c .if7 .left)
 
 returns-8 : tie.Need-returns-8
-returns-8 c = not-refused-figure (figuresOf (c .before .before .before .before .before .before .before .before .args .r)) _ (seven (c .before)) (c .if8 .taken)
+returns-8 c = not-refused-figure (reportFigures (c .before .before .before .before .before .before .before .before .args .r)) _ (seven (c .before)) (c .if8 .taken)
 
 returns-9 : tie.Need-returns-9
-returns-9 c = no-figure (figuresOf (c .before .before .before .before .before .before .before .before .args .r)) _ (c .if8 .left)
+returns-9 c = no-figure (reportFigures (c .before .before .before .before .before .before .before .before .args .r)) _ (c .if8 .left)
 
 pub figure-spec : {M : Type 1} → statement M
 figure-spec =

@@ -1,7 +1,7 @@
 -- `trial_calls::spot_figure` meets its contract: each number is found by its place.
 -- Assumes nothing.
 use native.Mathlib.Omega.{arith}
-use Rattle.problem.specs.Problem.{pricedOf}
+use Rattle.problem.specs.ObjectProblem.{pricedOf}
 use Rattle.trial_calls.proofs.CallLaws.{not-refused-spot, no-spot-figure, spot-x, spot-y, spot-cost}
 use borrow.Author.Needs.{needs}
 use Rattle.trial_calls.proofs.spot_figure.Statement.{statement}

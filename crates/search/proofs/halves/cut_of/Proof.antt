@@ -2,7 +2,7 @@
 -- Assumes nothing.
 use mathlib.Core.Path.{ap, _∙_}
 use Rattle.cuts.specs.CutRecord.{cutRecord}
-use Rattle.problem.specs.Problem.{rectIn}
+use Rattle.problem.specs.ObjectProblem.{rectIn}
 use Rattle.problem.proofs.Coordinates.{edges-x, edges-y, rect-back}
 use Rattle.search.proofs.halves.cut_of.Statement.{statement}
 use Rattle.search.proofs.halves.cut_of.Tie as tie

@@ -5,11 +5,11 @@ use mathlib.Core.Path.{_≡_, sym, ap, subst, _∙_}
 use borrow.Author.Needs.{needs}
 use denote.Ref.{now}
 use Rattle.query.specs.Place.{Rect}
-use Rattle.pricing.specs.Columns.{siteRows}
-use Rattle.deck.specs.Sites.{Site}
+use Rattle.pricing.specs.Columns.{objectRows}
+use Rattle.deck.specs.Objects.{Object}
 use Rattle.cuts.specs.declared.Cut.{Cut}
 use Rattle.search.specs.Run.{cornerCosts, cellFor, lowCorner, highCorner, firstRect, secondRect, halvesOf, CutInRange}
-use Rattle.problem.specs.Problem.{spotOf, rectIn, Ranged}
+use Rattle.problem.specs.ObjectProblem.{spotOf, rectIn, Ranged}
 use Rattle.search.proofs.CutParts.{cut-range, first-range, second-range, first-rect-is, second-rect-is, first-costs-is, second-costs-is, halves-are}
 use Rattle.search.proofs.halves.halve.Statement.{statement}
 use Rattle.search.proofs.halves.halve.Tie as tie
@@ -29,29 +29,29 @@ module _ (c : tie.After-cell-before) where
   abbrev cutter : tie.After-cut-of
   cutter = c .before .before .before .before .before
 
-  abbrev sites : List Site
-  sites = siteRows (now (cols .args .xs)) (now (cols .args .ys)) (now (cols .args .visits)) (now (cols .args .near)) (cols .args .n)
+  abbrev objects : List Object
+  objects = objectRows (now (cols .args .xs)) (now (cols .args .ys)) (now (cols .args .visits)) (now (cols .args .near)) (cols .args .n)
 
   abbrev cell : Rect
   cell = rectIn (cols .args .c)
 
-  low-is : c .before .before .before .before .low-corner .result ≡ spotOf sites (lowCorner (cut .across) (cut .at) cell)
+  low-is : c .before .before .before .before .low-corner .result ≡ spotOf objects (lowCorner (cut .across) (cut .at) cell)
   low-is = c .before .before .before .before .low-corner .ensures
 
-  high-is : c .before .before .before .high-corner .result ≡ spotOf sites (highCorner (cut .across) (cut .at) cell)
+  high-is : c .before .before .before .high-corner .result ≡ spotOf objects (highCorner (cut .across) (cut .at) cell)
   high-is = c .before .before .before .high-corner .ensures
 
   first-rect : rectIn (c .cell-before .result) ≡ firstRect cell (highCorner (cut .across) (cut .at) cell)
-  first-rect = first-rect-is sites cell _ (cols .pre .2 .costs) cut _ _ low-is high-is _ (c .cell-before .ensures)
+  first-rect = first-rect-is objects cell _ (cols .pre .2 .costs) cut _ _ low-is high-is _ (c .cell-before .ensures)
 
-  first-k : c .before .before .costs-before .result ≡ cornerCosts sites (firstRect cell (highCorner (cut .across) (cut .at) cell))
-  first-k = first-costs-is sites cell _ (cols .pre .2 .costs) cut _ _ low-is high-is _ (c .before .before .costs-before .ensures)
+  first-k : c .before .before .costs-before .result ≡ cornerCosts objects (firstRect cell (highCorner (cut .across) (cut .at) cell))
+  first-k = first-costs-is objects cell _ (cols .pre .2 .costs) cut _ _ low-is high-is _ (c .before .before .costs-before .ensures)
 
-  second-k : c .before .costs-behind .result ≡ cornerCosts sites (secondRect cell (lowCorner (cut .across) (cut .at) cell))
-  second-k = second-costs-is sites cell _ (cols .pre .2 .costs) cut _ _ low-is high-is _ (c .before .costs-behind .ensures)
+  second-k : c .before .costs-behind .result ≡ cornerCosts objects (secondRect cell (lowCorner (cut .across) (cut .at) cell))
+  second-k = second-costs-is objects cell _ (cols .pre .2 .costs) cut _ _ low-is high-is _ (c .before .costs-behind .ensures)
 
 second-rect : (c : tie.After-cell-behind) → rectIn (c .cell-behind .result) ≡ secondRect (cell (c .before .before)) (lowCorner (cut (c .before .before) .across) (cut (c .before .before) .at) (cell (c .before .before)))
-second-rect c = let d = c .before .before in second-rect-is (sites d) (cell d) _ (cols d .pre .2 .costs) (cut d) _ _ (low-is d) (high-is d) _ (c .cell-behind .ensures)
+second-rect c = let d = c .before .before in second-rect-is (objects d) (cell d) _ (cols d .pre .2 .costs) (cut d) _ _ (low-is d) (high-is d) _ (c .cell-behind .ensures)
 
 cut-of-requires : tie.Need-cut-of-requires
 cut-of-requires c κs = (c .pre .1, c .pre .2 .ranged .range)
@@ -83,8 +83,8 @@ bounded-requires-2 c κs = let s = second-rect c in let d = c .before .before in
 returns : tie.Need-returns
 returns c =
     let d = c .before .before .before in
-    halves-are (sites d) (cell d) (cut d) _ _ _ _ _ _ (low-is d) (high-is d) (c .before .before .bounded .ensures ∙ ap (cellFor _) (first-rect d)) (first-k d) (c .bounded2 .ensures ∙ ap (cellFor _) (second-rect (c .before))) (second-k d)
-    ∙ ap (λ (x : Cut). halvesOf (sites d) x (cell d)) (cutter d .cut-of .ensures)
+    halves-are (objects d) (cell d) (cut d) _ _ _ _ _ _ (low-is d) (high-is d) (c .before .before .bounded .ensures ∙ ap (cellFor _) (first-rect d)) (first-k d) (c .bounded2 .ensures ∙ ap (cellFor _) (second-rect (c .before))) (second-k d)
+    ∙ ap (λ (x : Cut). halvesOf (objects d) x (cell d)) (cutter d .cut-of .ensures)
 
 pub halve-spec : {M : Type 1} → statement M
 halve-spec =

@@ -3,7 +3,7 @@
 use mathlib.Core.Path.{_≡_}
 use native.Mathlib.Omega.{arith}
 use Rattle.query.specs.Order.{better}
-use Rattle.problem.specs.Problem.{pricedOf}
+use Rattle.problem.specs.ObjectProblem.{pricedOf}
 use Rattle.search.proofs.StepLaws.{spot-better, improve-taken, improve-left}
 use Rattle.search.proofs.halves.improve.Statement.{statement}
 use Rattle.search.proofs.halves.improve.Tie as tie

@@ -1,6 +1,6 @@
 -- `search::halves::load_of` meets its contract: the cell's edges are in range, so that `load` sees them as they are.
 -- Assumes nothing.
-use Rattle.problem.specs.Problem.{rectIn}
+use Rattle.problem.specs.ObjectProblem.{rectIn}
 use Rattle.search.proofs.StepLaws.{load-narrow}
 use Rattle.problem.proofs.Coordinates.{near-narrow, edges-narrow}
 use Rattle.search.proofs.halves.load_of.Statement.{statement}

@@ -1,6 +1,6 @@
 -- `search::run::corners` meets its contract: each corner is in range, and is priced.
 -- Assumes nothing.
-use Rattle.problem.specs.Problem.{rectIn}
+use Rattle.problem.specs.ObjectProblem.{rectIn}
 use Rattle.search.proofs.StepLaws.{corner-costs}
 use Rattle.problem.proofs.Coordinates.{near-places}
 use Rattle.search.proofs.run.corners.Statement.{statement}

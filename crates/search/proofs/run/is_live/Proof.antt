@@ -6,7 +6,7 @@ use lib.IntN.{pos}
 use Rattle.query.specs.Order.{precedes, cellKey, pricedKey}
 use Rattle.cuts.proofs.CutRecordLaws.{cutRecord-found}
 use Rattle.cuts.specs.declared.Cut.{Cut}
-use Rattle.problem.specs.Problem.{pricedOf}
+use Rattle.problem.specs.ObjectProblem.{pricedOf}
 use Rattle.slots.specs.Slot.{queryCell}
 use Rattle.cells.proofs.Keys.{cell-precedes}
 use Rattle.search.proofs.LiveLaws.{live-behind, live-cut}

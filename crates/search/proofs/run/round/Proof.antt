@@ -4,10 +4,10 @@ use Prim.Native.Nat.{_≤_}
 use native.Mathlib.Omega.{arith}
 use denote.Ref.{now}
 use Rattle.query.specs.Range.{RectInRange, costLimit}
-use Rattle.pricing.specs.Columns.{siteRows}
+use Rattle.pricing.specs.Columns.{objectRows}
 use Rattle.lines.specs.LineRecord.{gridOf}
 use Rattle.search.specs.Run.{Cutting}
-use Rattle.problem.specs.Problem.{rectIn}
+use Rattle.problem.specs.ObjectProblem.{rectIn}
 use Rattle.cells.proofs.SpaceLaws.{rest-in-order}
 use Rattle.cells.proofs.Trims.{trimmed-in-order}
 use Rattle.search.proofs.LiveLaws.{added-in-order}
@@ -16,7 +16,7 @@ use Rattle.search.proofs.run.round.Statement.{statement}
 use Rattle.search.proofs.run.round.Tie as tie
 
 -- what is known of the cell, of its parts, and of the best place
-whole : (c : tie.After-costs-at) → let a = c .before .before .before .before .before .before .args in Cutting (siteRows (now (a .xs)) (now (a .ys)) (now (a .visits)) (now (a .near)) (a .n)) (gridOf (now (a .v)) (a .nv) (now (a .h)) (a .nh)) (c .before .before .before .cell-at .result) (c .costs-at .result)
+whole : (c : tie.After-costs-at) → let a = c .before .before .before .before .before .before .args in Cutting (objectRows (now (a .xs)) (now (a .ys)) (now (a .visits)) (now (a .near)) (a .n)) (gridOf (now (a .v)) (a .nv) (now (a .h)) (a .nh)) (c .before .before .before .cell-at .result) (c .costs-at .result)
 whole c = let s = c .before .before .before .before .before .before in cutting _ _ _ _ (s .args .st) (s .pre .2) _ _ (c .before .before .before .cell-at .ensures) (c .costs-at .ensures)
 
 limits : (c : tie.After-halve) → (c .halve .result .low .cost ≤ costLimit) × (c .halve .result .high .cost ≤ costLimit)

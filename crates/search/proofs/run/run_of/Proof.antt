@@ -4,17 +4,17 @@ use Prim.Native.Nat.{_-_, _≤_}
 use native.Mathlib.Omega.{arith}
 use denote.Ref.{now}
 use Rattle.query.specs.Search.{run}
-use Rattle.pricing.specs.Columns.{siteRows}
+use Rattle.pricing.specs.Columns.{objectRows}
 use Rattle.lines.specs.LineRecord.{gridOf}
 use Rattle.slots.specs.Numbering.{cellsIn, costsIn, Numbered}
 use Rattle.search.specs.Run.{searchOf, Holds}
-use Rattle.problem.specs.Problem.{siteRules, siteProblem, rectIn}
+use Rattle.problem.specs.ObjectProblem.{objectRules, objectProblem, rectIn}
 use Rattle.search.proofs.RunLaws.{roundsFrom, holds-first, holds-more, holds-run, ended, finished, takeable}
 use Rattle.search.proofs.run.run_of.Statement.{statement}
 use Rattle.search.proofs.run.run_of.Tie as tie
 
 abbrev Inv-loop : tie.InvT-loop
-Inv-loop xs ys visits near n v nv h nh s₀ t₀ o₀ rounds st₀ k₀ s t o st k = (k ≤ rounds) × Holds (siteRows xs ys visits near n) (roundsFrom (siteRules (siteRows xs ys visits near n) (gridOf v nv h nh)) k (searchOf (cellsIn s₀ o₀) (costsIn t₀ o₀) st₀)) (1000 - k) (cellsIn s o) (costsIn t o) st × Numbered o
+Inv-loop xs ys visits near n v nv h nh s₀ t₀ o₀ rounds st₀ k₀ s t o st k = (k ≤ rounds) × Holds (objectRows xs ys visits near n) (roundsFrom (objectRules (objectRows xs ys visits near n) (gridOf v nv h nh)) k (searchOf (cellsIn s₀ o₀) (costsIn t₀ o₀) st₀)) (1000 - k) (cellsIn s o) (costsIn t o) st × Numbered o
 
 abbrev μ-loop : tie.MeasureT-loop
 μ-loop xs ys visits near n v nv h nh s₀ t₀ o₀ rounds st₀ k₀ s t o st k = rounds - k
@@ -22,8 +22,8 @@ abbrev μ-loop : tie.MeasureT-loop
 -- the run that a turn has come to
 held : (c : tie.At-loop Inv-loop μ-loop) →
     let a = c .before .before .before .before .before .args in
-    Holds (siteRows (now (a .xs)) (now (a .ys)) (now (a .visits)) (now (a .near)) (a .n)) (run (siteProblem (siteRows (now (a .xs)) (now (a .ys)) (now (a .visits)) (now (a .near)) (a .n)) (gridOf (now (a .v)) (a .nv) (now (a .h)) (a .nh)) (rectIn (a .area))) (c .loop .k)) (1000 - c .loop .k) (cellsIn (c .loop .s) (c .loop .o)) (costsIn (c .loop .t) (c .loop .o)) (c .loop .st)
-held c = holds-run _ (siteProblem _ _ (rectIn (c .before .before .before .before .before .args .area))) _ _ _ _ _ _ (c .before .start .ensures .0 .is) (c .loop .inv .1)
+    Holds (objectRows (now (a .xs)) (now (a .ys)) (now (a .visits)) (now (a .near)) (a .n)) (run (objectProblem (objectRows (now (a .xs)) (now (a .ys)) (now (a .visits)) (now (a .near)) (a .n)) (gridOf (now (a .v)) (a .nv) (now (a .h)) (a .nh)) (rectIn (a .area))) (c .loop .k)) (1000 - c .loop .k) (cellsIn (c .loop .s) (c .loop .o)) (costsIn (c .loop .t) (c .loop .o)) (c .loop .st)
+held c = holds-run _ (objectProblem _ _ (rectIn (c .before .before .before .before .before .args .area))) _ _ _ _ _ _ (c .before .start .ensures .0 .is) (c .loop .inv .1)
 
 start-requires : tie.Need-start-requires Inv-loop μ-loop
 start-requires c κs = let p = c .before .before .before .pre in (p .0, p .1, p .2, p .5)

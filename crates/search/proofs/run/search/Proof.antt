@@ -5,9 +5,9 @@ use native.Mathlib.Omega.{arith}
 use borrow.Author.Needs.{needs}
 use Rattle.slots.specs.Numbering.{Numbered}
 use Rattle.slots.proofs.NumberingLaws.{slots-numbered}
-use Rattle.problem.specs.Problem.{rectIn}
+use Rattle.problem.specs.ObjectProblem.{rectIn}
 use Rattle.search.proofs.DeckRun.{coded-steady, searched}
-use Rattle.problem.proofs.DeckProblem.{columns-range, sites-count, deck-sited, area-ranged, reaching, deck-lined}
+use Rattle.problem.proofs.DeckProblem.{columns-range, objects-count, deck-priceable, area-ranged, reaching, deck-lined}
 use Rattle.search.proofs.RunLaws.{cell-count, answerable}
 use Rattle.search.proofs.run.search.Statement.{statement}
 use Rattle.search.proofs.run.search.Tie as tie
@@ -16,7 +16,7 @@ area-of-requires : tie.Need-area-of-requires
 area-of-requires c κs = search needs
 
 flags-of-requires : tie.Need-flags-of-requires
-flags-of-requires c κs = let s = c .before in (columns-range _ _ (s .pre .prepared), sites-count _ _ (s .pre .prepared), area-ranged _ _ (s .pre .prepared) (c .area-of .result) (ap rectIn (c .area-of .ensures)))
+flags-of-requires c κs = let s = c .before in (columns-range _ _ (s .pre .prepared), objects-count _ _ (s .pre .prepared), area-ranged _ _ (s .pre .prepared) (c .area-of .result) (ap rectIn (c .area-of .ensures)))
 
 vertical-requires : tie.Need-vertical-requires
 vertical-requires c κs = reaching _ _ (c .before .before .pre .prepared) (c .before .area-of .result) (ap rectIn (c .before .area-of .ensures)) _ (c .flags-of .ensures)
@@ -31,7 +31,7 @@ run-of-requires : tie.Need-run-of-requires
 run-of-requires c κs =
     let s = c .before .before .before .before .before .before .before .before .before .before .before .before .before .before .before .before .before .before in
     let area = c .before .before .before .before .before .before .before .before .before .before .before .before .before .before .before .before .before .area-of in
-    (deck-sited _ _ (s .pre .prepared), deck-lined _ _ (s .pre .prepared) (area .result) (ap rectIn (area .ensures)) _ _ (c .before .before .before .before .before .before .before .before .before .before .before .before .before .before .before .vertical .ensures) (c .before .before .before .before .before .before .before .before .before .before .before .before .before .before .horizontal .ensures), area-ranged _ _ (s .pre .prepared) (area .result) (ap rectIn (area .ensures)), s .pre .rounds-limit, coded-steady _ _ (s .pre .prepared) (area .result) (ap rectIn (area .ensures)) _ _ (c .before .before .before .before .before .before .before .before .before .before .before .before .before .before .before .vertical .ensures) (c .before .before .before .before .before .before .before .before .before .before .before .before .before .before .horizontal .ensures), subst Numbered (sym (c .before .before .before .before .before .before .before .before .before .before .before .before .number .ensures)) slots-numbered)
+    (deck-priceable _ _ (s .pre .prepared), deck-lined _ _ (s .pre .prepared) (area .result) (ap rectIn (area .ensures)) _ _ (c .before .before .before .before .before .before .before .before .before .before .before .before .before .before .before .vertical .ensures) (c .before .before .before .before .before .before .before .before .before .before .before .before .before .before .horizontal .ensures), area-ranged _ _ (s .pre .prepared) (area .result) (ap rectIn (area .ensures)), s .pre .rounds-limit, coded-steady _ _ (s .pre .prepared) (area .result) (ap rectIn (area .ensures)) _ _ (c .before .before .before .before .before .before .before .before .before .before .before .before .before .before .before .vertical .ensures) (c .before .before .before .before .before .before .before .before .before .before .before .before .before .before .horizontal .ensures), subst Numbered (sym (c .before .before .before .before .before .before .before .before .before .before .before .before .number .ensures)) slots-numbered)
 
 write-out-requires : tie.Need-write-out-requires
 write-out-requires c κs =

@@ -12,9 +12,9 @@ use Rattle.numbers.proofs.Distance.{dist-most}
 use Rattle.query.specs.Place.{Rect}
 use Rattle.query.specs.Range.{RectInRange, costLimit}
 use Rattle.numbers.proofs.WordTests.{back-is}
-use Rattle.deck.specs.Sites.{Site}
-use Rattle.pricing.specs.Figures.{costOf, loadOf}
-use Rattle.pricing.specs.Columns.{siteRows, Figure}
+use Rattle.deck.specs.Objects.{Object}
+use Rattle.pricing.specs.ObjectFigures.{costOf, loadOf}
+use Rattle.pricing.specs.Columns.{objectRows, Figure}
 use Rattle.cuts.specs.CutRecord.{rectOf}
 use Rattle.problem.proofs.Coordinates.{rect-back, near-places}
 use Rattle.problem.proofs.DeckProblem.{boundOf-is}
@@ -31,8 +31,8 @@ rect c = rectOf (c .args .xlo) (c .args .ylo) (c .args .xhi) (c .args .yhi)
 range : (c : tie.Start) → RectInRange (rect c)
 range c = rect-range (rect c) .0 (c .pre .1) .range
 
-abbrev sites : tie.Start → List Site
-sites c = siteRows (now (c .args .xs)) (now (c .args .ys)) (now (c .args .visits)) (now (c .args .near)) (c .args .n)
+abbrev objects : tie.Start → List Object
+objects c = objectRows (now (c .args .xs)) (now (c .args .ys)) (now (c .args .visits)) (now (c .args .near)) (c .args .n)
 
 -- the sides
 width : (c : tie.After-abs-diff2) → c .before .abs-diff .result ≡ dist (c .before .before .before .before .before .before .before .args .xlo) (c .before .before .before .before .before .before .before .args .xhi)
@@ -45,16 +45,16 @@ short : (c : tie.After-abs-diff2) → c .before .abs-diff .result + c .abs-diff2
 short c = let s = c .before .before .before .before .before .before .before in omega (arith, width c, height c, dist-most 20000 (s .args .xlo) (s .args .xhi) (range s .low-corner .x-range) (range s .high-corner .x-range), dist-most 20000 (s .args .ylo) (s .args .yhi) (range s .low-corner .y-range) (range s .high-corner .y-range))
 
 -- the corners
-corner-00 : (c : tie.After-abs-diff2) → Figure (costOf (sites (c .before .before .before .before .before .before .before)) (record { x = c .before .before .before .before .before .before .before .args .xlo; y = c .before .before .before .before .before .before .before .args .ylo })) costLimit (c .before .before .before .before .before .before .priced .result .cost)
+corner-00 : (c : tie.After-abs-diff2) → Figure (costOf (objects (c .before .before .before .before .before .before .before)) (record { x = c .before .before .before .before .before .before .before .args .xlo; y = c .before .before .before .before .before .before .before .args .ylo })) costLimit (c .before .before .before .before .before .before .priced .result .cost)
 corner-00 c = let s = c .before .before .before .before .before .before .before in priced-figure (s .pre .0) (s .args .xlo) (s .args .ylo) (range s .low-corner .x-range) (range s .low-corner .y-range) (c .before .before .before .before .before .before .priced .ensures)
 
-corner-01 : (c : tie.After-abs-diff2) → Figure (costOf (sites (c .before .before .before .before .before .before .before)) (record { x = c .before .before .before .before .before .before .before .args .xlo; y = c .before .before .before .before .before .before .before .args .yhi })) costLimit (c .before .before .before .before .before .priced2 .result .cost)
+corner-01 : (c : tie.After-abs-diff2) → Figure (costOf (objects (c .before .before .before .before .before .before .before)) (record { x = c .before .before .before .before .before .before .before .args .xlo; y = c .before .before .before .before .before .before .before .args .yhi })) costLimit (c .before .before .before .before .before .priced2 .result .cost)
 corner-01 c = let s = c .before .before .before .before .before .before .before in priced-figure (s .pre .0) (s .args .xlo) (s .args .yhi) (range s .low-corner .x-range) (range s .high-corner .y-range) (c .before .before .before .before .before .priced2 .ensures)
 
-corner-10 : (c : tie.After-abs-diff2) → Figure (costOf (sites (c .before .before .before .before .before .before .before)) (record { x = c .before .before .before .before .before .before .before .args .xhi; y = c .before .before .before .before .before .before .before .args .ylo })) costLimit (c .before .before .before .before .priced3 .result .cost)
+corner-10 : (c : tie.After-abs-diff2) → Figure (costOf (objects (c .before .before .before .before .before .before .before)) (record { x = c .before .before .before .before .before .before .before .args .xhi; y = c .before .before .before .before .before .before .before .args .ylo })) costLimit (c .before .before .before .before .priced3 .result .cost)
 corner-10 c = let s = c .before .before .before .before .before .before .before in priced-figure (s .pre .0) (s .args .xhi) (s .args .ylo) (range s .high-corner .x-range) (range s .low-corner .y-range) (c .before .before .before .before .priced3 .ensures)
 
-corner-11 : (c : tie.After-abs-diff2) → Figure (costOf (sites (c .before .before .before .before .before .before .before)) (record { x = c .before .before .before .before .before .before .before .args .xhi; y = c .before .before .before .before .before .before .before .args .yhi })) costLimit (c .before .before .before .priced4 .result .cost)
+corner-11 : (c : tie.After-abs-diff2) → Figure (costOf (objects (c .before .before .before .before .before .before .before)) (record { x = c .before .before .before .before .before .before .before .args .xhi; y = c .before .before .before .before .before .before .before .args .yhi })) costLimit (c .before .before .before .priced4 .result .cost)
 corner-11 c = let s = c .before .before .before .before .before .before .before in priced-figure (s .pre .0) (s .args .xhi) (s .args .yhi) (range s .high-corner .x-range) (range s .high-corner .y-range) (c .before .before .before .priced4 .ensures)
 
 priced-requires : tie.Need-priced-requires
@@ -87,9 +87,9 @@ bound-requires c κs = record { corner-00 = corner-00 c .within; corner-01 = cor
 returns : tie.Need-returns
 returns c =
     let s = c .before .before .before .before .before .before .before .before in
-    let load : c .before .before .before .load-in .result ≡ loadOf (sites s) (rect s) = rw (rect-back (rect s) (range s)) at (c .before .before .before .load-in .ensures .is) in
+    let load : c .before .before .before .load-in .result ≡ loadOf (objects s) (rect s) = rw (rect-back (rect s) (range s)) at (c .before .before .before .load-in .ensures .is) in
     toZ-ofZ w64 _ (record { sfits = c .bound .ok }) ∙ c .bound .ensures
-    ∙ rw (corner-00 (c .before) .is, corner-01 (c .before) .is, corner-10 (c .before) .is, corner-11 (c .before) .is, load, width (c .before), height (c .before), boundOf-is (sites s) (rect s), plain-span (rect s))
+    ∙ rw (corner-00 (c .before) .is, corner-01 (c .before) .is, corner-10 (c .before) .is, corner-11 (c .before) .is, load, width (c .before), height (c .before), boundOf-is (objects s) (rect s), plain-span (rect s))
 
 pub bound-in-spec : {M : Type 1} → statement M
 bound-in-spec = tie.close (tie.spec priced-requires priced-requires-2 priced-requires-3 priced-requires-4 load-in-requires abs-diff-requires abs-diff-requires-2 add-bound bound-requires returns)

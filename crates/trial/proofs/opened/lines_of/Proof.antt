@@ -2,8 +2,8 @@
 -- Assumes nothing.
 use mathlib.Core.Path.{ap, _∙_}
 use borrow.Author.Needs.{needs}
-use Rattle.problem.specs.Problem.{rectIn}
-use Rattle.problem.proofs.DeckProblem.{columns-range, sites-count, area-ranged, reaching}
+use Rattle.problem.specs.ObjectProblem.{rectIn}
+use Rattle.problem.proofs.DeckProblem.{columns-range, objects-count, area-ranged, reaching}
 use Rattle.trial.proofs.opened.lines_of.Statement.{statement}
 use Rattle.trial.proofs.opened.lines_of.Tie as tie
 
@@ -11,7 +11,7 @@ area-of-requires : tie.Need-area-of-requires
 area-of-requires c κs = search needs
 
 flags-of-requires : tie.Need-flags-of-requires
-flags-of-requires c κs = let h = c .before .before .before .pre in (columns-range _ _ h, sites-count _ _ h, area-ranged _ _ h (c .area-of .result) (ap rectIn (c .area-of .ensures)))
+flags-of-requires c κs = let h = c .before .before .before .pre in (columns-range _ _ h, objects-count _ _ h, area-ranged _ _ h (c .area-of .result) (ap rectIn (c .area-of .ensures)))
 
 vertical-requires : tie.Need-vertical-requires
 vertical-requires c κs = let a = c .before .before in reaching _ _ (a .before .before .before .pre) (a .area-of .result) (ap rectIn (a .area-of .ensures)) _ (c .before .flags-of .ensures)

@@ -2,7 +2,7 @@
 -- Assumes nothing.
 use Rattle.query.specs.Place.{Rect}
 use Rattle.cuts.specs.CutRecord.{rectOf}
-use Rattle.problem.specs.Problem.{Ranged}
+use Rattle.problem.specs.ObjectProblem.{Ranged}
 use Rattle.problem.proofs.Coordinates.{near-narrow, rect-narrow, edges-narrow}
 use Rattle.trial.proofs.RectLaws.{rect-range}
 use Rattle.trial.proofs.opened.load_in.Statement.{statement}

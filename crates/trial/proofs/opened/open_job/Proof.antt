@@ -1,9 +1,9 @@
--- `trial::opened::open_job` meets its contract: the deck that was read is in range, so that its sites can be found.
+-- `trial::opened::open_job` meets its contract: the deck that was read is in range, so that its objects can be found.
 -- Assumes nothing.
 use borrow.Author.Needs.{needs}
-use Rattle.job.proofs.ReadDeck.{read-accepted, read-refused, sites-ask}
+use Rattle.job.proofs.ReadDeck.{read-accepted, read-refused, objects-ask}
 use Rattle.trial.proofs.OpenLaws.{opened-accepted, opened-refused}
-use Rattle.deck.specs.Record.{sitesRecord}
+use Rattle.deck.specs.ObjectColumns.{objectsRecord}
 use Rattle.trial.proofs.opened.open_job.Statement.{statement}
 use Rattle.trial.proofs.opened.open_job.Tie as tie
 
@@ -14,7 +14,7 @@ enum-told : tie.Need-enum-told
 enum-told c = search needs
 
 of-deck-requires : tie.Need-of-deck-requires
-of-deck-requires c κs = sites-ask (read-accepted _ _ (c .before .before .before .read .ensures) _ (c .enum-told .given .1)) _ (c .before .before .before .read .ensures)
+of-deck-requires c κs = objects-ask (read-accepted _ _ (c .before .before .before .read .ensures) _ (c .enum-told .given .1)) _ (c .before .before .before .read .ensures)
 
 enum-told-2 : tie.Need-enum-told-2
 enum-told-2 c = search needs
@@ -23,7 +23,7 @@ returns : tie.Need-returns
 returns c = opened-accepted (read-accepted _ _ (c .before .before .before .before .read .ensures) _ (c .before .enum-told .given .1)) _ (c .before .before .before .before .read .ensures) _ (c .of-deck .ensures)
 
 returns-2 : tie.Need-returns-2
-unfolding sitesRecord
+unfolding objectsRecord
 returns-2 c = opened-refused _ _ _ (c .before .before .before .read .ensures) (read-refused _ _ (c .before .before .before .read .ensures) _ (c .enum-told2 .given .1))
 
 pub open-job-spec : {M : Type 1} → statement M

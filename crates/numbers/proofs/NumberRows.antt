@@ -1,12 +1,12 @@
--- The rows of `specs/Rows.antt`, by computation.
+-- The rows of `specs/NumberRows.antt`, by computation.
 use mathlib.Core.Path.{refl}
 use Rattle.numbers.specs.Integer.{between, strictlyBetween, clamp}
 use Rattle.numbers.specs.Lists.{leastBy, insertBy, insertOnce}
-use Rattle.numbers.specs.Rows.{Rows}
+use Rattle.numbers.specs.NumberRows.{NumberRows}
 
-pub rows : Rows
+pub number-rows : NumberRows
 unfolding between strictlyBetween clamp leastBy insertBy insertOnce
-rows = record {
+number-rows = record {
   between-low-edge = refl;
   between-high-edge = refl;
   strictly-low-edge = refl;

@@ -1,4 +1,4 @@
--- Rows of the definitions of this crate, each chosen so that a rule told wrongly gives another value; `proofs/Rows.antt` proves them.
+-- Rows of the definitions of this crate, each chosen so that a rule told wrongly gives another value; `proofs/NumberRows.antt` proves them.
 -- Assumes nothing.
 use Prim.Native.Nat.{ℕ}
 use mathlib.Core.Path.{_≡_}
@@ -20,7 +20,7 @@ labelled number label = record { number = number; label = label }
 abbrev pub smaller : Labelled → Labelled → Bool
 smaller p q = ltb (p .number) (q .number)
 
-pub record Rows : Type 0 where
+pub record NumberRows : Type 0 where
   pub between-low-edge : between (negsuc 1) (pos 8) (negsuc 1) ≡ true
   pub between-high-edge : between (negsuc 1) (pos 8) (pos 8) ≡ true
   pub strictly-low-edge : strictlyBetween (negsuc 1) (pos 8) (negsuc 1) ≡ false

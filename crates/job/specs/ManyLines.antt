@@ -10,7 +10,7 @@ use Rattle.job_line.specs.OneLine.{Reading, fault, got, Reader, line}
 use Rattle.job.specs.Reader.{_>>=_, _>>_, return, repeated, end}
 use Rattle.job_line.specs.Reading.{areaNumbers, countAnswer, answerIn, Within}
 use Rattle.job.specs.Format.{countOf, postOf, stopOf, jobOf, checked}
-use Rattle.job.specs.Record.{jobRecord}
+use Rattle.job.specs.JobRecord.{jobRecord}
 use Rattle.numbers.specs.Padded.{padded}
 use Rattle.job_line.specs.declared.Area.{Area}
 use Rattle.job.specs.declared.Job.{Job}

@@ -1,4 +1,4 @@
--- The problem of document 01 as the code holds it: sites, lines, and places with their costs.
+-- The problem of document 01 as the code holds it: objects, lines, and places with their costs.
 -- Assumes nothing.
 use Prim.Native.Nat.{ℕ, _+_, _*_, _≤_, max}
 use mathlib.Core.Path.{_≡_}
@@ -14,39 +14,39 @@ use Rattle.query.specs.Order.{Priced}
 use Rattle.query.specs.Range.{RectInRange, InRange, costLimit}
 use Rattle.deck.specs.declared.Deck.{Deck}
 use Rattle.deck.specs.DeckOf.{deckOf}
-use Rattle.deck.specs.Sites.{Site, sitesOf}
-use Rattle.deck.specs.Record.{sitesRecord}
-use Rattle.deck.specs.declared.Sites.{Sites}
-use Rattle.pricing.specs.Figures.{costOf, loadOf, flagsOf}
-use Rattle.pricing.specs.Columns.{siteRows, ColumnsInRange}
+use Rattle.deck.specs.Objects.{Object, objectsOf}
+use Rattle.deck.specs.ObjectColumns.{objectsRecord}
+use Rattle.deck.specs.declared.Objects.{Objects}
+use Rattle.pricing.specs.ObjectFigures.{costOf, loadOf, flagsOf}
+use Rattle.pricing.specs.Columns.{objectRows, ColumnsInRange}
 use Rattle.lines.specs.LineRecord as Lines
 use Rattle.slots.specs.declared.Cell.{Cell}
 use Rattle.slots.specs.Slot.{queryCell}
 use Rattle.problem.specs.declared.Spot.{Spot}
 
 -- the bound of a cell
-unfoldable pub boundOf : List Site → Rect → ℤ
+unfoldable pub boundOf : List Object → Rect → ℤ
 unfolding costOf loadOf span halfUp
-boundOf sites r = halfUp (pos (max (costOf sites (record { x = r .xlo; y = r .ylo }) + costOf sites (record { x = r .xhi; y = r .yhi })) (costOf sites (record { x = r .xlo; y = r .yhi }) + costOf sites (record { x = r .xhi; y = r .ylo }))) -ℤ pos (span plain r * loadOf sites r))
+boundOf objects r = halfUp (pos (max (costOf objects (record { x = r .xlo; y = r .ylo }) + costOf objects (record { x = r .xhi; y = r .yhi })) (costOf objects (record { x = r .xlo; y = r .yhi }) + costOf objects (record { x = r .xhi; y = r .ylo }))) -ℤ pos (span plain r * loadOf objects r))
 
--- what a round sees of some sites and lines
-abbrev pub siteRules : List Site → Grid → Rules
-siteRules sites G = record { grid = G; price = costOf sites; bound = boundOf sites }
+-- what a round sees of some objects and lines
+abbrev pub objectRules : List Object → Grid → Rules
+objectRules objects G = record { grid = G; price = costOf objects; bound = boundOf objects }
 
 -- the problem that they make of an area
-abbrev pub siteProblem : List Site → Grid → Rect → Problem
-siteProblem sites G area = record { area = area; rules = siteRules sites G }
+abbrev pub objectProblem : List Object → Grid → Rect → Problem
+objectProblem objects G area = record { area = area; rules = objectRules objects G }
 
--- columns of sites in range
-pub record Sited (xs ys : List ℤ) (vs ns : List ℕ) (n : ℕ) : Type 0 where
+-- columns of objects in range
+pub record Priceable (xs ys : List ℤ) (vs ns : List ℕ) (n : ℕ) : Type 0 where
   pub count : n ≤ 512
   pub range : ColumnsInRange xs ys vs ns
-  pub cost-limit : (p : Place) → costOf (siteRows xs ys vs ns n) p ≤ costLimit
+  pub cost-limit : (p : Place) → costOf (objectRows xs ys vs ns n) p ≤ costLimit
 
 -- arrays of lines in order
 pub record Lined (vertical : List ℤ) (nv : ℕ) (horizontal : List ℤ) (nh : ℕ) : Type 0 where
-  pub across : Lines.InOrder vertical nv
-  pub deep : Lines.InOrder horizontal nh
+  pub across : Lines.LinesInOrder vertical nv
+  pub deep : Lines.LinesInOrder horizontal nh
 
 -- ---- places and cells as the code holds them
 -- a place with a cost
@@ -56,8 +56,8 @@ spotAt x y cost = record { x = x; y = y; cost = cost }
 abbrev pub pricedOf : Spot → Priced
 pricedOf p = record { at = record { x = p .x; y = p .y }; cost = p .cost }
 
-abbrev pub spotOf : List Site → Place → Spot
-spotOf sites p = record { x = p .x; y = p .y; cost = costOf sites p }
+abbrev pub spotOf : List Object → Place → Spot
+spotOf objects p = record { x = p .x; y = p .y; cost = costOf objects p }
 
 abbrev pub rectIn : Cell → Rect
 rectIn c = queryCell c .rect
@@ -81,11 +81,11 @@ pub record Reaching (deck : Deck) (area : Cell) (flags : List ℕ) : Type 0 wher
   pub stops : deck .stops ≤ 512
   pub area-is : rectIn area ≡ deckOf deck .area
   pub ranged : RectInRange (rectIn area)
-  pub flags-are : flags ≡ flagsOf (sitesOf (deckOf deck)) (deckOf deck .area)
+  pub flags-are : flags ≡ flagsOf (objectsOf (deckOf deck)) (deckOf deck .area)
 
--- a deck in range, and its sites
-pub record Prepared (deck : Deck) (sites : Sites) : Type 0 where
-  pub sites-are : sites ≡ sitesRecord (sitesOf (deckOf deck))
+-- a deck in range, and its objects
+pub record Prepared (deck : Deck) (objects : Objects) : Type 0 where
+  pub objects-are : objects ≡ objectsRecord (objectsOf (deckOf deck))
   pub range : InRange (deckOf deck)
   pub full : NonEmpty (deckOf deck .area)
   pub posts : deck .posts ≤ 64

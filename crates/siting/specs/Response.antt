@@ -13,7 +13,7 @@ use Rattle.query.specs.Range.{InRange}
 use Rattle.deck.specs.declared.Deck.{Deck}
 use Rattle.refusal.specs.declared.Refusal.{Refusal}
 use Rattle.deck.specs.DeckOf.{deckOf}
-use Rattle.report.specs.Report.{figuresOf}
+use Rattle.report.specs.Report.{reportFigures}
 use Rattle.report.specs.Text.{reportText}
 use Rattle.write.specs.Written.{Overwrote}
 use Rattle.report.specs.declared.Report.{Report}
@@ -39,12 +39,12 @@ pub record Solvable (deck : Deck) (rounds lent : ℕ) : Type 0 where
 
 -- its report, and what the cell space then holds
 pub record Solved (deck : Deck) (rounds : ℕ) (before after : List ℤ) (r : Report) : Type 0 where
-  pub report : figuresOf r ≡ figures (deckOf deck) rounds
+  pub report : reportFigures r ≡ figures (deckOf deck) rounds
   pub cells : after ≡ space (deckOf deck) rounds (length before)
 
 -- the text that an answer writes
 abbrev pub textWritten : Answer → List ℕ
-textWritten (Answered.Report r) = reportText (figuresOf r)
+textWritten (Answered.Report r) = reportText (reportFigures r)
 textWritten (Answered.Refused why) = []
 
 abbrev pub refusedResponse : Refusal → Response

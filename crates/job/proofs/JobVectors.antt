@@ -1,10 +1,10 @@
--- The rows of specs/Vectors.antt, by computation.
+-- The rows of specs/JobVectors.antt, by computation.
 -- Assumes nothing.
 use mathlib.Core.Path.{refl}
 use Rattle.text.specs.Ascii.{bytes}
 use Rattle.job.specs.Format.{readJob}
-use Rattle.job.specs.Vectors.{Vectors}
+use Rattle.job.specs.JobVectors.{JobVectors}
 
-pub vectors : Vectors
+pub vectors : JobVectors
 unfolding readJob bytes
 vectors = record { case-A = refl; rounds-1000 = refl }
