@@ -11,7 +11,7 @@ use lib.IntN.{ℤ}
 use lib.ListN.{length}
 use lib.Signed.{_≤ℤ_}
 use Rattle.numbers.proofs.Truth.{test, cond-true, cond-false}
-use Rattle.query.specs.Figures.{Figures, figures}
+use Rattle.query.specs.Figures.{Figures}
 use Rattle.query.specs.Space.{space}
 use Rattle.query.specs.Demand3.{Demand3}
 use Rattle.query.proofs.Demand3 as Query
@@ -26,7 +26,7 @@ use Rattle.refusal.specs.declared.Refusal.{Refusal}
 use Rattle.refusal.specs.declared.Refusal.the-variants.{SmallSpace, ShortOutput}
 use Rattle.report.specs.Text.{reportText}
 use Rattle.report.proofs.Fits.{report-fits}
-use Rattle.calls.specs.Answers.{AnswerOf, gives, refuses, refusal}
+use Rattle.calls.specs.Answers.{gives, refuses, refusal}
 use Rattle.calls.specs.Call.{Left, turnedDown, jobFigures, reported, answered, reportCall}
 use Rattle.calls.specs.Demands.{Accepted, Applies, in-reading, small-space, short-output, Demand1, Reported, Demand2, oneMore, Demand3Report, Demands}
 use Rattle.calls.proofs.AnswerLaws.{same-number, same-line, same-refusal, same-given, not-refused}

@@ -54,7 +54,7 @@ module _ (job out : List ℕ) where
   turned-down : (why : Refusal) → reportCall job ownSpace out ≡ turnedDown why ownSpace out → entry job out ≡ record { result = negℤ (pos (numberOf why)); out = out }
   turned-down why e = entry-of ∙ ap returned e ∙ ap (λ (z : ℤ). record { result = z; out = out }) (refused-result why)
 
-  entry-refuses : (why : Refusal) → Condition why job → entry job out ≡ record { result = negℤ (pos (numberOf why)); out = out }
+  entry-refuses : (why : Refusal) → Condition job why → entry job out ≡ record { result = negℤ (pos (numberOf why)); out = out }
   entry-refuses why c = turned-down why (refuses-so job ownSpace out why (in-reading c))
 
   entry-short : (j : Job) → readJob job ≡ accepted j → length out < 128 → entry job out ≡ record { result = negℤ (pos 8); out = out }

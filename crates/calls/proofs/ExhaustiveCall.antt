@@ -14,7 +14,7 @@ use Rattle.refusal.specs.Refusal.{numberOf, lineOf}
 use Rattle.refusal.specs.declared.Refusal.{Refusal}
 use Rattle.job.specs.Format.{Job, Result, refused, accepted, readJob}
 use Rattle.job.proofs.Meaning.{refused-law}
-use Rattle.calls.specs.Answers.{AnswerOf, gives, refusal}
+use Rattle.calls.specs.Answers.{gives, refusal}
 use Rattle.calls.specs.Call.{jobFigures, reportCall}
 use Rattle.calls.specs.CheapestCall.{cheapestOf, exhaustiveCall}
 use Rattle.calls.specs.ExhaustiveCallLaw.{ExhaustiveCallLaw}

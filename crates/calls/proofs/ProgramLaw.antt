@@ -1,11 +1,11 @@
 -- What is promised of the program's text.
 -- Assumes nothing.
-use Prim.Native.Nat.{ℕ, _≤_, _<_, _^_}
+use Prim.Native.Nat.{ℕ, _<_, _^_}
 use mathlib.Core.Path.{_≡_, refl, sym, ap, _∙_}
 use mathlib.Core.List.{List}
 use mathlib.Core.Logic.{_≢_}
 use native.Mathlib.Omega.{arith}
-use lib.ListN.{length, replicate, length-replicate}
+use lib.ListN.{replicate, length-replicate}
 use Rattle.query.specs.Figures.{Figures}
 use Rattle.refusal.specs.Refusal.{numberOf, lineOf}
 use Rattle.refusal.specs.declared.Refusal.{Refusal}
@@ -15,7 +15,7 @@ use Rattle.job.proofs.Meaning.{refused-law}
 use Rattle.job.proofs.RefusalLaws.{condition-number}
 use Rattle.report.specs.Text.{reportText, refusalText}
 use Rattle.report.proofs.TextLaws.{report-no-refusal, refusal-number}
-use Rattle.calls.specs.Answers.{AnswerOf, gives, refuses, refusal}
+use Rattle.calls.specs.Answers.{gives, refuses, refusal}
 use Rattle.calls.specs.Call.{Left, jobFigures, reportCall, ownSpace}
 use Rattle.calls.specs.Program.{textOf, answerText}
 use Rattle.calls.specs.Demands.{in-reading}
@@ -42,7 +42,7 @@ module _ (job : List ℕ) where
   reported-text : (j : Job) → readJob job ≡ accepted j → answerText job ≡ reportText (jobFigures j)
   reported-text j e = text-of ∙ ap textOf (reports job ownSpace output j (own-accepted job output j e (omega (arith, length-replicate {A = ℕ} 128 0))) .answer) ∙ given-text (jobFigures j)
 
-  refusal-text : (why : Refusal) → Condition why job → answerText job ≡ refusalText (numberOf why) (lineOf why)
+  refusal-text : (why : Refusal) → Condition job why → answerText job ≡ refusalText (numberOf why) (lineOf why)
   refusal-text why c = text-of ∙ ap (λ (l : Left). textOf (l .answer)) (refuses-so job ownSpace output why (in-reading c)) ∙ refused-text (numberOf why) (lineOf why)
 
   -- no number above 6

@@ -31,7 +31,7 @@ pub record Accepted (job : List ℕ) (cells : List ℤ) (out : List ℕ) (j : Jo
 -- ---- demand 1
 -- document 01, "Turned down": a refusal applies to a job and to what is lent. 1 to 6 are those of reading; then 7, then 8
 pub data Applies (job : List ℕ) (cells : List ℤ) (out : List ℕ) : Refusal → Type 0 where
-  in-reading : {why : Refusal} → Condition why job → Applies job cells out why
+  in-reading : {why : Refusal} → Condition job why → Applies job cells out why
   small-space : (j : Job) → readJob job ≡ accepted j → length cells < 5 * (j .rounds + 1) → Applies job cells out SmallSpace
   short-output : (j : Job) → readJob job ≡ accepted j → 5 * (j .rounds + 1) ≤ length cells → length out < 128 → Applies job cells out ShortOutput
 
@@ -57,7 +57,7 @@ pub record Reported (job : List ℕ) (cells : List ℤ) (out : List ℕ) (j : Jo
 pub record Demand2 (job : List ℕ) (cells : List ℤ) (out : List ℕ) : Type 0 where
   -- "A job is read as exactly the deck that it spells, and bytes that spell none are refused at their first fault"
   pub read-exactly : (j : Job) → (readJob job ≡ accepted j) ↔ ((job ≡ spell j) × Allowed j)
-  pub fault-exactly : (why : Refusal) → (readJob job ≡ refused why) ↔ Condition why job
+  pub fault-exactly : (why : Refusal) → (readJob job ≡ refused why) ↔ Condition job why
   -- "The report's place, travel figures, bounds, state and round count are those that the published min-dist query, as document 01 lays
   -- it down, gives for this deck and this number of rounds"
   pub reported : (j : Job) → Accepted job cells out j → Reported job cells out j

@@ -18,7 +18,7 @@ use Rattle.calls.specs.CheapestCall.{exhaustiveCall}
 
 pub record ExhaustiveCallLaw (job : List ℕ) : Type 0 where
   -- "gives refusals 1 to 6 only": those of reading, each exactly under its condition, which 7 and 8 do not have here
-  pub refused-exactly : (why : Refusal) → (exhaustiveCall job ≡ refusal why) ↔ Condition why job
+  pub refused-exactly : (why : Refusal) → (exhaustiveCall job ≡ refusal why) ↔ Condition job why
   -- an accepted job gets the cheapest crossing, which is in the area, and every other point of the area is worse
   pub given : (j : Job) → readJob job ≡ accepted j → exhaustiveCall job ≡ gives (Query.exhaustive (problem (j .deck)))
   pub law : (j : Job) → readJob job ≡ accepted j → ExhaustiveLaw (j .deck)

@@ -20,15 +20,15 @@ use Rattle.query.specs.Range.{InRange}
 use Rattle.job_line.specs.OneLine.{Reading, fault, got}
 use Rattle.job.specs.Format.{Job, jobLines, Result, refused, accepted, emptyArea, checked, readingResult, readJob}
 use Rattle.job.specs.Spelling.{spell, Writable, Allowed}
-use Rattle.job.specs.Meaning.{AcceptedLaw, SpellingLaw, top, Spelled, Condition, RefusedLaw}
+use Rattle.job.specs.Meaning.{AcceptedLaw, SpellingLaw, top, Spelled, Condition, too-long, malformed, out-of-range, empty-area, no-posts, no-stops, RefusedLaw}
 use Rattle.refusal.specs.declared.Refusal.{Refusal}
-use Rattle.refusal.specs.declared.Refusal.the-variants.{TooLong, Malformed, OutOfRange, EmptyArea, NoPosts, NoStops, SmallSpace, ShortOutput}
+use Rattle.refusal.specs.declared.Refusal.the-variants.{Malformed, OutOfRange}
 use Rattle.job.proofs.JobLaws.{job-got, job-gets, ranged-area, ranged-posts, ranged-stops, most-posts, most-stops, spell-length}
 use Rattle.job.proofs.Faults.{Faults, allDue, job-faults, first-fault, malformed-faults, range-faults}
 
 -- what each result says of the bytes
 abbrev Says : Result → List ℕ → Type 0
-Says (refused why) bytes = Condition why bytes
+Says (refused why) bytes = Condition bytes why
 Says (accepted job) bytes = (length bytes ≤ 16384) × (bytes ≡ spell job) × Allowed job
 
 -- ---- the result is so
@@ -42,16 +42,16 @@ full-area r = (
 checked-says : (bytes : List ℕ) (job : Job) → length bytes ≤ 16384 → bytes ≡ spell job → Writable job → Says (checked job) bytes
 unfolding checked
 checked-says bytes job short e w =
-    cond-ind (λ (r : Result). Says r bytes) (emptyArea (job .deck .area)) (λ t. (short, spelled, t))
+    cond-ind (λ (r : Result). Says r bytes) (emptyArea (job .deck .area)) (λ t. empty-area short spelled t)
     (λ t. cond-ind (λ (r : Result). Says r bytes) (nonEmpty (job .deck .posts)) (λ p. cond-ind (λ (r : Result). Says r bytes) (nonEmpty (job .deck .stops)) (λ s. (short, e, record { writable = w; area-full = full-area (job .deck .area) .0 t; some-posts = nonEmpty-length (job .deck .posts) p; some-stops = nonEmpty-length (job .deck .stops) s }))
-    (λ s. (short, spelled, t, nonEmpty-iff (job .deck .posts) .0 p, empty-iff (job .deck .stops) .0 s))) (λ p. (short, spelled, t, empty-iff (job .deck .posts) .0 p)))
+    (λ s. no-stops short spelled t (nonEmpty-iff (job .deck .posts) .0 p) (empty-iff (job .deck .stops) .0 s))) (λ p. no-posts short spelled t (empty-iff (job .deck .posts) .0 p)))
   where
     spelled : Spelled bytes
     spelled = record { job = job; writable = w; spelled = e }
 
 read-says : (bytes : List ℕ) → Says (readJob bytes) bytes
 unfolding readJob flatten
-read-says bytes = cond-ind (λ (r : Result). Says r bytes) (ltb 16384 (length bytes)) (λ t. ltb→lt 16384 (length bytes) t) (λ t. go (nltb→le 16384 (length bytes) t) (jobLines 1 bytes) refl)
+read-says bytes = cond-ind (λ (r : Result). Says r bytes) (ltb 16384 (length bytes)) (λ t. too-long (ltb→lt 16384 (length bytes) t)) (λ t. go (nltb→le 16384 (length bytes) t) (jobLines 1 bytes) refl)
   where
     go : length bytes ≤ 16384 → (r : Reading Job) → jobLines 1 bytes ≡ r → Says (readingResult r) bytes
     go short (fault why) e = first-fault bytes short top refl refl (job-faults 1 bytes why .0 e)
@@ -68,16 +68,14 @@ read-fault bytes why short f = read-short bytes short ∙ ap readingResult (job-
 read-checked : (bytes : List ℕ) (job : Job) → length bytes ≤ 16384 → bytes ≡ spell job → Writable job → readJob bytes ≡ checked job
 read-checked bytes job short e w = read-short bytes short ∙ ap (λ (bs : List ℕ). readingResult (jobLines 1 bs)) e ∙ ap readingResult (job-gets 1 job w .1)
 
-condition-read : (bytes : List ℕ) (why : Refusal) → Condition why bytes → readJob bytes ≡ refused why
+condition-read : (bytes : List ℕ) (why : Refusal) → Condition bytes why → readJob bytes ≡ refused why
 unfolding readJob checked
-condition-read bytes TooLong c = cond-true (ltb 16384 (length bytes)) _ _ (lt→ltb 16384 (length bytes) c)
-condition-read bytes (Malformed n) c = read-fault bytes (Malformed n) (c .0) (malformed-faults bytes n (c .1))
-condition-read bytes (OutOfRange n) c = read-fault bytes (OutOfRange n) (c .0) (range-faults bytes n (c .1))
-condition-read bytes EmptyArea c = let s = c .1 in read-checked bytes (s .job) (c .0) (s .spelled) (s .writable) ∙ rw (holds (emptyArea (s .job .deck .area)) (c .2))
-condition-read bytes NoPosts c = let s = c .1 in read-checked bytes (s .job) (c .0) (s .spelled) (s .writable) ∙ rw (fails (emptyArea (s .job .deck .area)) (c .2), fails (nonEmpty (s .job .deck .posts)) (empty-iff (s .job .deck .posts) .1 (c .3)))
-condition-read bytes NoStops c = let s = c .1 in read-checked bytes (s .job) (c .0) (s .spelled) (s .writable) ∙ rw (fails (emptyArea (s .job .deck .area)) (c .2), holds (nonEmpty (s .job .deck .posts)) (nonEmpty-iff (s .job .deck .posts) .1 (c .3)), fails (nonEmpty (s .job .deck .stops)) (empty-iff (s .job .deck .stops) .1 (c .4)))
-condition-read bytes SmallSpace c = absurd c
-condition-read bytes ShortOutput c = absurd c
+condition-read bytes _ (too-long h) = cond-true (ltb 16384 (length bytes)) _ _ (lt→ltb 16384 (length bytes) h)
+condition-read bytes _ (malformed {n} short f) = read-fault bytes (Malformed n) short (malformed-faults bytes n f)
+condition-read bytes _ (out-of-range {n} short f) = read-fault bytes (OutOfRange n) short (range-faults bytes n f)
+condition-read bytes _ (empty-area short s t) = read-checked bytes (s .job) short (s .spelled) (s .writable) ∙ rw (holds (emptyArea (s .job .deck .area)) t)
+condition-read bytes _ (no-posts short s t p) = read-checked bytes (s .job) short (s .spelled) (s .writable) ∙ rw (fails (emptyArea (s .job .deck .area)) t, fails (nonEmpty (s .job .deck .posts)) (empty-iff (s .job .deck .posts) .1 p))
+condition-read bytes _ (no-stops short s t p q) = read-checked bytes (s .job) short (s .spelled) (s .writable) ∙ rw (fails (emptyArea (s .job .deck .area)) t, holds (nonEmpty (s .job .deck .posts)) (nonEmpty-iff (s .job .deck .posts) .1 p), fails (nonEmpty (s .job .deck .stops)) (empty-iff (s .job .deck .stops) .1 q))
 
 allowed-read : (bytes : List ℕ) (job : Job) → length bytes ≤ 16384 → bytes ≡ spell job → Allowed job → readJob bytes ≡ accepted job
 unfolding checked

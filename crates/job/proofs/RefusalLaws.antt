@@ -11,9 +11,8 @@ use Rattle.numbers.proofs.Joined.{flatten-snoc}
 use Rattle.job_line.specs.Lines.{Kind, area, posts, post, stops, stop, rounds, row, formOf}
 use Rattle.job.specs.Format.{refused, readJob}
 use Rattle.refusal.specs.Refusal.{numberOf, lineOf}
-use Rattle.job.specs.Meaning.{Good, top, one-more, FirstMalformed, no-form, too-much, Condition}
+use Rattle.job.specs.Meaning.{Good, top, one-more, FirstMalformed, no-form, too-much, Condition, too-long, malformed, out-of-range, empty-area, no-posts, no-stops}
 use Rattle.refusal.specs.declared.Refusal.{Refusal}
-use Rattle.refusal.specs.declared.Refusal.the-variants.{TooLong, Malformed, OutOfRange, EmptyArea, NoPosts, NoStops, SmallSpace, ShortOutput}
 use Rattle.job.proofs.Meaning.{refused-law}
 
 -- ---- the line: each line before it has a byte
@@ -47,26 +46,22 @@ malformed-most : (bytes : List ℕ) (n : ℕ) → length bytes ≤ 16384 → Fir
 malformed-most bytes n short (no-form lines rest k due good split number e) = line-number bytes lines rest short good split number
 malformed-most bytes n short (too-much lines rest good split number some-text) = line-number bytes lines rest short good split number
 
-pub condition-line : (bytes : List ℕ) (why : Refusal) → Condition why bytes → lineOf why ≤ 16385
-condition-line bytes TooLong c = omega arith
-condition-line bytes (Malformed n) c = malformed-most bytes n (c .0) (c .1)
-condition-line bytes (OutOfRange n) c = line-number bytes (c .1 .lines) (c .1 .rest) (c .0) (c .1 .before) (c .1 .split) (c .1 .number)
-condition-line bytes EmptyArea c = omega arith
-condition-line bytes NoPosts c = omega arith
-condition-line bytes NoStops c = omega arith
-condition-line bytes SmallSpace c = omega arith
-condition-line bytes ShortOutput c = omega arith
+pub condition-line : (bytes : List ℕ) (why : Refusal) → Condition bytes why → lineOf why ≤ 16385
+condition-line bytes _ (too-long h) = omega arith
+condition-line bytes _ (malformed {n} short f) = malformed-most bytes n short f
+condition-line bytes _ (out-of-range short f) = line-number bytes (f .lines) (f .rest) short (f .before) (f .split) (f .number)
+condition-line bytes _ (empty-area short s t) = omega arith
+condition-line bytes _ (no-posts short s t p) = omega arith
+condition-line bytes _ (no-stops short s t p q) = omega arith
 
 -- 1 to 6
-pub condition-number : (bytes : List ℕ) (why : Refusal) → Condition why bytes → numberOf why ≤ 6
-condition-number bytes TooLong c = omega arith
-condition-number bytes (Malformed n) c = omega arith
-condition-number bytes (OutOfRange n) c = omega arith
-condition-number bytes EmptyArea c = omega arith
-condition-number bytes NoPosts c = omega arith
-condition-number bytes NoStops c = omega arith
-condition-number bytes SmallSpace c = absurd c
-condition-number bytes ShortOutput c = absurd c
+pub condition-number : (bytes : List ℕ) (why : Refusal) → Condition bytes why → numberOf why ≤ 6
+condition-number bytes _ (too-long h) = omega arith
+condition-number bytes _ (malformed short f) = omega arith
+condition-number bytes _ (out-of-range short f) = omega arith
+condition-number bytes _ (empty-area short s t) = omega arith
+condition-number bytes _ (no-posts short s t p) = omega arith
+condition-number bytes _ (no-stops short s t p q) = omega arith
 
 pub line-most : (bytes : List ℕ) (why : Refusal) → readJob bytes ≡ refused why → lineOf why ≤ 16385
 line-most bytes why e = condition-line bytes why (refused-law bytes why .exactly .0 e)

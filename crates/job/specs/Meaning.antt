@@ -13,7 +13,7 @@ use Rattle.job_line.specs.Lines.{Kind, area, posts, post, stops, stop, rounds, 
 use Rattle.job.specs.Format.{Job, countOf, refused, accepted, readJob, emptyArea}
 use Rattle.job.specs.Spelling.{spell, Writable, Allowed}
 use Rattle.refusal.specs.declared.Refusal.{Refusal}
-use Rattle.refusal.specs.declared.Refusal.the-variants.{TooLong, Malformed, OutOfRange, EmptyArea, NoPosts, NoStops, SmallSpace, ShortOutput}
+use Rattle.refusal.specs.declared.Refusal.the-variants.{TooLong, Malformed, OutOfRange, EmptyArea, NoPosts, NoStops}
 
 -- demand 2: "A job is read as exactly the deck that it spells"
 pub record AcceptedLaw (bytes : List ℕ) (job : Job) : Type 0 where
@@ -64,17 +64,15 @@ pub record Spelled (bytes : List ℕ) : Type 0 where
   pub writable : Writable job
   pub spelled : bytes ≡ spell job
 
--- document 01, "Turned down": the condition of each refusal that reading can give, in the stated order
-abbrev pub Condition : Refusal → List ℕ → Type 0
-Condition TooLong bytes = 16384 < length bytes
-Condition (Malformed n) bytes = (length bytes ≤ 16384) × FirstMalformed bytes n
-Condition (OutOfRange n) bytes = (length bytes ≤ 16384) × FirstOutOfRange bytes n
-Condition EmptyArea bytes = (length bytes ≤ 16384) × (s : Spelled bytes) × T (emptyArea (s .job .deck .area))
-Condition NoPosts bytes = (length bytes ≤ 16384) × (s : Spelled bytes) × T (not (emptyArea (s .job .deck .area))) × (s .job .deck .posts ≡ [])
-Condition NoStops bytes = (length bytes ≤ 16384) × (s : Spelled bytes) × T (not (emptyArea (s .job .deck .area))) × (s .job .deck .posts ≢ []) × (s .job .deck .stops ≡ [])
-Condition SmallSpace bytes = ⊥
-Condition ShortOutput bytes = ⊥
+-- document 01, "Turned down": the refusals that reading can give, each with its condition, in the stated order
+pub data Condition (bytes : List ℕ) : Refusal → Type 0 where
+  too-long : 16384 < length bytes → Condition bytes TooLong
+  malformed : {n : ℕ} → length bytes ≤ 16384 → FirstMalformed bytes n → Condition bytes (Malformed n)
+  out-of-range : {n : ℕ} → length bytes ≤ 16384 → FirstOutOfRange bytes n → Condition bytes (OutOfRange n)
+  empty-area : length bytes ≤ 16384 → (s : Spelled bytes) → T (emptyArea (s .job .deck .area)) → Condition bytes EmptyArea
+  no-posts : length bytes ≤ 16384 → (s : Spelled bytes) → T (not (emptyArea (s .job .deck .area))) → s .job .deck .posts ≡ [] → Condition bytes NoPosts
+  no-stops : length bytes ≤ 16384 → (s : Spelled bytes) → T (not (emptyArea (s .job .deck .area))) → s .job .deck .posts ≢ [] → s .job .deck .stops ≡ [] → Condition bytes NoStops
 
 -- demand 1 of the reader: "A number is used under its condition and under no other"
 pub record RefusedLaw (bytes : List ℕ) (why : Refusal) : Type 0 where
-  pub exactly : (readJob bytes ≡ refused why) ↔ Condition why bytes
+  pub exactly : (readJob bytes ≡ refused why) ↔ Condition bytes why

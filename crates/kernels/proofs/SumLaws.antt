@@ -45,7 +45,7 @@ use Rattle.trial.specs.declared.opened.Opened.{Opened}
 use Rattle.trial.proofs.OpenLaws.{open-refused, on-job}
 use Rattle.trial.proofs.RectLaws.{rect-range}
 use Rattle.trial.proofs.CutLaws.{found-cut}
-use Rattle.kernels.specs.Sums.{sumTo, side, spread, Spread, placeAt, rectAt, positive, costTurn, loadTurn, boundTurn, cutTurn, turn, kernelSum}
+use Rattle.kernels.specs.Sums.{sumTo, side, Spread, placeAt, rectAt, positive, costTurn, loadTurn, boundTurn, cutTurn, turn, kernelSum}
 
 -- ---- sums
 pub record Summed (f : ℕ → ℕ) (limit k sum t : ℕ) : Type 0 where

@@ -9,7 +9,7 @@ use lib.ListN.{length, getD, take, length-map}
 use Rattle.query.specs.Place.{Place, Rect}
 use Rattle.query.specs.Deck.{Stop, Deck, plain}
 use Rattle.query.specs.Cost.{cost, before}
-use Rattle.query.specs.Reach.{reach, load}
+use Rattle.query.specs.Reach.{load}
 use Rattle.query.specs.Range.{InRange}
 use Rattle.query.proofs.Ranges.{figure-limits}
 use Rattle.numbers.specs.Padded.{padded}

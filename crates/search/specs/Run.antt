@@ -22,7 +22,6 @@ use Rattle.deck.specs.declared.Deck.{Deck}
 use Rattle.deck.specs.DeckOf.{deckOf}
 use Rattle.deck.specs.Objects.{Object}
 use Rattle.pricing.specs.ObjectFigures.{costOf}
-use Rattle.lines.specs.LineRecord as Lines
 use Rattle.deck.specs.declared.Objects.{Objects}
 use Rattle.cuts.specs.declared.Cut.{Cut}
 use Rattle.slots.specs.declared.Cell.{Cell}

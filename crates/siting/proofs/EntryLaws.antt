@@ -2,22 +2,18 @@
 -- Assumes nothing.
 use Prim.Native.Nat.{ℕ, zero, suc, _≤_}
 use mathlib.Core.Path.{_≡_, refl, sym, ap, subst, _∙_}
-use mathlib.Core.List.{List, [], _++_}
-use mathlib.Core.Bool.{not}
+use mathlib.Core.List.{List, []}
 use native.Mathlib.Omega.{arith}
-use lib.Dec.{T}
 use mir.Syntax.{w64}
 use mir.Val.{SFits, toZ, ofZ}
 use mir.ValLaws.{toZ-ofZ, toZ-pos}
 use lib.IntN.{ℤ, pos, negℤ, _-ℤ_}
-use lib.ListN.{length, drop, replicate}
+use lib.ListN.{length, replicate}
 use Rattle.numbers.specs.Padded.{padded}
 use Rattle.numbers.proofs.Integer.{order, sub-nat}
 use Rattle.numbers.proofs.Words.{difference, difference-fits}
 use Rattle.refusal.proofs.Numbers.{number-most}
-use Rattle.query.specs.Figures.{figures}
 use Rattle.refusal.specs.Refusal.{numberOf, lineOf}
-use Rattle.job.specs.Format.{refused}
 use Rattle.refusal.specs.declared.Refusal.{Refusal}
 use Rattle.report.specs.Report.{reportFigures}
 use Rattle.report.specs.Text.{reportText, refusalText}

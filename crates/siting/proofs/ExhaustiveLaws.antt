@@ -3,12 +3,11 @@
 use Prim.Native.Nat.{ℕ}
 use mathlib.Core.Path.{_≡_, sym, ap, _∙_}
 use mathlib.Core.List.{List}
-use native.Mathlib.Omega.{arith}
 use Rattle.query.specs.Deck.{Deck}
 use Rattle.query.specs.Order.{Priced}
 use Rattle.query.specs.Problem.{problem}
 use Rattle.query.specs.Exhaustive as Query
-use Rattle.job.specs.Format.{Job, refused, accepted, readJob}
+use Rattle.job.specs.Format.{Job, readJob}
 use Rattle.job.specs.JobRecord.{jobRecord}
 use Rattle.job.specs.declared.Job as Held
 use Rattle.job.specs.declared.Outcome.the-variants.{Accepted, Refused}
