@@ -1,13 +1,14 @@
 -- Document 01, "Job and report" and "Turned down": what the call `report` answers, and what it leaves in the memory that it is lent.
 -- Assumes nothing.
-use Prim.Native.Nat.{ℕ, _+_, _*_}
+use Prim.Native.Nat.{ℕ}
 use mathlib.Core.Bool.{cond}
 use mathlib.Core.List.{List}
 use lib.Dec.{ltb}
 use lib.IntN.{ℤ, pos}
 use lib.ListN.{length, replicate}
 use Rattle.query.specs.Figures.{Figures, figures}
-use Rattle.query.specs.Space.{space}
+use Rattle.query.specs.Space.{space, spaceNeeded}
+use Rattle.query.specs.Range.{roundsLimit}
 use Rattle.job.specs.Format.{Job, Result, refused, accepted, readJob}
 use Rattle.refusal.specs.declared.Refusal.{Refusal}
 use Rattle.refusal.specs.declared.Refusal.the-variants.{SmallSpace, ShortOutput}
@@ -37,17 +38,21 @@ reported job cells out = record {
   out = overwritten (reportText (jobFigures job)) out;
 }
 
+-- 01 refusal 8, "128 bytes, which hold every report"
+abbrev pub outputSize : ℕ
+outputSize = 128
+
 -- 01 refusals 7 and 8, "all before any place is priced"
 unfoldable pub answered : Result → List ℤ → List ℕ → Left
 unfolding reported
 answered (refused why) cells out = turnedDown why cells out
-answered (accepted job) cells out = cond (ltb (length cells) (5 * (job .rounds + 1))) (turnedDown SmallSpace cells out) (cond (ltb (length out) 128) (turnedDown ShortOutput cells out) (reported job cells out))
+answered (accepted job) cells out = cond (ltb (length cells) (spaceNeeded (job .rounds))) (turnedDown SmallSpace cells out) (cond (ltb (length out) outputSize) (turnedDown ShortOutput cells out) (reported job cells out))
 
 -- the call: of a job's bytes and what is lent
 unfoldable pub reportCall : List ℕ → List ℤ → List ℕ → Left
 unfolding readJob answered
 reportCall job cells out = answered (readJob job) cells out
 
--- the cell space that the C entry and the program have of their own: 5 × 1,001 numbers, enough for every job
+-- the cell space that the C entry and the program have of their own, enough for every job: 5,005 numbers
 abbrev pub ownSpace : List ℤ
-ownSpace = replicate 5005 (pos 0)
+ownSpace = replicate (spaceNeeded roundsLimit) (pos 0)

@@ -1,7 +1,7 @@
 -- The customer's demands of the call `report`, over every job's bytes and all that is lent. A reviewer may start here.
 -- Theorems.antt states that they hold for all of them.
 -- Assumes nothing.
-use Prim.Native.Nat.{ℕ, suc, _+_, _*_, _≤_, _<_}
+use Prim.Native.Nat.{ℕ, suc, _≤_, _<_}
 use mathlib.Core.Path.{_≡_}
 use mathlib.Core.Logic.{_↔_}
 use mathlib.Core.List.{List}
@@ -9,7 +9,7 @@ use lib.IntN.{ℤ}
 use lib.ListN.{length}
 use lib.Signed.{_≤ℤ_}
 use Rattle.query.specs.Figures.{Figures, figures}
-use Rattle.query.specs.Space.{space}
+use Rattle.query.specs.Space.{space, spaceNeeded}
 use Rattle.query.specs.Demand3.{Demand3}
 use Rattle.refusal.specs.Refusal.{numberOf, lineOf}
 use Rattle.refusal.specs.declared.Refusal.{Refusal}
@@ -20,20 +20,21 @@ use Rattle.job.specs.Meaning.{Condition}
 use Rattle.write.specs.Written.{overwritten}
 use Rattle.report.specs.Text.{reportText}
 use Rattle.calls.specs.Answers.{gives, refuses, refusal}
-use Rattle.calls.specs.Call.{jobFigures, reportCall}
+use Rattle.calls.specs.Call.{jobFigures, outputSize, reportCall}
+use Rattle.query.specs.Range.{roundsLimit}
 
 -- 01 "A job is accepted if none of the refusals that its call can give applies to it and to what is lent": it is read as j, and enough is lent
 pub record Accepted (job : List ℕ) (cells : List ℤ) (out : List ℕ) (j : Job) : Type 0 where
   pub read : readJob job ≡ accepted j
-  pub space : 5 * (j .rounds + 1) ≤ length cells
-  pub output : 128 ≤ length out
+  pub space : spaceNeeded (j .rounds) ≤ length cells
+  pub output : outputSize ≤ length out
 
 -- ---- demand 1
 -- document 01, "Turned down": a refusal applies to a job and to what is lent. 1 to 6 are those of reading; then 7, then 8
 pub data Applies (job : List ℕ) (cells : List ℤ) (out : List ℕ) : Refusal → Type 0 where
   in-reading : {why : Refusal} → Condition job why → Applies job cells out why
-  small-space : (j : Job) → readJob job ≡ accepted j → length cells < 5 * (j .rounds + 1) → Applies job cells out SmallSpace
-  short-output : (j : Job) → readJob job ≡ accepted j → 5 * (j .rounds + 1) ≤ length cells → length out < 128 → Applies job cells out ShortOutput
+  small-space : (j : Job) → readJob job ≡ accepted j → length cells < spaceNeeded (j .rounds) → Applies job cells out SmallSpace
+  short-output : (j : Job) → readJob job ≡ accepted j → spaceNeeded (j .rounds) ≤ length cells → length out < outputSize → Applies job cells out ShortOutput
 
 -- "A job file, however garbled, short or long, gets a report or one of the eight numbered refusals .. A refusal changes neither the
 -- output nor the cell space"
@@ -51,7 +52,7 @@ pub record Demand1 (job : List ℕ) (cells : List ℤ) (out : List ℕ) : Type 0
 pub record Reported (job : List ℕ) (cells : List ℤ) (out : List ℕ) (j : Job) : Type 0 where
   pub answer : reportCall job cells out .answer ≡ gives (jobFigures j)
   pub text : reportCall job cells out .out ≡ overwritten (reportText (jobFigures j)) out
-  pub text-fits : length (reportText (jobFigures j)) ≤ 128
+  pub text-fits : length (reportText (jobFigures j)) ≤ outputSize
   pub cell-space : reportCall job cells out .cells ≡ space (j .deck) (j .rounds) (length cells)
 
 pub record Demand2 (job : List ℕ) (cells : List ℤ) (out : List ℕ) : Type 0 where
@@ -74,7 +75,7 @@ pub record Demand3Report (j : Job) (f : Figures) : Type 0 where
   pub one-more-low : (job : List ℕ) (cells : List ℤ) (out : List ℕ) (more : Figures) → Accepted job cells out (oneMore j) → reportCall job cells out .answer ≡ gives more → f .low ≤ℤ more .low
   pub one-more-high : (job : List ℕ) (cells : List ℤ) (out : List ℕ) (more : Figures) → Accepted job cells out (oneMore j) → reportCall job cells out .answer ≡ gives more → more .high ≤ f .high
   -- up to 1,000 rounds such a job exists: j's bytes but for the rounds number
-  pub one-more-read : j .rounds < 1000 → readJob (spell (oneMore j)) ≡ accepted (oneMore j)
+  pub one-more-read : j .rounds < roundsLimit → readJob (spell (oneMore j)) ≡ accepted (oneMore j)
   -- past 1,000 rounds, where no job exists, of what the rules give
   pub every-n : (n : ℕ) → Demand3 (j .deck) n (figures (j .deck) n)
 

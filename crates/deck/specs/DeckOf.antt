@@ -9,6 +9,7 @@ use Rattle.query.specs.Place.{Place}
 use Rattle.query.specs.Deck as Query
 use Rattle.query.specs.Deck.{Stop, plain}
 use Rattle.deck.specs.declared.Deck.{Deck}
+use Rattle.query.specs.Range.{postsLimit, stopsLimit}
 
 unfoldable pub places : List ℤ → List ℤ → List Place
 unfolding zipWith
@@ -37,12 +38,12 @@ deckRecord deck = record {
   xhi = deck .area .xhi;
   yhi = deck .area .yhi;
   posts = length (deck .posts);
-  «post_x» = padded 64 (pos 0) (map (λ p. p .x) (deck .posts));
-  «post_y» = padded 64 (pos 0) (map (λ p. p .y) (deck .posts));
+  «post_x» = padded postsLimit (pos 0) (map (λ p. p .x) (deck .posts));
+  «post_y» = padded postsLimit (pos 0) (map (λ p. p .y) (deck .posts));
   stops = length (deck .stops);
-  «stop_x» = padded 512 (pos 0) (map (λ s. s .at .x) (deck .stops));
-  «stop_y» = padded 512 (pos 0) (map (λ s. s .at .y) (deck .stops));
-  visits = padded 512 0 (map (λ s. s .visits) (deck .stops));
+  «stop_x» = padded stopsLimit (pos 0) (map (λ s. s .at .x) (deck .stops));
+  «stop_y» = padded stopsLimit (pos 0) (map (λ s. s .at .y) (deck .stops));
+  visits = padded stopsLimit 0 (map (λ s. s .visits) (deck .stops));
 }
 
 -- the deck whose record is all zeros

@@ -5,6 +5,7 @@ use mathlib.Core.Path.{_≡_}
 use mathlib.Core.List.{List}
 use lib.IntN.{ℤ, pos, natAbs}
 use lib.ListN.{length, getD}
+use Rattle.query.specs.Range.{stopsLimit, visitsLimit}
 
 pub record Near180000 (x y : ℤ) : Type 0 where
   pub x-range : natAbs x ≤ 180000
@@ -17,6 +18,6 @@ pub record CoordinatesInRange (size : ℕ) (xs : List ℤ) (n : ℕ) : Type 0 wh
   pub range : (i : ℕ) → i < n → natAbs (getD xs i (pos 0)) ≤ 180000
 
 pub record VisitsInRange (vs : List ℕ) (n : ℕ) : Type 0 where
-  pub count : n ≤ 512
-  pub long : length vs ≡ 512
-  pub range : (i : ℕ) → i < n → getD vs i 0 ≤ 65535
+  pub count : n ≤ stopsLimit
+  pub long : length vs ≡ stopsLimit
+  pub range : (i : ℕ) → i < n → getD vs i 0 ≤ visitsLimit

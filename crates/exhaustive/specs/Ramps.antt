@@ -8,7 +8,7 @@ use mathlib.Core.List.{List}
 use lib.IntN.{ℤ, pos, natAbs, _+ℤ_}
 use lib.ListN.{length, getD}
 use Rattle.numbers.specs.Integer.{dist}
-use Rattle.query.specs.Range.{costLimit}
+use Rattle.query.specs.Range.{costLimit, coordinateLimit}
 use Rattle.deck.specs.Objects.{Object}
 use Rattle.pricing.specs.ObjectFigures.{costOf, beforeOf}
 use Rattle.lines.specs.LineRecord.{LinesInOrder}
@@ -25,7 +25,7 @@ prefixSum xs (suc n) = prefixSum xs n + getD xs n 0
 -- lines in order and in range
 pub record LinesInRange (ls : List ℤ) (n : ℕ) : Type 0 where
   pub in-order : LinesInOrder ls n
-  pub range : (j : ℕ) → j < n → natAbs (getD ls j (pos 0)) ≤ 20000
+  pub range : (j : ℕ) → j < n → natAbs (getD ls j (pos 0)) ≤ coordinateLimit
 
 -- slots from `from` on that are before `to` hold j now, and those before `from` what they held
 pub record SlotsFilled (xs : List ℕ) (from to j : ℕ) (xs′ : List ℕ) : Type 0 where

@@ -77,7 +77,11 @@ abbrev pub readingResult : Reading Job → Result
 readingResult (fault why) = refused why
 readingResult (got job n bs) = checked job
 
--- 01 "more than 16,384 bytes"; "Order: 1; then line by line from the top ..; then 4 to 8"
+-- 01 refusal 1, "more than 16,384 bytes"
+abbrev pub sizeLimit : ℕ
+sizeLimit = 16384
+
+-- 01 "Order: 1; then line by line from the top ..; then 4 to 8"
 unfoldable pub readJob : List ℕ → Result
 unfolding jobLines checked
-readJob bytes = cond (ltb 16384 (length bytes)) (refused TooLong) (readingResult (jobLines 1 bytes))
+readJob bytes = cond (ltb sizeLimit (length bytes)) (refused TooLong) (readingResult (jobLines 1 bytes))

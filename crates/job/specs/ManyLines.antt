@@ -19,6 +19,7 @@ use Rattle.job.specs.declared.Next.{Next}
 use Rattle.job.specs.declared.Next.the-variants.{At, Refused}
 use Rattle.job.specs.declared.Posts.{Posts}
 use Rattle.job.specs.declared.Stops.{Stops}
+use Rattle.query.specs.Range.{postsLimit, stopsLimit}
 
 -- where reading goes on, in which line, and with what was read
 abbrev pub nextIn : {A : Type 0} → List ℕ → A → ℕ → Next → Reading A
@@ -32,14 +33,14 @@ postLines count = repeated count (line (row post)) []
 -- posts as the arrays hold them
 pub record PostsHold (r : Posts) (lines : List (List ℤ)) : Type 0 where
   pub count-is : r .count ≡ length lines
-  pub x-is : r .x ≡ padded 64 (pos 0) (map (λ l. postOf l .x) lines)
-  pub y-is : r .y ≡ padded 64 (pos 0) (map (λ l. postOf l .y) lines)
+  pub x-is : r .x ≡ padded postsLimit (pos 0) (map (λ l. postOf l .x) lines)
+  pub y-is : r .y ≡ padded postsLimit (pos 0) (map (λ l. postOf l .y) lines)
 
 -- what posts are read as from line n on: the arrays hold those read before the refusal, or all
 pub record PostsAt (s : List ℕ) (n : ℕ) (reading : Reading (List (List ℤ))) (r : Posts) : Type 0 where
   pub lines : List (List ℤ)
   pub hold : PostsHold r lines
-  pub few : r .count ≤ 64
+  pub few : r .count ≤ postsLimit
   pub is : nextIn s lines (n + r .count) (r .next) ≡ reading
 
 -- so many lines `stop=x,y,visits`
@@ -49,15 +50,15 @@ stopLines count = repeated count (line (row stop)) []
 -- stops as the arrays hold them
 pub record StopsHold (r : Stops) (lines : List (List ℤ)) : Type 0 where
   pub count-is : r .count ≡ length lines
-  pub x-is : r .x ≡ padded 512 (pos 0) (map (λ l. stopOf l .at .x) lines)
-  pub y-is : r .y ≡ padded 512 (pos 0) (map (λ l. stopOf l .at .y) lines)
-  pub visits-is : r .visits ≡ padded 512 0 (map (λ l. stopOf l .visits) lines)
+  pub x-is : r .x ≡ padded stopsLimit (pos 0) (map (λ l. stopOf l .at .x) lines)
+  pub y-is : r .y ≡ padded stopsLimit (pos 0) (map (λ l. stopOf l .at .y) lines)
+  pub visits-is : r .visits ≡ padded stopsLimit 0 (map (λ l. stopOf l .visits) lines)
 
 -- what stops are read as from line n on: the arrays hold those read before the refusal, or all
 pub record StopsAt (s : List ℕ) (n : ℕ) (reading : Reading (List (List ℤ))) (r : Stops) : Type 0 where
   pub lines : List (List ℤ)
   pub hold : StopsHold r lines
-  pub few : r .count ≤ 512
+  pub few : r .count ≤ stopsLimit
   pub is : nextIn s lines (n + r .count) (r .next) ≡ reading
 
 -- a line of a count, and the lines that it counts

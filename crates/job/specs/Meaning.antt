@@ -10,18 +10,18 @@ use lib.Dec.{T}
 use lib.IntN.{ℤ}
 use lib.ListN.{length, replicate}
 use Rattle.job_line.specs.Lines.{Kind, area, posts, post, stops, stop, rounds, row, formOf, inRanges}
-use Rattle.job.specs.Format.{Job, countOf, refused, accepted, readJob, emptyArea}
+use Rattle.job.specs.Format.{Job, countOf, sizeLimit, refused, accepted, readJob, emptyArea}
 use Rattle.job.specs.Spelling.{spell, Writable, Allowed}
 use Rattle.refusal.specs.declared.Refusal.{Refusal}
 use Rattle.refusal.specs.declared.Refusal.the-variants.{TooLong, Malformed, OutOfRange, EmptyArea, NoPosts, NoStops}
 
 -- demand 2: "A job is read as exactly the deck that it spells"
 pub record AcceptedLaw (bytes : List ℕ) (job : Job) : Type 0 where
-  pub exactly : (readJob bytes ≡ accepted job) ↔ ((length bytes ≤ 16384) × (bytes ≡ spell job) × Allowed job)
+  pub exactly : (readJob bytes ≡ accepted job) ↔ ((length bytes ≤ sizeLimit) × (bytes ≡ spell job) × Allowed job)
 
 -- no two allowed jobs are spelled alike, and every allowed job's spelling fits the size limit
 pub record SpellingLaw (job : Job) : Type 0 where
-  pub fits : Allowed job → length (spell job) ≤ 16384
+  pub fits : Allowed job → length (spell job) ≤ sizeLimit
   pub one-job : (other : Job) → Allowed job → Allowed other → spell job ≡ spell other → job ≡ other
 
 -- ---- refusals
@@ -66,12 +66,12 @@ pub record Spelled (bytes : List ℕ) : Type 0 where
 
 -- document 01, "Turned down": the refusals that reading can give, each with its condition, in the stated order
 pub data Condition (bytes : List ℕ) : Refusal → Type 0 where
-  too-long : 16384 < length bytes → Condition bytes TooLong
-  malformed : {n : ℕ} → length bytes ≤ 16384 → FirstMalformed bytes n → Condition bytes (Malformed n)
-  out-of-range : {n : ℕ} → length bytes ≤ 16384 → FirstOutOfRange bytes n → Condition bytes (OutOfRange n)
-  empty-area : length bytes ≤ 16384 → (s : Spelled bytes) → T (emptyArea (s .job .deck .area)) → Condition bytes EmptyArea
-  no-posts : length bytes ≤ 16384 → (s : Spelled bytes) → T (not (emptyArea (s .job .deck .area))) → s .job .deck .posts ≡ [] → Condition bytes NoPosts
-  no-stops : length bytes ≤ 16384 → (s : Spelled bytes) → T (not (emptyArea (s .job .deck .area))) → s .job .deck .posts ≢ [] → s .job .deck .stops ≡ [] → Condition bytes NoStops
+  too-long : sizeLimit < length bytes → Condition bytes TooLong
+  malformed : {n : ℕ} → length bytes ≤ sizeLimit → FirstMalformed bytes n → Condition bytes (Malformed n)
+  out-of-range : {n : ℕ} → length bytes ≤ sizeLimit → FirstOutOfRange bytes n → Condition bytes (OutOfRange n)
+  empty-area : length bytes ≤ sizeLimit → (s : Spelled bytes) → T (emptyArea (s .job .deck .area)) → Condition bytes EmptyArea
+  no-posts : length bytes ≤ sizeLimit → (s : Spelled bytes) → T (not (emptyArea (s .job .deck .area))) → s .job .deck .posts ≡ [] → Condition bytes NoPosts
+  no-stops : length bytes ≤ sizeLimit → (s : Spelled bytes) → T (not (emptyArea (s .job .deck .area))) → s .job .deck .posts ≢ [] → s .job .deck .stops ≡ [] → Condition bytes NoStops
 
 -- demand 1 of the reader: "A number is used under its condition and under no other"
 pub record RefusedLaw (bytes : List ℕ) (why : Refusal) : Type 0 where

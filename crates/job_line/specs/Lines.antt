@@ -3,8 +3,9 @@
 use Prim.Native.Nat.{ℕ}
 use mathlib.Core.Bool.{Bool, true, false, _&&_}
 use mathlib.Core.List.{List, [], _∷_}
-use lib.IntN.{ℤ, pos, negsuc}
+use lib.IntN.{ℤ, pos, negℤ}
 use Rattle.numbers.specs.Integer.{between}
+use Rattle.query.specs.Range.{coordinateLimit, postsLimit, stopsLimit, visitsLimit, roundsLimit}
 use Rattle.text.specs.Ascii.{bytes, comma, newline}
 use Rattle.job_line.specs.Form.{Form, _>>=_, _>>_, return, key, field}
 
@@ -20,11 +21,11 @@ pub record Range : Type 0 where
 
 -- 01 "Coordinates are .. −20,000 to 20,000"
 abbrev pub coordinates : Range
-coordinates = record { low = negsuc 19999; high = pos 20000 }
+coordinates = record { low = negℤ (pos coordinateLimit); high = pos coordinateLimit }
 
 -- 01 "each with 1 to 65,535 visits"
 abbrev pub visits : Range
-visits = record { low = pos 1; high = pos 65535 }
+visits = record { low = pos 1; high = pos visitsLimit }
 
 -- 01 "posts may be written 0 to 64 and stops 0 to 512"; "Rounds: 0 to 1,000"
 abbrev pub upTo : ℕ → Range
@@ -38,11 +39,11 @@ pub record Row : Type 0 where
 -- 01 `area=xlo,ylo,xhi,yhi`, `posts=n`, `post=x,y`, `stops=n`, `stop=x,y,visits`, `rounds=n`
 abbrev pub row : Kind → Row
 row area = record { key = bytes "area="; ranges = coordinates ∷ coordinates ∷ coordinates ∷ coordinates ∷ [] }
-row posts = record { key = bytes "posts="; ranges = upTo 64 ∷ [] }
+row posts = record { key = bytes "posts="; ranges = upTo postsLimit ∷ [] }
 row post = record { key = bytes "post="; ranges = coordinates ∷ coordinates ∷ [] }
-row stops = record { key = bytes "stops="; ranges = upTo 512 ∷ [] }
+row stops = record { key = bytes "stops="; ranges = upTo stopsLimit ∷ [] }
 row stop = record { key = bytes "stop="; ranges = coordinates ∷ coordinates ∷ visits ∷ [] }
-row rounds = record { key = bytes "rounds="; ranges = upTo 1000 ∷ [] }
+row rounds = record { key = bytes "rounds="; ranges = upTo roundsLimit ∷ [] }
 
 -- ---- a line by its row
 -- the byte that ends a number: a comma where others follow; 01 "each ended by byte 10" behind the last

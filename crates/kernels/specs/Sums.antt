@@ -19,6 +19,7 @@ use Rattle.deck.specs.Objects.{objectsOf}
 use Rattle.deck.specs.ObjectColumns.{objectsRecord}
 use Rattle.cuts.specs.CutRecord.{cutRecord}
 use Rattle.trial.specs.Trial.{onJob, minusOne, least}
+use Rattle.query.specs.Range.{coordinateLimit, stopsLimit}
 
 -- f 0 + .. + f (k - 1)
 unfoldable pub sumTo : (ℕ → ℕ) → ℕ → ℕ
@@ -34,14 +35,14 @@ spread t factor less = pos (side t factor) -ℤ pos less
 
 pub record Spread (t factor less : ℕ) (r : ℤ) : Type 0 where
   pub is : r ≡ spread t factor less
-  pub range : natAbs r ≤ 20000
+  pub range : natAbs r ≤ coordinateLimit
 
 -- the place and the rectangle of a turn
 abbrev pub placeAt : ℕ → Place
 placeAt t = record { x = spread t 7919 10000; y = spread t 6007 10000 }
 
 abbrev pub rectAt : ℕ → Rect
-rectAt t = record { xlo = spread t 7919 20000; ylo = spread t 6007 20000; xhi = spread t 4409 0; yhi = spread t 3001 0 }
+rectAt t = record { xlo = spread t 7919 coordinateLimit; ylo = spread t 6007 coordinateLimit; xhi = spread t 4409 0; yhi = spread t 3001 0 }
 
 abbrev pub positive : ℤ → ℕ
 positive z = cond (ltZ (pos 0) z) 1 0
@@ -62,7 +63,7 @@ cutTurn deck t = positive (cutRecord (grid deck) (rectAt t) .at)
 
 -- the near of stop t, over and over; 0 behind the last
 abbrev pub nearTurn : Deck → ℕ → ℕ
-nearTurn deck t = getD (objectsRecord (objectsOf deck) .near) (t % 512) 0
+nearTurn deck t = getD (objectsRecord (objectsOf deck) .near) (t % stopsLimit) 0
 
 -- the same by the kernel's number
 abbrev pub turn : Deck → ℕ → ℕ → ℕ

@@ -9,7 +9,7 @@ use lib.Signed.{ltZ, _≤ℤ_}
 use lib.ListN.{length, getD, take}
 use Rattle.numbers.specs.Integer.{dist}
 use Rattle.query.specs.Place.{Rect}
-use Rattle.query.specs.Range.{travelLimit, loadLimit, costLimit}
+use Rattle.query.specs.Range.{travelLimit, loadLimit, costLimit, stopsLimit, visitsLimit}
 use Rattle.deck.specs.Objects.{Object}
 use Rattle.deck.specs.declared.Objects.{Objects}
 use Rattle.deck.specs.Ranges.{Near180000}
@@ -29,13 +29,13 @@ objectRows xs ys vs ns n = take n (rows xs ys vs ns)
 
 -- columns of 512 numbers, and the range of these: coordinates up to 9 × 20,000, so that axis costs up to 9 can scale them
 pub record ColumnsInRange (xs ys : List ℤ) (vs ns : List ℕ) : Type 0 where
-  pub x-long : length xs ≡ 512
-  pub y-long : length ys ≡ 512
-  pub visits-long : length vs ≡ 512
-  pub near-long : length ns ≡ 512
+  pub x-long : length xs ≡ stopsLimit
+  pub y-long : length ys ≡ stopsLimit
+  pub visits-long : length vs ≡ stopsLimit
+  pub near-long : length ns ≡ stopsLimit
   pub x-range : (i : ℕ) → natAbs (getD xs i (pos 0)) ≤ 180000
   pub y-range : (i : ℕ) → natAbs (getD ys i (pos 0)) ≤ 180000
-  pub visits-range : (i : ℕ) → getD vs i 0 ≤ 65535
+  pub visits-range : (i : ℕ) → getD vs i 0 ≤ visitsLimit
   pub near-range : (i : ℕ) → getD ns i 0 ≤ 720000
 
 -- the rows that a record of objects counts, and its columns in range
@@ -47,16 +47,16 @@ InColumns r = ColumnsInRange (r .x) (r .y) (r .visits) (r .near)
 
 -- the two columns that `before` reads
 pub record PaidInRange (vs ns : List ℕ) : Type 0 where
-  pub visits-long : length vs ≡ 512
-  pub near-long : length ns ≡ 512
-  pub visits-range : (i : ℕ) → getD vs i 0 ≤ 65535
+  pub visits-long : length vs ≡ stopsLimit
+  pub near-long : length ns ≡ stopsLimit
+  pub visits-range : (i : ℕ) → getD vs i 0 ≤ visitsLimit
   pub near-range : (i : ℕ) → getD ns i 0 ≤ 720000
 
 -- the three columns that the test of reach reads
 pub record ReachInRange (xs ys : List ℤ) (ns : List ℕ) : Type 0 where
-  pub x-long : length xs ≡ 512
-  pub y-long : length ys ≡ 512
-  pub near-long : length ns ≡ 512
+  pub x-long : length xs ≡ stopsLimit
+  pub y-long : length ys ≡ stopsLimit
+  pub near-long : length ns ≡ stopsLimit
   pub x-range : (i : ℕ) → natAbs (getD xs i (pos 0)) ≤ 180000
   pub y-range : (i : ℕ) → natAbs (getD ys i (pos 0)) ≤ 180000
   pub near-range : (i : ℕ) → getD ns i 0 ≤ 720000
@@ -72,7 +72,7 @@ pub record EdgesInRange (xlo ylo xhi yhi : ℤ) : Type 0 where
 pub record ObjectInRange (x y : ℤ) (v n : ℕ) : Type 0 where
   pub x-range : natAbs x ≤ 180000
   pub y-range : natAbs y ≤ 180000
-  pub visits-range : v ≤ 65535
+  pub visits-range : v ≤ visitsLimit
   pub near-range : n ≤ 720000
 
 -- how far a lies above b
@@ -96,9 +96,9 @@ pub record Figure (figure limit r : ℕ) : Type 0 where
 
 -- r is `before` of the first n rows, wherever they lie
 pub record BeforeIs (vs ns : List ℕ) (n r : ℕ) : Type 0 where
-  pub is : (xs ys : List ℤ) → length xs ≡ 512 → length ys ≡ 512 → r ≡ beforeOf (objectRows xs ys vs ns n)
+  pub is : (xs ys : List ℤ) → length xs ≡ stopsLimit → length ys ≡ stopsLimit → r ≡ beforeOf (objectRows xs ys vs ns n)
   pub within : r ≤ costLimit
 
 -- r says which of the first n rows reach a rectangle, whatever their visits
 pub record FlagsAre (xs ys : List ℤ) (ns : List ℕ) (n : ℕ) (rect : Rect) (r : List ℕ) : Type 0 where
-  pub is : (vs : List ℕ) → length vs ≡ 512 → r ≡ flagsOf (objectRows xs ys vs ns n) rect
+  pub is : (vs : List ℕ) → length vs ≡ stopsLimit → r ≡ flagsOf (objectRows xs ys vs ns n) rect

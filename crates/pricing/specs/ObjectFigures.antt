@@ -12,6 +12,7 @@ use Rattle.query.specs.Travel.{travel}
 use Rattle.query.specs.Reach.{closestPoint}
 use Rattle.numbers.specs.Padded.{padded}
 use Rattle.deck.specs.Objects.{Object}
+use Rattle.query.specs.Range.{stopsLimit}
 
 unfoldable pub costOf : List Object → Place → ℕ
 unfolding sumOf travel
@@ -32,4 +33,4 @@ loadOf objects r = sumOf (λ s. s .visits) (keep (reaches r) objects)
 -- for each object of 512 at most 1 where it is within reach and 0 where it is not, and 0 behind the last
 unfoldable pub flagsOf : List Object → Rect → List ℕ
 unfolding reaches padded
-flagsOf objects r = padded 512 0 (map (λ s. cond (reaches r s) 1 0) objects)
+flagsOf objects r = padded stopsLimit 0 (map (λ s. cond (reaches r s) 1 0) objects)

@@ -11,7 +11,7 @@ use Rattle.query.specs.Bound.{span}
 use Rattle.query.specs.Grid.{Grid}
 use Rattle.query.specs.Problem.{Rules, Problem}
 use Rattle.query.specs.Order.{Priced}
-use Rattle.query.specs.Range.{RectInRange, InRange, costLimit}
+use Rattle.query.specs.Range.{RectInRange, InRange, costLimit, coordinateLimit, postsLimit, stopsLimit}
 use Rattle.deck.specs.declared.Deck.{Deck}
 use Rattle.deck.specs.DeckOf.{deckOf}
 use Rattle.deck.specs.Objects.{Object, objectsOf}
@@ -39,7 +39,7 @@ objectProblem objects G area = record { area = area; rules = objectRules objects
 
 -- columns of objects in range
 pub record Priceable (xs ys : List ℤ) (vs ns : List ℕ) (n : ℕ) : Type 0 where
-  pub count : n ≤ 512
+  pub count : n ≤ stopsLimit
   pub range : ColumnsInRange xs ys vs ns
   pub cost-limit : (p : Place) → costOf (objectRows xs ys vs ns n) p ≤ costLimit
 
@@ -68,8 +68,8 @@ unbounded r = record { xlo = r .xlo; ylo = r .ylo; xhi = r .xhi; yhi = r .yhi; b
 
 -- numbers and rectangles in range
 pub record Near20000 (x y : ℤ) : Type 0 where
-  pub x-range : natAbs x ≤ 20000
-  pub y-range : natAbs y ≤ 20000
+  pub x-range : natAbs x ≤ coordinateLimit
+  pub y-range : natAbs y ≤ coordinateLimit
 
 pub record Ranged (r : Rect) : Type 0 where
   pub range : RectInRange r
@@ -77,8 +77,8 @@ pub record Ranged (r : Rect) : Type 0 where
 
 -- what the lines of a deck ask: its area, and which of its stops reach it
 pub record Reaching (deck : Deck) (area : Cell) (flags : List ℕ) : Type 0 where
-  pub posts : deck .posts ≤ 64
-  pub stops : deck .stops ≤ 512
+  pub posts : deck .posts ≤ postsLimit
+  pub stops : deck .stops ≤ stopsLimit
   pub area-is : rectIn area ≡ deckOf deck .area
   pub ranged : RectInRange (rectIn area)
   pub flags-are : flags ≡ flagsOf (objectsOf (deckOf deck)) (deckOf deck .area)
@@ -88,5 +88,5 @@ pub record Prepared (deck : Deck) (objects : Objects) : Type 0 where
   pub objects-are : objects ≡ objectsRecord (objectsOf (deckOf deck))
   pub range : InRange (deckOf deck)
   pub full : NonEmpty (deckOf deck .area)
-  pub posts : deck .posts ≤ 64
-  pub stops : deck .stops ≤ 512
+  pub posts : deck .posts ≤ postsLimit
+  pub stops : deck .stops ≤ stopsLimit

@@ -1,6 +1,6 @@
 -- What a reader may hold the definitions to, in plain terms. QueryTheorems.antt states for which parameters each holds.
 -- Assumes nothing.
-use Prim.Native.Nat.{ℕ, suc, _+_, _*_, _≤_}
+use Prim.Native.Nat.{ℕ, suc, _+_, _≤_}
 use mathlib.Core.Path.{_≡_}
 use mathlib.Core.Bool.{not}
 use mathlib.Core.Logic.{_↔_}
@@ -23,7 +23,7 @@ use Rattle.query.specs.Problem.{Problem, problem}
 use Rattle.query.specs.Cut.{inside, canCut, side, offMiddle, cutLine}
 use Rattle.query.specs.Order.{Cell, better, cellBefore, CellsInOrder}
 use Rattle.query.specs.Search.{isLive, run}
-use Rattle.query.specs.Space.{allNumbers, space}
+use Rattle.query.specs.Space.{allNumbers, space, spaceNeeded}
 use Rattle.query.specs.Partition.{dead, partition}
 use Rattle.query.specs.History.{cellCut, cutsMade}
 
@@ -113,5 +113,5 @@ pub record PartitionLaw (P : Problem) (n : ℕ) : Type 0 where
 pub record SpaceLaw (deck : Deck) (n : ℕ) : Type 0 where
   pub in-order : CellsInOrder (run (problem deck) n .live)
   pub live-cells : length (run (problem deck) n .live) ≤ n + 1
-  pub numbers : length (allNumbers (run (problem deck) n .live)) ≤ 5 * (n + 1)
-  pub whole : (lent : ℕ) → 5 * (n + 1) ≤ lent → length (space deck n lent) ≡ lent
+  pub numbers : length (allNumbers (run (problem deck) n .live)) ≤ spaceNeeded n
+  pub whole : (lent : ℕ) → spaceNeeded n ≤ lent → length (space deck n lent) ≡ lent

@@ -15,32 +15,47 @@ use Rattle.query.specs.Order.{Cell}
 use Rattle.query.specs.Search.{run}
 use Rattle.query.specs.Figures.{Figures, figures}
 
--- 01 "Coordinates are .. −20,000 to 20,000"
+-- ---- the ranges
+-- 01 "Coordinates are .. −20,000 to 20,000"; "Posts: 1 to 64. Stops: 1 to 512, each with 1 to 65,535 visits"; "Rounds: 0 to 1,000"
+abbrev pub coordinateLimit : ℕ
+coordinateLimit = 20000
+
+abbrev pub postsLimit : ℕ
+postsLimit = 64
+
+abbrev pub stopsLimit : ℕ
+stopsLimit = 512
+
+abbrev pub visitsLimit : ℕ
+visitsLimit = 65535
+
+abbrev pub roundsLimit : ℕ
+roundsLimit = 1000
+
 pub record PlaceInRange (p : Place) : Type 0 where
-  pub x-range : natAbs (p .x) ≤ 20000
-  pub y-range : natAbs (p .y) ≤ 20000
+  pub x-range : natAbs (p .x) ≤ coordinateLimit
+  pub y-range : natAbs (p .y) ≤ coordinateLimit
 
 pub record RectInRange (r : Rect) : Type 0 where
   pub low-corner : PlaceInRange (corner r)
   pub high-corner : PlaceInRange (record { x = r .xhi; y = r .yhi })
 
--- 01 "each with 1 to 65,535 visits"
 pub record StopInRange (stop : Stop) : Type 0 where
   pub place : PlaceInRange (stop .at)
   pub some-visits : 1 ≤ stop .visits
-  pub most-visits : stop .visits ≤ 65535
+  pub most-visits : stop .visits ≤ visitsLimit
 
--- the ranges of document 01, with axis costs from 1 to 9
+-- the ranges of a deck, with axis costs from 1 to 9
 pub record InRange (deck : Deck) : Type 0 where
   pub axis-some : (1 ≤ deck .axis .a) × (1 ≤ deck .axis .b)
   pub axis-most : (deck .axis .a ≤ 9) × (deck .axis .b ≤ 9)
   pub area : RectInRange (deck .area)
   pub posts : (p : Place) → List·Memᴰ p (deck .posts) → PlaceInRange p
   pub some-posts : 1 ≤ length (deck .posts)
-  pub most-posts : length (deck .posts) ≤ 64
+  pub most-posts : length (deck .posts) ≤ postsLimit
   pub stops : (stop : Stop) → List·Memᴰ stop (deck .stops) → StopInRange stop
   pub some-stops : 1 ≤ length (deck .stops)
-  pub most-stops : length (deck .stops) ≤ 512
+  pub most-stops : length (deck .stops) ≤ stopsLimit
 
 -- the most that two places can be apart, that all stops can be visited, and that a place can cost
 abbrev pub travelLimit : ℕ

@@ -1,6 +1,6 @@
 -- Document 01, "Lines, cells and bounds": what the cell space holds at the end.
 -- Assumes nothing.
-use Prim.Native.Nat.{ℕ, _-_}
+use Prim.Native.Nat.{ℕ, _+_, _-_, _*_}
 use mathlib.Core.List.{List, [], _∷_, _++_, flatMap}
 use lib.IntN.{ℤ, pos}
 use lib.ListN.{length, replicate}
@@ -12,6 +12,10 @@ use Rattle.query.specs.Search.{run}
 -- 01 "each as xlo, ylo, xhi, yhi, bound"
 abbrev pub cellNumbers : Cell → List ℤ
 cellNumbers c = c .rect .xlo ∷ c .rect .ylo ∷ c .rect .xhi ∷ c .rect .yhi ∷ c .bound ∷ []
+
+-- 01 refusal 7, "5 × (rounds + 1) numbers"
+abbrev pub spaceNeeded : ℕ → ℕ
+spaceNeeded rounds = 5 * (rounds + 1)
 
 unfoldable pub allNumbers : List Cell → List ℤ
 unfolding flatMap

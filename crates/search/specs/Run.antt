@@ -1,6 +1,6 @@
 -- A search as the code runs it: its state, the search of document 01 that it holds, and what its steps do.
 -- Assumes nothing.
-use Prim.Native.Nat.{ℕ, _+_, _*_, _-_, _≤_, _<_}
+use Prim.Native.Nat.{ℕ, _+_, _-_, _≤_, _<_}
 use mathlib.Core.Path.{_≡_}
 use mathlib.Core.Bool.{Bool, true, false, cond}
 use mathlib.Core.List.{List, [], _∷_, map, List·Memᴰ}
@@ -16,8 +16,8 @@ use Rattle.query.specs.Order as Query
 use Rattle.query.specs.Order.{Priced, better}
 use Rattle.query.specs.Search.{Search, isLive, run}
 use Rattle.query.specs.Figures as Figures
-use Rattle.query.specs.Space.{space}
-use Rattle.query.specs.Range.{RectInRange, costLimit}
+use Rattle.query.specs.Space.{space, spaceNeeded}
+use Rattle.query.specs.Range.{RectInRange, costLimit, coordinateLimit, roundsLimit}
 use Rattle.deck.specs.declared.Deck.{Deck}
 use Rattle.deck.specs.DeckOf.{deckOf}
 use Rattle.deck.specs.Objects.{Object}
@@ -101,7 +101,7 @@ pub record Cutting (objects : List Object) (G : Grid) (c : Cell) (k : Costs) : T
 -- a cell whose edges and cut line are in range
 pub record CutInRange (c : Cell) (cut : Cut) : Type 0 where
   pub ranged : RectInRange (rectIn c)
-  pub at-range : natAbs (cut .at) ≤ 20000
+  pub at-range : natAbs (cut .at) ≤ coordinateLimit
 
 -- ---- the entries
 -- an entry more, if it is live
@@ -139,7 +139,7 @@ pub record Takeable (objects : List Object) (G : Grid) (s : List ℤ) (t : List 
   pub some : st .head < st .tail
   pub room : 1 ≤ st .head
   pub ends : st .tail ≤ 1001
-  pub few : st .cuts < 1000
+  pub few : st .cuts < roundsLimit
   pub cost-limit : st .best .cost ≤ costLimit
   pub ranged : Ranged (rectIn (cellAt s (st .head)))
   pub can-cut : (e : Entry) → List·Memᴰ e (entries s t (st .head) (st .tail - st .head)) → T (canCut G (entryCell e .rect))
@@ -178,8 +178,8 @@ foundOf s = record { done = isDone (s .live); x = s .best .at .x; y = s .best .a
 -- what a search asks: a deck and its objects, and room for the cells of so many rounds
 pub record Ready (deck : Deck) (objects : Objects) (rounds lent : ℕ) : Type 0 where
   pub prepared : Prepared deck objects
-  pub rounds-limit : rounds ≤ 1000
-  pub room : 5 * (rounds + 1) ≤ lent
+  pub rounds-limit : rounds ≤ roundsLimit
+  pub room : spaceNeeded rounds ≤ lent
 
 -- the answer, and what the cell space then holds
 pub record Searched (deck : Deck) (rounds : ℕ) (before after : List ℤ) (r : Found) : Type 0 where

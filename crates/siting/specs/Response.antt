@@ -1,6 +1,6 @@
 -- What the parts of the call answer and leave.
 -- Assumes nothing.
-use Prim.Native.Nat.{ℕ, _+_, _*_, _≤_}
+use Prim.Native.Nat.{ℕ, _≤_}
 use mathlib.Core.Path.{_≡_}
 use mathlib.Core.Bool.{Bool, cond}
 use mathlib.Core.List.{List, []}
@@ -8,8 +8,8 @@ use lib.IntN.{ℤ}
 use lib.ListN.{length}
 use Rattle.query.specs.Place.{NonEmpty}
 use Rattle.query.specs.Figures.{figures}
-use Rattle.query.specs.Space.{space}
-use Rattle.query.specs.Range.{InRange}
+use Rattle.query.specs.Space.{space, spaceNeeded}
+use Rattle.query.specs.Range.{InRange, postsLimit, roundsLimit, stopsLimit}
 use Rattle.deck.specs.declared.Deck.{Deck}
 use Rattle.refusal.specs.declared.Refusal.{Refusal}
 use Rattle.deck.specs.DeckOf.{deckOf}
@@ -32,10 +32,10 @@ stateFor isDone = cond isDone Done Stopped
 pub record Solvable (deck : Deck) (rounds lent : ℕ) : Type 0 where
   pub range : InRange (deckOf deck)
   pub full : NonEmpty (deckOf deck .area)
-  pub posts : deck .posts ≤ 64
-  pub stops : deck .stops ≤ 512
-  pub rounds-limit : rounds ≤ 1000
-  pub room : 5 * (rounds + 1) ≤ lent
+  pub posts : deck .posts ≤ postsLimit
+  pub stops : deck .stops ≤ stopsLimit
+  pub rounds-limit : rounds ≤ roundsLimit
+  pub room : spaceNeeded rounds ≤ lent
 
 -- its report, and what the cell space then holds
 pub record Solved (deck : Deck) (rounds : ℕ) (before after : List ℤ) (r : Report) : Type 0 where

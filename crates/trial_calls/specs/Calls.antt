@@ -7,7 +7,7 @@ use lib.IntN.{ℤ, pos, natAbs}
 use lib.ListN.{getD}
 use Rattle.query.specs.Order.{Priced}
 use Rattle.query.specs.Figures.{Figures, State, done, stopped}
-use Rattle.query.specs.Range.{costLimit}
+use Rattle.query.specs.Range.{costLimit, coordinateLimit}
 use Rattle.problem.specs.declared.Spot.{Spot}
 use Rattle.calls.specs.Answers.{AnswerOf, gives, refuses}
 use Rattle.calls.specs.Call.{Left}
@@ -41,8 +41,8 @@ figureFor which answer = getD (answerNumbers answer) which least
 
 -- ---- the call `exhaustive`
 pub record SpotInRange (s : Spot) : Type 0 where
-  pub x-range : natAbs (s .x) ≤ 20000
-  pub y-range : natAbs (s .y) ≤ 20000
+  pub x-range : natAbs (s .x) ≤ coordinateLimit
+  pub y-range : natAbs (s .y) ≤ coordinateLimit
   pub cost-limit : s .cost ≤ costLimit
 
 -- x, y and cost of the cheapest crossing, and 0 for the number and the line of a refusal
