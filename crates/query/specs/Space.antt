@@ -1,9 +1,9 @@
 -- Document 01, "Lines, cells and bounds": what the cell space holds at the end.
 -- Assumes nothing.
-use Prim.Native.Nat.{ℕ, _+_, _-_, _*_}
-use mathlib.Core.List.{List, [], _∷_, _++_, flatMap}
+use Prim.Native.Nat.{ℕ, _+_, _*_}
+use mathlib.Core.List.{List, [], _∷_, flatMap}
 use lib.IntN.{ℤ, pos}
-use lib.ListN.{length, replicate}
+use Rattle.numbers.specs.Padded.{padded}
 use Rattle.query.specs.Deck.{Deck}
 use Rattle.query.specs.Problem.{problem}
 use Rattle.query.specs.Order.{Cell}
@@ -21,11 +21,7 @@ unfoldable pub allNumbers : List Cell → List ℤ
 unfolding flatMap
 allNumbers cells = flatMap cellNumbers cells
 
--- 01 "every number beyond them is 0": of as many numbers as were lent
-unfoldable pub filled : ℕ → List ℤ → List ℤ
-filled lent numbers = numbers ++ replicate (lent - length numbers) (pos 0)
-
--- 01 "The cell space then holds the live cells by bound, then by (xlo, ylo)"
+-- 01 "The cell space then holds the live cells by bound, then by (xlo, ylo) ..; every number beyond them is 0": of as many as were lent
 unfoldable pub space : Deck → ℕ → ℕ → List ℤ
-unfolding allNumbers filled problem run
-space deck n lent = filled lent (allNumbers (run (problem deck) n .live))
+unfolding allNumbers padded problem run
+space deck n lent = padded lent (pos 0) (allNumbers (run (problem deck) n .live))

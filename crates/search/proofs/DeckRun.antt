@@ -4,7 +4,7 @@ use mathlib.Core.Path.{_≡_, sym, ap, subst, _∙_}
 use mathlib.Core.List.{List, []}
 use Prim.Native.Nat.{ℕ, _-_}
 use native.Mathlib.Omega.{arith}
-use lib.IntN.{ℤ}
+use lib.IntN.{ℤ, pos}
 use lib.ListN.{length, take, drop}
 use Rattle.query.specs.Place.{NonEmpty, x-axis, y-axis}
 use Rattle.query.specs.Deck as Query
@@ -12,7 +12,8 @@ use Rattle.query.specs.Lines.{lines}
 use Rattle.query.specs.Problem.{Problem, problem}
 use Rattle.query.specs.Order as Order
 use Rattle.query.specs.Search.{run}
-use Rattle.query.specs.Space.{allNumbers, filled, space}
+use Rattle.query.specs.Space.{allNumbers, space}
+use Rattle.numbers.specs.Padded.{padded}
 use Rattle.query.specs.Figures.{figures, figuresOf}
 use Rattle.query.specs.Range.{InRange}
 use Rattle.query.proofs.CutLaws.{cut-law}
@@ -55,12 +56,12 @@ module _ (deck : Deck) (objects : Objects) (prepared : Prepared deck objects) (a
   pub coded-steady : Steady coded
   coded-steady = subst Steady (sym deck-coded) (deck-steady (deckOf deck) (prepared .range) (prepared .full))
 
-  pub searched : (rounds : ℕ) (s : List ℤ) (o t : List ℕ) (st : Running) → Numbered o → Holds (rowsOf objects) (run coded rounds) 0 (cellsIn s o) t st → (before after : List ℤ) (r : Found) → r ≡ foundOf (searchOf (cellsIn s o) [] st) → after ≡ filled (length before) (cellsIn s (take (st .tail - st .head) (drop (st .head) o))) → Searched deck rounds before after r
+  pub searched : (rounds : ℕ) (s : List ℤ) (o t : List ℕ) (st : Running) → Numbered o → Holds (rowsOf objects) (run coded rounds) 0 (cellsIn s o) t st → (before after : List ℤ) (r : Found) → r ≡ foundOf (searchOf (cellsIn s o) [] st) → after ≡ padded (length before) (pos 0) (cellsIn s (take (st .tail - st .head) (drop (st .head) o))) → Searched deck rounds before after r
   unfolding space
   searched rounds s o t st numbered holds before after r found written = record {
     found = found ∙ ap foundOf (holds-any coded (rowsOf objects) rounds 0 (cellsIn s o) t st holds ∙ ap (λ (P : Problem). run P rounds) deck-coded);
     cells =
         written
-        ∙ ap (filled (length before)) (sym (order-numbers s o t (st .head) (st .tail - st .head) (omega (arith, numbered .long, holds .in-turn, holds .ends))))
-        ∙ ap (λ (l : List Order.Cell). filled (length before) (allNumbers l)) (cells-are coded (rowsOf objects) rounds 0 (cellsIn s o) t st holds ∙ ap (λ (P : Problem). run P rounds .live) deck-coded);
+        ∙ ap (padded (length before) (pos 0)) (sym (order-numbers s o t (st .head) (st .tail - st .head) (omega (arith, numbered .long, holds .in-turn, holds .ends))))
+        ∙ ap (λ (l : List Order.Cell). padded (length before) (pos 0) (allNumbers l)) (cells-are coded (rowsOf objects) rounds 0 (cellsIn s o) t st holds ∙ ap (λ (P : Problem). run P rounds .live) deck-coded);
   }
