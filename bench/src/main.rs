@@ -184,7 +184,7 @@ fn main() {
     let (xs, ys) = (deck.lines(&s, true), deck.lines(&s, false));
     println!("one deck: 64 posts, 512 stops, {} and {} lines; best of {REPETITIONS}, interleaved", xs.len(), ys.len());
     println!("{:<44} {:>10} {:>10} {:>7}", "ns a call", "proved", "twin", "ratio");
-    compare("near of 512 stops x 64 posts (sites)", &job, 400, Kernel::Near, |k| twin::near_many(&deck, k));
+    compare("near of 512 stops x 64 posts", &job, 400, Kernel::Near, |k| twin::near_many(&deck, k));
     compare("cost of a place, 512 stops", &job, 20_000, Kernel::Cost, |k| twin::cost_many(&s, k));
     compare("load of a rectangle, 512 stops", &job, 20_000, Kernel::Load, |k| twin::load_many(&s, k));
     compare("bound of a cell, 512 stops (4 costs, load)", &job, 5_000, Kernel::Bound, |k| twin::bound_many(&s, k, twin::bound));

@@ -17,7 +17,7 @@ use Rattle.query.specs.Deck as Query
 use Rattle.query.specs.Lines.{lines}
 use Rattle.query.specs.Problem.{problem}
 use Rattle.query.specs.Exhaustive.{exhaustive}
-use Rattle.query.specs.Range.{InRange, costLimit}
+use Rattle.query.specs.Range.{PlaceInRange, InRange, costLimit}
 use Rattle.query.proofs.KeyOrder.{not-earlier}
 use Rattle.query.proofs.LineLaws.{lines-law, lines-range}
 use Rattle.deck.specs.declared.Deck.{Deck}
@@ -32,7 +32,7 @@ use Rattle.lines.proofs.DeckLines.{deck-front, lines-in-order}
 use Rattle.pricing.proofs.RecordLaws.{paid-range}
 use Rattle.slots.specs.declared.Cell.{Cell}
 use Rattle.problem.specs.declared.Spot.{Spot}
-use Rattle.problem.specs.ObjectProblem.{Prepared, Priceable, pricedOf, spotOf, rectIn, Near20000, Ranged, Reaching}
+use Rattle.problem.specs.ObjectProblem.{Prepared, Priceable, pricedOf, spotOf, rectIn, Ranged, Reaching}
 use Rattle.numbers.proofs.WordTests.{back}
 use Rattle.problem.proofs.Coordinates.{near-places, spot-back}
 use Rattle.problem.proofs.DeckProblem.{columns-range, objects-count, deck-priceable, area-ranged, reaching, coded-is}
@@ -97,7 +97,7 @@ module _ (deck : Deck) (objects : Objects) (ready : Prepared deck objects) where
     pub reaches : (flags : List ℕ) → flags ≡ flagsOf (rowsOf objects) (rectIn area) → Reaching deck area flags
     reaches = reaching deck objects ready area area-is
 
-    pub corner-near : Near20000 (back (area .xlo)) (back (area .ylo))
+    pub corner-near : PlaceInRange (record { x = (back (area .xlo)); y = (back (area .ylo)) })
     corner-near = near-places (area .xlo) (area .ylo) (ranged .range .low-corner .x-range) (ranged .range .low-corner .y-range)
 
     pub answers : (v h : Lines) → v ≡ linesRecord (lines (deckOf deck) x-axis) → h ≡ linesRecord (lines (deckOf deck) y-axis) → (first r : Spot) → first ≡ spotOf (rowsOf objects) (record { x = back (area .xlo); y = back (area .ylo) }) → r ≡ firstCheapest (rowsOf objects) first (flatMap (along (take (h .count) (h .at))) (take (v .count) (v .at))) → pricedOf r ≡ exhaustive (problem (deckOf deck))

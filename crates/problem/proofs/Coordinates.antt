@@ -10,7 +10,7 @@ use mir.Val.{SFits}
 use mir.ValLaws.{toZ-ofZ}
 use Rattle.numbers.proofs.Words.{word-fits}
 use Rattle.query.specs.Place.{Rect}
-use Rattle.query.specs.Range.{RectInRange}
+use Rattle.query.specs.Range.{PlaceInRange, RectInRange}
 use Rattle.deck.specs.Objects.{Object}
 use Rattle.deck.specs.Ranges.{Near180000}
 use Rattle.pricing.specs.ObjectFigures.{costOf}
@@ -20,7 +20,7 @@ use Rattle.deck.proofs.WordLaws.{narrow-fits, narrowed}
 use Rattle.deck.proofs.TravelLaws.{narrow, narrow-place}
 use Rattle.numbers.proofs.WordTests.{back}
 use Rattle.problem.specs.declared.Spot.{Spot}
-use Rattle.problem.specs.ObjectProblem.{spotOf, Near20000, Ranged}
+use Rattle.problem.specs.ObjectProblem.{spotOf, Ranged}
 
 -- ---- coordinates as words
 pub near-back : (z : ℤ) → natAbs z ≤ 20000 → back z ≡ z
@@ -47,14 +47,14 @@ edges-narrow r h =
     (record { low = record { x-range = omega (arith, h .range .low-corner .x-range); y-range = omega (arith, h .range .low-corner .y-range) }; high = record { x-range = omega (arith, h .range .high-corner .x-range); y-range = omega (arith, h .range .high-corner .y-range) }; across = h .full .across; deep = h .full .deep })
 
 -- ---- a priced place
-pub place-narrow : (x y : ℤ) → Near20000 x y → Near180000 (narrow x) (narrow y)
+pub place-narrow : (x y : ℤ) → PlaceInRange (record { x = x; y = y }) → Near180000 (narrow x) (narrow y)
 place-narrow x y h = narrow-place x y (omega arith) (omega arith)
 
-pub priced-is : (objects : List Object) (x y : ℤ) (r : ℕ) → Near20000 x y → r ≡ costOf objects (record { x = narrow x; y = narrow y }) → _≡_ {A = Spot} (record { x = back x; y = back y; cost = r }) (spotOf objects (record { x = x; y = y }))
+pub priced-is : (objects : List Object) (x y : ℤ) (r : ℕ) → PlaceInRange (record { x = x; y = y }) → r ≡ costOf objects (record { x = narrow x; y = narrow y }) → _≡_ {A = Spot} (record { x = back x; y = back y; cost = r }) (spotOf objects (record { x = x; y = y }))
 priced-is objects x y r h e = rw (e, narrowed x (omega arith), narrowed y (omega arith), near-back x (h .x-range), near-back y (h .y-range))
 
 pub spot-back : (objects : List Object) (x y : ℤ) (r : Spot) → natAbs x ≤ 20000 → natAbs y ≤ 20000 → r ≡ spotOf objects (record { x = back x; y = back y }) → r ≡ spotOf objects (record { x = x; y = y })
 spot-back objects x y r h k e = rw (near-back x h, near-back y k) at e
 
-pub near-places : (x y : ℤ) → natAbs x ≤ 20000 → natAbs y ≤ 20000 → Near20000 (back x) (back y)
+pub near-places : (x y : ℤ) → natAbs x ≤ 20000 → natAbs y ≤ 20000 → PlaceInRange (record { x = (back x); y = (back y) })
 near-places x y h k = rw (near-back x h, near-back y k) (record { x-range = h; y-range = k })

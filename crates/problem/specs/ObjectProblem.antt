@@ -3,7 +3,7 @@
 use Prim.Native.Nat.{ℕ, _+_, _*_, _≤_, max}
 use mathlib.Core.Path.{_≡_}
 use mathlib.Core.List.{List}
-use lib.IntN.{ℤ, pos, natAbs, _-ℤ_}
+use lib.IntN.{ℤ, pos, _-ℤ_}
 use Rattle.numbers.specs.Integer.{halfUp}
 use Rattle.query.specs.Place.{Place, Rect, NonEmpty}
 use Rattle.query.specs.Deck.{plain}
@@ -11,7 +11,7 @@ use Rattle.query.specs.Bound.{span}
 use Rattle.query.specs.Grid.{Grid}
 use Rattle.query.specs.Problem.{Rules, Problem}
 use Rattle.query.specs.Order.{Priced}
-use Rattle.query.specs.Range.{RectInRange, InRange, costLimit, coordinateLimit, postsLimit, stopsLimit}
+use Rattle.query.specs.Range.{RectInRange, InRange, costLimit, postsLimit, stopsLimit}
 use Rattle.deck.specs.declared.Deck.{Deck}
 use Rattle.deck.specs.DeckOf.{deckOf}
 use Rattle.deck.specs.Objects.{Object, objectsOf}
@@ -66,11 +66,7 @@ rectIn c = queryCell c .rect
 abbrev pub unbounded : Rect → Cell
 unbounded r = record { xlo = r .xlo; ylo = r .ylo; xhi = r .xhi; yhi = r .yhi; bound = pos 0 }
 
--- numbers and rectangles in range
-pub record Near20000 (x y : ℤ) : Type 0 where
-  pub x-range : natAbs x ≤ coordinateLimit
-  pub y-range : natAbs y ≤ coordinateLimit
-
+-- a rectangle in range that has a point
 pub record Ranged (r : Rect) : Type 0 where
   pub range : RectInRange r
   pub full : NonEmpty r

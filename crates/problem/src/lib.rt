@@ -5,13 +5,14 @@ use lines::Lines;
 use slots::Cell;
 ghost use mathlib.Core.Path.{_≡_};
 ghost use Prim.Native.Nat.{_≤_};
+ghost use Rattle.query.specs.Range.{PlaceInRange};
 ghost use Rattle.query.specs.Place.{x-axis, y-axis};
 ghost use Rattle.query.specs.Lines.{lines};
 ghost use Rattle.deck.specs.DeckOf.{deckOf};
 ghost use Rattle.pricing.specs.ObjectFigures.{flagsOf};
 ghost use Rattle.pricing.specs.Columns.{objectRows, rowsOf, InColumns};
 ghost use Rattle.lines.specs.LineRecord.{linesRecord};
-ghost use Rattle.problem.specs.ObjectProblem.{Priceable, spotOf, spotAt, rectIn, unbounded, Near20000, Ranged, Reaching};
+ghost use Rattle.problem.specs.ObjectProblem.{Priceable, spotOf, spotAt, rectIn, unbounded, Ranged, Reaching};
 
 // A place with its cost.
 pub struct Spot {
@@ -30,7 +31,7 @@ pub fn priced<'a>(
     x: i64,
     y: i64,
 ) -> Spot
-    requires { ⌜ Priceable (now xs) (now ys) (now visits) (now near) n × Near20000 x y ⌝ }
+    requires { ⌜ Priceable (now xs) (now ys) (now visits) (now near) n × PlaceInRange (record { x = x; y = y }) ⌝ }
     ensures { λ r. ⌜ r ≡ spotOf (objectRows (now (xs .entry)) (now (ys .entry)) (now (visits .entry)) (now (near .entry)) n) (record { x = x; y = y }) ⌝ }
 {
     let cost = pricing::cost(xs, ys, visits, near, n, x as i32, y as i32);

@@ -24,7 +24,8 @@ use Rattle.slots.specs.declared.Cell.{Cell}
 use Rattle.slots.specs.declared.Costs.{Costs}
 use Rattle.problem.specs.declared.Spot.{Spot}
 use Rattle.search.specs.declared.halves.Halves.{Halves}
-use Rattle.search.specs.Run.{cornerCosts, cellFor, lowCorner, highCorner, firstRect, secondRect, firstCosts, secondCosts, halvesOf}
+use Rattle.search.specs.Corners.{cornerCosts, cellFor}
+use Rattle.search.specs.CutCell.{lowCorner, highCorner, firstRect, secondRect, firstCosts, secondCosts, halvesOf}
 use Rattle.problem.specs.ObjectProblem.{pricedOf, spotOf, Ranged}
 
 -- ---- by axis

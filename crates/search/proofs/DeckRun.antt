@@ -29,7 +29,8 @@ use Rattle.slots.specs.declared.Cell.{Cell}
 use Rattle.search.specs.declared.run.Running.{Running}
 use Rattle.search.specs.declared.run.Found.{Found}
 use Rattle.slots.specs.Numbering.{Numbered, cellsIn}
-use Rattle.search.specs.Run.{searchOf, Holds, Steady, foundOf, Searched}
+use Rattle.search.specs.Running.{searchOf, Holds, Steady}
+use Rattle.search.specs.Answer.{foundOf, Searched}
 use Rattle.problem.proofs.DeckProblem.{codedProblem, coded-is}
 use Rattle.problem.specs.ObjectProblem.{Prepared, rectIn}
 use Rattle.pricing.specs.Columns.{rowsOf}

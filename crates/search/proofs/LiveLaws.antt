@@ -24,7 +24,8 @@ use Rattle.problem.specs.declared.Spot.{Spot}
 use Rattle.slots.specs.Slot.{Entry, entryCell}
 use Rattle.cells.specs.Entries.{entries, entryBefore}
 use Rattle.cells.specs.Steps.{EntriesInOrder}
-use Rattle.search.specs.Run.{cornerCosts, improved, bestCorner, withLive, Added}
+use Rattle.search.specs.Corners.{cornerCosts, improved, bestCorner}
+use Rattle.search.specs.LiveEntries.{withLive, Added}
 use Rattle.problem.specs.ObjectProblem.{objectRules, objectProblem, pricedOf, spotOf}
 use Rattle.cells.proofs.SpaceLaws.{keep-insert-in, keep-insert-out, keep-agree, cells-insert, insert-in-order}
 

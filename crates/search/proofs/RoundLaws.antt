@@ -32,7 +32,10 @@ use Rattle.search.specs.declared.run.Running.{Running}
 use Rattle.slots.specs.Slot.{Entry, queryCell, entryCell, cellAt, costsAt}
 use Rattle.cells.specs.Entries.{keyOf, entries}
 use Rattle.cells.specs.Steps.{EntriesInOrder, Trimmed}
-use Rattle.search.specs.Run.{cornerCosts, cellFor, improved, bestCorner, lowCorner, highCorner, halvesOf, withLive, Cutting, Takeable, Added, Costed, searchOf, Holds}
+use Rattle.search.specs.Corners.{cornerCosts, cellFor, improved, bestCorner}
+use Rattle.search.specs.CutCell.{lowCorner, highCorner, halvesOf, Cutting}
+use Rattle.search.specs.LiveEntries.{withLive, Added, Costed}
+use Rattle.search.specs.Running.{Takeable, searchOf, Holds}
 use Rattle.problem.specs.ObjectProblem.{objectRules, objectProblem, pricedOf, rectIn, Ranged}
 use Rattle.numbers.proofs.WordTests.{back, fitting}
 use Rattle.cells.proofs.Trims.{trimmed-live}

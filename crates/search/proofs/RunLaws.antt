@@ -31,7 +31,8 @@ use Rattle.search.specs.declared.run.Found.{Found}
 use Rattle.slots.specs.Slot.{Entry, queryCell, entryCell, cellAt, entryAt}
 use Rattle.cells.specs.Entries.{entries}
 use Rattle.cells.specs.Steps.{EntriesInOrder}
-use Rattle.search.specs.Run.{searchOf, Takeable, Holds, Steady, Answerable, isDone, foundOf}
+use Rattle.search.specs.Running.{searchOf, Takeable, Holds, Steady}
+use Rattle.search.specs.Answer.{Answerable, isDone, foundOf}
 use Rattle.problem.specs.ObjectProblem.{pricedOf}
 use Rattle.numbers.proofs.WordTests.{back, fitting}
 use Rattle.cells.proofs.SpaceLaws.{cells-in-order, entries-first, entries-none, entries-length}

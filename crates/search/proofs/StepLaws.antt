@@ -29,7 +29,8 @@ use Rattle.slots.specs.declared.Cell.{Cell}
 use Rattle.slots.specs.declared.Costs.{Costs}
 use Rattle.problem.specs.declared.Spot.{Spot}
 use Rattle.cells.specs.Entries.{keyOf}
-use Rattle.search.specs.Run.{cornerCosts, cellFor, CostsInRange, improved, bestCorner, lowCorner, highCorner, CutInRange}
+use Rattle.search.specs.Corners.{cornerCosts, cellFor, CostsInRange, improved, bestCorner}
+use Rattle.search.specs.CutCell.{lowCorner, highCorner, CutInRange}
 use Rattle.problem.proofs.Coordinates.{near-back, rect-narrow, spot-back}
 use Rattle.problem.specs.ObjectProblem.{pricedOf, spotOf, rectIn, boundOf, Ranged, spotAt}
 use Rattle.numbers.proofs.WordTests.{back, fitting}

@@ -1,1 +1,5 @@
-pub mod Run
+pub mod Corners
+pub mod CutCell
+pub mod LiveEntries
+pub mod Running
+pub mod Answer

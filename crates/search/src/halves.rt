@@ -14,7 +14,8 @@ ghost use Rattle.pricing.specs.ObjectFigures.{loadOf};
 ghost use Rattle.pricing.specs.Columns.{objectRows, Figure};
 ghost use Rattle.lines.specs.LineRecord.{gridOf};
 ghost use Rattle.cuts.specs.CutRecord.{Edges, cutRecord};
-ghost use Rattle.search.specs.Run.{cornerCosts, cellFor, improved, lowCorner, highCorner, firstRect, secondRect, firstCosts, secondCosts, halvesOf, Cutting, CutInRange};
+ghost use Rattle.search.specs.Corners.{cornerCosts, cellFor, improved};
+ghost use Rattle.search.specs.CutCell.{lowCorner, highCorner, firstRect, secondRect, firstCosts, secondCosts, halvesOf, Cutting, CutInRange};
 ghost use Rattle.problem.specs.ObjectProblem.{Priceable, Lined, pricedOf, spotOf, rectIn, Ranged};
 
 // What a cut makes of a cell: its two new corners, and its two parts with the costs of their corners.

@@ -17,7 +17,10 @@ ghost use Rattle.pricing.specs.Columns.{objectRows};
 ghost use Rattle.lines.specs.LineRecord.{gridOf};
 ghost use Rattle.slots.specs.Slot.{queryCell};
 ghost use Rattle.slots.specs.Numbering.{cellsIn, costsIn, Numbered};
-ghost use Rattle.search.specs.Run.{cornerCosts, CostsInRange, bestCorner, Addable, Added, searchOf, Takeable, Holds, Steady, Answerable, foundOf, Ready, Searched};
+ghost use Rattle.search.specs.Corners.{cornerCosts, CostsInRange, bestCorner};
+ghost use Rattle.search.specs.LiveEntries.{Addable, Added};
+ghost use Rattle.search.specs.Running.{searchOf, Takeable, Holds, Steady};
+ghost use Rattle.search.specs.Answer.{Answerable, foundOf, Ready, Searched};
 ghost use Rattle.problem.specs.ObjectProblem.{objectRules, objectProblem, Priceable, Lined, pricedOf, rectIn, Ranged};
 
 // A search while it runs: where its live cells stand in the order, the best place so far and the cuts made.

@@ -38,7 +38,7 @@ use Rattle.write.specs.Written.{overwritten, Overwrote}
 use Rattle.report.specs.declared.Report.{Report}
 use Rattle.report.specs.declared.State.{State}
 use Rattle.report.proofs.Fits.{report-fits}
-use Rattle.search.specs.Run.{isDone, foundOf, Searched}
+use Rattle.search.specs.Answer.{isDone, foundOf, Searched}
 use Rattle.search.specs.declared.run.Found.{Found}
 use Rattle.calls.specs.declared.Answer.the-variants as Answered
 use Rattle.siting.specs.declared.Response.{Response}

@@ -8,7 +8,8 @@ use Rattle.query.specs.Place.{Rect}
 use Rattle.pricing.specs.Columns.{objectRows}
 use Rattle.deck.specs.Objects.{Object}
 use Rattle.cuts.specs.declared.Cut.{Cut}
-use Rattle.search.specs.Run.{cornerCosts, cellFor, lowCorner, highCorner, firstRect, secondRect, halvesOf, CutInRange}
+use Rattle.search.specs.Corners.{cornerCosts, cellFor}
+use Rattle.search.specs.CutCell.{lowCorner, highCorner, firstRect, secondRect, halvesOf, CutInRange}
 use Rattle.problem.specs.ObjectProblem.{spotOf, rectIn, Ranged}
 use Rattle.search.proofs.CutParts.{cut-range, first-range, second-range, first-rect-is, second-rect-is, first-costs-is, second-costs-is, halves-are}
 use Rattle.search.proofs.halves.halve.Statement.{statement}

@@ -6,7 +6,7 @@ use denote.Ref.{now}
 use Rattle.query.specs.Range.{RectInRange, costLimit}
 use Rattle.pricing.specs.Columns.{objectRows}
 use Rattle.lines.specs.LineRecord.{gridOf}
-use Rattle.search.specs.Run.{Cutting}
+use Rattle.search.specs.CutCell.{Cutting}
 use Rattle.problem.specs.ObjectProblem.{rectIn}
 use Rattle.cells.proofs.SpaceLaws.{rest-in-order}
 use Rattle.cells.proofs.Trims.{trimmed-in-order}

@@ -7,7 +7,7 @@ use Rattle.query.specs.Search.{run}
 use Rattle.pricing.specs.Columns.{objectRows}
 use Rattle.lines.specs.LineRecord.{gridOf}
 use Rattle.slots.specs.Numbering.{cellsIn, costsIn, Numbered}
-use Rattle.search.specs.Run.{searchOf, Holds}
+use Rattle.search.specs.Running.{searchOf, Holds}
 use Rattle.problem.specs.ObjectProblem.{objectRules, objectProblem, rectIn}
 use Rattle.search.proofs.RunLaws.{roundsFrom, holds-first, holds-more, holds-run, ended, finished, takeable}
 use Rattle.search.proofs.run.run_of.Statement.{statement}

@@ -1,0 +1,49 @@
+-- What a search answers at its end, and what it asks.
+-- Assumes nothing.
+use Prim.Native.Nat.{ℕ, _-_, _≤_}
+use mathlib.Core.Path.{_≡_}
+use mathlib.Core.Bool.{Bool, true, false}
+use mathlib.Core.List.{List, [], _∷_}
+use lib.IntN.{ℤ}
+use lib.ListN.{length}
+use Rattle.query.specs.Problem.{problem}
+use Rattle.query.specs.Order as Query
+use Rattle.query.specs.Search.{Search, run}
+use Rattle.query.specs.Figures as Figures
+use Rattle.query.specs.Space.{space, spaceNeeded}
+use Rattle.query.specs.Range.{costLimit, roundsLimit}
+use Rattle.deck.specs.declared.Deck.{Deck}
+use Rattle.deck.specs.DeckOf.{deckOf}
+use Rattle.deck.specs.declared.Objects.{Objects}
+use Rattle.slots.specs.declared.Cell.{Cell}
+use Rattle.problem.specs.ObjectProblem.{Prepared}
+use Rattle.search.specs.declared.run.Running.{Running}
+use Rattle.search.specs.declared.run.Found.{Found}
+use Rattle.cells.specs.Entries.{entries}
+use Rattle.cells.specs.Steps.{EntriesInOrder}
+
+-- a state whose cells are in order
+pub record Answerable (s : List ℤ) (st : Running) : Type 0 where
+  pub in-turn : st .head ≤ st .tail
+  pub ends : st .tail ≤ 1001
+  pub cost-limit : st .best .cost ≤ costLimit
+  pub in-order : EntriesInOrder (entries s [] (st .head) (st .tail - st .head))
+
+abbrev pub isDone : List Query.Cell → Bool
+isDone [] = true
+isDone (c ∷ cs) = false
+
+unfoldable pub foundOf : Search → Found
+unfolding Figures.low
+foundOf s = record { done = isDone (s .live); x = s .best .at .x; y = s .best .at .y; high = Figures.high s; low = Figures.low s; cuts = s .cuts }
+
+-- what a search asks: a deck and its objects, and room for the cells of so many rounds
+pub record Ready (deck : Deck) (objects : Objects) (rounds lent : ℕ) : Type 0 where
+  pub prepared : Prepared deck objects
+  pub rounds-limit : rounds ≤ roundsLimit
+  pub room : spaceNeeded rounds ≤ lent
+
+-- the answer, and what the cell space then holds
+pub record Searched (deck : Deck) (rounds : ℕ) (before after : List ℤ) (r : Found) : Type 0 where
+  pub found : r ≡ foundOf (run (problem (deckOf deck)) rounds)
+  pub cells : after ≡ space (deckOf deck) rounds (length before)
