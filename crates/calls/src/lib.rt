@@ -1,4 +1,5 @@
 // What the calls of the siting tool answer. specs/ defines each call, and the customer's demands of them; proofs/ proves these.
+use limits::REPORT_BYTES;
 use problem::Spot;
 use refusal::Refusal;
 use report::Report;
@@ -18,5 +19,5 @@ pub enum Cheapest {
 // A text: the first `length` bytes; the others are 0.
 pub struct Text {
     pub length: usize,
-    pub bytes: [u8; 128],
+    pub bytes: [u8; REPORT_BYTES],
 }

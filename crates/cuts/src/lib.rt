@@ -1,4 +1,5 @@
 // The choice of a cut.
+use limits::LINES;
 use lines::first_at_least;
 ghost use mathlib.Core.Path.{_≡_};
 ghost use Prim.Native.Nat.{_≤_};
@@ -26,7 +27,7 @@ fn middle(lo: i64, hi: i64) -> i64
 }
 
 // The line before index `at`, or `lo` where that is greater or there is none.
-fn line_before(ls: &[i64; 514], at: usize, lo: i64) -> i64
+fn line_before(ls: &[i64; LINES], at: usize, lo: i64) -> i64
     requires { ⌜ at ≤ 514 ⌝ }
     ensures { λ r. ⌜ LineBefore (now (ls .entry)) at lo r ⌝ }
 {
@@ -38,7 +39,7 @@ fn line_before(ls: &[i64; 514], at: usize, lo: i64) -> i64
 }
 
 // The line at index `at`, one of the first `n`, or `hi` where that is smaller or there is none.
-fn line_from(ls: &[i64; 514], n: usize, at: usize, hi: i64) -> i64
+fn line_from(ls: &[i64; LINES], n: usize, at: usize, hi: i64) -> i64
     requires { ⌜ n ≤ 514 ⌝ }
     ensures { λ r. ⌜ LineFrom (now (ls .entry)) n at hi r ⌝ }
 {
@@ -51,7 +52,7 @@ fn line_from(ls: &[i64; 514], n: usize, at: usize, hi: i64) -> i64
 
 // The line strictly between `lo` and `hi` that is closest to their middle, the smaller one on a tie; `lo` where there is none.
 // It is the last before the middle or the first from it on, where an edge stands for one that is not between.
-fn middle_line(ls: &[i64; 514], n: usize, lo: i64, hi: i64) -> i64
+fn middle_line(ls: &[i64; LINES], n: usize, lo: i64, hi: i64) -> i64
     requires { ⌜ LinesInOrder (now ls) n ⌝ }
     requires { ⌜ Edges lo hi ⌝ }
     ensures { λ r. ⌜ r ≡ middleLine lo hi (keep (strictlyBetween lo hi) (take n (now (ls .entry)))) ⌝ }
@@ -80,11 +81,11 @@ fn cut_at(across: bool, at: i64) -> Cut
 // The cut at the line closest to the middle between `alo` and `ahi` on the first axis, if one lies inside; else the same between `blo`
 // and `bhi` on the second. The first axis is x where `across` is true.
 fn first_of(
-    a: &[i64; 514],
+    a: &[i64; LINES],
     na: usize,
     alo: i64,
     ahi: i64,
-    b: &[i64; 514],
+    b: &[i64; LINES],
     nb: usize,
     blo: i64,
     bhi: i64,
@@ -114,9 +115,9 @@ fn first_of(
 // The choice of a cut of the cell from (`xlo`, `ylo`) to (`xhi`, `yhi`): of the axes that have lines inside the one with the longer side,
 // x on equal sides, and on it the line closest to the middle.
 pub fn find_cut(
-    xs: &[i64; 514],
+    xs: &[i64; LINES],
     nx: usize,
-    ys: &[i64; 514],
+    ys: &[i64; LINES],
     ny: usize,
     xlo: i64,
     ylo: i64,

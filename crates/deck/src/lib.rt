@@ -1,4 +1,6 @@
 // The deck as a record, and its objects: its stops in columns, each with its near.
+use limits::POSTS;
+use limits::STOPS;
 ghost use mathlib.Core.Path.{_≡_};
 ghost use mathlib.Core.Bool.{cond};
 ghost use mathlib.Core.List.{map};
@@ -23,21 +25,21 @@ pub struct Deck {
     pub xhi: i64,
     pub yhi: i64,
     pub posts: usize,
-    pub post_x: [i64; 64],
-    pub post_y: [i64; 64],
+    pub post_x: [i64; POSTS],
+    pub post_y: [i64; POSTS],
     pub stops: usize,
-    pub stop_x: [i64; 512],
-    pub stop_y: [i64; 512],
-    pub visits: [u64; 512],
+    pub stop_x: [i64; STOPS],
+    pub stop_y: [i64; STOPS],
+    pub visits: [u64; STOPS],
 }
 
 // The objects of a deck, one column a field. The first `count` numbers of a column count; the others are 0.
 pub struct Objects {
     pub count: usize,
-    pub x: [i32; 512],
-    pub y: [i32; 512],
-    pub visits: [u32; 512],
-    pub near: [u32; 512],
+    pub x: [i32; STOPS],
+    pub y: [i32; STOPS],
+    pub visits: [u32; STOPS],
+    pub near: [u32; STOPS],
 }
 
 // |u − v|
@@ -57,11 +59,11 @@ pub fn travelled(ux: i32, uy: i32, vx: i32, vy: i32) -> i32
 }
 
 // The first n numbers of a column of coordinates, and 0 behind them.
-fn coordinates(from: &[i64; 512], n: usize) -> [i32; 512]
+fn coordinates(from: &[i64; STOPS], n: usize) -> [i32; STOPS]
     requires { ⌜ CoordinatesInRange 512 (now from) n ⌝ }
     ensures { λ r. ⌜ r ≡ padded 512 (pos 0) (take n (now (from .entry))) ⌝ }
 {
-    let mut to = [0i32; 512];
+    let mut to = [0i32; STOPS];
     let mut i: usize = 0;
     while i < n {
         to[i] = from[i] as i32;
@@ -71,11 +73,11 @@ fn coordinates(from: &[i64; 512], n: usize) -> [i32; 512]
 }
 
 // The same of a column of posts, narrowed before the loops over stops and posts.
-fn post_coordinates(from: &[i64; 64], n: usize) -> [i32; 64]
+fn post_coordinates(from: &[i64; POSTS], n: usize) -> [i32; POSTS]
     requires { ⌜ CoordinatesInRange 64 (now from) n ⌝ }
     ensures { λ r. ⌜ r ≡ padded 64 (pos 0) (take n (now (from .entry))) ⌝ }
 {
-    let mut to = [0i32; 64];
+    let mut to = [0i32; POSTS];
     let mut i: usize = 0;
     while i < n {
         to[i] = from[i] as i32;
@@ -85,11 +87,11 @@ fn post_coordinates(from: &[i64; 64], n: usize) -> [i32; 64]
 }
 
 // The first n numbers of a column of visits, and 0 behind them.
-fn visit_counts(from: &[u64; 512], n: usize) -> [u32; 512]
+fn visit_counts(from: &[u64; STOPS], n: usize) -> [u32; STOPS]
     requires { ⌜ VisitsInRange (now from) n ⌝ }
     ensures { λ r. ⌜ r ≡ padded 512 0 (take n (now (from .entry))) ⌝ }
 {
-    let mut to = [0u32; 512];
+    let mut to = [0u32; STOPS];
     let mut i: usize = 0;
     while i < n {
         to[i] = from[i] as u32;
@@ -108,7 +110,7 @@ fn closer(least: i32, x: i32, y: i32, px: i32, py: i32) -> i32
 }
 
 // The travel from a place to the closest of k posts.
-fn near_of<'a>(px: &'a [i32; 64], py: &'a [i32; 64], k: usize, x: i32, y: i32) -> u32
+fn near_of<'a>(px: &'a [i32; POSTS], py: &'a [i32; POSTS], k: usize, x: i32, y: i32) -> u32
     requires { ⌜ (1 ≤ k) × CoordinatesInRange 64 (now px) k × CoordinatesInRange 64 (now py) k × Near180000 x y ⌝ }
     ensures { λ r. ⌜ r ≡ closest plain (record { x = x; y = y }) (take k (places (now (px .entry)) (now (py .entry)))) ⌝ }
 {
@@ -123,19 +125,19 @@ fn near_of<'a>(px: &'a [i32; 64], py: &'a [i32; 64], k: usize, x: i32, y: i32) -
 
 // The near of the first n stops, and 0 behind them.
 fn nears<'a>(
-    xs: &'a [i64; 512],
-    ys: &'a [i64; 512],
+    xs: &'a [i64; STOPS],
+    ys: &'a [i64; STOPS],
     n: usize,
-    px: &'a [i64; 64],
-    py: &'a [i64; 64],
+    px: &'a [i64; POSTS],
+    py: &'a [i64; POSTS],
     k: usize,
-) -> [u32; 512]
+) -> [u32; STOPS]
     requires { ⌜ (1 ≤ k) × CoordinatesInRange 64 (now px) k × CoordinatesInRange 64 (now py) k × CoordinatesInRange 512 (now xs) n × CoordinatesInRange 512 (now ys) n ⌝ }
     ensures { λ r. ⌜ r ≡ padded 512 0 (take n (map (λ p. closest plain p (take k (places (now (px .entry)) (now (py .entry))))) (places (now (xs .entry)) (now (ys .entry))))) ⌝ }
 {
     let u = post_coordinates(px, k);
     let v = post_coordinates(py, k);
-    let mut to = [0u32; 512];
+    let mut to = [0u32; STOPS];
     let mut i: usize = 0;
     while i < n {
         to[i] = near_of(&u, &v, k, xs[i] as i32, ys[i] as i32);

@@ -29,7 +29,7 @@ sums-more m k s h = record {
 pub small-back : (z : ℤ) → natAbs z ≤ 900000 → back z ≡ z
 small-back z h = toZ-ofZ w64 z (word-fits w64 z (omega arith))
 
--- ---- a object whose near is d + r, and whose height is s
+-- ---- an object whose near is d + r, and whose height is s
 ramp-sum : (near d r s t : ℕ) → near ≡ d + r → r ≤ s → min near (d + ((s - t) + (t - s))) + (t - (s - r)) + (t - (s + r)) ≡ near + 2 * (t - s)
 ramp-sum near d r s t e h = omega arith
 

@@ -1,5 +1,5 @@
 -- The cost of the places of a vertical line as a sum of ramps. A ramp of weight w from a start s on is w × (t − s) at a height t above s,
--- and 0 below. Along the line at v a object with d = |sx − v| pays for each visit near where near ≤ d; else, with r = near − d, it pays
+-- and 0 below. Along the line at v an object with d = |sx − v| pays for each visit near where near ≤ d; else, with r = near − d, it pays
 -- near, less a ramp from sy − r on, plus two from sy on, less one from sy + r on.
 -- Assumes nothing.
 use Prim.Native.Nat.{ℕ, zero, suc, _+_, _*_, _-_, _≤_, _<_, min, _^_}

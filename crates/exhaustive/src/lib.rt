@@ -3,6 +3,8 @@
 // written into an array (`costs_along`), and then the cheapest is chosen (`choose`).
 use deck::Deck;
 use deck::Objects;
+use limits::LINES;
+use limits::STOPS;
 use numbers::abs_diff;
 use problem::Spot;
 ghost use mathlib.Core.Path.{_≡_};
@@ -55,7 +57,7 @@ fn fill(table: &mut [u16; 40001], from: usize, to: usize, j: u16)
 }
 
 // For each coordinate from −20,000 to 20,000, which is where lines are, the number of the first line that is not below it.
-pub fn number_lines(h: &[i64; 514], nh: usize, table: &mut [u16; 40001])
+pub fn number_lines(h: &[i64; LINES], nh: usize, table: &mut [u16; 40001])
     requires { ⌜ LinesInRange (now h) nh × (length (now table) ≡ 40001) ⌝ }
     ensures { λ _. ⌜ LineTable (now (h .entry)) nh (now (table .exit)) ⌝ }
 {
@@ -75,7 +77,7 @@ pub fn number_lines(h: &[i64; 514], nh: usize, table: &mut [u16; 40001])
 // where the table reaches: below it the answer is 0, above it `nh`. The height of a start that `add_ramp` multiplies with is not looked
 // up. So if heights get scaled by some b and lines do not, the lookup stays as it is and is asked for another y: for a ramp that starts
 // at s the least y with s ≤ b × y.
-fn line_from(h: &[i64; 514], nh: usize, table: &[u16; 40001], start: i64) -> usize
+fn line_from(h: &[i64; LINES], nh: usize, table: &[u16; 40001], start: i64) -> usize
     requires { ⌜ LinesInRange (now h) nh × LineTable (now h) nh (now table) × (natAbs start ≤ 900000) ⌝ }
     ensures { λ r. ⌜ FirstAtLeast (now (h .entry)) nh start r ⌝ }
 {
@@ -92,7 +94,7 @@ fn line_from(h: &[i64; 514], nh: usize, table: &[u16; 40001], start: i64) -> usi
 // Adds a ramp of weight `w` from `start` on, at the first line that is not below `start`. Ramps are held in two columns, by line:
 // their weights, and their weights times the heights at which they start.
 fn add_ramp(
-    h: &[i64; 514],
+    h: &[i64; LINES],
     nh: usize,
     table: &[u16; 40001],
     weights: &mut [u64; 515],
@@ -108,9 +110,9 @@ fn add_ramp(
     starts[k] = starts[k] + w * height(start);
 }
 
-// Adds the ramps of a object along the vertical line at `v`. A object that is not nearer to the line than to its closest post has none.
+// Adds the ramps of an object along the vertical line at `v`. An object that is not nearer to the line than to its closest post has none.
 fn add_object(
-    h: &[i64; 514],
+    h: &[i64; LINES],
     nh: usize,
     table: &[u16; 40001],
     v: i64,
@@ -138,12 +140,12 @@ fn add_object(
 
 // The ramps of all objects along the vertical line at `v`, in columns that were 0.
 fn add_objects<'a>(
-    xs: &'a [i32; 512],
-    ys: &'a [i32; 512],
-    visits: &'a [u32; 512],
-    near: &'a [u32; 512],
+    xs: &'a [i32; STOPS],
+    ys: &'a [i32; STOPS],
+    visits: &'a [u32; STOPS],
+    near: &'a [u32; STOPS],
     n: usize,
-    h: &'a [i64; 514],
+    h: &'a [i64; LINES],
     nh: usize,
     table: &'a [u16; 40001],
     v: i64,
@@ -206,14 +208,14 @@ fn cheaper(best: Spot, p: Spot) -> Spot
 
 // Writes the cost of each crossing of a vertical line into `costs`, from the ramps along the line.
 fn sweep<'a>(
-    h: &'a [i64; 514],
+    h: &'a [i64; LINES],
     nh: usize,
     up: &'a [u64; 515],
     up_at: &'a [u64; 515],
     down: &'a [u64; 515],
     down_at: &'a [u64; 515],
     before: u64,
-    costs: &mut [u64; 514],
+    costs: &mut [u64; LINES],
 )
     requires { ⌜ LinesInRange (now h) nh × Sweepable (now h) nh (now up) (now «up_at») (now down) (now «down_at») before × (length (now costs) ≡ 514) ⌝ }
     ensures { λ _. ⌜ Swept (now (h .entry)) nh (now (up .entry)) (now («up_at» .entry)) (now (down .entry)) (now («down_at» .entry)) before (now (costs .entry)) (now (costs .exit)) ⌝ }
@@ -238,17 +240,17 @@ fn sweep<'a>(
 // Writes the cost of each crossing of the vertical line at `v` with the first `nh` horizontal lines into `costs`, in their order.
 // The entries behind them stay as they are. `table` is that of `number_lines`, and `before` that of `pricing`.
 pub fn costs_along<'a>(
-    xs: &'a [i32; 512],
-    ys: &'a [i32; 512],
-    visits: &'a [u32; 512],
-    near: &'a [u32; 512],
+    xs: &'a [i32; STOPS],
+    ys: &'a [i32; STOPS],
+    visits: &'a [u32; STOPS],
+    near: &'a [u32; STOPS],
     n: usize,
-    h: &'a [i64; 514],
+    h: &'a [i64; LINES],
     nh: usize,
     table: &'a [u16; 40001],
     v: i64,
     before: u64,
-    costs: &mut [u64; 514],
+    costs: &mut [u64; LINES],
 )
     requires { ⌜ Priceable (now xs) (now ys) (now visits) (now near) n × LinesInRange (now h) nh × (natAbs v ≤ 20000) × Figure (beforeOf (objectRows (now xs) (now ys) (now visits) (now near) n)) costLimit before × LineTable (now h) nh (now table) × (length (now costs) ≡ 514) ⌝ }
     ensures { λ _. ⌜ now (costs .exit) ≡ costsAlong (objectRows (now (xs .entry)) (now (ys .entry)) (now (visits .entry)) (now (near .entry)) n) (now (h .entry)) nh v (now (costs .entry)) ⌝ }
@@ -276,7 +278,7 @@ pub fn costs_along<'a>(
 }
 
 // The cheapest of a spot and the crossings of the vertical line at `v`, the first among equals, from their costs.
-fn choose<'a>(h: &'a [i64; 514], nh: usize, v: i64, costs: &'a [u64; 514], first: Spot) -> Spot
+fn choose<'a>(h: &'a [i64; LINES], nh: usize, v: i64, costs: &'a [u64; LINES], first: Spot) -> Spot
     requires { ⌜ LinesInRange (now h) nh ⌝ }
     ensures { λ r. ⌜ Chosen (now (h .entry)) nh v (now (costs .entry)) first r ⌝ }
 {
@@ -293,17 +295,17 @@ fn choose<'a>(h: &'a [i64; 514], nh: usize, v: i64, costs: &'a [u64; 514], first
 
 // The cheapest of a spot and the crossings of the vertical line at `v`, the first among equals. `costs` holds their costs then.
 fn cheapest_on<'a>(
-    xs: &'a [i32; 512],
-    ys: &'a [i32; 512],
-    visits: &'a [u32; 512],
-    near: &'a [u32; 512],
+    xs: &'a [i32; STOPS],
+    ys: &'a [i32; STOPS],
+    visits: &'a [u32; STOPS],
+    near: &'a [u32; STOPS],
     n: usize,
-    h: &'a [i64; 514],
+    h: &'a [i64; LINES],
     nh: usize,
     table: &'a [u16; 40001],
     v: i64,
     before: u64,
-    costs: &mut [u64; 514],
+    costs: &mut [u64; LINES],
     first: Spot,
 ) -> Spot
     requires { ⌜ Priceable (now xs) (now ys) (now visits) (now near) n × LinesInRange (now h) nh × (natAbs v ≤ 20000) × Figure (beforeOf (objectRows (now xs) (now ys) (now visits) (now near) n)) costLimit before × LineTable (now h) nh (now table) × (length (now costs) ≡ 514) ⌝ }
@@ -316,14 +318,14 @@ fn cheapest_on<'a>(
 
 // The cheapest of a spot and the crossings of all lines, the first among equals.
 fn cheapest_of<'a>(
-    xs: &'a [i32; 512],
-    ys: &'a [i32; 512],
-    visits: &'a [u32; 512],
-    near: &'a [u32; 512],
+    xs: &'a [i32; STOPS],
+    ys: &'a [i32; STOPS],
+    visits: &'a [u32; STOPS],
+    near: &'a [u32; STOPS],
     n: usize,
-    v: &'a [i64; 514],
+    v: &'a [i64; LINES],
     nv: usize,
-    h: &'a [i64; 514],
+    h: &'a [i64; LINES],
     nh: usize,
     table: &'a [u16; 40001],
     before: u64,
@@ -332,7 +334,7 @@ fn cheapest_of<'a>(
     requires { ⌜ Priceable (now xs) (now ys) (now visits) (now near) n × LinesInRange (now v) nv × LinesInRange (now h) nh × Figure (beforeOf (objectRows (now xs) (now ys) (now visits) (now near) n)) costLimit before × LineTable (now h) nh (now table) ⌝ }
     ensures { λ r. ⌜ r ≡ firstCheapest (objectRows (now (xs .entry)) (now (ys .entry)) (now (visits .entry)) (now (near .entry)) n) first (flatMap (along (take nh (now (h .entry)))) (take nv (now (v .entry)))) ⌝ }
 {
-    let mut costs = [0u64; 514];
+    let mut costs = [0u64; LINES];
     let mut found = first;
     let mut i: usize = 0;
     while i < nv {

@@ -6,6 +6,10 @@ use job_line::AreaLine;
 use job_line::CountLine;
 use job_line::PostLine;
 use job_line::StopLine;
+use limits::JOB_BYTES;
+use limits::MOST_ROUNDS;
+use limits::POSTS;
+use limits::STOPS;
 use refusal::Refusal;
 ghost use mathlib.Core.Path.{_≡_};
 ghost use Prim.Native.Nat.{_+_, _≤_};
@@ -36,16 +40,16 @@ enum Next {
 struct Posts {
     next: Next,
     count: usize,
-    x: [i64; 64],
-    y: [i64; 64],
+    x: [i64; POSTS],
+    y: [i64; POSTS],
 }
 
 struct Stops {
     next: Next,
     count: usize,
-    x: [i64; 512],
-    y: [i64; 512],
-    visits: [u64; 512],
+    x: [i64; STOPS],
+    y: [i64; STOPS],
+    visits: [u64; STOPS],
 }
 
 // ---- parts
@@ -55,8 +59,8 @@ fn post_lines(s: &[u8], start: usize, count: usize, first: u64) -> Posts
     requires { ⌜ (count ≤ 64) × (first ≤ 1000) ⌝ }
     ensures { λ r. ⌜ PostsAt (now (s .entry)) first (postLines count first (drop start (now (s .entry)))) r ⌝ }
 {
-    let mut x = [0i64; 64];
-    let mut y = [0i64; 64];
+    let mut x = [0i64; POSTS];
+    let mut y = [0i64; POSTS];
     let mut at = start;
     let mut i: usize = 0;
     while i < count {
@@ -90,9 +94,9 @@ fn stop_lines(s: &[u8], start: usize, count: usize, first: u64) -> Stops
     requires { ⌜ (count ≤ 512) × (first ≤ 1000) ⌝ }
     ensures { λ r. ⌜ StopsAt (now (s .entry)) first (stopLines count first (drop start (now (s .entry)))) r ⌝ }
 {
-    let mut x = [0i64; 512];
-    let mut y = [0i64; 512];
-    let mut visits = [0u64; 512];
+    let mut x = [0i64; STOPS];
+    let mut y = [0i64; STOPS];
+    let mut visits = [0u64; STOPS];
     let mut at = start;
     let mut i: usize = 0;
     while i < count {
@@ -129,10 +133,10 @@ fn read_posts(s: &[u8], at: usize, line: u64) -> Posts
     requires { ⌜ line ≤ 900 ⌝ }
     ensures { λ r. ⌜ PostsAt (now (s .entry)) (line + 1) (allPosts line (drop at (now (s .entry)))) r ⌝ }
 {
-    match job_line::count_line(s, at, b"posts=", 64, line) {
+    match job_line::count_line(s, at, b"posts=", POSTS, line) {
         CountLine::Read(count, next) => post_lines(s, next, count, line + 1),
         CountLine::Refused(why) => {
-            let none = [0i64; 64];
+            let none = [0i64; POSTS];
             Posts {
                 next: Next::Refused(why),
                 count: 0,
@@ -148,16 +152,16 @@ fn read_stops(s: &[u8], at: usize, line: u64) -> Stops
     requires { ⌜ line ≤ 900 ⌝ }
     ensures { λ r. ⌜ StopsAt (now (s .entry)) (line + 1) (allStops line (drop at (now (s .entry)))) r ⌝ }
 {
-    match job_line::count_line(s, at, b"stops=", 512, line) {
+    match job_line::count_line(s, at, b"stops=", STOPS, line) {
         CountLine::Read(count, next) => stop_lines(s, next, count, line + 1),
         CountLine::Refused(why) => {
-            let none = [0i64; 512];
+            let none = [0i64; STOPS];
             Stops {
                 next: Next::Refused(why),
                 count: 0,
                 x: none,
                 y: none,
-                visits: [0u64; 512],
+                visits: [0u64; STOPS],
             }
         }
     }
@@ -168,7 +172,7 @@ fn last_line(s: &[u8], at: usize, line: u64) -> CountLine
     requires { ⌜ line ≤ 900 ⌝ }
     ensures { λ r. ⌜ LastAt (now (s .entry)) at line r ⌝ }
 {
-    match job_line::count_line(s, at, b"rounds=", 1000, line) {
+    match job_line::count_line(s, at, b"rounds=", MOST_ROUNDS, line) {
         CountLine::Read(rounds, next) => {
             if next < s.len() {
                 return CountLine::Refused(Refusal::Malformed(line + 1));
@@ -192,8 +196,8 @@ fn empty_area(a: Area) -> bool
 fn refuse(why: Refusal) -> Job
     ensures { λ r. ⌜ r ≡ jobRecord (refused why) ⌝ }
 {
-    let few = [0i64; 64];
-    let many = [0i64; 512];
+    let few = [0i64; POSTS];
+    let many = [0i64; STOPS];
     Job {
         outcome: Outcome::Refused(why),
         deck: Deck {
@@ -207,7 +211,7 @@ fn refuse(why: Refusal) -> Job
             stops: 0,
             stop_x: many,
             stop_y: many,
-            visits: [0u64; 512],
+            visits: [0u64; STOPS],
         },
     }
 }
@@ -255,7 +259,7 @@ fn check(area: Area, posts: Posts, stops: Stops, rounds: u64) -> Job
 pub fn read(bytes: &[u8]) -> Job
     ensures { λ r. ⌜ r ≡ jobRecord (readJob (now (bytes .entry))) ⌝ }
 {
-    if 16384 < bytes.len() {
+    if JOB_BYTES < bytes.len() {
         return refuse(Refusal::TooLong);
     }
     match job_line::area_line(bytes, 0, 1) {

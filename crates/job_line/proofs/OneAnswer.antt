@@ -8,7 +8,7 @@ use lib.IntN.{ℤ, pos, natAbs}
 use lib.ListN.{length, getD, length-drop}
 use Rattle.job_line.specs.Lines.{Row}
 use Rattle.job_line.specs.OneLine.{Reading, fault, got}
-use Rattle.job_line.specs.Reading.{Answer, read, refused, areaAnswer, countAnswer, postAnswer, stopAnswer, answerIn, Within, LineAt}
+use Rattle.job_line.specs.Reading.{LineAnswer, read, refused, areaAnswer, countAnswer, postAnswer, stopAnswer, answerIn, Within, LineAt}
 use Rattle.job_line.specs.declared.AreaLine.{AreaLine}
 use Rattle.job_line.specs.declared.AreaLine.the-variants as A
 use Rattle.job_line.specs.declared.CountLine.{CountLine}
@@ -19,22 +19,22 @@ use Rattle.job_line.specs.declared.StopLine.{StopLine}
 use Rattle.job_line.specs.declared.StopLine.the-variants as S
 
 -- ---- the answer that stands for a reading
-abbrev answerBack : List ℕ → Reading (List ℤ) → Answer
+abbrev answerBack : List ℕ → Reading (List ℤ) → LineAnswer
 answerBack s (fault why) = refused why
 answerBack s (got ns n bs) = read ns (length s - length bs)
 
-answer-back : (s : List ℕ) (n : ℕ) (r : Answer) → Within s r → r ≡ answerBack s (answerIn s n r)
+answer-back : (s : List ℕ) (n : ℕ) (r : LineAnswer) → Within s r → r ≡ answerBack s (answerIn s n r)
 answer-back s n (read ns next) h = ap (read ns) (omega (arith, length-drop next s))
 answer-back s n (refused why) h = refl
 
-one-answer : {row : Row} {s : List ℕ} {at n : ℕ} {r r′ : Answer} → LineAt row s at n r → LineAt row s at n r′ → r ≡ r′
+one-answer : {row : Row} {s : List ℕ} {at n : ℕ} {r r′ : LineAnswer} → LineAt row s at n r → LineAt row s at n r′ → r ≡ r′
 one-answer {row} {s} {at} {n} {r} {r′} p q = answer-back s n r (p .within) ∙ ap (answerBack s) (p .is ∙ sym (q .is)) ∙ sym (answer-back s n r′ (q .within))
 
 -- ---- as the code has it
 abbrev number : List ℤ → ℕ → ℤ
 number ns i = getD ns i (pos 0)
 
-abbrev areaBack : Answer → AreaLine
+abbrev areaBack : LineAnswer → AreaLine
 areaBack (read ns next) = A.Read (record { xlo = number ns 0; ylo = number ns 1; xhi = number ns 2; yhi = number ns 3 }) next
 areaBack (refused why) = A.Refused why
 
@@ -42,7 +42,7 @@ area-back : (r : AreaLine) → areaBack (areaAnswer r) ≡ r
 area-back (A.Read a next) = refl
 area-back (A.Refused why) = refl
 
-abbrev countBack : Answer → CountLine
+abbrev countBack : LineAnswer → CountLine
 countBack (read ns next) = C.Read (natAbs (number ns 0)) next
 countBack (refused why) = C.Refused why
 
@@ -50,7 +50,7 @@ count-back : (r : CountLine) → countBack (countAnswer r) ≡ r
 count-back (C.Read count next) = refl
 count-back (C.Refused why) = refl
 
-abbrev postBack : Answer → PostLine
+abbrev postBack : LineAnswer → PostLine
 postBack (read ns next) = P.Read (number ns 0) (number ns 1) next
 postBack (refused why) = P.Refused why
 
@@ -58,7 +58,7 @@ post-back : (r : PostLine) → postBack (postAnswer r) ≡ r
 post-back (P.Read x y next) = refl
 post-back (P.Refused why) = refl
 
-abbrev stopBack : Answer → StopLine
+abbrev stopBack : LineAnswer → StopLine
 stopBack (read ns next) = S.Read (number ns 0) (number ns 1) (natAbs (number ns 2)) next
 stopBack (refused why) = S.Refused why
 

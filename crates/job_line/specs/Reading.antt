@@ -35,38 +35,38 @@ abbrev pub placeNumbers : Place → List ℤ
 placeNumbers p = p .x ∷ p .y ∷ []
 
 -- ---- what a reader of a line answers: the numbers of the line and the place after it, or the refusal
-pub data Answer : Type 0 where
-  read : List ℤ → ℕ → Answer
-  refused : Refusal → Answer
+pub data LineAnswer : Type 0 where
+  read : List ℤ → ℕ → LineAnswer
+  refused : Refusal → LineAnswer
 
-abbrev pub areaAnswer : AreaLine → Answer
+abbrev pub areaAnswer : AreaLine → LineAnswer
 areaAnswer (A.Read a next) = read (areaNumbers a) next
 areaAnswer (A.Refused why) = refused why
 
-abbrev pub countAnswer : CountLine → Answer
+abbrev pub countAnswer : CountLine → LineAnswer
 countAnswer (C.Read count next) = read (pos count ∷ []) next
 countAnswer (C.Refused why) = refused why
 
-abbrev pub postAnswer : PostLine → Answer
+abbrev pub postAnswer : PostLine → LineAnswer
 postAnswer (P.Read x y next) = read (x ∷ y ∷ []) next
 postAnswer (P.Refused why) = refused why
 
-abbrev pub stopAnswer : StopLine → Answer
+abbrev pub stopAnswer : StopLine → LineAnswer
 stopAnswer (S.Read x y visits next) = read (x ∷ y ∷ pos visits ∷ []) next
 stopAnswer (S.Refused why) = refused why
 
 -- an answer as the definitions have it
-abbrev pub answerIn : List ℕ → ℕ → Answer → Reading (List ℤ)
+abbrev pub answerIn : List ℕ → ℕ → LineAnswer → Reading (List ℤ)
 answerIn s n (read ns next) = got ns (n + 1) (drop next s)
 answerIn s n (refused why) = fault why
 
-abbrev pub Within : List ℕ → Answer → Type 0
+abbrev pub Within : List ℕ → LineAnswer → Type 0
 Within s (read ns next) = next ≤ length s
 Within s (refused why) = Unit {0}
 
 -- what is read at a place of the text, in line n, where a line with this row is due. Where something is, the text after it and the
 -- bound on its place say which place that is
-pub record LineAt (row : Row) (s : List ℕ) (at n : ℕ) (r : Answer) : Type 0 where
+pub record LineAt (row : Row) (s : List ℕ) (at n : ℕ) (r : LineAnswer) : Type 0 where
   pub is : answerIn s n r ≡ line row n (drop at s)
   pub within : Within s r
 

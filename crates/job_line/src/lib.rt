@@ -1,5 +1,8 @@
 // One line of a job: what it holds and the place after it, or the refusal of a line without its form or of a value out of range.
 
+use limits::LEAST_COORDINATE;
+use limits::MOST_COORDINATE;
+use limits::MOST_VISITS;
 use refusal::Refusal;
 use text::ParsedNumber;
 ghost use mathlib.Core.Path.{_≡_};
@@ -53,7 +56,7 @@ fn between(lo: i64, hi: i64, v: i64) -> bool
 fn coordinate_in_range(v: i64) -> bool
     ensures { λ r. ⌜ r ≡ inRange coordinates v ⌝ }
 {
-    between(-20000, 20000, v)
+    between(LEAST_COORDINATE, MOST_COORDINATE, v)
 }
 
 fn place_in_range(p: Place) -> bool
@@ -85,7 +88,7 @@ fn stop_in_range(p: Place, visits: i64) -> bool
     ensures { λ r. ⌜ r ≡ inRanges (row stop .ranges) (p .x ∷ p .y ∷ visits ∷ []) ⌝ }
 {
     if place_in_range(p) {
-        between(1, 65535, visits)
+        between(1, MOST_VISITS, visits)
     } else {
         false
     }

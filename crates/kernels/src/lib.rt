@@ -1,5 +1,7 @@
 // The kernels of pricing over many places and rectangles, for the benchmarks: the job is read once and the loop runs here.
 use deck::Deck;
+use limits::LINES;
+use limits::STOPS;
 use trial::opened;
 use trial::opened::Opened;
 ghost use mathlib.Core.Path.{_≡_};
@@ -32,10 +34,10 @@ fn positive(z: i64) -> u64
 }
 
 fn costs<'a>(
-    xs: &'a [i32; 512],
-    ys: &'a [i32; 512],
-    visits: &'a [u32; 512],
-    near: &'a [u32; 512],
+    xs: &'a [i32; STOPS],
+    ys: &'a [i32; STOPS],
+    visits: &'a [u32; STOPS],
+    near: &'a [u32; STOPS],
     n: usize,
     k: u64,
 ) -> u64
@@ -55,10 +57,10 @@ fn costs<'a>(
 }
 
 fn loads<'a>(
-    xs: &'a [i32; 512],
-    ys: &'a [i32; 512],
-    visits: &'a [u32; 512],
-    near: &'a [u32; 512],
+    xs: &'a [i32; STOPS],
+    ys: &'a [i32; STOPS],
+    visits: &'a [u32; STOPS],
+    near: &'a [u32; STOPS],
     n: usize,
     k: u64,
 ) -> u64
@@ -79,10 +81,10 @@ fn loads<'a>(
 }
 
 fn bounds<'a>(
-    xs: &'a [i32; 512],
-    ys: &'a [i32; 512],
-    visits: &'a [u32; 512],
-    near: &'a [u32; 512],
+    xs: &'a [i32; STOPS],
+    ys: &'a [i32; STOPS],
+    visits: &'a [u32; STOPS],
+    near: &'a [u32; STOPS],
     n: usize,
     k: u64,
 ) -> u64
@@ -103,7 +105,7 @@ fn bounds<'a>(
     sum
 }
 
-fn cuts(xs: &[i64; 514], nx: usize, ys: &[i64; 514], ny: usize, k: u64) -> u64
+fn cuts(xs: &[i64; LINES], nx: usize, ys: &[i64; LINES], ny: usize, k: u64) -> u64
     requires { ⌜ LinesInOrder (now xs) nx × LinesInOrder (now ys) ny × (k ≤ 100000) ⌝ }
     ensures { λ r. ⌜ Figure (sumTo (λ t. positive (cutRecord (gridOf (now (xs .entry)) nx (now (ys .entry)) ny) (rectAt t) .at)) k) (100000 * costLimit) r ⌝ }
 {

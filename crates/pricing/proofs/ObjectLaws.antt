@@ -16,7 +16,7 @@ use Rattle.numbers.specs.Padded.{padded}
 use Rattle.deck.specs.Objects.{Object, objectsOf}
 use Rattle.pricing.specs.ObjectFigures.{costOf, beforeOf, reaches, loadOf, flagsOf}
 
--- a object's part of the cost of a place, of `before`, and of the load of a rectangle, and its flag
+-- an object's part of the cost of a place, of `before`, and of the load of a rectangle, and its flag
 abbrev pub paidBy : Place → Object → ℕ
 paidBy p s = s .visits * min (s .near) (travel plain (s .at) p)
 

@@ -1,5 +1,6 @@
 // The price of a place or a rectangle, over columns of objects: one pass each, in 32-bit columns, so that the passes can be vectorised.
 use deck::travelled;
+use limits::STOPS;
 use numbers::half_up;
 ghost use mathlib.Core.Path.{_≡_};
 ghost use mathlib.Core.Bool.{cond};
@@ -13,7 +14,7 @@ ghost use Rattle.deck.specs.Ranges.{Near180000};
 ghost use Rattle.pricing.specs.ObjectFigures.{costOf, loadOf};
 ghost use Rattle.pricing.specs.Columns.{objectRows, ColumnsInRange, ObjectInRange, PaidInRange, ReachInRange, BoundInRange, EdgesInRange, excessOf, Figure, BeforeIs, FlagsAre};
 
-// What a object pays for a post at (x, y): its visits times the smaller of its near and its travel there.
+// What an object pays for a post at (x, y): its visits times the smaller of its near and its travel there.
 fn paid(sx: i32, sy: i32, visits: u32, near: u32, x: i32, y: i32) -> u64
     requires { ⌜ ObjectInRange sx sy visits near × Near180000 x y ⌝ }
     ensures { λ r. ⌜ r ≡ visits * min near (dist sx x + dist sy y) ⌝ }
@@ -26,10 +27,10 @@ fn paid(sx: i32, sy: i32, visits: u32, near: u32, x: i32, y: i32) -> u64
 
 // The cost of a place.
 pub fn cost<'a>(
-    xs: &'a [i32; 512],
-    ys: &'a [i32; 512],
-    visits: &'a [u32; 512],
-    near: &'a [u32; 512],
+    xs: &'a [i32; STOPS],
+    ys: &'a [i32; STOPS],
+    visits: &'a [u32; STOPS],
+    near: &'a [u32; STOPS],
     n: usize,
     x: i32,
     y: i32,
@@ -62,7 +63,7 @@ fn outside(v: i32, lo: i32, hi: i32) -> i32
     excess(lo, v) + excess(v, hi)
 }
 
-// Whether a object's travel to the closest point of a rectangle is less than its near.
+// Whether an object's travel to the closest point of a rectangle is less than its near.
 fn reached(sx: i32, sy: i32, near: u32, xlo: i32, ylo: i32, xhi: i32, yhi: i32) -> bool
     requires { ⌜ Near180000 sx sy × (near ≤ 720000) × EdgesInRange xlo ylo xhi yhi ⌝ }
     ensures { λ r. ⌜ r ≡ ltb (dist sx (clamp xlo xhi sx) + dist sy (clamp ylo yhi sy)) near ⌝ }
@@ -71,7 +72,7 @@ fn reached(sx: i32, sy: i32, near: u32, xlo: i32, ylo: i32, xhi: i32, yhi: i32) 
     outside(sx, xlo, xhi) + outside(sy, ylo, yhi) < n
 }
 
-// A object's part of the load of a rectangle: its visits where it reaches it.
+// An object's part of the load of a rectangle: its visits where it reaches it.
 fn borne(sx: i32, sy: i32, visits: u32, near: u32, xlo: i32, ylo: i32, xhi: i32, yhi: i32) -> u32
     requires { ⌜ ObjectInRange sx sy visits near × EdgesInRange xlo ylo xhi yhi ⌝ }
     ensures { λ r. ⌜ r ≡ cond (ltb (dist sx (clamp xlo xhi sx) + dist sy (clamp ylo yhi sy)) near) visits 0 ⌝ }
@@ -85,10 +86,10 @@ fn borne(sx: i32, sy: i32, visits: u32, near: u32, xlo: i32, ylo: i32, xhi: i32,
 
 // The load of a rectangle.
 pub fn load<'a>(
-    xs: &'a [i32; 512],
-    ys: &'a [i32; 512],
-    visits: &'a [u32; 512],
-    near: &'a [u32; 512],
+    xs: &'a [i32; STOPS],
+    ys: &'a [i32; STOPS],
+    visits: &'a [u32; STOPS],
+    near: &'a [u32; STOPS],
     n: usize,
     xlo: i32,
     ylo: i32,
@@ -108,7 +109,7 @@ pub fn load<'a>(
 }
 
 // What all objects pay with the posts that there are.
-pub fn before<'a>(visits: &'a [u32; 512], near: &'a [u32; 512], n: usize) -> u64
+pub fn before<'a>(visits: &'a [u32; STOPS], near: &'a [u32; STOPS], n: usize) -> u64
     requires { ⌜ (n ≤ 512) × PaidInRange (now visits) (now near) ⌝ }
     ensures { λ r. ⌜ BeforeIs (now (visits .entry)) (now (near .entry)) n r ⌝ }
 {
@@ -132,7 +133,7 @@ pub fn bound(c00: u64, c01: u64, c10: u64, c11: u64, span: u64, load: u64) -> i6
     half_up((larger as i64) - ((span * load) as i64))
 }
 
-// 1 for a object that reaches a rectangle, and 0 for one that does not.
+// 1 for an object that reaches a rectangle, and 0 for one that does not.
 fn flag(sx: i32, sy: i32, near: u32, xlo: i32, ylo: i32, xhi: i32, yhi: i32) -> u8
     requires { ⌜ Near180000 sx sy × (near ≤ 720000) × EdgesInRange xlo ylo xhi yhi ⌝ }
     ensures { λ r. ⌜ r ≡ cond (ltb (dist sx (clamp xlo xhi sx) + dist sy (clamp ylo yhi sy)) near) 1 0 ⌝ }
@@ -146,19 +147,19 @@ fn flag(sx: i32, sy: i32, near: u32, xlo: i32, ylo: i32, xhi: i32, yhi: i32) -> 
 
 // Which objects reach a rectangle.
 pub fn reach_flags<'a>(
-    xs: &'a [i32; 512],
-    ys: &'a [i32; 512],
-    near: &'a [u32; 512],
+    xs: &'a [i32; STOPS],
+    ys: &'a [i32; STOPS],
+    near: &'a [u32; STOPS],
     n: usize,
     xlo: i32,
     ylo: i32,
     xhi: i32,
     yhi: i32,
-) -> [u8; 512]
+) -> [u8; STOPS]
     requires { ⌜ (n ≤ 512) × ReachInRange (now xs) (now ys) (now near) × EdgesInRange xlo ylo xhi yhi ⌝ }
     ensures { λ r. ⌜ FlagsAre (now (xs .entry)) (now (ys .entry)) (now (near .entry)) n (record { xlo = xlo; ylo = ylo; xhi = xhi; yhi = yhi }) r ⌝ }
 {
-    let mut flags = [0u8; 512];
+    let mut flags = [0u8; STOPS];
     let mut i: usize = 0;
     while i < n {
         flags[i] = flag(xs[i], ys[i], near[i], xlo, ylo, xhi, yhi);

@@ -1,6 +1,7 @@
 // The problem of a deck as both searches take it: its area, its lines, and places with their costs.
 use deck::Deck;
 use deck::Objects;
+use limits::STOPS;
 use lines::Lines;
 use slots::Cell;
 ghost use mathlib.Core.Path.{_≡_};
@@ -23,10 +24,10 @@ pub struct Spot {
 
 // A place, priced.
 pub fn priced<'a>(
-    xs: &'a [i32; 512],
-    ys: &'a [i32; 512],
-    visits: &'a [u32; 512],
-    near: &'a [u32; 512],
+    xs: &'a [i32; STOPS],
+    ys: &'a [i32; STOPS],
+    visits: &'a [u32; STOPS],
+    near: &'a [u32; STOPS],
     n: usize,
     x: i64,
     y: i64,
@@ -59,7 +60,7 @@ pub fn area_of(deck: Deck) -> Cell
 }
 
 // Which of a deck's objects reach its area.
-pub fn flags_of(area: Cell, objects: Objects) -> [u8; 512]
+pub fn flags_of(area: Cell, objects: Objects) -> [u8; STOPS]
     requires { ⌜ InColumns objects × (objects .count ≤ 512) × Ranged (rectIn area) ⌝ }
     ensures { λ r. ⌜ r ≡ flagsOf (rowsOf objects) (rectIn area) ⌝ }
 {
@@ -77,7 +78,7 @@ pub fn flags_of(area: Cell, objects: Objects) -> [u8; 512]
 }
 
 // The lines of a deck: the vertical ones, and the horizontal ones.
-pub fn vertical(deck: Deck, area: Cell, flags: [u8; 512]) -> Lines
+pub fn vertical(deck: Deck, area: Cell, flags: [u8; STOPS]) -> Lines
     requires { ⌜ Reaching deck area flags ⌝ }
     ensures { λ r. ⌜ r ≡ linesRecord (lines (deckOf deck) x-axis) ⌝ }
 {
@@ -85,7 +86,7 @@ pub fn vertical(deck: Deck, area: Cell, flags: [u8; 512]) -> Lines
     lines::find_lines(&deck.stop_x, &flags, n, area.xlo, area.xhi)
 }
 
-pub fn horizontal(deck: Deck, area: Cell, flags: [u8; 512]) -> Lines
+pub fn horizontal(deck: Deck, area: Cell, flags: [u8; STOPS]) -> Lines
     requires { ⌜ Reaching deck area flags ⌝ }
     ensures { λ r. ⌜ r ≡ linesRecord (lines (deckOf deck) y-axis) ⌝ }
 {

@@ -1,5 +1,6 @@
 -- All theorems of this crate, under one name.
 -- Assumes nothing.
+use Rattle.numbers.proofs.NumberRows.{number-rows}
 use Rattle.query.specs.QueryTheorems.{QueryTheorems}
 use Rattle.query.proofs.Marked.{marked}
 use Rattle.query.proofs.Rows.{rows}
@@ -20,6 +21,7 @@ pub query-theorems : QueryTheorems
 query-theorems = record {
   marked = marked;
   rows = rows;
+  number-rows = number-rows;
   demand-3 = demand-3;
   exhaustive = exhaustive-law;
   half = half-law;

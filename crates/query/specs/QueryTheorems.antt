@@ -5,6 +5,7 @@ use Prim.Native.Nat.{ℕ}
 use mathlib.Core.Path.{_≡_}
 use mathlib.Core.List.{List, _∷_}
 use lib.IntN.{ℤ}
+use Rattle.numbers.specs.NumberRows.{NumberRows}
 use Rattle.query.specs.Place.{Place, Rect, In, NonEmpty, Axis}
 use Rattle.query.specs.Deck.{Stop, Deck}
 use Rattle.query.specs.Grid.{Grid}
@@ -23,6 +24,8 @@ pub record QueryTheorems : Type 0 where
   -- figures of decks: the eight marked ones, and further rows
   pub marked : Marked
   pub rows : Rows
+  -- of whole numbers and lists
+  pub number-rows : NumberRows
   -- demand 3, of every deck whose area has a point and every number of rounds
   pub demand-3 : (deck : Deck) → NonEmpty (deck .area) → (n : ℕ) → Demand3 deck n (figures deck n)
   -- the full walk, of every such deck

@@ -1,5 +1,7 @@
 // The better of two places, cells with their bounds, and the two halves that a cut makes of a cell.
 use cuts::Cut;
+use limits::LINES;
+use limits::STOPS;
 use problem::Spot;
 use slots::Cell;
 use slots::Costs;
@@ -57,10 +59,10 @@ fn span(c: Cell) -> u64
 
 // The load of a cell.
 fn load_of<'a>(
-    xs: &'a [i32; 512],
-    ys: &'a [i32; 512],
-    visits: &'a [u32; 512],
-    near: &'a [u32; 512],
+    xs: &'a [i32; STOPS],
+    ys: &'a [i32; STOPS],
+    visits: &'a [u32; STOPS],
+    near: &'a [u32; STOPS],
     n: usize,
     c: Cell,
 ) -> u64
@@ -82,10 +84,10 @@ fn load_of<'a>(
 
 // A cell with its bound, from the costs of its corners.
 pub(crate) fn bounded<'a>(
-    xs: &'a [i32; 512],
-    ys: &'a [i32; 512],
-    visits: &'a [u32; 512],
-    near: &'a [u32; 512],
+    xs: &'a [i32; STOPS],
+    ys: &'a [i32; STOPS],
+    visits: &'a [u32; STOPS],
+    near: &'a [u32; STOPS],
     n: usize,
     c: Cell,
     k: Costs,
@@ -105,7 +107,7 @@ pub(crate) fn bounded<'a>(
 }
 
 // Where a cell is cut.
-pub(crate) fn cut_of(v: &[i64; 514], nv: usize, h: &[i64; 514], nh: usize, c: Cell) -> Cut
+pub(crate) fn cut_of(v: &[i64; LINES], nv: usize, h: &[i64; LINES], nh: usize, c: Cell) -> Cut
     requires { ⌜ Lined (now v) nv (now h) nh × RectInRange (rectIn c) ⌝ }
     ensures { λ r. ⌜ r ≡ cutRecord (gridOf (now (v .entry)) nv (now (h .entry)) nh) (rectIn c) ⌝ }
 {
@@ -114,10 +116,10 @@ pub(crate) fn cut_of(v: &[i64; 514], nv: usize, h: &[i64; 514], nh: usize, c: Ce
 
 // The new corner that is the low corner of the part behind the cut.
 fn low_corner<'a>(
-    xs: &'a [i32; 512],
-    ys: &'a [i32; 512],
-    visits: &'a [u32; 512],
-    near: &'a [u32; 512],
+    xs: &'a [i32; STOPS],
+    ys: &'a [i32; STOPS],
+    visits: &'a [u32; STOPS],
+    near: &'a [u32; STOPS],
     n: usize,
     c: Cell,
     cut: Cut,
@@ -133,10 +135,10 @@ fn low_corner<'a>(
 
 // The new corner that is the high corner of the part before the cut.
 fn high_corner<'a>(
-    xs: &'a [i32; 512],
-    ys: &'a [i32; 512],
-    visits: &'a [u32; 512],
-    near: &'a [u32; 512],
+    xs: &'a [i32; STOPS],
+    ys: &'a [i32; STOPS],
+    visits: &'a [u32; STOPS],
+    near: &'a [u32; STOPS],
     n: usize,
     c: Cell,
     cut: Cut,
@@ -218,14 +220,14 @@ fn cell_behind(c: Cell, low: Spot) -> Cell
 
 // What the cut of a cell makes of it.
 pub(crate) fn halve<'a>(
-    xs: &'a [i32; 512],
-    ys: &'a [i32; 512],
-    visits: &'a [u32; 512],
-    near: &'a [u32; 512],
+    xs: &'a [i32; STOPS],
+    ys: &'a [i32; STOPS],
+    visits: &'a [u32; STOPS],
+    near: &'a [u32; STOPS],
     n: usize,
-    v: &'a [i64; 514],
+    v: &'a [i64; LINES],
     nv: usize,
-    h: &'a [i64; 514],
+    h: &'a [i64; LINES],
     nh: usize,
     c: Cell,
     k: Costs,

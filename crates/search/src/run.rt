@@ -2,6 +2,11 @@
 use crate::halves;
 use deck::Deck;
 use deck::Objects;
+use limits::CELLS;
+use limits::CORNER_COSTS;
+use limits::LINES;
+use limits::SPACE;
+use limits::STOPS;
 use lines::Lines;
 use problem::Spot;
 use slots::Cell;
@@ -42,7 +47,7 @@ pub struct Found {
 }
 
 // Whether a cell is live: it comes before the best place and can be cut.
-fn is_live(v: &[i64; 514], nv: usize, h: &[i64; 514], nh: usize, c: Cell, best: Spot) -> bool
+fn is_live(v: &[i64; LINES], nv: usize, h: &[i64; LINES], nh: usize, c: Cell, best: Spot) -> bool
     requires { ⌜ Lined (now v) nv (now h) nh × RectInRange (rectIn c) × (best .cost ≤ costLimit) ⌝ }
     ensures { λ r. ⌜ r ≡ Search.isLive (gridOf (now (v .entry)) nv (now (h .entry)) nh) (pricedOf best) (queryCell c) ⌝ }
 {
@@ -55,13 +60,13 @@ fn is_live(v: &[i64; 514], nv: usize, h: &[i64; 514], nh: usize, c: Cell, best: 
 
 // One more entry among those from head up to tail, which are in order, if its cell is live. Where they then start.
 fn add<'a>(
-    v: &'a [i64; 514],
+    v: &'a [i64; LINES],
     nv: usize,
-    h: &'a [i64; 514],
+    h: &'a [i64; LINES],
     nh: usize,
-    s: &mut [i64; 5005],
-    t: &mut [u64; 4004],
-    o: &mut [u16; 1001],
+    s: &mut [i64; SPACE],
+    t: &mut [u64; CORNER_COSTS],
+    o: &mut [u16; CELLS],
     head: usize,
     tail: usize,
     c: Cell,
@@ -80,18 +85,18 @@ fn add<'a>(
 
 // A round: the first entry is cut, the best place and the live cells are brought up to date.
 fn round<'a>(
-    xs: &'a [i32; 512],
-    ys: &'a [i32; 512],
-    visits: &'a [u32; 512],
-    near: &'a [u32; 512],
+    xs: &'a [i32; STOPS],
+    ys: &'a [i32; STOPS],
+    visits: &'a [u32; STOPS],
+    near: &'a [u32; STOPS],
     n: usize,
-    v: &'a [i64; 514],
+    v: &'a [i64; LINES],
     nv: usize,
-    h: &'a [i64; 514],
+    h: &'a [i64; LINES],
     nh: usize,
-    s: &mut [i64; 5005],
-    t: &mut [u64; 4004],
-    o: &mut [u16; 1001],
+    s: &mut [i64; SPACE],
+    t: &mut [u64; CORNER_COSTS],
+    o: &mut [u16; CELLS],
     st: Running,
 ) -> Running
     requires { ⌜ Priceable (now xs) (now ys) (now visits) (now near) n × Lined (now v) nv (now h) nh × Takeable (objectRows (now xs) (now ys) (now visits) (now near) n) (gridOf (now v) nv (now h) nh) (cellsIn (now s) (now o)) (costsIn (now t) (now o)) st × Numbered (now o) ⌝ }
@@ -132,10 +137,10 @@ fn round<'a>(
 
 // The costs of the corners of a cell.
 fn corners<'a>(
-    xs: &'a [i32; 512],
-    ys: &'a [i32; 512],
-    visits: &'a [u32; 512],
-    near: &'a [u32; 512],
+    xs: &'a [i32; STOPS],
+    ys: &'a [i32; STOPS],
+    visits: &'a [u32; STOPS],
+    near: &'a [u32; STOPS],
     n: usize,
     c: Cell,
 ) -> Costs
@@ -168,18 +173,18 @@ fn best_corner(c: Cell, k: Costs) -> Spot
 
 // The start of a search of an area.
 fn start<'a>(
-    xs: &'a [i32; 512],
-    ys: &'a [i32; 512],
-    visits: &'a [u32; 512],
-    near: &'a [u32; 512],
+    xs: &'a [i32; STOPS],
+    ys: &'a [i32; STOPS],
+    visits: &'a [u32; STOPS],
+    near: &'a [u32; STOPS],
     n: usize,
-    v: &'a [i64; 514],
+    v: &'a [i64; LINES],
     nv: usize,
-    h: &'a [i64; 514],
+    h: &'a [i64; LINES],
     nh: usize,
-    s: &mut [i64; 5005],
-    t: &mut [u64; 4004],
-    o: &mut [u16; 1001],
+    s: &mut [i64; SPACE],
+    t: &mut [u64; CORNER_COSTS],
+    o: &mut [u16; CELLS],
     area: Cell,
 ) -> Running
     requires { ⌜ Priceable (now xs) (now ys) (now visits) (now near) n × Lined (now v) nv (now h) nh × Ranged (rectIn area) × Numbered (now o) ⌝ }
@@ -188,10 +193,10 @@ fn start<'a>(
     let k = corners(xs, ys, visits, near, n, area);
     let best = best_corner(area, k);
     let c = halves::bounded(xs, ys, visits, near, n, area, k);
-    let head = add(v, nv, h, nh, s, t, o, 1001, 1001, c, k, best);
+    let head = add(v, nv, h, nh, s, t, o, CELLS, CELLS, c, k, best);
     Running {
         head,
-        tail: 1001,
+        tail: CELLS,
         best,
         cuts: 0,
     }
@@ -199,18 +204,18 @@ fn start<'a>(
 
 // A search of an area: its start, and its rounds while a cell is live, at most so many.
 fn run_of<'a>(
-    xs: &'a [i32; 512],
-    ys: &'a [i32; 512],
-    visits: &'a [u32; 512],
-    near: &'a [u32; 512],
+    xs: &'a [i32; STOPS],
+    ys: &'a [i32; STOPS],
+    visits: &'a [u32; STOPS],
+    near: &'a [u32; STOPS],
     n: usize,
-    v: &'a [i64; 514],
+    v: &'a [i64; LINES],
     nv: usize,
-    h: &'a [i64; 514],
+    h: &'a [i64; LINES],
     nh: usize,
-    s: &mut [i64; 5005],
-    t: &mut [u64; 4004],
-    o: &mut [u16; 1001],
+    s: &mut [i64; SPACE],
+    t: &mut [u64; CORNER_COSTS],
+    o: &mut [u16; CELLS],
     area: Cell,
     rounds: u64,
 ) -> Running
@@ -230,7 +235,7 @@ fn run_of<'a>(
 }
 
 // The least of the best cost and the bounds of the live cells, which are in order.
-fn low_of<'a>(s: &'a [i64; 5005], o: &'a [u16; 1001], st: Running) -> i64
+fn low_of<'a>(s: &'a [i64; SPACE], o: &'a [u16; CELLS], st: Running) -> i64
     requires { ⌜ Answerable (cellsIn (now s) (now o)) st × Numbered (now o) ⌝ }
     ensures { λ r. ⌜ r ≡ Figures.low (searchOf (cellsIn (now (s .entry)) (now (o .entry))) [] st) ⌝ }
 {
@@ -248,7 +253,7 @@ fn low_of<'a>(s: &'a [i64; 5005], o: &'a [u16; 1001], st: Running) -> i64
 }
 
 // What a search answers at its end.
-fn answer<'a>(s: &'a [i64; 5005], o: &'a [u16; 1001], st: Running) -> Found
+fn answer<'a>(s: &'a [i64; SPACE], o: &'a [u16; CELLS], st: Running) -> Found
     requires { ⌜ Answerable (cellsIn (now s) (now o)) st × Numbered (now o) ⌝ }
     ensures { λ r. ⌜ r ≡ foundOf (searchOf (cellsIn (now (s .entry)) (now (o .entry))) [] st) ⌝ }
 {
@@ -276,9 +281,9 @@ pub fn search(deck: Deck, objects: Objects, rounds: u64, cells: &mut [i64]) -> F
     let n = objects.count;
     let nv = v.count;
     let nh = h.count;
-    let mut s = [0i64; 5005];
-    let mut t = [0u64; 4004];
-    let mut o = [0u16; 1001];
+    let mut s = [0i64; SPACE];
+    let mut t = [0u64; CORNER_COSTS];
+    let mut o = [0u16; CELLS];
     slots::number(&mut o);
     let st = run_of(
         &objects.x,

@@ -4,6 +4,9 @@ use calls::Cheapest;
 use calls::Text;
 use deck::Deck;
 use job::Outcome;
+use limits::CELL_NUMBERS;
+use limits::REPORT_BYTES;
+use limits::SPACE;
 use problem::Spot;
 use refusal::Refusal;
 use report::Report;
@@ -72,10 +75,10 @@ fn respond(job: &[u8], cells: &mut [i64], out: &mut [u8]) -> Response
         Outcome::Accepted(rounds) => rounds,
         Outcome::Refused(why) => return refuse(why),
     };
-    if (cells.len() as u64) < 5 * (rounds + 1) {
+    if (cells.len() as u64) < CELL_NUMBERS as u64 * (rounds + 1) {
         return refuse(Refusal::SmallSpace);
     }
-    if out.len() < 128 {
+    if out.len() < REPORT_BYTES {
         return refuse(Refusal::ShortOutput);
     }
     let r = solve(deck, rounds, cells);
@@ -99,7 +102,7 @@ pub fn report(job: &[u8], cells: &mut [i64], out: &mut [u8]) -> Answer
 pub extern "C" fn siting_report(job: &[u8], out: &mut [u8]) -> i64
     ensures { λ r. ⌜ record { result = r; out = now (out .exit) } ≡ entry (now (job .entry)) (now (out .entry)) ⌝ }
 {
-    let mut cells = [0i64; 5005];
+    let mut cells = [0i64; SPACE];
     let given = respond(job, &mut cells, out);
     let answer = given.answer;
     match answer {
@@ -129,8 +132,8 @@ pub fn answer_text(job: &[u8]) -> Text
     ensures whole { λ r. ⌜ r ≡ textRecord (answerText (now (job .entry))) ⌝ }
     ensures short { λ r. ⌜ r .length ≤ 128 ⌝ }
 {
-    let mut cells = [0i64; 5005];
-    let mut bytes = [0u8; 128];
+    let mut cells = [0i64; SPACE];
+    let mut bytes = [0u8; REPORT_BYTES];
     let given = respond(job, &mut cells, &mut bytes);
     let answer = given.answer;
     let length = match answer {

@@ -1,5 +1,8 @@
 // The slots in which a search keeps its cells while it runs. A cell stands in a slot: five numbers in one array, the costs of its four
 // corners in another. A third array holds the numbers of the slots, each once.
+use limits::CELLS;
+use limits::CORNER_COSTS;
+use limits::SPACE;
 ghost use mathlib.Core.Path.{_≡_};
 ghost use Prim.Native.Nat.{_+_, _*_, _<_};
 ghost use lib.ListN.{length};
@@ -23,7 +26,7 @@ pub struct Costs {
 }
 
 // The cell in a slot.
-pub(crate) fn get_cell(s: &[i64; 5005], slot: usize) -> Cell
+pub(crate) fn get_cell(s: &[i64; SPACE], slot: usize) -> Cell
     requires { ⌜ slot < 1001 ⌝ }
     ensures { λ r. ⌜ r ≡ cellAt (now (s .entry)) slot ⌝ }
 {
@@ -38,7 +41,7 @@ pub(crate) fn get_cell(s: &[i64; 5005], slot: usize) -> Cell
 }
 
 // The costs of the corners of the cell in a slot.
-pub(crate) fn get_costs(t: &[u64; 4004], slot: usize) -> Costs
+pub(crate) fn get_costs(t: &[u64; CORNER_COSTS], slot: usize) -> Costs
     requires { ⌜ slot < 1001 ⌝ }
     ensures { λ r. ⌜ r ≡ costsAt (now (t .entry)) slot ⌝ }
 {
@@ -70,7 +73,7 @@ pub fn put_cell(numbers: &mut [i64], slot: usize, c: Cell)
 }
 
 // The costs of a cell's corners stored in a slot. The numbers are written through a slice, which tells how many they are.
-pub(crate) fn put_costs(t: &mut [u64; 4004], slot: usize, k: Costs)
+pub(crate) fn put_costs(t: &mut [u64; CORNER_COSTS], slot: usize, k: Costs)
     requires { ⌜ slot < 1001 ⌝ }
     ensures { λ _. ⌜ CostsPut (now (t .entry)) slot k (now (t .exit)) ⌝ }
 {
@@ -83,7 +86,7 @@ pub(crate) fn put_costs(t: &mut [u64; 4004], slot: usize, k: Costs)
 }
 
 // A cell and the costs of its corners stored in a slot.
-pub fn put_entry(s: &mut [i64; 5005], t: &mut [u64; 4004], slot: usize, c: Cell, k: Costs)
+pub fn put_entry(s: &mut [i64; SPACE], t: &mut [u64; CORNER_COSTS], slot: usize, c: Cell, k: Costs)
     requires { ⌜ slot < 1001 ⌝ }
     ensures { λ _. ⌜ EntryPut (now (s .entry)) (now (t .entry)) slot (record { cell = c; costs = k }) (now (s .exit)) (now (t .exit)) ⌝ }
 {
@@ -93,19 +96,19 @@ pub fn put_entry(s: &mut [i64; 5005], t: &mut [u64; 4004], slot: usize, c: Cell,
 }
 
 // The number of each slot at its own place.
-pub fn number(o: &mut [u16; 1001])
+pub fn number(o: &mut [u16; CELLS])
     ensures { λ _. ⌜ now (o .exit) ≡ slotNumbers ⌝ }
 {
     let numbers: &mut [u16] = o;
     let mut i = 0;
-    while i < 1001 {
+    while i < CELLS {
         numbers[i] = i as u16;
         i += 1;
     }
 }
 
 // The cell at a place of the order.
-pub fn cell_at<'a>(s: &'a [i64; 5005], o: &'a [u16; 1001], i: usize) -> Cell
+pub fn cell_at<'a>(s: &'a [i64; SPACE], o: &'a [u16; CELLS], i: usize) -> Cell
     requires { ⌜ Numbered (now o) × (i < 1001) ⌝ }
     ensures { λ r. ⌜ r ≡ cellAt (cellsIn (now (s .entry)) (now (o .entry))) i ⌝ }
 {
@@ -113,7 +116,7 @@ pub fn cell_at<'a>(s: &'a [i64; 5005], o: &'a [u16; 1001], i: usize) -> Cell
 }
 
 // The costs of its corners.
-pub fn costs_at<'a>(t: &'a [u64; 4004], o: &'a [u16; 1001], i: usize) -> Costs
+pub fn costs_at<'a>(t: &'a [u64; CORNER_COSTS], o: &'a [u16; CELLS], i: usize) -> Costs
     requires { ⌜ Numbered (now o) × (i < 1001) ⌝ }
     ensures { λ r. ⌜ r ≡ costsAt (costsIn (now (t .entry)) (now (o .entry))) i ⌝ }
 {

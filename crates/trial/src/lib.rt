@@ -3,6 +3,7 @@
 pub mod opened;
 
 use job::Outcome;
+use limits::LINES;
 use refusal::Refusal;
 ghost use mathlib.Core.Path.{_≡_};
 ghost use mathlib.Core.List.{_++_};
@@ -224,7 +225,7 @@ pub extern "C" fn trial_figure(
 }
 
 // Puts the first `n` lines in front of `out`.
-fn put_lines(out: &mut [i64], at: &[i64; 514], n: usize)
+fn put_lines(out: &mut [i64], at: &[i64; LINES], n: usize)
     requires { ⌜ (n ≤ 514) × (length (now at) ≡ 514) × (n ≤ length (now out)) ⌝ }
     ensures { λ _. ⌜ now (out .exit) ≡ take n (now (at .entry)) ++ drop n (now (out .entry)) ⌝ }
 {

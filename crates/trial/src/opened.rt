@@ -3,6 +3,9 @@ use cuts::Cut;
 use deck::Deck;
 use deck::Objects;
 use job::Outcome;
+use limits::LEAST_COORDINATE;
+use limits::MOST_COORDINATE;
+use limits::STOPS;
 use lines::Lines;
 use numbers::abs_diff;
 ghost use mathlib.Core.Path.{_≡_};
@@ -44,8 +47,8 @@ pub fn open_job(bytes: &[u8]) -> Opened
             }
         }
         Outcome::Refused(_) => {
-            let coordinates = [0i32; 512];
-            let counts = [0u32; 512];
+            let coordinates = [0i32; STOPS];
+            let counts = [0u32; STOPS];
             Opened {
                 accepted: false,
                 deck,
@@ -66,7 +69,11 @@ pub fn open_job(bytes: &[u8]) -> Opened
 fn coordinate_in_range(v: i64) -> bool
     ensures { λ r. ⌜ r ≡ inRange coordinates v ⌝ }
 {
-    if -20000 <= v { v <= 20000 } else { false }
+    if LEAST_COORDINATE <= v {
+        v <= MOST_COORDINATE
+    } else {
+        false
+    }
 }
 
 pub fn place_in_range(x: i64, y: i64) -> bool
@@ -94,10 +101,10 @@ pub fn rect_allowed(xlo: i64, ylo: i64, xhi: i64, yhi: i64) -> bool
 // ---- figures over columns of objects
 
 pub fn load_in<'a>(
-    xs: &'a [i32; 512],
-    ys: &'a [i32; 512],
-    visits: &'a [u32; 512],
-    near: &'a [u32; 512],
+    xs: &'a [i32; STOPS],
+    ys: &'a [i32; STOPS],
+    visits: &'a [u32; STOPS],
+    near: &'a [u32; STOPS],
     n: usize,
     xlo: i64,
     ylo: i64,
@@ -121,10 +128,10 @@ pub fn load_in<'a>(
 }
 
 pub fn bound_in<'a>(
-    xs: &'a [i32; 512],
-    ys: &'a [i32; 512],
-    visits: &'a [u32; 512],
-    near: &'a [u32; 512],
+    xs: &'a [i32; STOPS],
+    ys: &'a [i32; STOPS],
+    visits: &'a [u32; STOPS],
+    near: &'a [u32; STOPS],
     n: usize,
     xlo: i64,
     ylo: i64,

@@ -1,0 +1,32 @@
+// The limits of document 01, and the sizes of arrays that follow from them. The definitions have them in query/specs/Range.antt,
+// job/specs/Format.antt and calls/specs/Call.antt.
+
+// A job's bytes, and the bytes that hold every report.
+pub const JOB_BYTES: usize = 16384;
+
+pub const REPORT_BYTES: usize = 128;
+
+// The ends of the ranges of values.
+pub const LEAST_COORDINATE: i64 = -20000;
+
+pub const MOST_COORDINATE: i64 = 20000;
+
+pub const MOST_VISITS: i64 = 65535;
+
+pub const MOST_ROUNDS: usize = 1000;
+
+// The most posts, stops, and lines of an axis: one for each stop and the two edges.
+pub const POSTS: usize = 64;
+
+pub const STOPS: usize = 512;
+
+pub const LINES: usize = STOPS + 2;
+
+// The most live cells, the numbers of each in the cell space, and the costs of its corners.
+pub const CELLS: usize = MOST_ROUNDS + 1;
+
+pub const CELL_NUMBERS: usize = 5;
+
+pub const SPACE: usize = CELLS * CELL_NUMBERS;
+
+pub const CORNER_COSTS: usize = CELLS * 4;
