@@ -46,7 +46,8 @@ outputSize = 128
 unfoldable pub answered : Result → List ℤ → List ℕ → Left
 unfolding reported
 answered (refused why) cells out = turnedDown why cells out
-answered (accepted job) cells out = cond (ltb (length cells) (spaceNeeded (job .rounds))) (turnedDown SmallSpace cells out) (cond (ltb (length out) outputSize) (turnedDown ShortOutput cells out) (reported job cells out))
+answered (accepted job) cells out = cond (ltb (length cells) (spaceNeeded (job .rounds))) (turnedDown SmallSpace cells out)
+    (cond (ltb (length out) outputSize) (turnedDown ShortOutput cells out) (reported job cells out))
 
 -- the call: of a job's bytes and what is lent
 unfoldable pub reportCall : List ℕ → List ℤ → List ℕ → Left

@@ -34,7 +34,8 @@ pub record Accepted (job : List ℕ) (cells : List ℤ) (out : List ℕ) (j : Jo
 pub data Applies (job : List ℕ) (cells : List ℤ) (out : List ℕ) : Refusal → Type 0 where
   in-reading : {why : Refusal} → Condition job why → Applies job cells out why
   small-space : (j : Job) → readJob job ≡ accepted j → length cells < spaceNeeded (j .rounds) → Applies job cells out SmallSpace
-  short-output : (j : Job) → readJob job ≡ accepted j → spaceNeeded (j .rounds) ≤ length cells → length out < outputSize → Applies job cells out ShortOutput
+  short-output : (j : Job) → readJob job ≡ accepted j → spaceNeeded (j .rounds) ≤ length cells → length out < outputSize →
+      Applies job cells out ShortOutput
 
 -- "A job file, however garbled, short or long, gets a report or one of the eight numbered refusals .. A refusal changes neither the
 -- output nor the cell space"
@@ -43,7 +44,8 @@ pub record Demand1 (job : List ℕ) (cells : List ℤ) (out : List ℕ) : Type 0
   pub reported-exactly : ((f : Figures) × (reportCall job cells out .answer ≡ gives f)) ↔ ((j : Job) × Accepted job cells out j)
   -- each refusal, with its number and line, exactly under its condition; and no other number and line
   pub refused-exactly : (why : Refusal) → (reportCall job cells out .answer ≡ refusal why) ↔ Applies job cells out why
-  pub refused-listed : (number line : ℕ) → reportCall job cells out .answer ≡ refuses number line → (why : Refusal) × (number ≡ numberOf why) × (line ≡ lineOf why)
+  pub refused-listed : (number line : ℕ) → reportCall job cells out .answer ≡ refuses number line → (why : Refusal)
+      × (number ≡ numberOf why) × (line ≡ lineOf why)
   pub refused-cells : (number line : ℕ) → reportCall job cells out .answer ≡ refuses number line → reportCall job cells out .cells ≡ cells
   pub refused-out : (number line : ℕ) → reportCall job cells out .answer ≡ refuses number line → reportCall job cells out .out ≡ out
 
@@ -72,8 +74,10 @@ oneMore j = record { deck = j .deck; rounds = suc (j .rounds) }
 pub record Demand3Report (j : Job) (f : Figures) : Type 0 where
   pub law : Demand3 (j .deck) (j .rounds) f
   -- "The same job with one more round has a low at least as large and a high at most as large", with enough lent for it
-  pub one-more-low : (job : List ℕ) (cells : List ℤ) (out : List ℕ) (more : Figures) → Accepted job cells out (oneMore j) → reportCall job cells out .answer ≡ gives more → f .low ≤ℤ more .low
-  pub one-more-high : (job : List ℕ) (cells : List ℤ) (out : List ℕ) (more : Figures) → Accepted job cells out (oneMore j) → reportCall job cells out .answer ≡ gives more → more .high ≤ f .high
+  pub one-more-low : (job : List ℕ) (cells : List ℤ) (out : List ℕ) (more : Figures) → Accepted job cells out (oneMore j) →
+      reportCall job cells out .answer ≡ gives more → f .low ≤ℤ more .low
+  pub one-more-high : (job : List ℕ) (cells : List ℤ) (out : List ℕ) (more : Figures) → Accepted job cells out (oneMore j) →
+      reportCall job cells out .answer ≡ gives more → more .high ≤ f .high
   -- up to 1,000 rounds such a job exists: j's bytes but for the rounds number
   pub one-more-read : j .rounds < roundsLimit → readJob (spell (oneMore j)) ≡ accepted (oneMore j)
   -- past 1,000 rounds, where no job exists, of what the rules give

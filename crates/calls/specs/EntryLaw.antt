@@ -17,7 +17,9 @@ use Rattle.calls.specs.Entry.{entry}
 
 -- 01 "The C entry has cell space of its own and never gives 7; its signed result is the bytes written, or minus the refusal number"
 pub record EntryLaw (job out : List ℕ) : Type 0 where
-  pub report : (j : Job) → readJob job ≡ accepted j → outputSize ≤ length out → entry job out ≡ record { result = pos (length (reportText (jobFigures j))); out = overwritten (reportText (jobFigures j)) out }
+  pub report : (j : Job) → readJob job ≡ accepted j → outputSize ≤ length out →
+      entry job out ≡ record { result = pos (length (reportText (jobFigures j))); out = overwritten (reportText (jobFigures j)) out }
   pub refusal : (why : Refusal) → Condition job why → entry job out ≡ record { result = negℤ (pos (numberOf why)); out = out }
-  pub short-output : (j : Job) → readJob job ≡ accepted j → length out < outputSize → entry job out ≡ record { result = negℤ (pos 8); out = out }
+  pub short-output : (j : Job) → readJob job ≡ accepted j → length out < outputSize →
+      entry job out ≡ record { result = negℤ (pos 8); out = out }
   pub never-7 : entry job out .result ≢ negℤ (pos 7)

@@ -23,4 +23,5 @@ pub record ExhaustiveCallLaw (job : List ℕ) : Type 0 where
   pub given : (j : Job) → readJob job ≡ accepted j → exhaustiveCall job ≡ gives (Query.exhaustive (problem (j .deck)))
   pub law : (j : Job) → readJob job ≡ accepted j → ExhaustiveLaw (j .deck)
   -- every done report of the job has its place and its cost
-  pub done-report : (cells : List ℤ) (out : List ℕ) (f : Figures) → reportCall job cells out .answer ≡ gives f → f .state ≡ done → exhaustiveCall job ≡ gives (record { at = f .at; cost = f .high })
+  pub done-report : (cells : List ℤ) (out : List ℕ) (f : Figures) → reportCall job cells out .answer ≡ gives f → f .state ≡ done →
+      exhaustiveCall job ≡ gives (record { at = f .at; cost = f .high })

@@ -50,15 +50,18 @@ pub record RefusalTable : Type 0 where
   -- 2: a line that doesn't have its form, is missing, or is too much
   pub empty-file : asked [] ≡ (2, 1)
   pub byte-13 : changed 3 ("post=0,0\r" ∷ []) ≡ (2, 3) ∷ []
-  pub no-form : changed 6 ("stop=8,12" ∷ "stop=8,12,1,1" ∷ "stop=8,12,01" ∷ "stop=8,-0,1" ∷ "stop=8,+1,1" ∷ "stop=8,1000000000,1" ∷ "Stop=8,12,1" ∷ "" ∷ []) ≡ replicate 8 (2, 6)
+  pub no-form : changed 6 ("stop=8,12" ∷ "stop=8,12,1,1" ∷ "stop=8,12,01" ∷ "stop=8,-0,1" ∷ "stop=8,+1,1" ∷ "stop=8,1000000000,1"
+      ∷ "Stop=8,12,1" ∷ "" ∷ []) ≡ replicate 8 (2, 6)
   pub missing : asked (ended (take 5 caseA ++ drop 6 caseA)) ≡ (2, 6)
   pub ends-early : asked (ended (take 6 caseA)) ≡ (2, 7)
   pub too-much : asked (ended (caseA ++ ("rounds=10" ∷ []))) ≡ (2, 8)
   pub no-end : asked (ended (take 6 caseA) ++ bytes "rounds=10") ≡ (2, 7)
   pub no-end-beyond : asked (ended (take 6 caseA) ++ bytes "rounds=1001") ≡ (2, 7)
   -- 3: well formed, a value out of range. The ends of each range, and the numbers beyond them
-  pub area-ends : changed 1 ("area=-20000,-20000,20000,20000" ∷ "area=-20000,-20000,-20000,-20000" ∷ "area=20000,20000,20000,20000" ∷ []) ≡ replicate 3 (0, 0)
-  pub area-below : changed 1 ("area=-20001,2,8,8" ∷ "area=2,-20001,8,8" ∷ "area=2,2,-20001,8" ∷ "area=2,2,8,-20001" ∷ []) ≡ replicate 4 (3, 1)
+  pub area-ends : changed 1 ("area=-20000,-20000,20000,20000" ∷ "area=-20000,-20000,-20000,-20000" ∷ "area=20000,20000,20000,20000" ∷ [])
+      ≡ replicate 3 (0, 0)
+  pub area-below : changed 1 ("area=-20001,2,8,8" ∷ "area=2,-20001,8,8" ∷ "area=2,2,-20001,8" ∷ "area=2,2,8,-20001" ∷ [])
+      ≡ replicate 4 (3, 1)
   pub area-above : changed 1 ("area=20001,2,8,8" ∷ "area=2,20001,8,8" ∷ "area=2,2,20001,8" ∷ "area=2,2,8,20001" ∷ []) ≡ replicate 4 (3, 1)
   pub post-ends : changed 3 ("post=-20000,20000" ∷ "post=20000,-20000" ∷ []) ≡ replicate 2 (0, 0)
   pub post-beyond : changed 3 ("post=-20001,0" ∷ "post=20001,0" ∷ "post=0,-20001" ∷ "post=0,20001" ∷ []) ≡ replicate 4 (3, 3)

@@ -95,7 +95,9 @@ fn first_of(
     requires { ⌜ LinesInOrder (now b) nb ⌝ }
     requires { ⌜ Edges alo ahi ⌝ }
     requires { ⌜ Edges blo bhi ⌝ }
-    ensures { λ r. ⌜ r ≡ firstOf across alo ahi (keep (strictlyBetween alo ahi) (take na (now (a .entry)))) blo bhi (keep (strictlyBetween blo bhi) (take nb (now (b .entry)))) ⌝ }
+    ensures { λ r. ⌜ r
+        ≡ firstOf across alo ahi (keep (strictlyBetween alo ahi) (take na (now (a .entry)))) blo bhi
+        (keep (strictlyBetween blo bhi) (take nb (now (b .entry)))) ⌝ }
 {
     let v = middle_line(a, na, alo, ahi);
     if alo < v {

@@ -132,8 +132,12 @@ fn nears<'a>(
     py: &'a [i64; POSTS],
     k: usize,
 ) -> [u32; STOPS]
-    requires { ⌜ (1 ≤ k) × CoordinatesInRange 64 (now px) k × CoordinatesInRange 64 (now py) k × CoordinatesInRange 512 (now xs) n × CoordinatesInRange 512 (now ys) n ⌝ }
-    ensures { λ r. ⌜ r ≡ padded 512 0 (take n (map (λ p. closest plain p (take k (places (now (px .entry)) (now (py .entry))))) (places (now (xs .entry)) (now (ys .entry))))) ⌝ }
+    requires { ⌜ (1 ≤ k) × CoordinatesInRange 64 (now px) k × CoordinatesInRange 64 (now py) k × CoordinatesInRange 512 (now xs) n
+        × CoordinatesInRange 512 (now ys) n ⌝ }
+    ensures { λ r. ⌜ r
+        ≡ padded 512 0
+        (take n (map (λ p. closest plain p (take k (places (now (px .entry)) (now (py .entry)))))
+        (places (now (xs .entry)) (now (ys .entry))))) ⌝ }
 {
     let u = post_coordinates(px, k);
     let v = post_coordinates(py, k);

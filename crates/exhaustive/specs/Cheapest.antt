@@ -36,8 +36,10 @@ costsAlong objects ls n v old = map (λ h. costOf objects (record { x = v; y = h
 
 -- such an array, whatever the objects whose ramps the columns hold
 pub record Swept (ls : List ℤ) (n : ℕ) (up up-at down down-at : List ℕ) (before : ℕ) (old costs : List ℕ) : Type 0 where
-  pub is : (objects : List Object) (m : ℕ) (v : ℤ) → ObjectsAdded objects m ls n v up up-at down down-at → before ≡ beforeOf objects → costs ≡ costsAlong objects ls n v old
+  pub is : (objects : List Object) (m : ℕ) (v : ℤ) → ObjectsAdded objects m ls n v up up-at down down-at → before ≡ beforeOf objects →
+      costs ≡ costsAlong objects ls n v old
 
 -- the cheapest of a spot and the crossings of the vertical line at v, whatever the objects whose costs the array holds
 pub record Chosen (ls : List ℤ) (n : ℕ) (v : ℤ) (costs : List ℕ) (first r : Spot) : Type 0 where
-  pub is : (objects : List Object) (old : List ℕ) → costs ≡ costsAlong objects ls n v old → r ≡ firstCheapest objects first (along (take n ls) v)
+  pub is : (objects : List Object) (old : List ℕ) → costs ≡ costsAlong objects ls n v old →
+      r ≡ firstCheapest objects first (along (take n ls) v)

@@ -66,7 +66,9 @@ pub record RampInRange (start : ℤ) (w : ℕ) : Type 0 where
 -- one ramp more
 pub record RampAdded (ls : List ℤ) (n : ℕ) (start : ℤ) (w : ℕ) (weights starts weights′ starts′ : List ℕ) : Type 0 where
   pub sums : (m : ℕ) → RampSums weights starts m → RampSums weights′ starts′ (m + 1)
-  pub added : (j : ℕ) → j < n → weightsAt ls weights′ j + startsAt starts j ≡ weightsAt ls weights j + startsAt starts′ j + w * (heightOf (getD ls j (pos 0)) - heightOf start)
+  pub added : (j : ℕ) → j < n →
+      weightsAt ls weights′ j + startsAt starts j
+      ≡ weightsAt ls weights j + startsAt starts′ j + w * (heightOf (getD ls j (pos 0)) - heightOf start)
 
 -- the columns of the ramps that raise the cost and of those that lower it, of at most m objects
 pub record ObjectSums (up up-at down down-at : List ℕ) (m : ℕ) : Type 0 where
@@ -83,12 +85,15 @@ loweredAt ls down up-at j = weightsAt ls down j + startsAt up-at j
 -- one object more, along the line at v
 pub record ObjectAdded (ls : List ℤ) (n : ℕ) (v sx sy : ℤ) (visits near : ℕ) (up up-at down down-at up′ up-at′ down′ down-at′ : List ℕ) : Type 0 where
   pub sums : (m : ℕ) → ObjectSums up up-at down down-at m → ObjectSums up′ up-at′ down′ down-at′ (m + 1)
-  pub added : (j : ℕ) → j < n → visits * min near (dist sx v + dist sy (getD ls j (pos 0))) + loweredAt ls down′ up-at′ j + raisedAt ls up down-at j ≡ visits * near + raisedAt ls up′ down-at′ j + loweredAt ls down up-at j
+  pub added : (j : ℕ) → j < n →
+      visits * min near (dist sx v + dist sy (getD ls j (pos 0))) + loweredAt ls down′ up-at′ j + raisedAt ls up down-at j
+      ≡ visits * near + raisedAt ls up′ down-at′ j + loweredAt ls down up-at j
 
 -- the columns of m objects along the line at v: the cost at each line is what the objects pay now and what is added, less what is taken off
 pub record ObjectsAdded (objects : List Object) (m : ℕ) (ls : List ℤ) (n : ℕ) (v : ℤ) (up up-at down down-at : List ℕ) : Type 0 where
   pub sums : ObjectSums up up-at down down-at m
-  pub cost : (j : ℕ) → j < n → costOf objects (record { x = v; y = getD ls j (pos 0) }) + loweredAt ls down up-at j ≡ beforeOf objects + raisedAt ls up down-at j
+  pub cost : (j : ℕ) → j < n →
+      costOf objects (record { x = v; y = getD ls j (pos 0) }) + loweredAt ls down up-at j ≡ beforeOf objects + raisedAt ls up down-at j
 
 -- what `cost_at` asks: no sum is too large, and not more is taken off than is there
 pub record Payable (before up up-at down down-at t : ℕ) : Type 0 where

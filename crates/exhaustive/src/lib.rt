@@ -102,8 +102,10 @@ fn add_ramp(
     start: i64,
     w: u64,
 )
-    requires { ⌜ LinesInRange (now h) nh × RampSums (now weights) (now starts) 2000 × RampInRange start w × LineTable (now h) nh (now table) ⌝ }
-    ensures { λ _. ⌜ RampAdded (now (h .entry)) nh start w (now (weights .entry)) (now (starts .entry)) (now (weights .exit)) (now (starts .exit)) ⌝ }
+    requires { ⌜ LinesInRange (now h) nh × RampSums (now weights) (now starts) 2000 × RampInRange start w
+        × LineTable (now h) nh (now table) ⌝ }
+    ensures { λ _.
+        ⌜ RampAdded (now (h .entry)) nh start w (now (weights .entry)) (now (starts .entry)) (now (weights .exit)) (now (starts .exit)) ⌝ }
 {
     let k = line_from(h, nh, table, start);
     weights[k] = weights[k] + w;
@@ -125,8 +127,11 @@ fn add_object(
     visits: u64,
     near: u64,
 )
-    requires { ⌜ LinesInRange (now h) nh × (natAbs v ≤ 20000) × ObjectSums (now up) (now «up_at») (now down) (now «down_at») 600 × ObjectInRange sx sy visits near × LineTable (now h) nh (now table) ⌝ }
-    ensures { λ _. ⌜ ObjectAdded (now (h .entry)) nh v sx sy visits near (now (up .entry)) (now («up_at» .entry)) (now (down .entry)) (now («down_at» .entry)) (now (up .exit)) (now («up_at» .exit)) (now (down .exit)) (now («down_at» .exit)) ⌝ }
+    requires { ⌜ LinesInRange (now h) nh × (natAbs v ≤ 20000) × ObjectSums (now up) (now «up_at») (now down) (now «down_at») 600
+        × ObjectInRange sx sy visits near × LineTable (now h) nh (now table) ⌝ }
+    ensures { λ _.
+        ⌜ ObjectAdded (now (h .entry)) nh v sx sy visits near (now (up .entry)) (now («up_at» .entry)) (now (down .entry))
+        (now («down_at» .entry)) (now (up .exit)) (now («up_at» .exit)) (now (down .exit)) (now («down_at» .exit)) ⌝ }
 {
     let d = abs_diff(sx, v);
     if near <= d {
@@ -154,8 +159,11 @@ fn add_objects<'a>(
     down: &mut [u64; 515],
     down_at: &mut [u64; 515],
 )
-    requires { ⌜ Priceable (now xs) (now ys) (now visits) (now near) n × LinesInRange (now h) nh × (natAbs v ≤ 20000) × ObjectSums (now up) (now «up_at») (now down) (now «down_at») 0 × LineTable (now h) nh (now table) ⌝ }
-    ensures { λ _. ⌜ ObjectsAdded (objectRows (now (xs .entry)) (now (ys .entry)) (now (visits .entry)) (now (near .entry)) n) n (now (h .entry)) nh v (now (up .exit)) (now («up_at» .exit)) (now (down .exit)) (now («down_at» .exit)) ⌝ }
+    requires { ⌜ Priceable (now xs) (now ys) (now visits) (now near) n × LinesInRange (now h) nh × (natAbs v ≤ 20000)
+        × ObjectSums (now up) (now «up_at») (now down) (now «down_at») 0 × LineTable (now h) nh (now table) ⌝ }
+    ensures { λ _.
+        ⌜ ObjectsAdded (objectRows (now (xs .entry)) (now (ys .entry)) (now (visits .entry)) (now (near .entry)) n) n (now (h .entry)) nh v
+        (now (up .exit)) (now («up_at» .exit)) (now (down .exit)) (now («down_at» .exit)) ⌝ }
 {
     let mut i: usize = 0;
     while i < n {
@@ -217,8 +225,11 @@ fn sweep<'a>(
     before: u64,
     costs: &mut [u64; LINES],
 )
-    requires { ⌜ LinesInRange (now h) nh × Sweepable (now h) nh (now up) (now «up_at») (now down) (now «down_at») before × (length (now costs) ≡ 514) ⌝ }
-    ensures { λ _. ⌜ Swept (now (h .entry)) nh (now (up .entry)) (now («up_at» .entry)) (now (down .entry)) (now («down_at» .entry)) before (now (costs .entry)) (now (costs .exit)) ⌝ }
+    requires { ⌜ LinesInRange (now h) nh × Sweepable (now h) nh (now up) (now «up_at») (now down) (now «down_at») before
+        × (length (now costs) ≡ 514) ⌝ }
+    ensures { λ _.
+        ⌜ Swept (now (h .entry)) nh (now (up .entry)) (now («up_at» .entry)) (now (down .entry)) (now («down_at» .entry)) before
+        (now (costs .entry)) (now (costs .exit)) ⌝ }
 {
     let mut ups: u64 = 0;
     let mut up_from: u64 = 0;
@@ -252,8 +263,12 @@ pub fn costs_along<'a>(
     before: u64,
     costs: &mut [u64; LINES],
 )
-    requires { ⌜ Priceable (now xs) (now ys) (now visits) (now near) n × LinesInRange (now h) nh × (natAbs v ≤ 20000) × Figure (beforeOf (objectRows (now xs) (now ys) (now visits) (now near) n)) costLimit before × LineTable (now h) nh (now table) × (length (now costs) ≡ 514) ⌝ }
-    ensures { λ _. ⌜ now (costs .exit) ≡ costsAlong (objectRows (now (xs .entry)) (now (ys .entry)) (now (visits .entry)) (now (near .entry)) n) (now (h .entry)) nh v (now (costs .entry)) ⌝ }
+    requires { ⌜ Priceable (now xs) (now ys) (now visits) (now near) n × LinesInRange (now h) nh × (natAbs v ≤ 20000)
+        × Figure (beforeOf (objectRows (now xs) (now ys) (now visits) (now near) n)) costLimit before × LineTable (now h) nh (now table)
+        × (length (now costs) ≡ 514) ⌝ }
+    ensures { λ _. ⌜ now (costs .exit)
+        ≡ costsAlong (objectRows (now (xs .entry)) (now (ys .entry)) (now (visits .entry)) (now (near .entry)) n) (now (h .entry)) nh v
+        (now (costs .entry)) ⌝ }
 {
     let mut up = [0u64; 515];
     let mut up_at = [0u64; 515];
@@ -308,9 +323,15 @@ fn cheapest_on<'a>(
     costs: &mut [u64; LINES],
     first: Spot,
 ) -> Spot
-    requires { ⌜ Priceable (now xs) (now ys) (now visits) (now near) n × LinesInRange (now h) nh × (natAbs v ≤ 20000) × Figure (beforeOf (objectRows (now xs) (now ys) (now visits) (now near) n)) costLimit before × LineTable (now h) nh (now table) × (length (now costs) ≡ 514) ⌝ }
-    ensures chosen { λ r. ⌜ r ≡ firstCheapest (objectRows (now (xs .entry)) (now (ys .entry)) (now (visits .entry)) (now (near .entry)) n) first (along (take nh (now (h .entry))) v) ⌝ }
-    ensures priced { λ _. ⌜ now (costs .exit) ≡ costsAlong (objectRows (now (xs .entry)) (now (ys .entry)) (now (visits .entry)) (now (near .entry)) n) (now (h .entry)) nh v (now (costs .entry)) ⌝ }
+    requires { ⌜ Priceable (now xs) (now ys) (now visits) (now near) n × LinesInRange (now h) nh × (natAbs v ≤ 20000)
+        × Figure (beforeOf (objectRows (now xs) (now ys) (now visits) (now near) n)) costLimit before × LineTable (now h) nh (now table)
+        × (length (now costs) ≡ 514) ⌝ }
+    ensures chosen { λ r. ⌜ r
+        ≡ firstCheapest (objectRows (now (xs .entry)) (now (ys .entry)) (now (visits .entry)) (now (near .entry)) n) first
+        (along (take nh (now (h .entry))) v) ⌝ }
+    ensures priced { λ _. ⌜ now (costs .exit)
+        ≡ costsAlong (objectRows (now (xs .entry)) (now (ys .entry)) (now (visits .entry)) (now (near .entry)) n) (now (h .entry)) nh v
+        (now (costs .entry)) ⌝ }
 {
     costs_along(xs, ys, visits, near, n, h, nh, table, v, before, costs);
     choose(h, nh, v, costs, first)
@@ -331,8 +352,11 @@ fn cheapest_of<'a>(
     before: u64,
     first: Spot,
 ) -> Spot
-    requires { ⌜ Priceable (now xs) (now ys) (now visits) (now near) n × LinesInRange (now v) nv × LinesInRange (now h) nh × Figure (beforeOf (objectRows (now xs) (now ys) (now visits) (now near) n)) costLimit before × LineTable (now h) nh (now table) ⌝ }
-    ensures { λ r. ⌜ r ≡ firstCheapest (objectRows (now (xs .entry)) (now (ys .entry)) (now (visits .entry)) (now (near .entry)) n) first (flatMap (along (take nh (now (h .entry)))) (take nv (now (v .entry)))) ⌝ }
+    requires { ⌜ Priceable (now xs) (now ys) (now visits) (now near) n × LinesInRange (now v) nv × LinesInRange (now h) nh
+        × Figure (beforeOf (objectRows (now xs) (now ys) (now visits) (now near) n)) costLimit before × LineTable (now h) nh (now table) ⌝ }
+    ensures { λ r. ⌜ r
+        ≡ firstCheapest (objectRows (now (xs .entry)) (now (ys .entry)) (now (visits .entry)) (now (near .entry)) n) first
+        (flatMap (along (take nh (now (h .entry)))) (take nv (now (v .entry)))) ⌝ }
 {
     let mut costs = [0u64; LINES];
     let mut found = first;

@@ -43,7 +43,10 @@ stopOf ns = record { at = postOf ns; visits = natAbs (nth ns 2) }
 
 -- what the numbers of all lines say: those of the area, of each post, of each stop, and the rounds
 abbrev pub jobOf : List ℤ → List (List ℤ) → List (List ℤ) → List ℤ → Job
-jobOf a ps ss n = record { deck = record { axis = plain; area = areaOf a; posts = map postOf ps; stops = map stopOf ss }; rounds = countOf n }
+jobOf a ps ss n = record {
+  deck = record { axis = plain; area = areaOf a; posts = map postOf ps; stops = map stopOf ss };
+  rounds = countOf n;
+}
 
 -- ---- reading
 -- 01 "A job is lines in this order .. Nothing follows"
@@ -71,7 +74,8 @@ emptyArea r = ltZ (r .xhi) (r .xlo) || ltZ (r .yhi) (r .ylo)
 -- 01 refusals 4, 5 and 6, in this order, once every line is read
 unfoldable pub checked : Job → Result
 unfolding emptyArea
-checked job = cond (emptyArea (job .deck .area)) (refused EmptyArea) (cond (nonEmpty (job .deck .posts)) (cond (nonEmpty (job .deck .stops)) (accepted job) (refused NoStops)) (refused NoPosts))
+checked job = cond (emptyArea (job .deck .area)) (refused EmptyArea)
+    (cond (nonEmpty (job .deck .posts)) (cond (nonEmpty (job .deck .stops)) (accepted job) (refused NoStops)) (refused NoPosts))
 
 abbrev pub readingResult : Reading Job → Result
 readingResult (fault why) = refused why

@@ -6,5 +6,7 @@ use Rattle.text.specs.Ascii.{bytes}
 use Rattle.job.specs.Format.{accepted, readJob}
 
 pub record JobVectors : Type 0 where
-  pub case-A : readJob (bytes "area=2,2,8,8\nposts=1\npost=0,0\nstops=2\nstop=4,3,2\nstop=8,12,1\nrounds=10\n") ≡ accepted (record { deck = deckA; rounds = 10 })
-  pub rounds-1000 : readJob (bytes "area=2,2,8,8\nposts=1\npost=0,0\nstops=2\nstop=4,3,2\nstop=8,12,1\nrounds=1000\n") ≡ accepted (record { deck = deckA; rounds = 1000 })
+  pub case-A : readJob (bytes "area=2,2,8,8\nposts=1\npost=0,0\nstops=2\nstop=4,3,2\nstop=8,12,1\nrounds=10\n")
+      ≡ accepted (record { deck = deckA; rounds = 10 })
+  pub rounds-1000 : readJob (bytes "area=2,2,8,8\nposts=1\npost=0,0\nstops=2\nstop=4,3,2\nstop=8,12,1\nrounds=1000\n")
+      ≡ accepted (record { deck = deckA; rounds = 1000 })

@@ -88,4 +88,5 @@ pub record LastAt (s : List ℕ) (at n : ℕ) (r : CountLine) : Type 0 where
 
 -- refusals 4, 5 and 6 of what the lines hold, or the job
 pub record CheckedAt (area : Area) (postsRead : Posts) (stopsRead : Stops) (n : ℕ) (r : Job) : Type 0 where
-  pub is : {ps ss : List (List ℤ)} → PostsHold postsRead ps → StopsHold stopsRead ss → r ≡ jobRecord (checked (jobOf (areaNumbers area) ps ss (pos n ∷ [])))
+  pub is : {ps ss : List (List ℤ)} → PostsHold postsRead ps → StopsHold stopsRead ss →
+      r ≡ jobRecord (checked (jobOf (areaNumbers area) ps ss (pos n ∷ [])))

@@ -37,12 +37,15 @@ dueAfter rounds ns = []
 -- these lines are, from the top, lines that were due, each with its form and its ranges; and these kinds of lines are due next
 pub data Good : List (List ℕ) → List Kind → Type 0 where
   top : Good [] (area ∷ posts ∷ stops ∷ rounds ∷ [])
-  one-more : {lines : List (List ℕ)} {k : Kind} {due : List Kind} → Good lines (k ∷ due) → (text : List ℕ) (ns : List ℤ) → formOf (row k) text ≡ some (ns, []) → T (inRanges (row k .ranges) ns) → Good (lines ++ (text ∷ [])) (dueAfter k ns ++ due)
+  one-more : {lines : List (List ℕ)} {k : Kind} {due : List Kind} → Good lines (k ∷ due) → (text : List ℕ) (ns : List ℤ) →
+      formOf (row k) text ≡ some (ns, []) → T (inRanges (row k .ranges) ns) → Good (lines ++ (text ∷ [])) (dueAfter k ns ++ due)
 
 -- line n is the first that does not have its form, is missing, or is too much
 pub data FirstMalformed (bytes : List ℕ) (n : ℕ) : Type 0 where
-  no-form : (lines : List (List ℕ)) (rest : List ℕ) (k : Kind) (due : List Kind) → Good lines (k ∷ due) → bytes ≡ flatten lines ++ rest → n ≡ suc (length lines) → formOf (row k) rest ≡ none → FirstMalformed bytes n
-  too-much : (lines : List (List ℕ)) (rest : List ℕ) → Good lines [] → bytes ≡ flatten lines ++ rest → n ≡ suc (length lines) → rest ≢ [] → FirstMalformed bytes n
+  no-form : (lines : List (List ℕ)) (rest : List ℕ) (k : Kind) (due : List Kind) → Good lines (k ∷ due) → bytes ≡ flatten lines ++ rest →
+      n ≡ suc (length lines) → formOf (row k) rest ≡ none → FirstMalformed bytes n
+  too-much : (lines : List (List ℕ)) (rest : List ℕ) → Good lines [] → bytes ≡ flatten lines ++ rest → n ≡ suc (length lines) → rest ≢ [] →
+      FirstMalformed bytes n
 
 -- line n has its form and a value out of range, and every line before it has its form and ranges
 pub record FirstOutOfRange (bytes : List ℕ) (n : ℕ) : Type 0 where
@@ -70,8 +73,10 @@ pub data Condition (bytes : List ℕ) : Refusal → Type 0 where
   malformed : {n : ℕ} → length bytes ≤ sizeLimit → FirstMalformed bytes n → Condition bytes (Malformed n)
   out-of-range : {n : ℕ} → length bytes ≤ sizeLimit → FirstOutOfRange bytes n → Condition bytes (OutOfRange n)
   empty-area : length bytes ≤ sizeLimit → (s : Spelled bytes) → T (emptyArea (s .job .deck .area)) → Condition bytes EmptyArea
-  no-posts : length bytes ≤ sizeLimit → (s : Spelled bytes) → T (not (emptyArea (s .job .deck .area))) → s .job .deck .posts ≡ [] → Condition bytes NoPosts
-  no-stops : length bytes ≤ sizeLimit → (s : Spelled bytes) → T (not (emptyArea (s .job .deck .area))) → s .job .deck .posts ≢ [] → s .job .deck .stops ≡ [] → Condition bytes NoStops
+  no-posts : length bytes ≤ sizeLimit → (s : Spelled bytes) → T (not (emptyArea (s .job .deck .area))) → s .job .deck .posts ≡ [] →
+      Condition bytes NoPosts
+  no-stops : length bytes ≤ sizeLimit → (s : Spelled bytes) → T (not (emptyArea (s .job .deck .area))) → s .job .deck .posts ≢ [] →
+      s .job .deck .stops ≡ [] → Condition bytes NoStops
 
 -- demand 1 of the reader: "A number is used under its condition and under no other"
 pub record RefusedLaw (bytes : List ℕ) (why : Refusal) : Type 0 where

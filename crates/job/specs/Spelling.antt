@@ -37,7 +37,9 @@ stopLine s = record { kind = stop; numbers = s .at .x ∷ s .at .y ∷ pos (s .v
 
 -- 01 "A job is lines in this order": the lines of a job
 abbrev pub linesOf : Job → List JobLine
-linesOf job = areaLine (job .deck .area) ∷ countLine posts (length (job .deck .posts)) ∷ (map postLine (job .deck .posts) ++ (countLine stops (length (job .deck .stops)) ∷ (map stopLine (job .deck .stops) ++ (countLine rounds (job .rounds) ∷ []))))
+linesOf job = areaLine (job .deck .area) ∷ countLine posts (length (job .deck .posts))
+    ∷ (map postLine (job .deck .posts)
+    ++ (countLine stops (length (job .deck .stops)) ∷ (map stopLine (job .deck .stops) ++ (countLine rounds (job .rounds) ∷ []))))
 
 -- ---- their bytes
 -- numbers, each with its end

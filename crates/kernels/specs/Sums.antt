@@ -71,4 +71,5 @@ turn deck which = getD (costTurn deck ∷ loadTurn deck ∷ boundTurn deck ∷ c
 
 -- a sum over k turns. -1 where the job is refused or k is above 100,000, and the least number where there is no such kernel
 abbrev pub kernelSum : ℕ → ℕ → Result → ℤ
-kernelSum which k r = cond (ltb 4 which) least (onJob minusOne (λ job. cond (ltb 100000 k) minusOne (pos (sumTo (turn (job .deck) which) k))) r)
+kernelSum which k r =
+    cond (ltb 4 which) least (onJob minusOne (λ job. cond (ltb 100000 k) minusOne (pos (sumTo (turn (job .deck) which) k))) r)

@@ -42,7 +42,10 @@ fn costs<'a>(
     k: u64,
 ) -> u64
     requires { ⌜ Priceable (now xs) (now ys) (now visits) (now near) n × (k ≤ 100000) ⌝ }
-    ensures { λ r. ⌜ Figure (sumTo (λ t. costOf (objectRows (now (xs .entry)) (now (ys .entry)) (now (visits .entry)) (now (near .entry)) n) (placeAt t)) k) (100000 * costLimit) r ⌝ }
+    ensures { λ r.
+        ⌜ Figure (sumTo
+        (λ t. costOf (objectRows (now (xs .entry)) (now (ys .entry)) (now (visits .entry)) (now (near .entry)) n) (placeAt t)) k)
+        (100000 * costLimit) r ⌝ }
 {
     let mut sum: u64 = 0;
     let mut t: u64 = 0;
@@ -65,7 +68,10 @@ fn loads<'a>(
     k: u64,
 ) -> u64
     requires { ⌜ Priceable (now xs) (now ys) (now visits) (now near) n × (k ≤ 100000) ⌝ }
-    ensures { λ r. ⌜ Figure (sumTo (λ t. loadOf (objectRows (now (xs .entry)) (now (ys .entry)) (now (visits .entry)) (now (near .entry)) n) (rectAt t)) k) (100000 * costLimit) r ⌝ }
+    ensures { λ r.
+        ⌜ Figure (sumTo
+        (λ t. loadOf (objectRows (now (xs .entry)) (now (ys .entry)) (now (visits .entry)) (now (near .entry)) n) (rectAt t)) k)
+        (100000 * costLimit) r ⌝ }
 {
     let mut sum: u64 = 0;
     let mut t: u64 = 0;
@@ -89,7 +95,10 @@ fn bounds<'a>(
     k: u64,
 ) -> u64
     requires { ⌜ Priceable (now xs) (now ys) (now visits) (now near) n × (k ≤ 100000) ⌝ }
-    ensures { λ r. ⌜ Figure (sumTo (λ t. positive (boundOf (objectRows (now (xs .entry)) (now (ys .entry)) (now (visits .entry)) (now (near .entry)) n) (rectAt t))) k) (100000 * costLimit) r ⌝ }
+    ensures { λ r.
+        ⌜ Figure (sumTo
+        (λ t. positive (boundOf (objectRows (now (xs .entry)) (now (ys .entry)) (now (visits .entry)) (now (near .entry)) n) (rectAt t))) k)
+        (100000 * costLimit) r ⌝ }
 {
     let mut sum: u64 = 0;
     let mut t: u64 = 0;
@@ -107,7 +116,9 @@ fn bounds<'a>(
 
 fn cuts(xs: &[i64; LINES], nx: usize, ys: &[i64; LINES], ny: usize, k: u64) -> u64
     requires { ⌜ LinesInOrder (now xs) nx × LinesInOrder (now ys) ny × (k ≤ 100000) ⌝ }
-    ensures { λ r. ⌜ Figure (sumTo (λ t. positive (cutRecord (gridOf (now (xs .entry)) nx (now (ys .entry)) ny) (rectAt t) .at)) k) (100000 * costLimit) r ⌝ }
+    ensures { λ r.
+        ⌜ Figure (sumTo (λ t. positive (cutRecord (gridOf (now (xs .entry)) nx (now (ys .entry)) ny) (rectAt t) .at)) k)
+        (100000 * costLimit) r ⌝ }
 {
     let mut sum: u64 = 0;
     let mut t: u64 = 0;

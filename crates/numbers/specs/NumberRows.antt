@@ -29,6 +29,7 @@ pub record NumberRows : Type 0 where
   pub clamp-inside : clamp (negsuc 1) (pos 8) (pos 5) ≡ pos 5
   pub clamp-above : clamp (negsuc 1) (pos 8) (pos 9) ≡ pos 8
   pub least-is-first : leastBy smaller (labelled 3 1) (labelled 2 2 ∷ labelled 2 3 ∷ []) ≡ labelled 2 2
-  pub insert-behind-equals : insertBy smaller (labelled 2 3) (labelled 2 1 ∷ labelled 2 2 ∷ labelled 3 4 ∷ []) ≡ labelled 2 1 ∷ labelled 2 2 ∷ labelled 2 3 ∷ labelled 3 4 ∷ []
+  pub insert-behind-equals : insertBy smaller (labelled 2 3) (labelled 2 1 ∷ labelled 2 2 ∷ labelled 3 4 ∷ [])
+      ≡ labelled 2 1 ∷ labelled 2 2 ∷ labelled 2 3 ∷ labelled 3 4 ∷ []
   pub insert-once : insertOnce (pos 2) (negsuc 0 ∷ pos 2 ∷ pos 5 ∷ []) ≡ negsuc 0 ∷ pos 2 ∷ pos 5 ∷ []
   pub insert-between : insertOnce (pos 0) (negsuc 0 ∷ pos 2 ∷ pos 5 ∷ []) ≡ negsuc 0 ∷ pos 0 ∷ pos 2 ∷ pos 5 ∷ []

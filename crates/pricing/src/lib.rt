@@ -36,7 +36,9 @@ pub fn cost<'a>(
     y: i32,
 ) -> u64
     requires { ⌜ (n ≤ 512) × ColumnsInRange (now xs) (now ys) (now visits) (now near) × Near180000 x y ⌝ }
-    ensures { λ r. ⌜ Figure (costOf (objectRows (now (xs .entry)) (now (ys .entry)) (now (visits .entry)) (now (near .entry)) n) (record { x = x; y = y })) costLimit r ⌝ }
+    ensures { λ r.
+        ⌜ Figure (costOf (objectRows (now (xs .entry)) (now (ys .entry)) (now (visits .entry)) (now (near .entry)) n)
+        (record { x = x; y = y })) costLimit r ⌝ }
 {
     let mut sum: u64 = 0;
     let mut i: usize = 0;
@@ -97,7 +99,9 @@ pub fn load<'a>(
     yhi: i32,
 ) -> u64
     requires { ⌜ (n ≤ 512) × ColumnsInRange (now xs) (now ys) (now visits) (now near) × EdgesInRange xlo ylo xhi yhi ⌝ }
-    ensures { λ r. ⌜ Figure (loadOf (objectRows (now (xs .entry)) (now (ys .entry)) (now (visits .entry)) (now (near .entry)) n) (record { xlo = xlo; ylo = ylo; xhi = xhi; yhi = yhi })) loadLimit r ⌝ }
+    ensures { λ r.
+        ⌜ Figure (loadOf (objectRows (now (xs .entry)) (now (ys .entry)) (now (visits .entry)) (now (near .entry)) n)
+        (record { xlo = xlo; ylo = ylo; xhi = xhi; yhi = yhi })) loadLimit r ⌝ }
 {
     let mut sum: u32 = 0;
     let mut i: usize = 0;
@@ -157,7 +161,8 @@ pub fn reach_flags<'a>(
     yhi: i32,
 ) -> [u8; STOPS]
     requires { ⌜ (n ≤ 512) × ReachInRange (now xs) (now ys) (now near) × EdgesInRange xlo ylo xhi yhi ⌝ }
-    ensures { λ r. ⌜ FlagsAre (now (xs .entry)) (now (ys .entry)) (now (near .entry)) n (record { xlo = xlo; ylo = ylo; xhi = xhi; yhi = yhi }) r ⌝ }
+    ensures { λ r.
+        ⌜ FlagsAre (now (xs .entry)) (now (ys .entry)) (now (near .entry)) n (record { xlo = xlo; ylo = ylo; xhi = xhi; yhi = yhi }) r ⌝ }
 {
     let mut flags = [0u8; STOPS];
     let mut i: usize = 0;

@@ -27,7 +27,10 @@ use Rattle.problem.specs.declared.Spot.{Spot}
 -- the bound of a cell
 unfoldable pub boundOf : List Object → Rect → ℤ
 unfolding costOf loadOf span halfUp
-boundOf objects r = halfUp (pos (max (costOf objects (record { x = r .xlo; y = r .ylo }) + costOf objects (record { x = r .xhi; y = r .yhi })) (costOf objects (record { x = r .xlo; y = r .yhi }) + costOf objects (record { x = r .xhi; y = r .ylo }))) -ℤ pos (span plain r * loadOf objects r))
+boundOf objects r = halfUp (pos
+    (max (costOf objects (record { x = r .xlo; y = r .ylo }) + costOf objects (record { x = r .xhi; y = r .yhi }))
+    (costOf objects (record { x = r .xlo; y = r .yhi }) + costOf objects (record { x = r .xhi; y = r .ylo }))) -ℤ pos
+    (span plain r * loadOf objects r))
 
 -- what a round sees of some objects and lines
 abbrev pub objectRules : List Object → Grid → Rules

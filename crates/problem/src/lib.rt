@@ -33,7 +33,8 @@ pub fn priced<'a>(
     y: i64,
 ) -> Spot
     requires { ⌜ Priceable (now xs) (now ys) (now visits) (now near) n × PlaceInRange (record { x = x; y = y }) ⌝ }
-    ensures { λ r. ⌜ r ≡ spotOf (objectRows (now (xs .entry)) (now (ys .entry)) (now (visits .entry)) (now (near .entry)) n) (record { x = x; y = y }) ⌝ }
+    ensures { λ r. ⌜ r
+        ≡ spotOf (objectRows (now (xs .entry)) (now (ys .entry)) (now (visits .entry)) (now (near .entry)) n) (record { x = x; y = y }) ⌝ }
 {
     let cost = pricing::cost(xs, ys, visits, near, n, x as i32, y as i32);
     place(x, y, cost)

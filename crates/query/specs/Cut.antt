@@ -60,7 +60,10 @@ pub record Line : Type 0 where
 -- the line at which a round cuts a cell
 unfoldable pub cutLine : Grid → Rect → Line
 unfolding cutAxis middleLine inside
-cutLine G r = record { axis = cutAxis G r; at = middleLine (low-edge (cutAxis G r) r) (high-edge (cutAxis G r) r) (inside G (cutAxis G r) r) }
+cutLine G r = record {
+  axis = cutAxis G r;
+  at = middleLine (low-edge (cutAxis G r) r) (high-edge (cutAxis G r) r) (inside G (cutAxis G r) r);
+}
 
 -- the part of a cell before a line, and the part after it; both hold the line
 abbrev pub cutBefore : Axis → ℤ → Rect → Rect

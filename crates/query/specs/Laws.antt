@@ -34,7 +34,8 @@ pub record HalfLaw (z : ℤ) : Type 0 where
 
 -- near is the travel to some post, and at most the travel to every post
 pub record NearLaw (deck : Deck) (stop : Stop) : Type 0 where
-  pub some-post : T (nonEmpty (deck .posts)) → (post : Place) × List·Memᴰ post (deck .posts) × (near deck stop ≡ travel (deck .axis) (stop .at) post)
+  pub some-post : T (nonEmpty (deck .posts)) → (post : Place) × List·Memᴰ post (deck .posts)
+      × (near deck stop ≡ travel (deck .axis) (stop .at) post)
   pub every-post : (post : Place) → List·Memᴰ post (deck .posts) → near deck stop ≤ travel (deck .axis) (stop .at) post
 
 -- the travel to a rectangle is the least travel to its points
@@ -51,7 +52,8 @@ pub record BoundLaw (deck : Deck) (r : Rect) : Type 0 where
 pub data Named (deck : Deck) (axis : Axis) (v : ℤ) : Type 0 where
   edge-low : v ≡ low-edge axis (deck .area) → Named deck axis v
   edge-high : v ≡ high-edge axis (deck .area) → Named deck axis v
-  of-stop : (stop : Stop) → List·Memᴰ stop (deck .stops) → T (reach deck (deck .area) stop) → v ≡ coordinate axis (stop .at) → low-edge axis (deck .area) ≤ℤ v → v ≤ℤ high-edge axis (deck .area) → Named deck axis v
+  of-stop : (stop : Stop) → List·Memᴰ stop (deck .stops) → T (reach deck (deck .area) stop) → v ≡ coordinate axis (stop .at) →
+      low-edge axis (deck .area) ≤ℤ v → v ≤ℤ high-edge axis (deck .area) → Named deck axis v
 
 -- lines are strictly increasing, and stand at exactly the named coordinates
 pub record LinesLaw (deck : Deck) (axis : Axis) : Type 0 where
@@ -79,8 +81,12 @@ pub record Inside (G : Grid) (axis : Axis) (r : Rect) (v : ℤ) : Type 0 where
 -- where the other axis has lines inside too, its side is not longer, and on equal sides it is the y axis
 pub record CutLineLaw (G : Grid) (r : Rect) : Type 0 where
   pub is-inside : Inside G (cutLine G r .axis) r (cutLine G r .at)
-  pub closest : (v : ℤ) → Inside G (cutLine G r .axis) r v → offMiddle (low-edge (cutLine G r .axis) r) (high-edge (cutLine G r .axis) r) (cutLine G r .at) ≤ offMiddle (low-edge (cutLine G r .axis) r) (high-edge (cutLine G r .axis) r) v
-  pub smaller : (v : ℤ) → Inside G (cutLine G r .axis) r v → offMiddle (low-edge (cutLine G r .axis) r) (high-edge (cutLine G r .axis) r) v ≡ offMiddle (low-edge (cutLine G r .axis) r) (high-edge (cutLine G r .axis) r) (cutLine G r .at) → cutLine G r .at ≤ℤ v
+  pub closest : (v : ℤ) → Inside G (cutLine G r .axis) r v →
+      offMiddle (low-edge (cutLine G r .axis) r) (high-edge (cutLine G r .axis) r) (cutLine G r .at)
+      ≤ offMiddle (low-edge (cutLine G r .axis) r) (high-edge (cutLine G r .axis) r) v
+  pub smaller : (v : ℤ) → Inside G (cutLine G r .axis) r v →
+      offMiddle (low-edge (cutLine G r .axis) r) (high-edge (cutLine G r .axis) r) v ≡ offMiddle (low-edge (cutLine G r .axis) r)
+      (high-edge (cutLine G r .axis) r) (cutLine G r .at) → cutLine G r .at ≤ℤ v
   pub longer-side : (axis : Axis) (v : ℤ) → Inside G axis r v → side axis r ≤ side (cutLine G r .axis) r
   pub x-on-equal-sides : (v : ℤ) → Inside G x-axis r v → side x-axis r ≡ side y-axis r → cutLine G r .axis ≡ x-axis
 

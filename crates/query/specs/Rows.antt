@@ -64,7 +64,13 @@ deckHalf = record { axis = plain; area = rect 0 3 3 3; posts = at 0 0 ∷ []; st
 
 -- a tenth along x costs 2: travel and bounds follow it, sides and middles do not; each post is the closer one for some stop
 abbrev pub deckAxis : Deck
-deckAxis = record { axis = record { a = 2; b = 1 }; area = rect 0 3 4 6; posts = at 0 4 ∷ at 0 0 ∷ []; stops = stop 3 0 2 ∷ stop 2 4 1 ∷ [] }
+deckAxis = record {
+  axis = record { a = 2; b = 1 };
+  area = rect 0 3 4 6;
+  posts = at 0 4 ∷ at 0 0 ∷ [];
+  stops = stop 3 0 2 ∷ stop 2 4 1
+      ∷ [];
+}
 
 pub record Rows : Type 0 where
   -- 01 "Half of 3 is 2, half of −3 is −1, half of −4 is −2"

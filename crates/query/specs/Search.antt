@@ -50,7 +50,9 @@ start P = record { best = startBest P; live = keep (isLive (P .rules .grid) (sta
 -- the two parts of a cut cell, among the other cells ordered by bound and then by (xlo, ylo)
 unfoldable pub cellsAfter : Rules → Cell → List Cell → List Cell
 unfolding insertBy cellBefore cutLine
-cellsAfter R c others = let line = cutLine (R .grid) (c .rect) in insertBy cellBefore (cellOf R (cutBefore (line .axis) (line .at) (c .rect))) (insertBy cellBefore (cellOf R (cutAfter (line .axis) (line .at) (c .rect))) others)
+cellsAfter R c others = let line = cutLine (R .grid) (c .rect) in
+    insertBy cellBefore (cellOf R (cutBefore (line .axis) (line .at) (c .rect)))
+    (insertBy cellBefore (cellOf R (cutAfter (line .axis) (line .at) (c .rect))) others)
 
 -- 01 "It prices the two new corners and brings the best place .. up to date"
 unfoldable pub bestAfter : Rules → Priced → Cell → Priced
@@ -61,7 +63,8 @@ bestAfter R best c = let line = cutLine (R .grid) (c .rect) in bestOf R best (ne
 unfoldable pub roundOn : Rules → Search → List Cell → Search
 unfolding keep isLive bestAfter cellsAfter
 roundOn R s [] = s
-roundOn R s (c ∷ others) = let best = bestAfter R (s .best) c in record { best = best; live = keep (isLive (R .grid) best) (cellsAfter R c others); cuts = suc (s .cuts) }
+roundOn R s (c ∷ others) = let best = bestAfter R (s .best) c in
+    record { best = best; live = keep (isLive (R .grid) best) (cellsAfter R c others); cuts = suc (s .cuts) }
 
 -- 01 "A round takes the live cell of smallest bound, the one with the earliest (xlo, ylo) among equals"
 unfoldable pub round : Rules → Search → Search

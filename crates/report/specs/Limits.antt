@@ -12,7 +12,14 @@ use Rattle.report.specs.Text.{reportText, refusalText}
 
 -- figures at the ends of their ranges
 abbrev pub widest : Figures
-widest = record { state = stopped; at = record { x = negsuc 19999; y = negsuc 19999 }; high = costLimit; low = negℤ (pos costLimit); before = costLimit; rounds = 1000 }
+widest = record {
+  state = stopped;
+  at = record { x = negsuc 19999; y = negsuc 19999 };
+  high = costLimit;
+  low = negℤ (pos costLimit);
+  before = costLimit;
+  rounds = 1000;
+}
 
 -- 01 "128 bytes, which hold every report"; the longest report has 105, and the longest refusal 36
 pub record ReportFits : Type 0 where

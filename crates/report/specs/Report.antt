@@ -11,4 +11,11 @@ reportState Done = Query.done
 reportState Stopped = Query.stopped
 
 abbrev pub reportFigures : Report → Figures
-reportFigures r = record { state = reportState (r .state); at = record { x = r .x; y = r .y }; high = r .high; low = r .low; before = r .before; rounds = r .rounds }
+reportFigures r = record {
+  state = reportState (r .state);
+  at = record { x = r .x; y = r .y };
+  high = r .high;
+  low = r .low;
+  before = r .before;
+  rounds = r .rounds;
+}

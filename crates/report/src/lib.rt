@@ -68,7 +68,9 @@ fn put_place(out: &mut [u8], at: usize, x: i64, y: i64) -> usize
 
 fn put_costs(out: &mut [u8], at: usize, high: u64, low: i64, before: u64) -> usize
     requires { ⌜ at + 80 ≤ length (now out) ⌝ }
-    ensures { λ r. ⌜ Wrote (now (out .entry)) at (bytes "\nhigh=" ++ spellNat high ++ bytes "\nlow=" ++ spellInt low ++ bytes "\nbefore=" ++ spellNat before) (now (out .exit)) r ⌝ }
+    ensures { λ r.
+        ⌜ Wrote (now (out .entry)) at (bytes "\nhigh=" ++ spellNat high ++ bytes "\nlow=" ++ spellInt low ++ bytes "\nbefore="
+        ++ spellNat before) (now (out .exit)) r ⌝ }
 {
     let next = put_key_nat(out, at, b"\nhigh=", high);
     let next = put_key_int(out, next, b"\nlow=", low);

@@ -35,7 +35,14 @@ isDone (c ∷ cs) = false
 
 unfoldable pub foundOf : Search → Found
 unfolding Figures.low
-foundOf s = record { done = isDone (s .live); x = s .best .at .x; y = s .best .at .y; high = Figures.high s; low = Figures.low s; cuts = s .cuts }
+foundOf s = record {
+  done = isDone (s .live);
+  x = s .best .at .x;
+  y = s .best .at .y;
+  high = Figures.high s;
+  low = Figures.low s;
+  cuts = s .cuts;
+}
 
 -- what a search asks: a deck and its objects, and room for the cells of so many rounds
 pub record Ready (deck : Deck) (objects : Objects) (rounds lent : ℕ) : Type 0 where

@@ -15,7 +15,12 @@ use Rattle.problem.specs.declared.Spot.{Spot}
 
 -- the costs of the corners of a rectangle, and its cell
 abbrev pub cornerCosts : List Object → Rect → Costs
-cornerCosts objects r = record { c00 = costOf objects (record { x = r .xlo; y = r .ylo }); c01 = costOf objects (record { x = r .xlo; y = r .yhi }); c10 = costOf objects (record { x = r .xhi; y = r .ylo }); c11 = costOf objects (record { x = r .xhi; y = r .yhi }) }
+cornerCosts objects r = record {
+  c00 = costOf objects (record { x = r .xlo; y = r .ylo });
+  c01 = costOf objects (record { x = r .xlo; y = r .yhi });
+  c10 = costOf objects (record { x = r .xhi; y = r .ylo });
+  c11 = costOf objects (record { x = r .xhi; y = r .yhi });
+}
 
 abbrev pub cellFor : List Object → Rect → Cell
 cellFor objects r = record { xlo = r .xlo; ylo = r .ylo; xhi = r .xhi; yhi = r .yhi; bound = boundOf objects r }
@@ -34,4 +39,5 @@ pub record CostsInRange (k : Costs) : Type 0 where
 -- the best of a rectangle's corners, of which the costs are k
 unfoldable pub bestCorner : Rect → Costs → Spot
 unfolding improved
-bestCorner r k = improved (improved (improved (spotAt (r .xlo) (r .ylo) (k .c00)) (spotAt (r .xlo) (r .yhi) (k .c01))) (spotAt (r .xhi) (r .ylo) (k .c10))) (spotAt (r .xhi) (r .yhi) (k .c11))
+bestCorner r k = improved (improved (improved (spotAt (r .xlo) (r .ylo) (k .c00)) (spotAt (r .xlo) (r .yhi) (k .c01)))
+    (spotAt (r .xhi) (r .ylo) (k .c10))) (spotAt (r .xhi) (r .yhi) (k .c11))

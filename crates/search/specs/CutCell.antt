@@ -49,7 +49,14 @@ unfolding costOf boundOf
 halvesOf objects cut r =
     let low = lowCorner (cut .across) (cut .at) r in
     let high = highCorner (cut .across) (cut .at) r in
-    record { low = spotOf objects low; high = spotOf objects high; first = cellFor objects (firstRect r high); «first_costs» = cornerCosts objects (firstRect r high); second = cellFor objects (secondRect r low); «second_costs» = cornerCosts objects (secondRect r low) }
+    record {
+      low = spotOf objects low;
+      high = spotOf objects high;
+      first = cellFor objects (firstRect r high);
+      «first_costs» = cornerCosts objects (firstRect r high);
+      second = cellFor objects (secondRect r low);
+      «second_costs» = cornerCosts objects (secondRect r low);
+    }
 
 -- a cell that is cut, and its corners' costs
 pub record Cutting (objects : List Object) (G : Grid) (c : Cell) (k : Costs) : Type 0 where

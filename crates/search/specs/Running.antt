@@ -23,7 +23,11 @@ use Rattle.search.specs.LiveEntries.{Costed}
 -- the search that a state and the work space hold
 unfoldable pub searchOf : List ℤ → List ℕ → Running → Search
 unfolding entries
-searchOf s t st = record { best = pricedOf (st .best); live = map entryCell (entries s t (st .head) (st .tail - st .head)); cuts = st .cuts }
+searchOf s t st = record {
+  best = pricedOf (st .best);
+  live = map entryCell (entries s t (st .head) (st .tail - st .head));
+  cuts = st .cuts;
+}
 
 -- what a round asks
 pub record Takeable (objects : List Object) (G : Grid) (s : List ℤ) (t : List ℕ) (st : Running) : Type 0 where

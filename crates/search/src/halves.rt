@@ -67,7 +67,9 @@ fn load_of<'a>(
     c: Cell,
 ) -> u64
     requires { ⌜ Priceable (now xs) (now ys) (now visits) (now near) n × Ranged (rectIn c) ⌝ }
-    ensures { λ r. ⌜ Figure (loadOf (objectRows (now (xs .entry)) (now (ys .entry)) (now (visits .entry)) (now (near .entry)) n) (rectIn c)) loadLimit r ⌝ }
+    ensures { λ r.
+        ⌜ Figure (loadOf (objectRows (now (xs .entry)) (now (ys .entry)) (now (visits .entry)) (now (near .entry)) n) (rectIn c)) loadLimit
+        r ⌝ }
 {
     pricing::load(
         xs,
@@ -92,7 +94,8 @@ pub(crate) fn bounded<'a>(
     c: Cell,
     k: Costs,
 ) -> Cell
-    requires { ⌜ Priceable (now xs) (now ys) (now visits) (now near) n × Ranged (rectIn c) × (k ≡ cornerCosts (objectRows (now xs) (now ys) (now visits) (now near) n) (rectIn c)) ⌝ }
+    requires { ⌜ Priceable (now xs) (now ys) (now visits) (now near) n × Ranged (rectIn c)
+        × (k ≡ cornerCosts (objectRows (now xs) (now ys) (now visits) (now near) n) (rectIn c)) ⌝ }
     ensures { λ r. ⌜ r ≡ cellFor (objectRows (now (xs .entry)) (now (ys .entry)) (now (visits .entry)) (now (near .entry)) n) (rectIn c) ⌝ }
 {
     let load = load_of(xs, ys, visits, near, n, c);
@@ -125,7 +128,9 @@ fn low_corner<'a>(
     cut: Cut,
 ) -> Spot
     requires { ⌜ Priceable (now xs) (now ys) (now visits) (now near) n × CutInRange c cut ⌝ }
-    ensures { λ r. ⌜ r ≡ spotOf (objectRows (now (xs .entry)) (now (ys .entry)) (now (visits .entry)) (now (near .entry)) n) (lowCorner (cut .across) (cut .at) (rectIn c)) ⌝ }
+    ensures { λ r. ⌜ r
+        ≡ spotOf (objectRows (now (xs .entry)) (now (ys .entry)) (now (visits .entry)) (now (near .entry)) n)
+        (lowCorner (cut .across) (cut .at) (rectIn c)) ⌝ }
 {
     if cut.across {
         return problem::priced(xs, ys, visits, near, n, cut.at, c.ylo);
@@ -144,7 +149,9 @@ fn high_corner<'a>(
     cut: Cut,
 ) -> Spot
     requires { ⌜ Priceable (now xs) (now ys) (now visits) (now near) n × CutInRange c cut ⌝ }
-    ensures { λ r. ⌜ r ≡ spotOf (objectRows (now (xs .entry)) (now (ys .entry)) (now (visits .entry)) (now (near .entry)) n) (highCorner (cut .across) (cut .at) (rectIn c)) ⌝ }
+    ensures { λ r. ⌜ r
+        ≡ spotOf (objectRows (now (xs .entry)) (now (ys .entry)) (now (visits .entry)) (now (near .entry)) n)
+        (highCorner (cut .across) (cut .at) (rectIn c)) ⌝ }
 {
     if cut.across {
         return problem::priced(xs, ys, visits, near, n, cut.at, c.yhi);
@@ -232,8 +239,11 @@ pub(crate) fn halve<'a>(
     c: Cell,
     k: Costs,
 ) -> Halves
-    requires { ⌜ Priceable (now xs) (now ys) (now visits) (now near) n × Lined (now v) nv (now h) nh × Cutting (objectRows (now xs) (now ys) (now visits) (now near) n) (gridOf (now v) nv (now h) nh) c k ⌝ }
-    ensures { λ r. ⌜ r ≡ halvesOf (objectRows (now (xs .entry)) (now (ys .entry)) (now (visits .entry)) (now (near .entry)) n) (cutRecord (gridOf (now (v .entry)) nv (now (h .entry)) nh) (rectIn c)) (rectIn c) ⌝ }
+    requires { ⌜ Priceable (now xs) (now ys) (now visits) (now near) n × Lined (now v) nv (now h) nh
+        × Cutting (objectRows (now xs) (now ys) (now visits) (now near) n) (gridOf (now v) nv (now h) nh) c k ⌝ }
+    ensures { λ r. ⌜ r
+        ≡ halvesOf (objectRows (now (xs .entry)) (now (ys .entry)) (now (visits .entry)) (now (near .entry)) n)
+        (cutRecord (gridOf (now (v .entry)) nv (now (h .entry)) nh) (rectIn c)) (rectIn c) ⌝ }
 {
     let cut = cut_of(v, nv, h, nh, c);
     let low = low_corner(xs, ys, visits, near, n, c, cut);

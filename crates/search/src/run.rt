@@ -73,8 +73,12 @@ fn add<'a>(
     k: Costs,
     best: Spot,
 ) -> usize
-    requires { ⌜ Lined (now v) nv (now h) nh × Addable (cellsIn (now s) (now o)) (costsIn (now t) (now o)) head tail c best × Numbered (now o) ⌝ }
-    ensures { λ r. ⌜ Added (gridOf (now (v .entry)) nv (now (h .entry)) nh) (pricedOf best) (record { cell = c; costs = k }) head tail (cellsIn (now (s .entry)) (now (o .entry))) (costsIn (now (t .entry)) (now (o .entry))) (cellsIn (now (s .exit)) (now (o .exit))) (costsIn (now (t .exit)) (now (o .exit))) r × Numbered (now (o .exit)) ⌝ }
+    requires { ⌜ Lined (now v) nv (now h) nh × Addable (cellsIn (now s) (now o)) (costsIn (now t) (now o)) head tail c best
+        × Numbered (now o) ⌝ }
+    ensures { λ r.
+        ⌜ Added (gridOf (now (v .entry)) nv (now (h .entry)) nh) (pricedOf best) (record { cell = c; costs = k }) head tail
+        (cellsIn (now (s .entry)) (now (o .entry))) (costsIn (now (t .entry)) (now (o .entry))) (cellsIn (now (s .exit)) (now (o .exit)))
+        (costsIn (now (t .exit)) (now (o .exit))) r × Numbered (now (o .exit)) ⌝ }
 {
     if is_live(v, nv, h, nh, c, best) {
         cells::insert(s, t, o, head, tail, c, k);
@@ -99,8 +103,16 @@ fn round<'a>(
     o: &mut [u16; CELLS],
     st: Running,
 ) -> Running
-    requires { ⌜ Priceable (now xs) (now ys) (now visits) (now near) n × Lined (now v) nv (now h) nh × Takeable (objectRows (now xs) (now ys) (now visits) (now near) n) (gridOf (now v) nv (now h) nh) (cellsIn (now s) (now o)) (costsIn (now t) (now o)) st × Numbered (now o) ⌝ }
-    ensures { λ r. ⌜ Holds (objectRows (now (xs .entry)) (now (ys .entry)) (now (visits .entry)) (now (near .entry)) n) (Search.round (objectRules (objectRows (now (xs .entry)) (now (ys .entry)) (now (visits .entry)) (now (near .entry)) n) (gridOf (now (v .entry)) nv (now (h .entry)) nh)) (searchOf (cellsIn (now (s .entry)) (now (o .entry))) (costsIn (now (t .entry)) (now (o .entry))) st)) (st .head - 1) (cellsIn (now (s .exit)) (now (o .exit))) (costsIn (now (t .exit)) (now (o .exit))) r × Numbered (now (o .exit)) ⌝ }
+    requires { ⌜ Priceable (now xs) (now ys) (now visits) (now near) n × Lined (now v) nv (now h) nh
+        × Takeable (objectRows (now xs) (now ys) (now visits) (now near) n) (gridOf (now v) nv (now h) nh) (cellsIn (now s) (now o))
+        (costsIn (now t) (now o)) st × Numbered (now o) ⌝ }
+    ensures { λ r.
+        ⌜ Holds (objectRows (now (xs .entry)) (now (ys .entry)) (now (visits .entry)) (now (near .entry)) n)
+        (Search.round
+        (objectRules (objectRows (now (xs .entry)) (now (ys .entry)) (now (visits .entry)) (now (near .entry)) n)
+        (gridOf (now (v .entry)) nv (now (h .entry)) nh))
+        (searchOf (cellsIn (now (s .entry)) (now (o .entry))) (costsIn (now (t .entry)) (now (o .entry))) st)) (st .head - 1)
+        (cellsIn (now (s .exit)) (now (o .exit))) (costsIn (now (t .exit)) (now (o .exit))) r × Numbered (now (o .exit)) ⌝ }
 {
     let head = st.head;
     let c = slots::cell_at(s, o, head);
@@ -145,7 +157,8 @@ fn corners<'a>(
     c: Cell,
 ) -> Costs
     requires { ⌜ Priceable (now xs) (now ys) (now visits) (now near) n × RectInRange (rectIn c) ⌝ }
-    ensures { λ r. ⌜ r ≡ cornerCosts (objectRows (now (xs .entry)) (now (ys .entry)) (now (visits .entry)) (now (near .entry)) n) (rectIn c) ⌝ }
+    ensures { λ r. ⌜ r
+        ≡ cornerCosts (objectRows (now (xs .entry)) (now (ys .entry)) (now (visits .entry)) (now (near .entry)) n) (rectIn c) ⌝ }
 {
     let front = problem::priced(xs, ys, visits, near, n, c.xlo, c.ylo);
     let left = problem::priced(xs, ys, visits, near, n, c.xlo, c.yhi);
@@ -187,8 +200,14 @@ fn start<'a>(
     o: &mut [u16; CELLS],
     area: Cell,
 ) -> Running
-    requires { ⌜ Priceable (now xs) (now ys) (now visits) (now near) n × Lined (now v) nv (now h) nh × Ranged (rectIn area) × Numbered (now o) ⌝ }
-    ensures { λ r. ⌜ Holds (objectRows (now (xs .entry)) (now (ys .entry)) (now (visits .entry)) (now (near .entry)) n) (Search.start (objectProblem (objectRows (now (xs .entry)) (now (ys .entry)) (now (visits .entry)) (now (near .entry)) n) (gridOf (now (v .entry)) nv (now (h .entry)) nh) (rectIn area))) 1000 (cellsIn (now (s .exit)) (now (o .exit))) (costsIn (now (t .exit)) (now (o .exit))) r × Numbered (now (o .exit)) ⌝ }
+    requires { ⌜ Priceable (now xs) (now ys) (now visits) (now near) n × Lined (now v) nv (now h) nh × Ranged (rectIn area)
+        × Numbered (now o) ⌝ }
+    ensures { λ r.
+        ⌜ Holds (objectRows (now (xs .entry)) (now (ys .entry)) (now (visits .entry)) (now (near .entry)) n)
+        (Search.start
+        (objectProblem (objectRows (now (xs .entry)) (now (ys .entry)) (now (visits .entry)) (now (near .entry)) n)
+        (gridOf (now (v .entry)) nv (now (h .entry)) nh) (rectIn area))) 1000 (cellsIn (now (s .exit)) (now (o .exit)))
+        (costsIn (now (t .exit)) (now (o .exit))) r × Numbered (now (o .exit)) ⌝ }
 {
     let k = corners(xs, ys, visits, near, n, area);
     let best = best_corner(area, k);
@@ -219,8 +238,16 @@ fn run_of<'a>(
     area: Cell,
     rounds: u64,
 ) -> Running
-    requires { ⌜ Priceable (now xs) (now ys) (now visits) (now near) n × Lined (now v) nv (now h) nh × Ranged (rectIn area) × (rounds ≤ 1000) × Steady (objectProblem (objectRows (now xs) (now ys) (now visits) (now near) n) (gridOf (now v) nv (now h) nh) (rectIn area)) × Numbered (now o) ⌝ }
-    ensures { λ r. ⌜ Holds (objectRows (now (xs .entry)) (now (ys .entry)) (now (visits .entry)) (now (near .entry)) n) (Search.run (objectProblem (objectRows (now (xs .entry)) (now (ys .entry)) (now (visits .entry)) (now (near .entry)) n) (gridOf (now (v .entry)) nv (now (h .entry)) nh) (rectIn area)) rounds) 0 (cellsIn (now (s .exit)) (now (o .exit))) (costsIn (now (t .exit)) (now (o .exit))) r × Numbered (now (o .exit)) ⌝ }
+    requires { ⌜ Priceable (now xs) (now ys) (now visits) (now near) n × Lined (now v) nv (now h) nh × Ranged (rectIn area)
+        × (rounds ≤ 1000)
+        × Steady (objectProblem (objectRows (now xs) (now ys) (now visits) (now near) n) (gridOf (now v) nv (now h) nh) (rectIn area))
+        × Numbered (now o) ⌝ }
+    ensures { λ r.
+        ⌜ Holds (objectRows (now (xs .entry)) (now (ys .entry)) (now (visits .entry)) (now (near .entry)) n)
+        (Search.run
+        (objectProblem (objectRows (now (xs .entry)) (now (ys .entry)) (now (visits .entry)) (now (near .entry)) n)
+        (gridOf (now (v .entry)) nv (now (h .entry)) nh) (rectIn area)) rounds) 0 (cellsIn (now (s .exit)) (now (o .exit)))
+        (costsIn (now (t .exit)) (now (o .exit))) r × Numbered (now (o .exit)) ⌝ }
 {
     let mut st = start(xs, ys, visits, near, n, v, nv, h, nh, s, t, o, area);
     let mut k: u64 = 0;

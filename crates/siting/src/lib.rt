@@ -91,7 +91,8 @@ fn respond(job: &[u8], cells: &mut [i64], out: &mut [u8]) -> Response
 
 // The report of a job, with its text in the output and its live cells in the cell space, or the refusal that applies first.
 pub fn report(job: &[u8], cells: &mut [i64], out: &mut [u8]) -> Answer
-    ensures { λ r. ⌜ record { answer = reportAnswer r; cells = now (cells .exit); out = now (out .exit) } ≡ reportCall (now (job .entry)) (now (cells .entry)) (now (out .entry)) ⌝ }
+    ensures { λ r. ⌜ record { answer = reportAnswer r; cells = now (cells .exit); out = now (out .exit) }
+        ≡ reportCall (now (job .entry)) (now (cells .entry)) (now (out .entry)) ⌝ }
 {
     let given = respond(job, cells, out);
     given.answer

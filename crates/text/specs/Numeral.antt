@@ -31,7 +31,8 @@ natural bs = cond (isNatural (digits bs)) (some (pos (valueOf (digits bs)), drop
 -- what follows a `-`: a number, and not `0`
 unfoldable pub negative : List ℕ → Option (ℤ × List ℕ)
 unfolding digits isNatural valueOf
-negative bs = cond (isNatural (digits bs) && not (eqb (valueOf (digits bs)) 0)) (some (negℤ (pos (valueOf (digits bs))), drop (length (digits bs)) bs)) none
+negative bs = cond (isNatural (digits bs) && not (eqb (valueOf (digits bs)) 0))
+    (some (negℤ (pos (valueOf (digits bs))), drop (length (digits bs)) bs)) none
 
 unfoldable pub number : List ℕ → Option (ℤ × List ℕ)
 unfolding natural negative

@@ -29,4 +29,5 @@ placeInRange p = inRange coordinates (p .x) && inRange coordinates (p .y)
 -- a rectangle whose coordinates are in range and whose edges are in order
 unfoldable pub rectAllowed : Rect → Bool
 unfolding placeInRange
-rectAllowed r = placeInRange (corner r) && (placeInRange (record { x = r .xhi; y = r .yhi }) && (leZ (r .xlo) (r .xhi) && leZ (r .ylo) (r .yhi)))
+rectAllowed r =
+    placeInRange (corner r) && (placeInRange (record { x = r .xhi; y = r .yhi }) && (leZ (r .xlo) (r .xhi) && leZ (r .ylo) (r .yhi)))

@@ -46,7 +46,8 @@ beforeFigure r = onJob minusOne (λ job. pos (before (job .deck))) r
 
 -- the near of stop i, counted from 0
 abbrev pub nearFigure : ℕ → Result → ℤ
-nearFigure i r = onJob minusOne (λ job. cond (ltb i (length (job .deck .stops))) (pos (getD (map (near (job .deck)) (job .deck .stops)) i 0)) minusOne) r
+nearFigure i r =
+    onJob minusOne (λ job. cond (ltb i (length (job .deck .stops))) (pos (getD (map (near (job .deck)) (job .deck .stops)) i 0)) minusOne) r
 
 abbrev pub costFigure : Place → Result → ℤ
 costFigure p r = onJob minusOne (λ job. cond (placeInRange p) (pos (cost (job .deck) p)) minusOne) r
@@ -63,11 +64,14 @@ axisNumber x-axis = pos 1
 axisNumber y-axis = pos 2
 
 abbrev pub cutAxisFigure : Rect → Result → ℤ
-cutAxisFigure rect r = onJob minusOne (λ job. cond (rectAllowed rect) (cond (canCut (grid (job .deck)) rect) (axisNumber (cutLine (grid (job .deck)) rect .axis)) (pos 0)) minusOne) r
+cutAxisFigure rect r = onJob minusOne
+    (λ job. cond (rectAllowed rect) (cond (canCut (grid (job .deck)) rect) (axisNumber (cutLine (grid (job .deck)) rect .axis)) (pos 0))
+    minusOne) r
 
 -- the line of the cut
 abbrev pub cutLineFigure : Rect → Result → ℤ
-cutLineFigure rect r = onJob least (λ job. cond (rectAllowed rect && canCut (grid (job .deck)) rect) (cutLine (grid (job .deck)) rect .at) least) r
+cutLineFigure rect r =
+    onJob least (λ job. cond (rectAllowed rect && canCut (grid (job .deck)) rect) (cutLine (grid (job .deck)) rect .at) least) r
 
 -- the near of the stop with a signed number
 abbrev pub nearAt : ℤ → Result → ℤ
@@ -76,7 +80,8 @@ nearAt (negsuc i) r = minusOne
 
 -- all these figures, in the order that `trial_figure` numbers them
 abbrev pub deckFigures : Rect → Result → List ℤ
-deckFigures rect r = beforeFigure r ∷ nearAt (rect .xlo) r ∷ costFigure (corner rect) r ∷ loadFigure rect r ∷ boundFigure rect r ∷ cutAxisFigure rect r ∷ cutLineFigure rect r ∷ []
+deckFigures rect r = beforeFigure r ∷ nearAt (rect .xlo) r ∷ costFigure (corner rect) r ∷ loadFigure rect r ∷ boundFigure rect r
+    ∷ cutAxisFigure rect r ∷ cutLineFigure rect r ∷ []
 
 abbrev pub axisOf : Bool → Axis
 axisOf across = cond across x-axis y-axis
@@ -89,4 +94,7 @@ pub record Written : Type 0 where
 -- the lines along an axis are put in front of the output, and their number is the result.
 -- Where the job is refused or the output too short the result is -1, and the output is as it was
 abbrev pub linesWritten : Bool → List ℤ → Result → Written
-linesWritten across out r = onJob (record { result = minusOne; out = out }) (λ job. let ls = lines (job .deck) (axisOf across) in cond (ltb (length out) (length ls)) (record { result = minusOne; out = out }) (record { result = pos (length ls); out = ls ++ drop (length ls) out })) r
+linesWritten across out r = onJob (record { result = minusOne; out = out })
+    (λ job. let ls = lines (job .deck) (axisOf across) in
+    cond (ltb (length out) (length ls)) (record { result = minusOne; out = out })
+    (record { result = pos (length ls); out = ls ++ drop (length ls) out })) r

@@ -112,7 +112,9 @@ pub fn load_in<'a>(
     yhi: i64,
 ) -> u64
     requires { ⌜ Priceable (now xs) (now ys) (now visits) (now near) n × T (rectAllowed (rectOf xlo ylo xhi yhi)) ⌝ }
-    ensures { λ r. ⌜ Figure (loadOf (objectRows (now (xs .entry)) (now (ys .entry)) (now (visits .entry)) (now (near .entry)) n) (rectOf xlo ylo xhi yhi)) loadLimit r ⌝ }
+    ensures { λ r.
+        ⌜ Figure (loadOf (objectRows (now (xs .entry)) (now (ys .entry)) (now (visits .entry)) (now (near .entry)) n)
+        (rectOf xlo ylo xhi yhi)) loadLimit r ⌝ }
 {
     pricing::load(
         xs,
@@ -139,7 +141,8 @@ pub fn bound_in<'a>(
     yhi: i64,
 ) -> i64
     requires { ⌜ Priceable (now xs) (now ys) (now visits) (now near) n × T (rectAllowed (rectOf xlo ylo xhi yhi)) ⌝ }
-    ensures { λ r. ⌜ r ≡ boundOf (objectRows (now (xs .entry)) (now (ys .entry)) (now (visits .entry)) (now (near .entry)) n) (rectOf xlo ylo xhi yhi) ⌝ }
+    ensures { λ r. ⌜ r
+        ≡ boundOf (objectRows (now (xs .entry)) (now (ys .entry)) (now (visits .entry)) (now (near .entry)) n) (rectOf xlo ylo xhi yhi) ⌝ }
 {
     let c00 = problem::priced(xs, ys, visits, near, n, xlo, ylo);
     let c01 = problem::priced(xs, ys, visits, near, n, xlo, yhi);

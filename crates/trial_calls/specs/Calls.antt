@@ -28,7 +28,8 @@ stateNumber stopped = pos 1
 
 -- what a report carries, and 0 for the number and the line of a refusal
 abbrev pub reportNumbers : Figures → List ℤ
-reportNumbers f = stateNumber (f .state) ∷ f .at .x ∷ f .at .y ∷ pos (f .high) ∷ f .low ∷ pos (f .before) ∷ pos (f .rounds) ∷ pos 0 ∷ pos 0 ∷ []
+reportNumbers f =
+    stateNumber (f .state) ∷ f .at .x ∷ f .at .y ∷ pos (f .high) ∷ f .low ∷ pos (f .before) ∷ pos (f .rounds) ∷ pos 0 ∷ pos 0 ∷ []
 
 -- the same numbers of an answer: a refusal has only the last two
 abbrev pub answerNumbers : AnswerOf Figures → List ℤ

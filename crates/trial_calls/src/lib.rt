@@ -61,7 +61,8 @@ fn figure(r: Report, which: u64) -> i64
 // number where there is no such figure.
 #[no_mangle]
 pub extern "C" fn trial_report(job: &[u8], cells: &mut [i64], out: &mut [u8], which: u64) -> i64
-    ensures { λ r. ⌜ record { result = r; cells = now (cells .exit); out = now (out .exit) } ≡ called (figureFor which) (reportCall (now (job .entry)) (now (cells .entry)) (now (out .entry))) ⌝ }
+    ensures { λ r. ⌜ record { result = r; cells = now (cells .exit); out = now (out .exit) }
+        ≡ called (figureFor which) (reportCall (now (job .entry)) (now (cells .entry)) (now (out .entry))) ⌝ }
 {
     let answer = siting::report(job, cells, out);
     match answer {
