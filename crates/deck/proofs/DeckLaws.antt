@@ -16,7 +16,7 @@ use Rattle.deck.specs.declared.Deck.{Deck}
 use Rattle.deck.specs.DeckOf.{places, stopsOf, deckOf, deckRecord}
 use Rattle.deck.specs.Objects.{Object, objectsOf}
 use Rattle.deck.specs.Ranges.{CoordinatesInRange, VisitsInRange}
-use Rattle.deck.specs.ObjectColumns.{objectsRecord}
+use Rattle.deck.specs.Record512.{objectsRecord}
 use Rattle.deck.specs.declared.Objects.{Objects}
 use Rattle.deck.proofs.ClosestLaws.{zip-length, zip-at, placeAt, places-length, places-at}
 

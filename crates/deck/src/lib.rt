@@ -15,8 +15,16 @@ ghost use Rattle.query.specs.Travel.{closest};
 ghost use Rattle.query.specs.Range.{InRange};
 ghost use Rattle.deck.specs.DeckOf.{places, deckOf};
 ghost use Rattle.deck.specs.Objects.{objectsOf};
-ghost use Rattle.deck.specs.ObjectColumns.{objectsRecord};
+ghost use Rattle.deck.specs.Record512.{objectsRecord};
 ghost use Rattle.deck.specs.Ranges.{Near180000, CoordinatesInRange, VisitsInRange};
+
+// A rectangle, its edges included.
+pub struct Rect {
+    pub xlo: i64,
+    pub ylo: i64,
+    pub xhi: i64,
+    pub yhi: i64,
+}
 
 // A deck, one array a field. The first `posts` and `stops` elements of the arrays count; the others are 0.
 pub struct Deck {

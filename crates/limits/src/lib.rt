@@ -22,6 +22,9 @@ pub const STOPS: usize = 512;
 
 pub const LINES: usize = STOPS + 2;
 
+// The columns of all objects, one after another: x, y, visits and near.
+pub const COLUMNS: usize = 4 * STOPS;
+
 // The most live cells, the numbers of each in the cell space, and the costs of its corners.
 pub const CELLS: usize = MOST_ROUNDS + 1;
 

@@ -1,0 +1,7 @@
+-- The rectangle of document 01 that a record of the code holds.
+-- Assumes nothing.
+use Rattle.query.specs.Place as Query
+use Rattle.deck.specs.declared.Rect.{Rect}
+
+abbrev pub rectOf : Rect → Query.Rect
+rectOf r = record { xlo = r .xlo; ylo = r .ylo; xhi = r .xhi; yhi = r .yhi }
