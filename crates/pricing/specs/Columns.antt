@@ -1,79 +1,42 @@
--- Objects as the code holds them: a column for each number, of which the first so many count.
+-- The range of the columns of objects, and of what is priced.
 -- Assumes nothing.
-use Prim.Native.Nat.{ℕ, _≤_}
+use Prim.Native.Nat.{ℕ, _+_, _≤_, _<_}
 use mathlib.Core.Bool.{cond}
 use mathlib.Core.Path.{_≡_}
-use mathlib.Core.List.{List, [], _∷_}
+use mathlib.Core.List.{List}
 use lib.IntN.{ℤ, pos, natAbs}
 use lib.Signed.{ltZ, _≤ℤ_}
-use lib.ListN.{length, getD, take}
+use lib.ListN.{length, getD}
 use Rattle.numbers.specs.Integer.{dist}
-use Rattle.query.specs.Place.{Rect}
-use Rattle.query.specs.Range.{travelLimit, loadLimit, costLimit, stopsLimit, visitsLimit}
-use Rattle.deck.specs.Objects.{Object}
-use Rattle.deck.specs.declared.Objects.{Objects}
+use Rattle.query.specs.Place.{Rect, NonEmpty}
+use Rattle.query.specs.Range.{RectInRange, travelLimit, loadLimit, costLimit, stopsLimit, visitsLimit}
 use Rattle.deck.specs.Ranges.{Near180000}
-use Rattle.pricing.specs.ObjectFigures.{beforeOf, flagsOf}
 
-unfoldable pub rows : List ℤ → List ℤ → List ℕ → List ℕ → List Object
-rows [] ys vs ns = []
-rows (x ∷ xs) [] vs ns = []
-rows (x ∷ xs) (y ∷ ys) [] ns = []
-rows (x ∷ xs) (y ∷ ys) (v ∷ vs) [] = []
-rows (x ∷ xs) (y ∷ ys) (v ∷ vs) (n ∷ ns) = record { at = record { x = x; y = y }; visits = v; near = n } ∷ rows xs ys vs ns
+-- one row of the columns
+pub record ObjectInRange (x y visits near : ℤ) : Type 0 where
+  pub place : Near180000 x y
+  pub visits-some : pos 0 ≤ℤ visits
+  pub visits-range : natAbs visits ≤ visitsLimit
+  pub near-some : pos 0 ≤ℤ near
+  pub near-range : natAbs near ≤ travelLimit
 
--- the first n rows
-unfoldable pub objectRows : List ℤ → List ℤ → List ℕ → List ℕ → ℕ → List Object
-unfolding rows
-objectRows xs ys vs ns n = take n (rows xs ys vs ns)
+-- columns of 512 rows each, of which the first n count
+pub record Priceable (columns : List ℤ) (n : ℕ) : Type 0 where
+  pub count : n ≤ stopsLimit
+  pub long : length columns ≡ 2048
+  pub row : (i : ℕ) → i < stopsLimit → ObjectInRange (getD columns i (pos 0)) (getD columns (512 + i) (pos 0)) (getD columns (1024 + i) (pos 0)) (getD columns (1536 + i) (pos 0))
 
--- columns of 512 numbers, and the range of these: coordinates up to 9 × 20,000, so that axis costs up to 9 can scale them
-pub record ColumnsInRange (xs ys : List ℤ) (vs ns : List ℕ) : Type 0 where
-  pub x-long : length xs ≡ stopsLimit
-  pub y-long : length ys ≡ stopsLimit
-  pub visits-long : length vs ≡ stopsLimit
-  pub near-long : length ns ≡ stopsLimit
-  pub x-range : (i : ℕ) → natAbs (getD xs i (pos 0)) ≤ 180000
-  pub y-range : (i : ℕ) → natAbs (getD ys i (pos 0)) ≤ 180000
-  pub visits-range : (i : ℕ) → getD vs i 0 ≤ visitsLimit
-  pub near-range : (i : ℕ) → getD ns i 0 ≤ 720000
+-- a rectangle in range that has a point
+pub record Ranged (r : Rect) : Type 0 where
+  pub range : RectInRange r
+  pub full : NonEmpty r
 
--- the rows that a record of objects counts, and its columns in range
-abbrev pub rowsOf : Objects → List Object
-rowsOf r = objectRows (r .x) (r .y) (r .visits) (r .near) (r .count)
-
-abbrev pub InColumns : Objects → Type 0
-InColumns r = ColumnsInRange (r .x) (r .y) (r .visits) (r .near)
-
--- the two columns that `before` reads
-pub record PaidInRange (vs ns : List ℕ) : Type 0 where
-  pub visits-long : length vs ≡ stopsLimit
-  pub near-long : length ns ≡ stopsLimit
-  pub visits-range : (i : ℕ) → getD vs i 0 ≤ visitsLimit
-  pub near-range : (i : ℕ) → getD ns i 0 ≤ 720000
-
--- the three columns that the test of reach reads
-pub record ReachInRange (xs ys : List ℤ) (ns : List ℕ) : Type 0 where
-  pub x-long : length xs ≡ stopsLimit
-  pub y-long : length ys ≡ stopsLimit
-  pub near-long : length ns ≡ stopsLimit
-  pub x-range : (i : ℕ) → natAbs (getD xs i (pos 0)) ≤ 180000
-  pub y-range : (i : ℕ) → natAbs (getD ys i (pos 0)) ≤ 180000
-  pub near-range : (i : ℕ) → getD ns i 0 ≤ 720000
-
--- the edges of a rectangle: in the same range, and in order
+-- its edges as the passes take them
 pub record EdgesInRange (xlo ylo xhi yhi : ℤ) : Type 0 where
   pub low : Near180000 xlo ylo
   pub high : Near180000 xhi yhi
   pub across : xlo ≤ℤ xhi
   pub deep : ylo ≤ℤ yhi
-
--- one row of such columns
-pub record ObjectInRange (x y : ℤ) (v n : ℕ) : Type 0 where
-  pub x-range : natAbs x ≤ 180000
-  pub y-range : natAbs y ≤ 180000
-  pub visits-range : v ≤ visitsLimit
-  pub near-range : n ≤ 720000
 
 -- how far a lies above b
 unfoldable pub excessOf : ℤ → ℤ → ℕ
@@ -93,12 +56,3 @@ pub record BoundInRange (c00 c01 c10 c11 span load : ℕ) : Type 0 where
 pub record Figure (figure limit r : ℕ) : Type 0 where
   pub is : r ≡ figure
   pub within : r ≤ limit
-
--- r is `before` of the first n rows, wherever they lie
-pub record BeforeIs (vs ns : List ℕ) (n r : ℕ) : Type 0 where
-  pub is : (xs ys : List ℤ) → length xs ≡ stopsLimit → length ys ≡ stopsLimit → r ≡ beforeOf (objectRows xs ys vs ns n)
-  pub within : r ≤ costLimit
-
--- r says which of the first n rows reach a rectangle, whatever their visits
-pub record FlagsAre (xs ys : List ℤ) (ns : List ℕ) (n : ℕ) (rect : Rect) (r : List ℕ) : Type 0 where
-  pub is : (vs : List ℕ) → length vs ≡ stopsLimit → r ≡ flagsOf (objectRows xs ys vs ns n) rect

@@ -1,36 +1,34 @@
--- The figures of document 01 over objects.
--- Travel is plain here; axis costs come in by scaled coordinates.
+-- The figures of document 01 over axis costs and objects.
 -- Assumes nothing.
 use Prim.Native.Nat.{ℕ, _*_, min}
 use mathlib.Core.Bool.{Bool, cond}
 use mathlib.Core.List.{List, map}
 use lib.Dec.{ltb}
 use Rattle.numbers.specs.Lists.{sumOf, keep}
+use Rattle.numbers.specs.Padded.{padded}
 use Rattle.query.specs.Place.{Place, Rect}
-use Rattle.query.specs.Deck.{plain}
 use Rattle.query.specs.Travel.{travel}
 use Rattle.query.specs.Reach.{closestPoint}
-use Rattle.numbers.specs.Padded.{padded}
-use Rattle.deck.specs.Objects.{Object}
 use Rattle.query.specs.Range.{stopsLimit}
+use Rattle.deck.specs.Objects.{Object, Pricing}
 
-unfoldable pub costOf : List Object → Place → ℕ
+unfoldable pub costOf : Pricing → Place → ℕ
 unfolding sumOf travel
-costOf objects p = sumOf (λ s. s .visits * min (s .near) (travel plain (s .at) p)) objects
+costOf P p = sumOf (λ s. s .visits * min (s .near) (travel (P .axis) (s .at) p)) (P .objects)
 
-unfoldable pub beforeOf : List Object → ℕ
+unfoldable pub beforeOf : Pricing → ℕ
 unfolding sumOf
-beforeOf objects = sumOf (λ s. s .visits * s .near) objects
+beforeOf P = sumOf (λ s. s .visits * s .near) (P .objects)
 
-unfoldable pub reaches : Rect → Object → Bool
+unfoldable pub reaches : Pricing → Rect → Object → Bool
 unfolding travel closestPoint
-reaches r s = ltb (travel plain (s .at) (closestPoint r (s .at))) (s .near)
+reaches P r s = ltb (travel (P .axis) (s .at) (closestPoint r (s .at))) (s .near)
 
-unfoldable pub loadOf : List Object → Rect → ℕ
+unfoldable pub loadOf : Pricing → Rect → ℕ
 unfolding sumOf keep reaches
-loadOf objects r = sumOf (λ s. s .visits) (keep (reaches r) objects)
+loadOf P r = sumOf (λ s. s .visits) (keep (reaches P r) (P .objects))
 
 -- for each object of 512 at most 1 where it is within reach and 0 where it is not, and 0 behind the last
-unfoldable pub flagsOf : List Object → Rect → List ℕ
+unfoldable pub flagsOf : Pricing → Rect → List ℕ
 unfolding reaches padded
-flagsOf objects r = padded stopsLimit 0 (map (λ s. cond (reaches r s) 1 0) objects)
+flagsOf P r = padded stopsLimit 0 (map (λ s. cond (reaches P r s) 1 0) (P .objects))

@@ -1,5 +1,7 @@
 // The price of a place or a rectangle, over columns of objects: one pass each, in 32-bit columns, so that the passes can be vectorised.
+use deck::Rect;
 use deck::travelled;
+use limits::COLUMNS;
 use limits::STOPS;
 use numbers::half_up;
 ghost use mathlib.Core.Path.{_≡_};
@@ -9,41 +11,44 @@ ghost use lib.Dec.{ltb};
 ghost use lib.IntN.{pos, natAbs, _-ℤ_};
 ghost use lib.Signed.{_≤ℤ_};
 ghost use Rattle.numbers.specs.Integer.{dist, clamp, halfUp};
-ghost use Rattle.query.specs.Range.{loadLimit, costLimit};
+ghost use Rattle.query.specs.Deck.{plain};
+ghost use Rattle.query.specs.Bound as Bound;
+ghost use Rattle.query.specs.Range.{loadLimit, costLimit, travelLimit, PlaceInRange};
 ghost use Rattle.deck.specs.Ranges.{Near180000};
-ghost use Rattle.pricing.specs.ObjectFigures.{costOf, loadOf};
-ghost use Rattle.pricing.specs.Columns.{objectRows, ColumnsInRange, ObjectInRange, PaidInRange, ReachInRange, BoundInRange, EdgesInRange, excessOf, Figure, BeforeIs, FlagsAre};
+ghost use Rattle.deck.specs.Rectangle.{rectOf};
+ghost use Rattle.deck.specs.ObjectColumns.{pricingIn};
+ghost use Rattle.pricing.specs.ObjectFigures.{costOf, beforeOf, loadOf, flagsOf};
+ghost use Rattle.pricing.specs.Columns.{Priceable, Ranged, ObjectInRange, BoundInRange, EdgesInRange, excessOf, Figure};
 
 // What an object pays for a post at (x, y): its visits times the smaller of its near and its travel there.
-fn paid(sx: i32, sy: i32, visits: u32, near: u32, x: i32, y: i32) -> u64
+fn paid(sx: i32, sy: i32, visits: i32, near: i32, x: i32, y: i32) -> u64
     requires { ⌜ ObjectInRange sx sy visits near × Near180000 x y ⌝ }
-    ensures { λ r. ⌜ r ≡ visits * min near (dist sx x + dist sy y) ⌝ }
+    ensures { λ r. ⌜ r ≡ natAbs visits * min (natAbs near) (dist sx x + dist sy y) ⌝ }
 {
     let t = travelled(sx, sy, x, y);
-    let n = near as i32;
-    let m = if t < n { t } else { n };
-    (visits as u64) * ((m as u32) as u64)
+    let m = if t < near { t } else { near };
+    ((visits as u32) as u64) * ((m as u32) as u64)
 }
 
 // The cost of a place.
-pub fn cost<'a>(
-    xs: &'a [i32; STOPS],
-    ys: &'a [i32; STOPS],
-    visits: &'a [u32; STOPS],
-    near: &'a [u32; STOPS],
-    n: usize,
-    x: i32,
-    y: i32,
-) -> u64
-    requires { ⌜ (n ≤ 512) × ColumnsInRange (now xs) (now ys) (now visits) (now near) × Near180000 x y ⌝ }
-    ensures { λ r.
-        ⌜ Figure (costOf (objectRows (now (xs .entry)) (now (ys .entry)) (now (visits .entry)) (now (near .entry)) n)
-        (record { x = x; y = y })) costLimit r ⌝ }
+pub fn cost(columns: &[i32; COLUMNS], n: usize, x: i64, y: i64) -> u64
+    requires { ⌜ Priceable (now columns) n × PlaceInRange (record { x = x; y = y }) ⌝ }
+    ensures { λ r. ⌜ Figure (costOf (pricingIn (now (columns .entry)) n) (record { x = x; y = y })) costLimit r ⌝ }
 {
+    let px = x as i32;
+    let py = y as i32;
     let mut sum: u64 = 0;
     let mut i: usize = 0;
     while i < n {
-        sum = sum + paid(xs[i], ys[i], visits[i], near[i], x, y);
+        sum = sum
+            + paid(
+                columns[i],
+                columns[512 + i],
+                columns[1024 + i],
+                columns[1536 + i],
+                px,
+                py,
+            );
         i = i + 1;
     }
     sum
@@ -66,64 +71,76 @@ fn outside(v: i32, lo: i32, hi: i32) -> i32
 }
 
 // Whether an object's travel to the closest point of a rectangle is less than its near.
-fn reached(sx: i32, sy: i32, near: u32, xlo: i32, ylo: i32, xhi: i32, yhi: i32) -> bool
-    requires { ⌜ Near180000 sx sy × (near ≤ 720000) × EdgesInRange xlo ylo xhi yhi ⌝ }
-    ensures { λ r. ⌜ r ≡ ltb (dist sx (clamp xlo xhi sx) + dist sy (clamp ylo yhi sy)) near ⌝ }
+fn reached(sx: i32, sy: i32, near: i32, xlo: i32, ylo: i32, xhi: i32, yhi: i32) -> bool
+    requires { ⌜ Near180000 sx sy × (pos 0 ≤ℤ near) × EdgesInRange xlo ylo xhi yhi ⌝ }
+    ensures { λ r. ⌜ r ≡ ltb (dist sx (clamp xlo xhi sx) + dist sy (clamp ylo yhi sy)) (natAbs near) ⌝ }
 {
-    let n = near as i32;
-    outside(sx, xlo, xhi) + outside(sy, ylo, yhi) < n
+    outside(sx, xlo, xhi) + outside(sy, ylo, yhi) < near
 }
 
 // An object's part of the load of a rectangle: its visits where it reaches it.
-fn borne(sx: i32, sy: i32, visits: u32, near: u32, xlo: i32, ylo: i32, xhi: i32, yhi: i32) -> u32
+fn borne(sx: i32, sy: i32, visits: i32, near: i32, xlo: i32, ylo: i32, xhi: i32, yhi: i32) -> u32
     requires { ⌜ ObjectInRange sx sy visits near × EdgesInRange xlo ylo xhi yhi ⌝ }
-    ensures { λ r. ⌜ r ≡ cond (ltb (dist sx (clamp xlo xhi sx) + dist sy (clamp ylo yhi sy)) near) visits 0 ⌝ }
+    ensures { λ r. ⌜ r
+        ≡ cond (ltb (dist sx (clamp xlo xhi sx) + dist sy (clamp ylo yhi sy)) (natAbs near)) (natAbs visits) 0 ⌝ }
 {
     if reached(sx, sy, near, xlo, ylo, xhi, yhi) {
-        visits
+        visits as u32
     } else {
         0
     }
 }
 
 // The load of a rectangle.
-pub fn load<'a>(
-    xs: &'a [i32; STOPS],
-    ys: &'a [i32; STOPS],
-    visits: &'a [u32; STOPS],
-    near: &'a [u32; STOPS],
-    n: usize,
-    xlo: i32,
-    ylo: i32,
-    xhi: i32,
-    yhi: i32,
-) -> u64
-    requires { ⌜ (n ≤ 512) × ColumnsInRange (now xs) (now ys) (now visits) (now near) × EdgesInRange xlo ylo xhi yhi ⌝ }
-    ensures { λ r.
-        ⌜ Figure (loadOf (objectRows (now (xs .entry)) (now (ys .entry)) (now (visits .entry)) (now (near .entry)) n)
-        (record { xlo = xlo; ylo = ylo; xhi = xhi; yhi = yhi })) loadLimit r ⌝ }
+pub fn load(columns: &[i32; COLUMNS], n: usize, r: Rect) -> u64
+    requires { ⌜ Priceable (now columns) n × Ranged (rectOf r) ⌝ }
+    ensures { λ sum. ⌜ Figure (loadOf (pricingIn (now (columns .entry)) n) (rectOf r)) loadLimit sum ⌝ }
 {
+    let xlo = r.xlo as i32;
+    let ylo = r.ylo as i32;
+    let xhi = r.xhi as i32;
+    let yhi = r.yhi as i32;
     let mut sum: u32 = 0;
     let mut i: usize = 0;
     while i < n {
-        sum = sum + borne(xs[i], ys[i], visits[i], near[i], xlo, ylo, xhi, yhi);
+        sum = sum
+            + borne(
+                columns[i],
+                columns[512 + i],
+                columns[1024 + i],
+                columns[1536 + i],
+                xlo,
+                ylo,
+                xhi,
+                yhi,
+            );
         i = i + 1;
     }
     sum as u64
 }
 
 // What all objects pay with the posts that there are.
-pub fn before<'a>(visits: &'a [u32; STOPS], near: &'a [u32; STOPS], n: usize) -> u64
-    requires { ⌜ (n ≤ 512) × PaidInRange (now visits) (now near) ⌝ }
-    ensures { λ r. ⌜ BeforeIs (now (visits .entry)) (now (near .entry)) n r ⌝ }
+pub fn before(columns: &[i32; COLUMNS], n: usize) -> u64
+    requires { ⌜ Priceable (now columns) n ⌝ }
+    ensures { λ r. ⌜ Figure (beforeOf (pricingIn (now (columns .entry)) n)) costLimit r ⌝ }
 {
     let mut sum: u64 = 0;
     let mut i: usize = 0;
     while i < n {
-        sum = sum + (visits[i] as u64) * (near[i] as u64);
+        let visits = columns[1024 + i];
+        let near = columns[1536 + i];
+        sum = sum + ((visits as u32) as u64) * ((near as u32) as u64);
         i = i + 1;
     }
     sum
+}
+
+// The width and the height of a rectangle, added.
+pub fn span(r: Rect) -> u64
+    requires { ⌜ Ranged (rectOf r) ⌝ }
+    ensures { λ s. ⌜ Figure (Bound.span plain (rectOf r)) travelLimit s ⌝ }
+{
+    (r.xhi - r.xlo) as u64 + (r.yhi - r.ylo) as u64
 }
 
 // The bound of a cell, from the costs of its corners, first by x and then by y: c01 is that at (xlo, yhi).
@@ -138,9 +155,9 @@ pub fn bound(c00: u64, c01: u64, c10: u64, c11: u64, span: u64, load: u64) -> i6
 }
 
 // 1 for an object that reaches a rectangle, and 0 for one that does not.
-fn flag(sx: i32, sy: i32, near: u32, xlo: i32, ylo: i32, xhi: i32, yhi: i32) -> u8
-    requires { ⌜ Near180000 sx sy × (near ≤ 720000) × EdgesInRange xlo ylo xhi yhi ⌝ }
-    ensures { λ r. ⌜ r ≡ cond (ltb (dist sx (clamp xlo xhi sx) + dist sy (clamp ylo yhi sy)) near) 1 0 ⌝ }
+fn flag(sx: i32, sy: i32, near: i32, xlo: i32, ylo: i32, xhi: i32, yhi: i32) -> u8
+    requires { ⌜ Near180000 sx sy × (pos 0 ≤ℤ near) × EdgesInRange xlo ylo xhi yhi ⌝ }
+    ensures { λ r. ⌜ r ≡ cond (ltb (dist sx (clamp xlo xhi sx) + dist sy (clamp ylo yhi sy)) (natAbs near)) 1 0 ⌝ }
 {
     if reached(sx, sy, near, xlo, ylo, xhi, yhi) {
         1
@@ -150,24 +167,26 @@ fn flag(sx: i32, sy: i32, near: u32, xlo: i32, ylo: i32, xhi: i32, yhi: i32) -> 
 }
 
 // Which objects reach a rectangle.
-pub fn reach_flags<'a>(
-    xs: &'a [i32; STOPS],
-    ys: &'a [i32; STOPS],
-    near: &'a [u32; STOPS],
-    n: usize,
-    xlo: i32,
-    ylo: i32,
-    xhi: i32,
-    yhi: i32,
-) -> [u8; STOPS]
-    requires { ⌜ (n ≤ 512) × ReachInRange (now xs) (now ys) (now near) × EdgesInRange xlo ylo xhi yhi ⌝ }
-    ensures { λ r.
-        ⌜ FlagsAre (now (xs .entry)) (now (ys .entry)) (now (near .entry)) n (record { xlo = xlo; ylo = ylo; xhi = xhi; yhi = yhi }) r ⌝ }
+pub fn reach_flags(columns: &[i32; COLUMNS], n: usize, r: Rect) -> [u8; STOPS]
+    requires { ⌜ Priceable (now columns) n × Ranged (rectOf r) ⌝ }
+    ensures { λ flags. ⌜ flags ≡ flagsOf (pricingIn (now (columns .entry)) n) (rectOf r) ⌝ }
 {
+    let xlo = r.xlo as i32;
+    let ylo = r.ylo as i32;
+    let xhi = r.xhi as i32;
+    let yhi = r.yhi as i32;
     let mut flags = [0u8; STOPS];
     let mut i: usize = 0;
     while i < n {
-        flags[i] = flag(xs[i], ys[i], near[i], xlo, ylo, xhi, yhi);
+        flags[i] = flag(
+            columns[i],
+            columns[512 + i],
+            columns[1536 + i],
+            xlo,
+            ylo,
+            xhi,
+            yhi,
+        );
         i = i + 1;
     }
     flags
