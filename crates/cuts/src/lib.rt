@@ -1,15 +1,17 @@
 // The choice of a cut.
-use limits::LINES;
+use deck::Rect;
 use lines::first_at_least;
 ghost use mathlib.Core.Path.{_≡_};
 ghost use Prim.Native.Nat.{_≤_};
-ghost use lib.ListN.{take};
+ghost use lib.ListN.{length};
 ghost use lib.IntN.{_+ℤ_};
 ghost use Rattle.numbers.specs.Integer.{halfUp, strictlyBetween};
 ghost use Rattle.numbers.specs.Lists.{keep};
 ghost use Rattle.query.specs.Cut.{middleLine};
-ghost use Rattle.lines.specs.LineRecord.{LinesInOrder, gridOf};
-ghost use Rattle.cuts.specs.CutRecord.{Edges, LineBefore, LineFrom, rectOf, cutAt, cutRecord, firstOf};
+ghost use Rattle.query.specs.Range.{RectInRange};
+ghost use Rattle.deck.specs.Rectangle.{rectOf};
+ghost use Rattle.lines.specs.LineRecord.{LinesInOrder, Lined, gridOf};
+ghost use Rattle.cuts.specs.CutRecord.{Edges, LineBefore, LineFrom, cutAt, cutRecord, firstOf};
 
 // Whether a cell can be cut, and at which line: at an x where `across` is true, else at a y. Where it cannot the others are false and 0.
 pub struct Cut {
@@ -27,8 +29,8 @@ fn middle(lo: i64, hi: i64) -> i64
 }
 
 // The line before index `at`, or `lo` where that is greater or there is none.
-fn line_before(ls: &[i64; LINES], at: usize, lo: i64) -> i64
-    requires { ⌜ at ≤ 514 ⌝ }
+fn line_before(ls: &[i64], at: usize, lo: i64) -> i64
+    requires { ⌜ at ≤ length (now ls) ⌝ }
     ensures { λ r. ⌜ LineBefore (now (ls .entry)) at lo r ⌝ }
 {
     if at == 0 {
@@ -38,12 +40,11 @@ fn line_before(ls: &[i64; LINES], at: usize, lo: i64) -> i64
     if v < lo { lo } else { v }
 }
 
-// The line at index `at`, one of the first `n`, or `hi` where that is smaller or there is none.
-fn line_from(ls: &[i64; LINES], n: usize, at: usize, hi: i64) -> i64
-    requires { ⌜ n ≤ 514 ⌝ }
-    ensures { λ r. ⌜ LineFrom (now (ls .entry)) n at hi r ⌝ }
+// The line at index `at`, or `hi` where that is smaller or there is none.
+fn line_from(ls: &[i64], at: usize, hi: i64) -> i64
+    ensures { λ r. ⌜ LineFrom (now (ls .entry)) at hi r ⌝ }
 {
-    if n <= at {
+    if ls.len() <= at {
         return hi;
     }
     let v = ls[at];
@@ -52,14 +53,13 @@ fn line_from(ls: &[i64; LINES], n: usize, at: usize, hi: i64) -> i64
 
 // The line strictly between `lo` and `hi` that is closest to their middle, the smaller one on a tie; `lo` where there is none.
 // It is the last before the middle or the first from it on, where an edge stands for one that is not between.
-fn middle_line(ls: &[i64; LINES], n: usize, lo: i64, hi: i64) -> i64
-    requires { ⌜ LinesInOrder (now ls) n ⌝ }
-    requires { ⌜ Edges lo hi ⌝ }
-    ensures { λ r. ⌜ r ≡ middleLine lo hi (keep (strictlyBetween lo hi) (take n (now (ls .entry)))) ⌝ }
+fn middle_line(ls: &[i64], lo: i64, hi: i64) -> i64
+    requires { ⌜ LinesInOrder (now ls) × Edges lo hi ⌝ }
+    ensures { λ r. ⌜ r ≡ middleLine lo hi (keep (strictlyBetween lo hi) (now (ls .entry))) ⌝ }
 {
-    let at = first_at_least(ls, n, middle(lo, hi));
+    let at = first_at_least(ls, middle(lo, hi));
     let below = line_before(ls, at, lo);
-    let above = line_from(ls, n, at, hi);
+    let above = line_from(ls, at, hi);
     if lo + hi <= below + above {
         below
     } else {
@@ -80,30 +80,25 @@ fn cut_at(across: bool, at: i64) -> Cut
 
 // The cut at the line closest to the middle between `alo` and `ahi` on the first axis, if one lies inside; else the same between `blo`
 // and `bhi` on the second. The first axis is x where `across` is true.
-fn first_of(
-    a: &[i64; LINES],
-    na: usize,
+fn first_of<'a>(
+    a: &'a [i64],
     alo: i64,
     ahi: i64,
-    b: &[i64; LINES],
-    nb: usize,
+    b: &'a [i64],
     blo: i64,
     bhi: i64,
     across: bool,
 ) -> Cut
-    requires { ⌜ LinesInOrder (now a) na ⌝ }
-    requires { ⌜ LinesInOrder (now b) nb ⌝ }
-    requires { ⌜ Edges alo ahi ⌝ }
-    requires { ⌜ Edges blo bhi ⌝ }
+    requires { ⌜ Lined (now a) (now b) × Edges alo ahi × Edges blo bhi ⌝ }
     ensures { λ r. ⌜ r
-        ≡ firstOf across alo ahi (keep (strictlyBetween alo ahi) (take na (now (a .entry)))) blo bhi
-        (keep (strictlyBetween blo bhi) (take nb (now (b .entry)))) ⌝ }
+        ≡ firstOf across alo ahi (keep (strictlyBetween alo ahi) (now (a .entry))) blo bhi
+        (keep (strictlyBetween blo bhi) (now (b .entry))) ⌝ }
 {
-    let v = middle_line(a, na, alo, ahi);
+    let v = middle_line(a, alo, ahi);
     if alo < v {
         return cut_at(across, v);
     }
-    let w = middle_line(b, nb, blo, bhi);
+    let w = middle_line(b, blo, bhi);
     if blo < w {
         return cut_at(!across, w);
     }
@@ -114,27 +109,15 @@ fn first_of(
     }
 }
 
-// The choice of a cut of the cell from (`xlo`, `ylo`) to (`xhi`, `yhi`): of the axes that have lines inside the one with the longer side,
-// x on equal sides, and on it the line closest to the middle.
-pub fn find_cut(
-    xs: &[i64; LINES],
-    nx: usize,
-    ys: &[i64; LINES],
-    ny: usize,
-    xlo: i64,
-    ylo: i64,
-    xhi: i64,
-    yhi: i64,
-) -> Cut
-    requires { ⌜ LinesInOrder (now xs) nx ⌝ }
-    requires { ⌜ LinesInOrder (now ys) ny ⌝ }
-    requires { ⌜ Edges xlo xhi ⌝ }
-    requires { ⌜ Edges ylo yhi ⌝ }
-    ensures { λ r. ⌜ r ≡ cutRecord (gridOf (now (xs .entry)) nx (now (ys .entry)) ny) (rectOf xlo ylo xhi yhi) ⌝ }
+// The choice of a cut of a cell: of the axes that have lines inside the one with the longer side, x on equal sides, and on it the line
+// closest to the middle.
+pub fn find_cut<'a>(v: &'a [i64], h: &'a [i64], r: Rect) -> Cut
+    requires { ⌜ Lined (now v) (now h) × RectInRange (rectOf r) ⌝ }
+    ensures { λ c. ⌜ c ≡ cutRecord (gridOf (now (v .entry)) (now (h .entry))) (rectOf r) ⌝ }
 {
-    if yhi - ylo <= xhi - xlo {
-        first_of(xs, nx, xlo, xhi, ys, ny, ylo, yhi, true)
+    if r.yhi - r.ylo <= r.xhi - r.xlo {
+        first_of(v, r.xlo, r.xhi, h, r.ylo, r.yhi, true)
     } else {
-        first_of(ys, ny, ylo, yhi, xs, nx, xlo, xhi, false)
+        first_of(h, r.ylo, r.yhi, v, r.xlo, r.xhi, false)
     }
 }

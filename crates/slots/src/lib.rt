@@ -1,5 +1,6 @@
 // The slots in which a search keeps its cells while it runs. A cell stands in a slot: five numbers in one array, the costs of its four
 // corners in another. A third array holds the numbers of the slots, each once.
+use deck::Rect;
 use limits::CELLS;
 use limits::CORNER_COSTS;
 use limits::SPACE;
@@ -10,10 +11,7 @@ ghost use Rattle.slots.specs.Slot.{cellAt, costsAt, CellPut, CostsPut, E
 ghost use Rattle.slots.specs.Numbering.{Numbered, slotNumbers, cellsIn, costsIn};
 
 pub struct Cell {
-    pub xlo: i64,
-    pub ylo: i64,
-    pub xhi: i64,
-    pub yhi: i64,
+    pub rect: Rect,
     pub bound: i64,
 }
 
@@ -31,11 +29,14 @@ pub(crate) fn get_cell(s: &[i64; SPACE], slot: usize) -> Cell
     ensures { λ r. ⌜ r ≡ cellAt (now (s .entry)) slot ⌝ }
 {
     let at = slot * 5;
-    Cell {
+    let rect = Rect {
         xlo: s[at],
         ylo: s[at + 1],
         xhi: s[at + 2],
         yhi: s[at + 3],
+    };
+    Cell {
+        rect,
         bound: s[at + 4],
     }
 }
@@ -60,13 +61,14 @@ pub fn put_cell(numbers: &mut [i64], slot: usize, c: Cell)
     ensures { λ _. ⌜ CellPut (now (numbers .entry)) slot c (now (numbers .exit)) ⌝ }
 {
     let at = slot * 5;
-    let xlo = c.xlo;
+    let r = c.rect;
+    let xlo = r.xlo;
     numbers[at] = xlo;
-    let ylo = c.ylo;
+    let ylo = r.ylo;
     numbers[at + 1] = ylo;
-    let xhi = c.xhi;
+    let xhi = r.xhi;
     numbers[at + 2] = xhi;
-    let yhi = c.yhi;
+    let yhi = r.yhi;
     numbers[at + 3] = yhi;
     let bound = c.bound;
     numbers[at + 4] = bound;
