@@ -7,9 +7,9 @@ use mathlib.Core.Bool.{cond}
 use mathlib.Core.List.{List, map, foldl, _++_}
 use lib.Dec.{ltb}
 use lib.IntN.{ℤ}
-use lib.ListN.{take, drop}
+use lib.ListN.{length, drop}
 use Rattle.query.specs.Place.{Place}
-use Rattle.deck.specs.Objects.{Object}
+use Rattle.deck.specs.Objects.{Pricing}
 use Rattle.pricing.specs.ObjectFigures.{costOf, beforeOf}
 use Rattle.problem.specs.declared.Spot.{Spot}
 use Rattle.problem.specs.ObjectProblem.{spotOf}
@@ -20,26 +20,24 @@ unfoldable pub cheaperOf : Spot → Spot → Spot
 cheaperOf best p = cond (ltb (p .cost) (best .cost)) p best
 
 -- the cheapest of a spot and some places, the first among equals
-unfoldable pub firstCheapest : List Object → Spot → List Place → Spot
+unfoldable pub firstCheapest : Pricing → Spot → List Place → Spot
 unfolding cheaperOf costOf
-firstCheapest objects first places = foldl (λ best p. cheaperOf best (spotOf objects p)) first places
+firstCheapest P first places = foldl (λ best p. cheaperOf best (spotOf P p)) first places
 
 -- the crossings of the vertical line at v, in their order
 abbrev pub along : List ℤ → ℤ → List Place
 along horizontal v = map (λ h. record { x = v; y = h }) horizontal
 
--- an array after the costs of the crossings of the vertical line at v with the first n lines were written to its front: the entries
--- behind them are as they were
-unfoldable pub costsAlong : List Object → List ℤ → ℕ → ℤ → List ℕ → List ℕ
+-- an array after the costs of the crossings of the vertical line at v with some lines were written to its front: the entries behind
+-- them are as they were
+unfoldable pub costsAlong : Pricing → List ℤ → ℤ → List ℕ → List ℕ
 unfolding costOf
-costsAlong objects ls n v old = map (λ h. costOf objects (record { x = v; y = h })) (take n ls) ++ drop n old
+costsAlong P ls v old = map (λ h. costOf P (record { x = v; y = h })) ls ++ drop (length ls) old
 
 -- such an array, whatever the objects whose ramps the columns hold
-pub record Swept (ls : List ℤ) (n : ℕ) (up up-at down down-at : List ℕ) (before : ℕ) (old costs : List ℕ) : Type 0 where
-  pub is : (objects : List Object) (m : ℕ) (v : ℤ) → ObjectsAdded objects m ls n v up up-at down down-at → before ≡ beforeOf objects →
-      costs ≡ costsAlong objects ls n v old
+pub record Swept (ls : List ℤ) (up up-at down down-at : List ℕ) (before : ℕ) (old costs : List ℕ) : Type 0 where
+  pub is : (P : Pricing) (m : ℕ) (v : ℤ) → ObjectsAdded P m ls v up up-at down down-at → before ≡ beforeOf P → costs ≡ costsAlong P ls v old
 
 -- the cheapest of a spot and the crossings of the vertical line at v, whatever the objects whose costs the array holds
-pub record Chosen (ls : List ℤ) (n : ℕ) (v : ℤ) (costs : List ℕ) (first r : Spot) : Type 0 where
-  pub is : (objects : List Object) (old : List ℕ) → costs ≡ costsAlong objects ls n v old →
-      r ≡ firstCheapest objects first (along (take n ls) v)
+pub record Chosen (ls : List ℤ) (v : ℤ) (costs : List ℕ) (first r : Spot) : Type 0 where
+  pub is : (P : Pricing) (old : List ℕ) → costs ≡ costsAlong P ls v old → r ≡ firstCheapest P first (along ls v)

@@ -9,7 +9,7 @@ use lib.IntN.{ℤ, pos, natAbs, _+ℤ_}
 use lib.ListN.{length, getD}
 use Rattle.numbers.specs.Integer.{dist}
 use Rattle.query.specs.Range.{costLimit, coordinateLimit}
-use Rattle.deck.specs.Objects.{Object}
+use Rattle.deck.specs.Objects.{Pricing}
 use Rattle.pricing.specs.ObjectFigures.{costOf, beforeOf}
 use Rattle.lines.specs.LineRecord.{LinesInOrder}
 
@@ -23,9 +23,9 @@ prefixSum xs zero = 0
 prefixSum xs (suc n) = prefixSum xs n + getD xs n 0
 
 -- lines in order and in range
-pub record LinesInRange (ls : List ℤ) (n : ℕ) : Type 0 where
-  pub in-order : LinesInOrder ls n
-  pub range : (j : ℕ) → j < n → natAbs (getD ls j (pos 0)) ≤ coordinateLimit
+pub record LinesInRange (ls : List ℤ) : Type 0 where
+  pub in-order : LinesInOrder ls
+  pub range : (j : ℕ) → j < length ls → natAbs (getD ls j (pos 0)) ≤ coordinateLimit
 
 -- slots from `from` on that are before `to` hold j now, and those before `from` what they held
 pub record SlotsFilled (xs : List ℕ) (from to j : ℕ) (xs′ : List ℕ) : Type 0 where
@@ -33,16 +33,16 @@ pub record SlotsFilled (xs : List ℕ) (from to j : ℕ) (xs′ : List ℕ) : Ty
   pub inside : (t : ℕ) → from ≤ t → t < to → getD xs′ t 0 ≡ j
   pub outside : (t : ℕ) → t < from → getD xs′ t 0 ≡ getD xs t 0
 
--- r of the first n lines are lower than a height t, and stand in front
-pub record Parted (ls : List ℤ) (n t r : ℕ) : Type 0 where
-  pub within : r ≤ n
+-- r of the lines are lower than a height t, and stand in front
+pub record Parted (ls : List ℤ) (t r : ℕ) : Type 0 where
+  pub within : r ≤ length ls
   pub before : (k : ℕ) → k < r → heightOf (getD ls k (pos 0)) < t
-  pub after : (k : ℕ) → r ≤ k → k < n → t ≤ heightOf (getD ls k (pos 0))
+  pub after : (k : ℕ) → r ≤ k → k < length ls → t ≤ heightOf (getD ls k (pos 0))
 
 -- a table of how many are, by heights from that of −20,000 to that of 20,000
-pub record LineTable (ls : List ℤ) (n : ℕ) (table : List ℕ) : Type 0 where
+pub record LineTable (ls : List ℤ) (table : List ℕ) : Type 0 where
   pub long : length table ≡ 40001
-  pub parted : (t : ℕ) → t ≤ 40000 → Parted ls n (t + 980000) (getD table t 0)
+  pub parted : (t : ℕ) → t ≤ 40000 → Parted ls (t + 980000) (getD table t 0)
 
 -- ramps are held by line, at the first line that is not below the start, in two columns: the sum of their weights, and that of weight × height
 -- of the start. Up to line j the weights times the height of that line, and the starts
@@ -64,9 +64,9 @@ pub record RampInRange (start : ℤ) (w : ℕ) : Type 0 where
   pub weight-range : w ≤ 131070
 
 -- one ramp more
-pub record RampAdded (ls : List ℤ) (n : ℕ) (start : ℤ) (w : ℕ) (weights starts weights′ starts′ : List ℕ) : Type 0 where
+pub record RampAdded (ls : List ℤ) (start : ℤ) (w : ℕ) (weights starts weights′ starts′ : List ℕ) : Type 0 where
   pub sums : (m : ℕ) → RampSums weights starts m → RampSums weights′ starts′ (m + 1)
-  pub added : (j : ℕ) → j < n →
+  pub added : (j : ℕ) → j < length ls →
       weightsAt ls weights′ j + startsAt starts j
       ≡ weightsAt ls weights j + startsAt starts′ j + w * (heightOf (getD ls j (pos 0)) - heightOf start)
 
@@ -83,17 +83,17 @@ abbrev pub loweredAt : List ℤ → List ℕ → List ℕ → ℕ → ℕ
 loweredAt ls down up-at j = weightsAt ls down j + startsAt up-at j
 
 -- one object more, along the line at v
-pub record ObjectAdded (ls : List ℤ) (n : ℕ) (v sx sy : ℤ) (visits near : ℕ) (up up-at down down-at up′ up-at′ down′ down-at′ : List ℕ) : Type 0 where
+pub record ObjectAdded (ls : List ℤ) (v sx sy : ℤ) (visits near : ℕ) (up up-at down down-at up′ up-at′ down′ down-at′ : List ℕ) : Type 0 where
   pub sums : (m : ℕ) → ObjectSums up up-at down down-at m → ObjectSums up′ up-at′ down′ down-at′ (m + 1)
-  pub added : (j : ℕ) → j < n →
+  pub added : (j : ℕ) → j < length ls →
       visits * min near (dist sx v + dist sy (getD ls j (pos 0))) + loweredAt ls down′ up-at′ j + raisedAt ls up down-at j
       ≡ visits * near + raisedAt ls up′ down-at′ j + loweredAt ls down up-at j
 
 -- the columns of m objects along the line at v: the cost at each line is what the objects pay now and what is added, less what is taken off
-pub record ObjectsAdded (objects : List Object) (m : ℕ) (ls : List ℤ) (n : ℕ) (v : ℤ) (up up-at down down-at : List ℕ) : Type 0 where
+pub record ObjectsAdded (P : Pricing) (m : ℕ) (ls : List ℤ) (v : ℤ) (up up-at down down-at : List ℕ) : Type 0 where
   pub sums : ObjectSums up up-at down down-at m
-  pub cost : (j : ℕ) → j < n →
-      costOf objects (record { x = v; y = getD ls j (pos 0) }) + loweredAt ls down up-at j ≡ beforeOf objects + raisedAt ls up down-at j
+  pub cost : (j : ℕ) → j < length ls →
+      costOf P (record { x = v; y = getD ls j (pos 0) }) + loweredAt ls down up-at j ≡ beforeOf P + raisedAt ls up down-at j
 
 -- what `cost_at` asks: no sum is too large, and not more is taken off than is there
 pub record Payable (before up up-at down down-at t : ℕ) : Type 0 where
@@ -106,7 +106,7 @@ pub record Payable (before up up-at down down-at t : ℕ) : Type 0 where
   pub enough : down * t + up-at ≤ before + (up * t + down-at)
 
 -- what `sweep` asks: at each line not more is taken off than is there
-pub record Sweepable (ls : List ℤ) (n : ℕ) (up up-at down down-at : List ℕ) (before : ℕ) : Type 0 where
+pub record Sweepable (ls : List ℤ) (up up-at down down-at : List ℕ) (before : ℕ) : Type 0 where
   pub before-most : before ≤ costLimit
   pub sums : ObjectSums up up-at down down-at 600
-  pub enough : (j : ℕ) → j < n → loweredAt ls down up-at j ≤ before + raisedAt ls up down-at j
+  pub enough : (j : ℕ) → j < length ls → loweredAt ls down up-at j ≤ before + raisedAt ls up down-at j

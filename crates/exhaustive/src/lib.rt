@@ -1,25 +1,24 @@
 // The exhaustive search: the cheapest crossing of a deck's lines. Along one vertical line the cost is a sum of ramps (specs/Ramps.antt),
 // so that the costs of all its crossings follow from prefix sums, with no pass over the objects for each. Line by line these costs are
 // written into an array (`costs_along`), and then the cheapest is chosen (`choose`).
-use deck::Deck;
-use deck::Objects;
+use limits::COLUMNS;
 use limits::LINES;
-use limits::STOPS;
 use numbers::abs_diff;
+use problem::Problem;
 use problem::Spot;
 ghost use mathlib.Core.Path.{_≡_};
 ghost use mathlib.Core.List.{flatMap};
 ghost use Prim.Native.Nat.{_+_, _*_, _≤_};
-ghost use lib.IntN.{natAbs};
-ghost use lib.ListN.{length, take};
+ghost use lib.IntN.{pos, natAbs};
+ghost use lib.ListN.{length};
 ghost use Rattle.query.specs.Range.{costLimit};
-ghost use Rattle.query.specs.Problem.{problem};
 ghost use Rattle.query.specs.Exhaustive.{exhaustive};
-ghost use Rattle.deck.specs.DeckOf.{deckOf};
+ghost use Rattle.deck.specs.ObjectColumns.{pricingIn};
 ghost use Rattle.pricing.specs.ObjectFigures.{beforeOf};
-ghost use Rattle.pricing.specs.Columns.{objectRows, ObjectInRange, Figure};
+ghost use Rattle.pricing.specs.Columns.{Priceable, ObjectInRange, Figure};
 ghost use Rattle.lines.specs.LineRecord.{FirstAtLeast};
-ghost use Rattle.problem.specs.ObjectProblem.{Prepared, Priceable, pricedOf};
+ghost use Rattle.problem.specs.ObjectProblem.{pricedOf};
+ghost use Rattle.problem.specs.Prepared.{problemIn, Prepared};
 ghost use Rattle.exhaustive.specs.Ramps.{
   heightOf,
   LinesInRange,
@@ -57,36 +56,36 @@ fn fill(table: &mut [u16; 40001], from: usize, to: usize, j: u16)
 }
 
 // For each coordinate from −20,000 to 20,000, which is where lines are, the number of the first line that is not below it.
-pub fn number_lines(h: &[i64; LINES], nh: usize, table: &mut [u16; 40001])
-    requires { ⌜ LinesInRange (now h) nh × (length (now table) ≡ 40001) ⌝ }
-    ensures { λ _. ⌜ LineTable (now (h .entry)) nh (now (table .exit)) ⌝ }
+pub fn number_lines(h: &[i64], table: &mut [u16; 40001])
+    requires { ⌜ LinesInRange (now h) × (length (now table) ≡ 40001) ⌝ }
+    ensures { λ _. ⌜ LineTable (now (h .entry)) (now (table .exit)) ⌝ }
 {
     let mut from: usize = 0;
     let mut j: usize = 0;
-    while j < nh {
+    while j < h.len() {
         let y = h[j];
         let to = (height(y) - 979999) as usize;
         fill(table, from, to, j as u16);
         from = to;
         j += 1;
     }
-    fill(table, from, 40001, nh as u16);
+    fill(table, from, 40001, h.len() as u16);
 }
 
 // The number of the first line that is not below `start`, or that of all lines. Only this reads the table, and only lines have to lie
-// where the table reaches: below it the answer is 0, above it `nh`. The height of a start that `add_ramp` multiplies with is not looked
+// where the table reaches: below it the answer is 0, above it the number of lines. The height of a start that `add_ramp` multiplies with is not looked
 // up. So if heights get scaled by some b and lines do not, the lookup stays as it is and is asked for another y: for a ramp that starts
 // at s the least y with s ≤ b × y.
-fn line_from(h: &[i64; LINES], nh: usize, table: &[u16; 40001], start: i64) -> usize
-    requires { ⌜ LinesInRange (now h) nh × LineTable (now h) nh (now table) × (natAbs start ≤ 900000) ⌝ }
-    ensures { λ r. ⌜ FirstAtLeast (now (h .entry)) nh start r ⌝ }
+fn line_from(h: &[i64], table: &[u16; 40001], start: i64) -> usize
+    requires { ⌜ LinesInRange (now h) × LineTable (now h) (now table) × (natAbs start ≤ 900000) ⌝ }
+    ensures { λ r. ⌜ FirstAtLeast (now (h .entry)) start r ⌝ }
 {
     let t = height(start);
     if t < 980000 {
         return 0;
     }
     if 1020000 < t {
-        return nh;
+        return h.len();
     }
     table[(t - 980000) as usize] as usize
 }
@@ -94,28 +93,26 @@ fn line_from(h: &[i64; LINES], nh: usize, table: &[u16; 40001], start: i64) -> u
 // Adds a ramp of weight `w` from `start` on, at the first line that is not below `start`. Ramps are held in two columns, by line:
 // their weights, and their weights times the heights at which they start.
 fn add_ramp(
-    h: &[i64; LINES],
-    nh: usize,
+    h: &[i64],
     table: &[u16; 40001],
     weights: &mut [u64; 515],
     starts: &mut [u64; 515],
     start: i64,
     w: u64,
 )
-    requires { ⌜ LinesInRange (now h) nh × RampSums (now weights) (now starts) 2000 × RampInRange start w
-        × LineTable (now h) nh (now table) ⌝ }
+    requires { ⌜ LinesInRange (now h) × RampSums (now weights) (now starts) 2000 × RampInRange start w
+        × LineTable (now h) (now table) ⌝ }
     ensures { λ _.
-        ⌜ RampAdded (now (h .entry)) nh start w (now (weights .entry)) (now (starts .entry)) (now (weights .exit)) (now (starts .exit)) ⌝ }
+        ⌜ RampAdded (now (h .entry)) start w (now (weights .entry)) (now (starts .entry)) (now (weights .exit)) (now (starts .exit)) ⌝ }
 {
-    let k = line_from(h, nh, table, start);
+    let k = line_from(h, table, start);
     weights[k] = weights[k] + w;
     starts[k] = starts[k] + w * height(start);
 }
 
 // Adds the ramps of an object along the vertical line at `v`. An object that is not nearer to the line than to its closest post has none.
 fn add_object(
-    h: &[i64; LINES],
-    nh: usize,
+    h: &[i64],
     table: &[u16; 40001],
     v: i64,
     up: &mut [u64; 515],
@@ -127,10 +124,10 @@ fn add_object(
     visits: u64,
     near: u64,
 )
-    requires { ⌜ LinesInRange (now h) nh × (natAbs v ≤ 20000) × ObjectSums (now up) (now «up_at») (now down) (now «down_at») 600
-        × ObjectInRange sx sy visits near × LineTable (now h) nh (now table) ⌝ }
+    requires { ⌜ LinesInRange (now h) × (natAbs v ≤ 20000) × ObjectSums (now up) (now «up_at») (now down) (now «down_at») 600
+        × ObjectInRange sx sy (pos visits) (pos near) × LineTable (now h) (now table) ⌝ }
     ensures { λ _.
-        ⌜ ObjectAdded (now (h .entry)) nh v sx sy visits near (now (up .entry)) (now («up_at» .entry)) (now (down .entry))
+        ⌜ ObjectAdded (now (h .entry)) v sx sy visits near (now (up .entry)) (now («up_at» .entry)) (now (down .entry))
         (now («down_at» .entry)) (now (up .exit)) (now («up_at» .exit)) (now (down .exit)) (now («down_at» .exit)) ⌝ }
 {
     let d = abs_diff(sx, v);
@@ -138,20 +135,16 @@ fn add_object(
         return;
     }
     let r = (near - d) as i64;
-    add_ramp(h, nh, table, down, down_at, sy - r, visits);
-    add_ramp(h, nh, table, up, up_at, sy, 2 * visits);
-    add_ramp(h, nh, table, down, down_at, sy + r, visits);
+    add_ramp(h, table, down, down_at, sy - r, visits);
+    add_ramp(h, table, up, up_at, sy, 2 * visits);
+    add_ramp(h, table, down, down_at, sy + r, visits);
 }
 
 // The ramps of all objects along the vertical line at `v`, in columns that were 0.
 fn add_objects<'a>(
-    xs: &'a [i32; STOPS],
-    ys: &'a [i32; STOPS],
-    visits: &'a [u32; STOPS],
-    near: &'a [u32; STOPS],
+    columns: &'a [i32; COLUMNS],
     n: usize,
-    h: &'a [i64; LINES],
-    nh: usize,
+    h: &'a [i64],
     table: &'a [u16; 40001],
     v: i64,
     up: &mut [u64; 515],
@@ -159,19 +152,20 @@ fn add_objects<'a>(
     down: &mut [u64; 515],
     down_at: &mut [u64; 515],
 )
-    requires { ⌜ Priceable (now xs) (now ys) (now visits) (now near) n × LinesInRange (now h) nh × (natAbs v ≤ 20000)
-        × ObjectSums (now up) (now «up_at») (now down) (now «down_at») 0 × LineTable (now h) nh (now table) ⌝ }
+    requires { ⌜ Priceable (now columns) n × LinesInRange (now h) × (natAbs v ≤ 20000)
+        × ObjectSums (now up) (now «up_at») (now down) (now «down_at») 0 × LineTable (now h) (now table) ⌝ }
     ensures { λ _.
-        ⌜ ObjectsAdded (objectRows (now (xs .entry)) (now (ys .entry)) (now (visits .entry)) (now (near .entry)) n) n (now (h .entry)) nh v
+        ⌜ ObjectsAdded (pricingIn (now (columns .entry)) n) n (now (h .entry)) v
         (now (up .exit)) (now («up_at» .exit)) (now (down .exit)) (now («down_at» .exit)) ⌝ }
 {
     let mut i: usize = 0;
     while i < n {
-        let sx = xs[i] as i64;
-        let sy = ys[i] as i64;
+        let sx = columns[i] as i64;
+        let sy = columns[512 + i] as i64;
+        let visits = columns[1024 + i] as u32;
+        let near = columns[1536 + i] as u32;
         add_object(
             h,
-            nh,
             table,
             v,
             up,
@@ -180,8 +174,8 @@ fn add_objects<'a>(
             down_at,
             sx,
             sy,
-            visits[i] as u64,
-            near[i] as u64,
+            visits as u64,
+            near as u64,
         );
         i += 1;
     }
@@ -216,8 +210,7 @@ fn cheaper(best: Spot, p: Spot) -> Spot
 
 // Writes the cost of each crossing of a vertical line into `costs`, from the ramps along the line.
 fn sweep<'a>(
-    h: &'a [i64; LINES],
-    nh: usize,
+    h: &'a [i64],
     up: &'a [u64; 515],
     up_at: &'a [u64; 515],
     down: &'a [u64; 515],
@@ -225,10 +218,10 @@ fn sweep<'a>(
     before: u64,
     costs: &mut [u64; LINES],
 )
-    requires { ⌜ LinesInRange (now h) nh × Sweepable (now h) nh (now up) (now «up_at») (now down) (now «down_at») before
+    requires { ⌜ LinesInRange (now h) × Sweepable (now h) (now up) (now «up_at») (now down) (now «down_at») before
         × (length (now costs) ≡ 514) ⌝ }
     ensures { λ _.
-        ⌜ Swept (now (h .entry)) nh (now (up .entry)) (now («up_at» .entry)) (now (down .entry)) (now («down_at» .entry)) before
+        ⌜ Swept (now (h .entry)) (now (up .entry)) (now («up_at» .entry)) (now (down .entry)) (now («down_at» .entry)) before
         (now (costs .entry)) (now (costs .exit)) ⌝ }
 {
     let mut ups: u64 = 0;
@@ -236,7 +229,7 @@ fn sweep<'a>(
     let mut downs: u64 = 0;
     let mut down_from: u64 = 0;
     let mut k: usize = 0;
-    while k < nh {
+    while k < h.len() {
         ups = ups + up[k];
         up_from = up_from + up_at[k];
         downs = downs + down[k];
@@ -248,26 +241,22 @@ fn sweep<'a>(
     }
 }
 
-// Writes the cost of each crossing of the vertical line at `v` with the first `nh` horizontal lines into `costs`, in their order.
+// Writes the cost of each crossing of the vertical line at `v` with the horizontal lines into `costs`, in their order.
 // The entries behind them stay as they are. `table` is that of `number_lines`, and `before` that of `pricing`.
 pub fn costs_along<'a>(
-    xs: &'a [i32; STOPS],
-    ys: &'a [i32; STOPS],
-    visits: &'a [u32; STOPS],
-    near: &'a [u32; STOPS],
+    columns: &'a [i32; COLUMNS],
     n: usize,
-    h: &'a [i64; LINES],
-    nh: usize,
+    h: &'a [i64],
     table: &'a [u16; 40001],
     v: i64,
     before: u64,
     costs: &mut [u64; LINES],
 )
-    requires { ⌜ Priceable (now xs) (now ys) (now visits) (now near) n × LinesInRange (now h) nh × (natAbs v ≤ 20000)
-        × Figure (beforeOf (objectRows (now xs) (now ys) (now visits) (now near) n)) costLimit before × LineTable (now h) nh (now table)
+    requires { ⌜ Priceable (now columns) n × LinesInRange (now h) × (natAbs v ≤ 20000)
+        × Figure (beforeOf (pricingIn (now columns) n)) costLimit before × LineTable (now h) (now table)
         × (length (now costs) ≡ 514) ⌝ }
     ensures { λ _. ⌜ now (costs .exit)
-        ≡ costsAlong (objectRows (now (xs .entry)) (now (ys .entry)) (now (visits .entry)) (now (near .entry)) n) (now (h .entry)) nh v
+        ≡ costsAlong (pricingIn (now (columns .entry)) n) (now (h .entry)) v
         (now (costs .entry)) ⌝ }
 {
     let mut up = [0u64; 515];
@@ -275,13 +264,9 @@ pub fn costs_along<'a>(
     let mut down = [0u64; 515];
     let mut down_at = [0u64; 515];
     add_objects(
-        xs,
-        ys,
-        visits,
-        near,
+        columns,
         n,
         h,
-        nh,
         table,
         v,
         &mut up,
@@ -289,17 +274,17 @@ pub fn costs_along<'a>(
         &mut down,
         &mut down_at,
     );
-    sweep(h, nh, &up, &up_at, &down, &down_at, before, costs);
+    sweep(h, &up, &up_at, &down, &down_at, before, costs);
 }
 
 // The cheapest of a spot and the crossings of the vertical line at `v`, the first among equals, from their costs.
-fn choose<'a>(h: &'a [i64; LINES], nh: usize, v: i64, costs: &'a [u64; LINES], first: Spot) -> Spot
-    requires { ⌜ LinesInRange (now h) nh ⌝ }
-    ensures { λ r. ⌜ Chosen (now (h .entry)) nh v (now (costs .entry)) first r ⌝ }
+fn choose<'a>(h: &'a [i64], v: i64, costs: &'a [u64; LINES], first: Spot) -> Spot
+    requires { ⌜ LinesInRange (now h) ⌝ }
+    ensures { λ r. ⌜ Chosen (now (h .entry)) v (now (costs .entry)) first r ⌝ }
 {
     let mut found = first;
     let mut j: usize = 0;
-    while j < nh {
+    while j < h.len() {
         let y = h[j];
         let cost = costs[j];
         found = cheaper(found, problem::place(v, y, cost));
@@ -310,113 +295,69 @@ fn choose<'a>(h: &'a [i64; LINES], nh: usize, v: i64, costs: &'a [u64; LINES], f
 
 // The cheapest of a spot and the crossings of the vertical line at `v`, the first among equals. `costs` holds their costs then.
 fn cheapest_on<'a>(
-    xs: &'a [i32; STOPS],
-    ys: &'a [i32; STOPS],
-    visits: &'a [u32; STOPS],
-    near: &'a [u32; STOPS],
+    columns: &'a [i32; COLUMNS],
     n: usize,
-    h: &'a [i64; LINES],
-    nh: usize,
+    h: &'a [i64],
     table: &'a [u16; 40001],
     v: i64,
     before: u64,
     costs: &mut [u64; LINES],
     first: Spot,
 ) -> Spot
-    requires { ⌜ Priceable (now xs) (now ys) (now visits) (now near) n × LinesInRange (now h) nh × (natAbs v ≤ 20000)
-        × Figure (beforeOf (objectRows (now xs) (now ys) (now visits) (now near) n)) costLimit before × LineTable (now h) nh (now table)
+    requires { ⌜ Priceable (now columns) n × LinesInRange (now h) × (natAbs v ≤ 20000)
+        × Figure (beforeOf (pricingIn (now columns) n)) costLimit before × LineTable (now h) (now table)
         × (length (now costs) ≡ 514) ⌝ }
     ensures chosen { λ r. ⌜ r
-        ≡ firstCheapest (objectRows (now (xs .entry)) (now (ys .entry)) (now (visits .entry)) (now (near .entry)) n) first
-        (along (take nh (now (h .entry))) v) ⌝ }
+        ≡ firstCheapest (pricingIn (now (columns .entry)) n) first
+        (along (now (h .entry)) v) ⌝ }
     ensures priced { λ _. ⌜ now (costs .exit)
-        ≡ costsAlong (objectRows (now (xs .entry)) (now (ys .entry)) (now (visits .entry)) (now (near .entry)) n) (now (h .entry)) nh v
+        ≡ costsAlong (pricingIn (now (columns .entry)) n) (now (h .entry)) v
         (now (costs .entry)) ⌝ }
 {
-    costs_along(xs, ys, visits, near, n, h, nh, table, v, before, costs);
-    choose(h, nh, v, costs, first)
+    costs_along(columns, n, h, table, v, before, costs);
+    choose(h, v, costs, first)
 }
 
 // The cheapest of a spot and the crossings of all lines, the first among equals.
 fn cheapest_of<'a>(
-    xs: &'a [i32; STOPS],
-    ys: &'a [i32; STOPS],
-    visits: &'a [u32; STOPS],
-    near: &'a [u32; STOPS],
+    columns: &'a [i32; COLUMNS],
     n: usize,
-    v: &'a [i64; LINES],
-    nv: usize,
-    h: &'a [i64; LINES],
-    nh: usize,
+    v: &'a [i64],
+    h: &'a [i64],
     table: &'a [u16; 40001],
     before: u64,
     first: Spot,
 ) -> Spot
-    requires { ⌜ Priceable (now xs) (now ys) (now visits) (now near) n × LinesInRange (now v) nv × LinesInRange (now h) nh
-        × Figure (beforeOf (objectRows (now xs) (now ys) (now visits) (now near) n)) costLimit before × LineTable (now h) nh (now table) ⌝ }
+    requires { ⌜ Priceable (now columns) n × LinesInRange (now v) × LinesInRange (now h)
+        × Figure (beforeOf (pricingIn (now columns) n)) costLimit before × LineTable (now h) (now table) ⌝ }
     ensures { λ r. ⌜ r
-        ≡ firstCheapest (objectRows (now (xs .entry)) (now (ys .entry)) (now (visits .entry)) (now (near .entry)) n) first
-        (flatMap (along (take nh (now (h .entry)))) (take nv (now (v .entry)))) ⌝ }
+        ≡ firstCheapest (pricingIn (now (columns .entry)) n) first
+        (flatMap (along (now (h .entry))) (now (v .entry))) ⌝ }
 {
     let mut costs = [0u64; LINES];
     let mut found = first;
     let mut i: usize = 0;
-    while i < nv {
-        found = cheapest_on(
-            xs,
-            ys,
-            visits,
-            near,
-            n,
-            h,
-            nh,
-            table,
-            v[i],
-            before,
-            &mut costs,
-            found,
-        );
+    while i < v.len() {
+        found = cheapest_on(columns, n, h, table, v[i], before, &mut costs, found);
         i += 1;
     }
     found
 }
 
-// The cheapest crossing of a deck's lines, the earliest among equals, with its cost.
-pub fn cheapest(deck: Deck, objects: Objects) -> Spot
-    requires { ⌜ Prepared deck objects ⌝ }
-    ensures { λ r. ⌜ pricedOf r ≡ exhaustive (problem (deckOf deck)) ⌝ }
+// The cheapest crossing of the lines of a deck's problem, the earliest among equals, with its cost.
+pub fn cheapest(p: Problem) -> Spot
+    requires { ⌜ Prepared p ⌝ }
+    ensures { λ r. ⌜ pricedOf r ≡ exhaustive (problemIn p) ⌝ }
 {
-    let area = problem::area_of(deck);
-    let flags = problem::flags_of(area, objects);
-    let v = problem::vertical(deck, area, flags);
-    let h = problem::horizontal(deck, area, flags);
-    let n = objects.count;
-    let nv = v.count;
-    let nh = h.count;
+    let n = p.count;
+    let nv = p.nv;
+    let nh = p.nh;
+    let area = p.area;
+    let v: &[i64] = &p.v;
+    let h: &[i64] = &p.h;
     let mut table = [0u16; 40001];
-    number_lines(&h.at, nh, &mut table);
-    let before = pricing::before(&objects.visits, &objects.near, n);
-    let first = problem::priced(
-        &objects.x,
-        &objects.y,
-        &objects.visits,
-        &objects.near,
-        n,
-        area.xlo,
-        area.ylo,
-    );
-    cheapest_of(
-        &objects.x,
-        &objects.y,
-        &objects.visits,
-        &objects.near,
-        n,
-        &v.at,
-        nv,
-        &h.at,
-        nh,
-        &table,
-        before,
-        first,
-    )
+    number_lines(&h[..nh], &mut table);
+    let before = pricing::before(&p.columns, n);
+    let first = problem::priced(&p.columns, n, area.xlo, area.ylo);
+    cheapest_of(&p.columns, n, &v[..nv], &h[..nh], &table, before, first)
 }

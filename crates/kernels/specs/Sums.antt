@@ -16,7 +16,10 @@ use Rattle.query.specs.Bound.{bound}
 use Rattle.query.specs.Grid.{grid}
 use Rattle.job.specs.Format.{Result}
 use Rattle.deck.specs.Objects.{objectsOf}
-use Rattle.deck.specs.ObjectColumns.{objectsRecord}
+use Rattle.deck.specs.ObjectColumns.{columnsOf}
+use Rattle.deck.specs.Rectangle.{rectOf}
+use Rattle.deck.specs.declared.Rect as Deck
+use Rattle.pricing.specs.Columns.{Ranged}
 use Rattle.cuts.specs.CutRecord.{cutRecord}
 use Rattle.trial.specs.Trial.{onJob, minusOne, least}
 use Rattle.query.specs.Range.{coordinateLimit, stopsLimit}
@@ -44,6 +47,11 @@ placeAt t = record { x = spread t 7919 10000; y = spread t 6007 10000 }
 abbrev pub rectAt : ℕ → Rect
 rectAt t = record { xlo = spread t 7919 coordinateLimit; ylo = spread t 6007 coordinateLimit; xhi = spread t 4409 0; yhi = spread t 3001 0 }
 
+-- a record of the code that holds it
+pub record TurnRect (t : ℕ) (r : Deck.Rect) : Type 0 where
+  pub is : rectOf r ≡ rectAt t
+  pub ranged : Ranged (rectOf r)
+
 abbrev pub positive : ℤ → ℕ
 positive z = cond (ltZ (pos 0) z) 1 0
 
@@ -63,7 +71,7 @@ cutTurn deck t = positive (cutRecord (grid deck) (rectAt t) .at)
 
 -- the near of stop t, over and over; 0 behind the last
 abbrev pub nearTurn : Deck → ℕ → ℕ
-nearTurn deck t = getD (objectsRecord (objectsOf deck) .near) (t % stopsLimit) 0
+nearTurn deck t = natAbs (getD (columnsOf (objectsOf deck)) (1536 + t % stopsLimit) (pos 0))
 
 -- the same by the kernel's number
 abbrev pub turn : Deck → ℕ → ℕ → ℕ

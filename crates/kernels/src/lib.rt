@@ -1,23 +1,23 @@
 // The kernels of pricing over many places and rectangles, for the benchmarks: the job is read once and the loop runs here.
 use deck::Deck;
-use limits::LINES;
-use limits::STOPS;
+use deck::Rect;
+use limits::COLUMNS;
 use trial::opened;
 use trial::opened::Opened;
 ghost use mathlib.Core.Path.{_≡_};
-ghost use Prim.Native.Nat.{_*_, _%_, _≤_};
-ghost use lib.ListN.{getD};
-ghost use Rattle.query.specs.Range.{InRange, costLimit};
+ghost use Prim.Native.Nat.{_*_, _≤_};
+ghost use Rattle.query.specs.Range.{costLimit};
 ghost use Rattle.job.specs.Format.{readJob};
-ghost use Rattle.pricing.specs.Columns.{objectRows, Figure};
 ghost use Rattle.deck.specs.DeckOf.{deckOf};
-ghost use Rattle.deck.specs.ObjectColumns.{objectsRecord};
-ghost use Rattle.deck.specs.Objects.{objectsOf};
+ghost use Rattle.deck.specs.ObjectColumns.{pricingIn};
 ghost use Rattle.pricing.specs.ObjectFigures.{costOf, loadOf};
-ghost use Rattle.lines.specs.LineRecord.{LinesInOrder, gridOf};
+ghost use Rattle.pricing.specs.Columns.{Priceable, Figure};
+ghost use Rattle.lines.specs.LineRecord.{Lined, gridOf};
 ghost use Rattle.cuts.specs.CutRecord.{cutRecord};
-ghost use Rattle.problem.specs.ObjectProblem.{boundOf, Priceable, Prepared};
-ghost use Rattle.kernels.specs.Sums.{sumTo, Spread, placeAt, rectAt, positive, turn, kernelSum};
+ghost use Rattle.problem.specs.ObjectProblem.{boundOf};
+ghost use Rattle.problem.specs.Prepared.{Solvable};
+ghost use Rattle.trial.specs.Opened.{Whole};
+ghost use Rattle.kernels.specs.Sums.{sumTo, Spread, TurnRect, placeAt, rectAt, positive, nearTurn, turn, kernelSum};
 
 // A number of -20,000 to 20,000 for each turn.
 fn spread(t: u64, factor: u64, less: u64) -> i64
@@ -33,101 +33,71 @@ fn positive(z: i64) -> u64
     if 0 < z { 1 } else { 0 }
 }
 
-fn costs<'a>(
-    xs: &'a [i32; STOPS],
-    ys: &'a [i32; STOPS],
-    visits: &'a [u32; STOPS],
-    near: &'a [u32; STOPS],
-    n: usize,
-    k: u64,
-) -> u64
-    requires { ⌜ Priceable (now xs) (now ys) (now visits) (now near) n × (k ≤ 100000) ⌝ }
-    ensures { λ r.
-        ⌜ Figure (sumTo
-        (λ t. costOf (objectRows (now (xs .entry)) (now (ys .entry)) (now (visits .entry)) (now (near .entry)) n) (placeAt t)) k)
-        (100000 * costLimit) r ⌝ }
+// The rectangle of a turn.
+fn rect_of(t: u64) -> Rect
+    ensures { λ r. ⌜ TurnRect t r ⌝ }
+{
+    Rect {
+        xlo: spread(t, 7919, 20000),
+        ylo: spread(t, 6007, 20000),
+        xhi: spread(t, 4409, 0),
+        yhi: spread(t, 3001, 0),
+    }
+}
+
+fn costs(columns: &[i32; COLUMNS], n: usize, k: u64) -> u64
+    requires { ⌜ Priceable (now columns) n × (k ≤ 100000) ⌝ }
+    ensures { λ r. ⌜ Figure (sumTo (λ t. costOf (pricingIn (now (columns .entry)) n) (placeAt t)) k) (100000 * costLimit) r ⌝ }
 {
     let mut sum: u64 = 0;
     let mut t: u64 = 0;
     while t < k {
         let x = spread(t, 7919, 10000);
         let y = spread(t, 6007, 10000);
-        let p = problem::priced(xs, ys, visits, near, n, x, y);
-        sum = sum + p.cost;
+        sum = sum + pricing::cost(columns, n, x, y);
         t = t + 1;
     }
     sum
 }
 
-fn loads<'a>(
-    xs: &'a [i32; STOPS],
-    ys: &'a [i32; STOPS],
-    visits: &'a [u32; STOPS],
-    near: &'a [u32; STOPS],
-    n: usize,
-    k: u64,
-) -> u64
-    requires { ⌜ Priceable (now xs) (now ys) (now visits) (now near) n × (k ≤ 100000) ⌝ }
-    ensures { λ r.
-        ⌜ Figure (sumTo
-        (λ t. loadOf (objectRows (now (xs .entry)) (now (ys .entry)) (now (visits .entry)) (now (near .entry)) n) (rectAt t)) k)
-        (100000 * costLimit) r ⌝ }
+fn loads(columns: &[i32; COLUMNS], n: usize, k: u64) -> u64
+    requires { ⌜ Priceable (now columns) n × (k ≤ 100000) ⌝ }
+    ensures { λ r. ⌜ Figure (sumTo (λ t. loadOf (pricingIn (now (columns .entry)) n) (rectAt t)) k) (100000 * costLimit) r ⌝ }
 {
     let mut sum: u64 = 0;
     let mut t: u64 = 0;
     while t < k {
-        let xlo = spread(t, 7919, 20000);
-        let ylo = spread(t, 6007, 20000);
-        let xhi = spread(t, 4409, 0);
-        let yhi = spread(t, 3001, 0);
-        sum = sum + opened::load_in(xs, ys, visits, near, n, xlo, ylo, xhi, yhi);
+        let rect = rect_of(t);
+        sum = sum + pricing::load(columns, n, rect);
         t = t + 1;
     }
     sum
 }
 
-fn bounds<'a>(
-    xs: &'a [i32; STOPS],
-    ys: &'a [i32; STOPS],
-    visits: &'a [u32; STOPS],
-    near: &'a [u32; STOPS],
-    n: usize,
-    k: u64,
-) -> u64
-    requires { ⌜ Priceable (now xs) (now ys) (now visits) (now near) n × (k ≤ 100000) ⌝ }
-    ensures { λ r.
-        ⌜ Figure (sumTo
-        (λ t. positive (boundOf (objectRows (now (xs .entry)) (now (ys .entry)) (now (visits .entry)) (now (near .entry)) n) (rectAt t))) k)
-        (100000 * costLimit) r ⌝ }
+fn bounds(columns: &[i32; COLUMNS], n: usize, k: u64) -> u64
+    requires { ⌜ Priceable (now columns) n × (k ≤ 100000) ⌝ }
+    ensures { λ r. ⌜ Figure (sumTo (λ t. positive (boundOf (pricingIn (now (columns .entry)) n) (rectAt t))) k) (100000 * costLimit) r ⌝ }
 {
     let mut sum: u64 = 0;
     let mut t: u64 = 0;
     while t < k {
-        let xlo = spread(t, 7919, 20000);
-        let ylo = spread(t, 6007, 20000);
-        let xhi = spread(t, 4409, 0);
-        let yhi = spread(t, 3001, 0);
-        let b = opened::bound_in(xs, ys, visits, near, n, xlo, ylo, xhi, yhi);
-        sum = sum + positive(b);
+        let rect = rect_of(t);
+        sum = sum + positive(opened::bound_in(columns, n, rect));
         t = t + 1;
     }
     sum
 }
 
-fn cuts(xs: &[i64; LINES], nx: usize, ys: &[i64; LINES], ny: usize, k: u64) -> u64
-    requires { ⌜ LinesInOrder (now xs) nx × LinesInOrder (now ys) ny × (k ≤ 100000) ⌝ }
+fn cuts<'a>(v: &'a [i64], h: &'a [i64], k: u64) -> u64
+    requires { ⌜ Lined (now v) (now h) × (k ≤ 100000) ⌝ }
     ensures { λ r.
-        ⌜ Figure (sumTo (λ t. positive (cutRecord (gridOf (now (xs .entry)) nx (now (ys .entry)) ny) (rectAt t) .at)) k)
-        (100000 * costLimit) r ⌝ }
+        ⌜ Figure (sumTo (λ t. positive (cutRecord (gridOf (now (v .entry)) (now (h .entry))) (rectAt t) .at)) k) (100000 * costLimit) r ⌝ }
 {
     let mut sum: u64 = 0;
     let mut t: u64 = 0;
     while t < k {
-        let xlo = spread(t, 7919, 20000);
-        let ylo = spread(t, 6007, 20000);
-        let xhi = spread(t, 4409, 0);
-        let yhi = spread(t, 3001, 0);
-        let c = cuts::find_cut(xs, nx, ys, ny, xlo, ylo, xhi, yhi);
+        let rect = rect_of(t);
+        let c = cuts::find_cut(v, h, rect);
         sum = sum + positive(c.at);
         t = t + 1;
     }
@@ -136,18 +106,17 @@ fn cuts(xs: &[i64; LINES], nx: usize, ys: &[i64; LINES], ny: usize, k: u64) -> u
 
 // The near of stop t of the deck's objects.
 fn near_at(deck: Deck, t: u64) -> u64
-    requires { ⌜ InRange (deckOf deck) × (deck .posts ≤ 64) × (deck .stops ≤ 512) ⌝ }
-    ensures { λ r. ⌜ Figure (getD (objectsRecord (objectsOf (deckOf deck)) .near) (t % 512) 0) 720000 r ⌝ }
+    requires { ⌜ Solvable deck ⌝ }
+    ensures { λ r. ⌜ Figure (nearTurn (deckOf deck) t) 720000 r ⌝ }
 {
-    let s = deck::of_deck(deck);
-    let near = s.near;
+    let columns = deck::columns_of(deck);
     let i = (t % 512) as usize;
-    near[i] as u64
+    (columns[1536 + i] as u32) as u64
 }
 
 fn nears(deck: Deck, k: u64) -> u64
-    requires { ⌜ (InRange (deckOf deck) × (deck .posts ≤ 64) × (deck .stops ≤ 512)) × (k ≤ 100000) ⌝ }
-    ensures { λ r. ⌜ Figure (sumTo (λ t. getD (objectsRecord (objectsOf (deckOf deck)) .near) (t % 512) 0) k) (100000 * costLimit) r ⌝ }
+    requires { ⌜ Solvable deck × (k ≤ 100000) ⌝ }
+    ensures { λ r. ⌜ Figure (sumTo (nearTurn (deckOf deck)) k) (100000 * costLimit) r ⌝ }
 {
     let mut sum: u64 = 0;
     let mut t: u64 = 0;
@@ -160,26 +129,26 @@ fn nears(deck: Deck, k: u64) -> u64
 
 // What a kernel gives over k turns, summed: cost, load, bounds above 0, cuts above 0, near.
 fn sum_of(o: Opened, which: u64, k: u64) -> u64
-    requires { ⌜ Prepared (o .deck) (o .objects) × (which ≤ 4) × (k ≤ 100000) ⌝ }
+    requires { ⌜ Whole o × (which ≤ 4) × (k ≤ 100000) ⌝ }
     ensures { λ r. ⌜ Figure (sumTo (turn (deckOf (o .deck)) which) k) (100000 * costLimit) r ⌝ }
 {
-    let s = o.objects;
-    let n = s.count;
+    let p = o.problem;
+    let n = p.count;
     if which == 0 {
-        return costs(&s.x, &s.y, &s.visits, &s.near, n, k);
+        return costs(&p.columns, n, k);
     }
     if which == 1 {
-        return loads(&s.x, &s.y, &s.visits, &s.near, n, k);
+        return loads(&p.columns, n, k);
     }
     if which == 2 {
-        return bounds(&s.x, &s.y, &s.visits, &s.near, n, k);
+        return bounds(&p.columns, n, k);
     }
     if which == 3 {
-        let v = opened::lines_of(o, true);
-        let h = opened::lines_of(o, false);
-        let nx = v.count;
-        let ny = h.count;
-        return cuts(&v.at, nx, &h.at, ny, k);
+        let nv = p.nv;
+        let nh = p.nh;
+        let v: &[i64] = &p.v;
+        let h: &[i64] = &p.h;
+        return cuts(&v[..nv], &h[..nh], k);
     }
     let d = o.deck;
     nears(d, k)

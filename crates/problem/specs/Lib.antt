@@ -1,1 +1,2 @@
 pub mod ObjectProblem
+pub mod Prepared

@@ -1,19 +1,16 @@
-// The problem of a deck as both searches take it: its area, its lines, and places with their costs.
+// The problem of a deck as both searches take it, prepared once for each call: its area, the columns of its objects and its lines. And
+// places with their costs.
 use deck::Deck;
-use deck::Objects;
-use limits::STOPS;
-use lines::Lines;
-use slots::Cell;
+use deck::Rect;
+use limits::COLUMNS;
+use limits::LINES;
 ghost use mathlib.Core.Path.{_≡_};
-ghost use Prim.Native.Nat.{_≤_};
 ghost use Rattle.query.specs.Range.{PlaceInRange};
-ghost use Rattle.query.specs.Place.{x-axis, y-axis};
-ghost use Rattle.query.specs.Lines.{lines};
 ghost use Rattle.deck.specs.DeckOf.{deckOf};
-ghost use Rattle.pricing.specs.ObjectFigures.{flagsOf};
-ghost use Rattle.pricing.specs.Columns.{objectRows, rowsOf, InColumns};
-ghost use Rattle.lines.specs.LineRecord.{linesRecord};
-ghost use Rattle.problem.specs.ObjectProblem.{Priceable, spotOf, spotAt, rectIn, unbounded, Ranged, Reaching};
+ghost use Rattle.deck.specs.ObjectColumns.{pricingIn};
+ghost use Rattle.pricing.specs.Columns.{Priceable};
+ghost use Rattle.problem.specs.ObjectProblem.{spotOf, spotAt};
+ghost use Rattle.problem.specs.Prepared.{Solvable, problemRecord};
 
 // A place with its cost.
 pub struct Spot {
@@ -22,21 +19,24 @@ pub struct Spot {
     pub cost: u64,
 }
 
+// The problem of a deck: its area; the columns of its `count` objects; `nv` vertical lines in `v` and `nh` horizontal ones in `h`, in
+// increasing order, with 0 behind them.
+pub struct Problem {
+    pub area: Rect,
+    pub count: usize,
+    pub columns: [i32; COLUMNS],
+    pub nv: usize,
+    pub v: [i64; LINES],
+    pub nh: usize,
+    pub h: [i64; LINES],
+}
+
 // A place, priced.
-pub fn priced<'a>(
-    xs: &'a [i32; STOPS],
-    ys: &'a [i32; STOPS],
-    visits: &'a [u32; STOPS],
-    near: &'a [u32; STOPS],
-    n: usize,
-    x: i64,
-    y: i64,
-) -> Spot
-    requires { ⌜ Priceable (now xs) (now ys) (now visits) (now near) n × PlaceInRange (record { x = x; y = y }) ⌝ }
-    ensures { λ r. ⌜ r
-        ≡ spotOf (objectRows (now (xs .entry)) (now (ys .entry)) (now (visits .entry)) (now (near .entry)) n) (record { x = x; y = y }) ⌝ }
+pub fn priced(columns: &[i32; COLUMNS], n: usize, x: i64, y: i64) -> Spot
+    requires { ⌜ Priceable (now columns) n × PlaceInRange (record { x = x; y = y }) ⌝ }
+    ensures { λ r. ⌜ r ≡ spotOf (pricingIn (now (columns .entry)) n) (record { x = x; y = y }) ⌝ }
 {
-    let cost = pricing::cost(xs, ys, visits, near, n, x as i32, y as i32);
+    let cost = pricing::cost(columns, n, x, y);
     place(x, y, cost)
 }
 
@@ -47,50 +47,31 @@ pub fn place(x: i64, y: i64, cost: u64) -> Spot
     Spot { x, y, cost }
 }
 
-// The area of a deck, with no bound yet.
-pub fn area_of(deck: Deck) -> Cell
-    ensures { λ r. ⌜ r ≡ unbounded (deckOf deck .area) ⌝ }
+// The problem of a deck.
+pub fn of_deck(deck: Deck) -> Problem
+    requires { ⌜ Solvable deck ⌝ }
+    ensures { λ r. ⌜ r ≡ problemRecord (deckOf deck) ⌝ }
 {
-    Cell {
+    let n = deck.stops;
+    let area = Rect {
         xlo: deck.xlo,
         ylo: deck.ylo,
         xhi: deck.xhi,
         yhi: deck.yhi,
-        bound: 0,
+    };
+    let columns = deck::columns_of(deck);
+    let flags = pricing::reach_flags(&columns, n, area);
+    let vertical = lines::find_lines(&deck.stop_x, &flags, n, area.xlo, area.xhi);
+    let horizontal = lines::find_lines(&deck.stop_y, &flags, n, area.ylo, area.yhi);
+    let v = vertical.at;
+    let h = horizontal.at;
+    Problem {
+        area,
+        count: n,
+        columns,
+        nv: vertical.count,
+        v,
+        nh: horizontal.count,
+        h,
     }
-}
-
-// Which of a deck's objects reach its area.
-pub fn flags_of(area: Cell, objects: Objects) -> [u8; STOPS]
-    requires { ⌜ InColumns objects × (objects .count ≤ 512) × Ranged (rectIn area) ⌝ }
-    ensures { λ r. ⌜ r ≡ flagsOf (rowsOf objects) (rectIn area) ⌝ }
-{
-    let n = objects.count;
-    pricing::reach_flags(
-        &objects.x,
-        &objects.y,
-        &objects.near,
-        n,
-        area.xlo as i32,
-        area.ylo as i32,
-        area.xhi as i32,
-        area.yhi as i32,
-    )
-}
-
-// The lines of a deck: the vertical ones, and the horizontal ones.
-pub fn vertical(deck: Deck, area: Cell, flags: [u8; STOPS]) -> Lines
-    requires { ⌜ Reaching deck area flags ⌝ }
-    ensures { λ r. ⌜ r ≡ linesRecord (lines (deckOf deck) x-axis) ⌝ }
-{
-    let n = deck.stops;
-    lines::find_lines(&deck.stop_x, &flags, n, area.xlo, area.xhi)
-}
-
-pub fn horizontal(deck: Deck, area: Cell, flags: [u8; STOPS]) -> Lines
-    requires { ⌜ Reaching deck area flags ⌝ }
-    ensures { λ r. ⌜ r ≡ linesRecord (lines (deckOf deck) y-axis) ⌝ }
-{
-    let n = deck.stops;
-    lines::find_lines(&deck.stop_y, &flags, n, area.ylo, area.yhi)
 }

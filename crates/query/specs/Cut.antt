@@ -75,6 +75,13 @@ cutAfter x-axis v r = record { xlo = v; ylo = r .ylo; xhi = r .xhi; yhi = r .yhi
 cutAfter y-axis v r = record { xlo = r .xlo; ylo = v; xhi = r .xhi; yhi = r .yhi }
 
 -- 01 "the two new corners": where the line meets the cell's edges
+abbrev pub lowCorner : Axis → ℤ → Rect → Place
+lowCorner x-axis v r = record { x = v; y = r .ylo }
+lowCorner y-axis v r = record { x = r .xlo; y = v }
+
+abbrev pub highCorner : Axis → ℤ → Rect → Place
+highCorner x-axis v r = record { x = v; y = r .yhi }
+highCorner y-axis v r = record { x = r .xhi; y = v }
+
 abbrev pub newCorners : Axis → ℤ → Rect → List Place
-newCorners x-axis v r = record { x = v; y = r .ylo } ∷ record { x = v; y = r .yhi } ∷ []
-newCorners y-axis v r = record { x = r .xlo; y = v } ∷ record { x = r .xhi; y = v } ∷ []
+newCorners axis v r = lowCorner axis v r ∷ highCorner axis v r ∷ []

@@ -4,19 +4,17 @@ use Prim.Native.Nat.{ℕ, _-_, _≤_}
 use mathlib.Core.Path.{_≡_}
 use mathlib.Core.Bool.{Bool, true, false}
 use mathlib.Core.List.{List, [], _∷_}
-use lib.IntN.{ℤ}
+use lib.IntN.{ℤ, pos}
 use lib.ListN.{length}
-use Rattle.query.specs.Problem.{problem}
+use Rattle.numbers.specs.Padded.{padded}
 use Rattle.query.specs.Order as Query
 use Rattle.query.specs.Search.{Search, run}
 use Rattle.query.specs.Figures as Figures
-use Rattle.query.specs.Space.{space, spaceNeeded}
+use Rattle.query.specs.Space.{allNumbers, spaceNeeded}
 use Rattle.query.specs.Range.{costLimit, roundsLimit}
-use Rattle.deck.specs.declared.Deck.{Deck}
-use Rattle.deck.specs.DeckOf.{deckOf}
-use Rattle.deck.specs.declared.Objects.{Objects}
 use Rattle.slots.specs.declared.Cell.{Cell}
-use Rattle.problem.specs.ObjectProblem.{Prepared}
+use Rattle.problem.specs.declared.Problem.{Problem}
+use Rattle.problem.specs.Prepared.{problemIn, Prepared}
 use Rattle.search.specs.declared.run.Running.{Running}
 use Rattle.search.specs.declared.run.Found.{Found}
 use Rattle.cells.specs.Entries.{entries}
@@ -44,13 +42,13 @@ foundOf s = record {
   cuts = s .cuts;
 }
 
--- what a search asks: a deck and its objects, and room for the cells of so many rounds
-pub record Ready (deck : Deck) (objects : Objects) (rounds lent : ℕ) : Type 0 where
-  pub prepared : Prepared deck objects
+-- what a search asks: the problem of a deck, and room for the cells of so many rounds
+pub record Ready (p : Problem) (rounds lent : ℕ) : Type 0 where
+  pub prepared : Prepared p
   pub rounds-limit : rounds ≤ roundsLimit
   pub room : spaceNeeded rounds ≤ lent
 
 -- the answer, and what the cell space then holds
-pub record Searched (deck : Deck) (rounds : ℕ) (before after : List ℤ) (r : Found) : Type 0 where
-  pub found : r ≡ foundOf (run (problem (deckOf deck)) rounds)
-  pub cells : after ≡ space (deckOf deck) rounds (length before)
+pub record Searched (p : Problem) (rounds : ℕ) (before after : List ℤ) (r : Found) : Type 0 where
+  pub found : r ≡ foundOf (run (problemIn p) rounds)
+  pub cells : after ≡ padded (length before) (pos 0) (allNumbers (run (problemIn p) rounds .live))

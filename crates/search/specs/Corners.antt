@@ -2,11 +2,11 @@
 -- Assumes nothing.
 use Prim.Native.Nat.{_-_, _≤_}
 use mathlib.Core.Bool.{cond}
-use mathlib.Core.List.{List}
 use Rattle.query.specs.Place.{Rect}
 use Rattle.query.specs.Order.{better}
 use Rattle.query.specs.Range.{costLimit}
-use Rattle.deck.specs.Objects.{Object}
+use Rattle.deck.specs.Objects.{Pricing}
+use Rattle.deck.specs.Rectangle.{rectRecord}
 use Rattle.pricing.specs.ObjectFigures.{costOf}
 use Rattle.slots.specs.declared.Cell.{Cell}
 use Rattle.slots.specs.declared.Costs.{Costs}
@@ -14,16 +14,16 @@ use Rattle.problem.specs.ObjectProblem.{boundOf, pricedOf, spotAt}
 use Rattle.problem.specs.declared.Spot.{Spot}
 
 -- the costs of the corners of a rectangle, and its cell
-abbrev pub cornerCosts : List Object → Rect → Costs
-cornerCosts objects r = record {
-  c00 = costOf objects (record { x = r .xlo; y = r .ylo });
-  c01 = costOf objects (record { x = r .xlo; y = r .yhi });
-  c10 = costOf objects (record { x = r .xhi; y = r .ylo });
-  c11 = costOf objects (record { x = r .xhi; y = r .yhi });
+abbrev pub cornerCosts : Pricing → Rect → Costs
+cornerCosts P r = record {
+  c00 = costOf P (record { x = r .xlo; y = r .ylo });
+  c01 = costOf P (record { x = r .xlo; y = r .yhi });
+  c10 = costOf P (record { x = r .xhi; y = r .ylo });
+  c11 = costOf P (record { x = r .xhi; y = r .yhi });
 }
 
-abbrev pub cellFor : List Object → Rect → Cell
-cellFor objects r = record { xlo = r .xlo; ylo = r .ylo; xhi = r .xhi; yhi = r .yhi; bound = boundOf objects r }
+abbrev pub cellFor : Pricing → Rect → Cell
+cellFor P r = record { rect = rectRecord r; bound = boundOf P r }
 
 -- the better of two
 unfoldable pub improved : Spot → Spot → Spot

@@ -10,7 +10,7 @@ use Rattle.query.specs.Grid.{Grid}
 use Rattle.query.specs.Order.{Priced}
 use Rattle.query.specs.Search.{isLive}
 use Rattle.query.specs.Range.{RectInRange, costLimit}
-use Rattle.deck.specs.Objects.{Object}
+use Rattle.deck.specs.Objects.{Pricing}
 use Rattle.slots.specs.declared.Cell.{Cell}
 use Rattle.problem.specs.ObjectProblem.{rectIn}
 use Rattle.problem.specs.declared.Spot.{Spot}
@@ -40,5 +40,5 @@ pub record Added (G : Grid) (best : Priced) (e : Entry) (head tail : ℕ) (s : L
   pub entries-are : entries s′ t′ r (tail - r) ≡ withLive G best e (entries s t head (tail - head))
 
 -- each has the costs of its corners
-pub record Costed (objects : List Object) (es : List Entry) : Type 0 where
-  pub each : (e : Entry) → List·Memᴰ e es → e .costs ≡ cornerCosts objects (entryCell e .rect)
+pub record Costed (P : Pricing) (es : List Entry) : Type 0 where
+  pub each : (e : Entry) → List·Memᴰ e es → e .costs ≡ cornerCosts P (entryCell e .rect)

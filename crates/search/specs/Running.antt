@@ -11,9 +11,10 @@ use Rattle.query.specs.Cut.{canCut}
 use Rattle.query.specs.Order as Query
 use Rattle.query.specs.Search.{Search, run}
 use Rattle.query.specs.Range.{costLimit, roundsLimit}
-use Rattle.deck.specs.Objects.{Object}
+use Rattle.deck.specs.Objects.{Pricing}
 use Rattle.slots.specs.declared.Cell.{Cell}
-use Rattle.problem.specs.ObjectProblem.{pricedOf, rectIn, Ranged}
+use Rattle.pricing.specs.Columns.{Ranged}
+use Rattle.problem.specs.ObjectProblem.{pricedOf, rectIn}
 use Rattle.search.specs.declared.run.Running.{Running}
 use Rattle.slots.specs.Slot.{Entry, entryCell, cellAt}
 use Rattle.cells.specs.Entries.{entries}
@@ -30,7 +31,7 @@ searchOf s t st = record {
 }
 
 -- what a round asks
-pub record Takeable (objects : List Object) (G : Grid) (s : List ℤ) (t : List ℕ) (st : Running) : Type 0 where
+pub record Takeable (P : Pricing) (G : Grid) (s : List ℤ) (t : List ℕ) (st : Running) : Type 0 where
   pub some : st .head < st .tail
   pub room : 1 ≤ st .head
   pub ends : st .tail ≤ 1001
@@ -38,18 +39,18 @@ pub record Takeable (objects : List Object) (G : Grid) (s : List ℤ) (t : List 
   pub cost-limit : st .best .cost ≤ costLimit
   pub ranged : Ranged (rectIn (cellAt s (st .head)))
   pub can-cut : (e : Entry) → List·Memᴰ e (entries s t (st .head) (st .tail - st .head)) → T (canCut G (entryCell e .rect))
-  pub costed : Costed objects (entries s t (st .head) (st .tail - st .head))
+  pub costed : Costed P (entries s t (st .head) (st .tail - st .head))
   pub in-order : EntriesInOrder (entries s t (st .head) (st .tail - st .head))
 
 -- a state and a work space that hold a search, with the lowest head
-pub record Holds (objects : List Object) (search : Search) (lowest : ℕ) (s : List ℤ) (t : List ℕ) (st : Running) : Type 0 where
+pub record Holds (P : Pricing) (search : Search) (lowest : ℕ) (s : List ℤ) (t : List ℕ) (st : Running) : Type 0 where
   pub is : searchOf s t st ≡ search
-  pub costed : Costed objects (entries s t (st .head) (st .tail - st .head))
+  pub costed : Costed P (entries s t (st .head) (st .tail - st .head))
   pub low-head : lowest ≤ st .head
   pub in-turn : st .head ≤ st .tail
   pub ends : st .tail ≤ 1001
 
 -- what is known of the cells and the best place of every run
-pub record Steady (P : Problem) : Type 0 where
-  pub ranged : (n : ℕ) (c : Query.Cell) → List·Memᴰ c (run P n .live) → Ranged (c .rect)
-  pub cost-limit : (n : ℕ) → run P n .best .cost ≤ costLimit
+pub record Steady (Q : Problem) : Type 0 where
+  pub ranged : (n : ℕ) (c : Query.Cell) → List·Memᴰ c (run Q n .live) → Ranged (c .rect)
+  pub cost-limit : (n : ℕ) → run Q n .best .cost ≤ costLimit

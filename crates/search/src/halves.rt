@@ -1,24 +1,22 @@
 // The better of two places, cells with their bounds, and the two halves that a cut makes of a cell.
 use cuts::Cut;
-use limits::LINES;
-use limits::STOPS;
+use deck::Rect;
+use limits::COLUMNS;
 use problem::Spot;
 use slots::Cell;
 use slots::Costs;
 ghost use mathlib.Core.Path.{_≡_};
-ghost use Prim.Native.Nat.{_-_, _≤_};
-ghost use lib.Signed.{_≤ℤ_};
-ghost use Rattle.numbers.specs.Integer.{dist};
-ghost use Rattle.query.specs.Deck.{plain};
-ghost use Rattle.query.specs.Bound as Bound;
-ghost use Rattle.query.specs.Range.{costLimit, loadLimit, RectInRange};
-ghost use Rattle.pricing.specs.ObjectFigures.{loadOf};
-ghost use Rattle.pricing.specs.Columns.{objectRows, Figure};
-ghost use Rattle.lines.specs.LineRecord.{gridOf};
-ghost use Rattle.cuts.specs.CutRecord.{Edges, cutRecord};
+ghost use Prim.Native.Nat.{_≤_};
+ghost use Rattle.query.specs.Cut.{lowCorner, highCorner, cutBefore, cutAfter};
+ghost use Rattle.query.specs.Range.{costLimit};
+ghost use Rattle.deck.specs.Rectangle.{rectOf, rectRecord};
+ghost use Rattle.deck.specs.ObjectColumns.{pricingIn};
+ghost use Rattle.pricing.specs.Columns.{Priceable, Ranged};
+ghost use Rattle.lines.specs.LineRecord.{Lined, gridOf};
+ghost use Rattle.cuts.specs.CutRecord.{cutRecord};
+ghost use Rattle.problem.specs.ObjectProblem.{spotOf};
 ghost use Rattle.search.specs.Corners.{cornerCosts, cellFor, improved};
-ghost use Rattle.search.specs.CutCell.{lowCorner, highCorner, firstRect, secondRect, firstCosts, secondCosts, halvesOf, Cutting, CutInRange};
-ghost use Rattle.problem.specs.ObjectProblem.{Priceable, Lined, pricedOf, spotOf, rectIn, Ranged};
+ghost use Rattle.search.specs.CutCell.{axisOf, firstCosts, secondCosts, halvesOf, Cutting, CutInRange};
 
 // What a cut makes of a cell: its two new corners, and its two parts with the costs of their corners.
 pub struct Halves {
@@ -41,122 +39,36 @@ pub(crate) fn improve(best: Spot, p: Spot) -> Spot
     best
 }
 
-// How far hi lies above lo.
-fn width(lo: i64, hi: i64) -> u64
-    requires { ⌜ Edges lo hi × (lo ≤ℤ hi) ⌝ }
-    ensures { λ r. ⌜ Figure (dist lo hi) 40000 r ⌝ }
-{
-    (hi - lo) as u64
-}
-
-// The width and the height of a cell, added.
-fn span(c: Cell) -> u64
-    requires { ⌜ Ranged (rectIn c) ⌝ }
-    ensures { λ r. ⌜ Figure (Bound.span plain (rectIn c)) 80000 r ⌝ }
-{
-    width(c.xlo, c.xhi) + width(c.ylo, c.yhi)
-}
-
-// The load of a cell.
-fn load_of<'a>(
-    xs: &'a [i32; STOPS],
-    ys: &'a [i32; STOPS],
-    visits: &'a [u32; STOPS],
-    near: &'a [u32; STOPS],
-    n: usize,
-    c: Cell,
-) -> u64
-    requires { ⌜ Priceable (now xs) (now ys) (now visits) (now near) n × Ranged (rectIn c) ⌝ }
-    ensures { λ r.
-        ⌜ Figure (loadOf (objectRows (now (xs .entry)) (now (ys .entry)) (now (visits .entry)) (now (near .entry)) n) (rectIn c)) loadLimit
-        r ⌝ }
-{
-    pricing::load(
-        xs,
-        ys,
-        visits,
-        near,
-        n,
-        c.xlo as i32,
-        c.ylo as i32,
-        c.xhi as i32,
-        c.yhi as i32,
-    )
-}
-
 // A cell with its bound, from the costs of its corners.
-pub(crate) fn bounded<'a>(
-    xs: &'a [i32; STOPS],
-    ys: &'a [i32; STOPS],
-    visits: &'a [u32; STOPS],
-    near: &'a [u32; STOPS],
-    n: usize,
-    c: Cell,
-    k: Costs,
-) -> Cell
-    requires { ⌜ Priceable (now xs) (now ys) (now visits) (now near) n × Ranged (rectIn c)
-        × (k ≡ cornerCosts (objectRows (now xs) (now ys) (now visits) (now near) n) (rectIn c)) ⌝ }
-    ensures { λ r. ⌜ r ≡ cellFor (objectRows (now (xs .entry)) (now (ys .entry)) (now (visits .entry)) (now (near .entry)) n) (rectIn c) ⌝ }
+pub(crate) fn bounded(columns: &[i32; COLUMNS], n: usize, rect: Rect, k: Costs) -> Cell
+    requires { ⌜ Priceable (now columns) n × Ranged (rectOf rect) × (k ≡ cornerCosts (pricingIn (now columns) n) (rectOf rect)) ⌝ }
+    ensures { λ r. ⌜ r ≡ cellFor (pricingIn (now (columns .entry)) n) (rectOf rect) ⌝ }
 {
-    let load = load_of(xs, ys, visits, near, n, c);
-    let bound = pricing::bound(k.c00, k.c01, k.c10, k.c11, span(c), load);
-    Cell {
-        xlo: c.xlo,
-        ylo: c.ylo,
-        xhi: c.xhi,
-        yhi: c.yhi,
-        bound,
-    }
-}
-
-// Where a cell is cut.
-pub(crate) fn cut_of(v: &[i64; LINES], nv: usize, h: &[i64; LINES], nh: usize, c: Cell) -> Cut
-    requires { ⌜ Lined (now v) nv (now h) nh × RectInRange (rectIn c) ⌝ }
-    ensures { λ r. ⌜ r ≡ cutRecord (gridOf (now (v .entry)) nv (now (h .entry)) nh) (rectIn c) ⌝ }
-{
-    cuts::find_cut(v, nv, h, nh, c.xlo, c.ylo, c.xhi, c.yhi)
+    let load = pricing::load(columns, n, rect);
+    let bound = pricing::bound(k.c00, k.c01, k.c10, k.c11, pricing::span(rect), load);
+    Cell { rect, bound }
 }
 
 // The new corner that is the low corner of the part behind the cut.
-fn low_corner<'a>(
-    xs: &'a [i32; STOPS],
-    ys: &'a [i32; STOPS],
-    visits: &'a [u32; STOPS],
-    near: &'a [u32; STOPS],
-    n: usize,
-    c: Cell,
-    cut: Cut,
-) -> Spot
-    requires { ⌜ Priceable (now xs) (now ys) (now visits) (now near) n × CutInRange c cut ⌝ }
-    ensures { λ r. ⌜ r
-        ≡ spotOf (objectRows (now (xs .entry)) (now (ys .entry)) (now (visits .entry)) (now (near .entry)) n)
-        (lowCorner (cut .across) (cut .at) (rectIn c)) ⌝ }
+fn low_corner(columns: &[i32; COLUMNS], n: usize, rect: Rect, cut: Cut) -> Spot
+    requires { ⌜ Priceable (now columns) n × CutInRange (rectOf rect) cut ⌝ }
+    ensures { λ r. ⌜ r ≡ spotOf (pricingIn (now (columns .entry)) n) (lowCorner (axisOf (cut .across)) (cut .at) (rectOf rect)) ⌝ }
 {
     if cut.across {
-        return problem::priced(xs, ys, visits, near, n, cut.at, c.ylo);
+        return problem::priced(columns, n, cut.at, rect.ylo);
     }
-    problem::priced(xs, ys, visits, near, n, c.xlo, cut.at)
+    problem::priced(columns, n, rect.xlo, cut.at)
 }
 
 // The new corner that is the high corner of the part before the cut.
-fn high_corner<'a>(
-    xs: &'a [i32; STOPS],
-    ys: &'a [i32; STOPS],
-    visits: &'a [u32; STOPS],
-    near: &'a [u32; STOPS],
-    n: usize,
-    c: Cell,
-    cut: Cut,
-) -> Spot
-    requires { ⌜ Priceable (now xs) (now ys) (now visits) (now near) n × CutInRange c cut ⌝ }
-    ensures { λ r. ⌜ r
-        ≡ spotOf (objectRows (now (xs .entry)) (now (ys .entry)) (now (visits .entry)) (now (near .entry)) n)
-        (highCorner (cut .across) (cut .at) (rectIn c)) ⌝ }
+fn high_corner(columns: &[i32; COLUMNS], n: usize, rect: Rect, cut: Cut) -> Spot
+    requires { ⌜ Priceable (now columns) n × CutInRange (rectOf rect) cut ⌝ }
+    ensures { λ r. ⌜ r ≡ spotOf (pricingIn (now (columns .entry)) n) (highCorner (axisOf (cut .across)) (cut .at) (rectOf rect)) ⌝ }
 {
     if cut.across {
-        return problem::priced(xs, ys, visits, near, n, cut.at, c.yhi);
+        return problem::priced(columns, n, cut.at, rect.yhi);
     }
-    problem::priced(xs, ys, visits, near, n, c.xhi, cut.at)
+    problem::priced(columns, n, rect.xhi, cut.at)
 }
 
 // The costs of the corners of the part before a cut, from those of the cell and of the new corners.
@@ -199,59 +111,53 @@ fn costs_behind(across: bool, k: Costs, low: u64, high: u64) -> Costs
     }
 }
 
-// The part of a cell before a cut, up to the new corner.
-fn cell_before(c: Cell, high: Spot) -> Cell
-    ensures { λ r. ⌜ rectIn r ≡ firstRect (rectIn c) (pricedOf high .at) ⌝ }
+// The part of a cell before a cut.
+fn rect_before(rect: Rect, cut: Cut) -> Rect
+    ensures { λ r. ⌜ r ≡ rectRecord (cutBefore (axisOf (cut .across)) (cut .at) (rectOf rect)) ⌝ }
 {
-    Cell {
-        xlo: c.xlo,
-        ylo: c.ylo,
-        xhi: high.x,
-        yhi: high.y,
-        bound: 0,
+    let across = cut.across;
+    Rect {
+        xlo: rect.xlo,
+        ylo: rect.ylo,
+        xhi: if across { cut.at } else { rect.xhi },
+        yhi: if across { rect.yhi } else { cut.at },
     }
 }
 
-// The part behind it, from the new corner on.
-fn cell_behind(c: Cell, low: Spot) -> Cell
-    ensures { λ r. ⌜ rectIn r ≡ secondRect (rectIn c) (pricedOf low .at) ⌝ }
+// The part behind it.
+fn rect_behind(rect: Rect, cut: Cut) -> Rect
+    ensures { λ r. ⌜ r ≡ rectRecord (cutAfter (axisOf (cut .across)) (cut .at) (rectOf rect)) ⌝ }
 {
-    Cell {
-        xlo: low.x,
-        ylo: low.y,
-        xhi: c.xhi,
-        yhi: c.yhi,
-        bound: 0,
+    let across = cut.across;
+    Rect {
+        xlo: if across { cut.at } else { rect.xlo },
+        ylo: if across { rect.ylo } else { cut.at },
+        xhi: rect.xhi,
+        yhi: rect.yhi,
     }
 }
 
 // What the cut of a cell makes of it.
 pub(crate) fn halve<'a>(
-    xs: &'a [i32; STOPS],
-    ys: &'a [i32; STOPS],
-    visits: &'a [u32; STOPS],
-    near: &'a [u32; STOPS],
+    columns: &'a [i32; COLUMNS],
     n: usize,
-    v: &'a [i64; LINES],
-    nv: usize,
-    h: &'a [i64; LINES],
-    nh: usize,
-    c: Cell,
+    v: &'a [i64],
+    h: &'a [i64],
+    rect: Rect,
     k: Costs,
 ) -> Halves
-    requires { ⌜ Priceable (now xs) (now ys) (now visits) (now near) n × Lined (now v) nv (now h) nh
-        × Cutting (objectRows (now xs) (now ys) (now visits) (now near) n) (gridOf (now v) nv (now h) nh) c k ⌝ }
+    requires { ⌜ Priceable (now columns) n × Lined (now v) (now h)
+        × Cutting (pricingIn (now columns) n) (gridOf (now v) (now h)) (rectOf rect) k ⌝ }
     ensures { λ r. ⌜ r
-        ≡ halvesOf (objectRows (now (xs .entry)) (now (ys .entry)) (now (visits .entry)) (now (near .entry)) n)
-        (cutRecord (gridOf (now (v .entry)) nv (now (h .entry)) nh) (rectIn c)) (rectIn c) ⌝ }
+        ≡ halvesOf (pricingIn (now (columns .entry)) n) (cutRecord (gridOf (now (v .entry)) (now (h .entry))) (rectOf rect)) (rectOf rect) ⌝ }
 {
-    let cut = cut_of(v, nv, h, nh, c);
-    let low = low_corner(xs, ys, visits, near, n, c, cut);
-    let high = high_corner(xs, ys, visits, near, n, c, cut);
+    let cut = cuts::find_cut(v, h, rect);
+    let low = low_corner(columns, n, rect, cut);
+    let high = high_corner(columns, n, rect, cut);
     let first_costs = costs_before(cut.across, k, low.cost, high.cost);
     let second_costs = costs_behind(cut.across, k, low.cost, high.cost);
-    let first = bounded(xs, ys, visits, near, n, cell_before(c, high), first_costs);
-    let second = bounded(xs, ys, visits, near, n, cell_behind(c, low), second_costs);
+    let first = bounded(columns, n, rect_before(rect, cut), first_costs);
+    let second = bounded(columns, n, rect_behind(rect, cut), second_costs);
     Halves {
         low,
         high,

@@ -1,13 +1,11 @@
 // The search by cells: its start, its rounds and what it answers.
 use crate::halves;
-use deck::Deck;
-use deck::Objects;
+use deck::Rect;
 use limits::CELLS;
+use limits::COLUMNS;
 use limits::CORNER_COSTS;
-use limits::LINES;
 use limits::SPACE;
-use limits::STOPS;
-use lines::Lines;
+use problem::Problem;
 use problem::Spot;
 use slots::Cell;
 use slots::Costs;
@@ -18,15 +16,17 @@ ghost use lib.ListN.{length};
 ghost use Rattle.query.specs.Search as Search;
 ghost use Rattle.query.specs.Range.{costLimit, RectInRange};
 ghost use Rattle.query.specs.Figures as Figures;
-ghost use Rattle.pricing.specs.Columns.{objectRows};
-ghost use Rattle.lines.specs.LineRecord.{gridOf};
+ghost use Rattle.deck.specs.Rectangle.{rectOf};
+ghost use Rattle.deck.specs.ObjectColumns.{pricingIn};
+ghost use Rattle.pricing.specs.Columns.{Priceable, Ranged};
+ghost use Rattle.lines.specs.LineRecord.{Lined, gridOf};
 ghost use Rattle.slots.specs.Slot.{queryCell};
 ghost use Rattle.slots.specs.Numbering.{cellsIn, costsIn, Numbered};
 ghost use Rattle.search.specs.Corners.{cornerCosts, CostsInRange, bestCorner};
 ghost use Rattle.search.specs.LiveEntries.{Addable, Added};
 ghost use Rattle.search.specs.Running.{searchOf, Takeable, Holds, Steady};
 ghost use Rattle.search.specs.Answer.{Answerable, foundOf, Ready, Searched};
-ghost use Rattle.problem.specs.ObjectProblem.{objectRules, objectProblem, Priceable, Lined, pricedOf, rectIn, Ranged};
+ghost use Rattle.problem.specs.ObjectProblem.{objectRules, objectProblem, pricedOf, rectIn};
 
 // A search while it runs: where its live cells stand in the order, the best place so far and the cuts made.
 pub struct Running {
@@ -47,12 +47,20 @@ pub struct Found {
 }
 
 // Whether a cell is live: it comes before the best place and can be cut.
-fn is_live(v: &[i64; LINES], nv: usize, h: &[i64; LINES], nh: usize, c: Cell, best: Spot) -> bool
-    requires { ⌜ Lined (now v) nv (now h) nh × RectInRange (rectIn c) × (best .cost ≤ costLimit) ⌝ }
-    ensures { λ r. ⌜ r ≡ Search.isLive (gridOf (now (v .entry)) nv (now (h .entry)) nh) (pricedOf best) (queryCell c) ⌝ }
+fn is_live<'a>(v: &'a [i64], h: &'a [i64], c: Cell, best: Spot) -> bool
+    requires { ⌜ Lined (now v) (now h) × RectInRange (rectIn c) × (best .cost ≤ costLimit) ⌝ }
+    ensures { λ r. ⌜ r ≡ Search.isLive (gridOf (now (v .entry)) (now (h .entry))) (pricedOf best) (queryCell c) ⌝ }
 {
-    if cells::precedes(c.bound, c.xlo, c.ylo, best.cost as i64, best.x, best.y) {
-        let cut = halves::cut_of(v, nv, h, nh, c);
+    let rect = c.rect;
+    if cells::precedes(
+        c.bound,
+        rect.xlo,
+        rect.ylo,
+        best.cost as i64,
+        best.x,
+        best.y,
+    ) {
+        let cut = cuts::find_cut(v, h, rect);
         return cut.found;
     }
     false
@@ -60,10 +68,8 @@ fn is_live(v: &[i64; LINES], nv: usize, h: &[i64; LINES], nh: usize, c: Cell, be
 
 // One more entry among those from head up to tail, which are in order, if its cell is live. Where they then start.
 fn add<'a>(
-    v: &'a [i64; LINES],
-    nv: usize,
-    h: &'a [i64; LINES],
-    nh: usize,
+    v: &'a [i64],
+    h: &'a [i64],
     s: &mut [i64; SPACE],
     t: &mut [u64; CORNER_COSTS],
     o: &mut [u16; CELLS],
@@ -73,14 +79,14 @@ fn add<'a>(
     k: Costs,
     best: Spot,
 ) -> usize
-    requires { ⌜ Lined (now v) nv (now h) nh × Addable (cellsIn (now s) (now o)) (costsIn (now t) (now o)) head tail c best
+    requires { ⌜ Lined (now v) (now h) × Addable (cellsIn (now s) (now o)) (costsIn (now t) (now o)) head tail c best
         × Numbered (now o) ⌝ }
     ensures { λ r.
-        ⌜ Added (gridOf (now (v .entry)) nv (now (h .entry)) nh) (pricedOf best) (record { cell = c; costs = k }) head tail
+        ⌜ Added (gridOf (now (v .entry)) (now (h .entry))) (pricedOf best) (record { cell = c; costs = k }) head tail
         (cellsIn (now (s .entry)) (now (o .entry))) (costsIn (now (t .entry)) (now (o .entry))) (cellsIn (now (s .exit)) (now (o .exit)))
         (costsIn (now (t .exit)) (now (o .exit))) r × Numbered (now (o .exit)) ⌝ }
 {
-    if is_live(v, nv, h, nh, c, best) {
+    if is_live(v, h, c, best) {
         cells::insert(s, t, o, head, tail, c, k);
         return head - 1;
     }
@@ -89,56 +95,36 @@ fn add<'a>(
 
 // A round: the first entry is cut, the best place and the live cells are brought up to date.
 fn round<'a>(
-    xs: &'a [i32; STOPS],
-    ys: &'a [i32; STOPS],
-    visits: &'a [u32; STOPS],
-    near: &'a [u32; STOPS],
+    columns: &'a [i32; COLUMNS],
     n: usize,
-    v: &'a [i64; LINES],
-    nv: usize,
-    h: &'a [i64; LINES],
-    nh: usize,
+    v: &'a [i64],
+    h: &'a [i64],
     s: &mut [i64; SPACE],
     t: &mut [u64; CORNER_COSTS],
     o: &mut [u16; CELLS],
     st: Running,
 ) -> Running
-    requires { ⌜ Priceable (now xs) (now ys) (now visits) (now near) n × Lined (now v) nv (now h) nh
-        × Takeable (objectRows (now xs) (now ys) (now visits) (now near) n) (gridOf (now v) nv (now h) nh) (cellsIn (now s) (now o))
-        (costsIn (now t) (now o)) st × Numbered (now o) ⌝ }
+    requires { ⌜ Priceable (now columns) n × Lined (now v) (now h)
+        × Takeable (pricingIn (now columns) n) (gridOf (now v) (now h)) (cellsIn (now s) (now o)) (costsIn (now t) (now o)) st
+        × Numbered (now o) ⌝ }
     ensures { λ r.
-        ⌜ Holds (objectRows (now (xs .entry)) (now (ys .entry)) (now (visits .entry)) (now (near .entry)) n)
-        (Search.round
-        (objectRules (objectRows (now (xs .entry)) (now (ys .entry)) (now (visits .entry)) (now (near .entry)) n)
-        (gridOf (now (v .entry)) nv (now (h .entry)) nh))
+        ⌜ Holds (pricingIn (now (columns .entry)) n)
+        (Search.round (objectRules (pricingIn (now (columns .entry)) n) (gridOf (now (v .entry)) (now (h .entry))))
         (searchOf (cellsIn (now (s .entry)) (now (o .entry))) (costsIn (now (t .entry)) (now (o .entry))) st)) (st .head - 1)
         (cellsIn (now (s .exit)) (now (o .exit))) (costsIn (now (t .exit)) (now (o .exit))) r × Numbered (now (o .exit)) ⌝ }
 {
     let head = st.head;
     let c = slots::cell_at(s, o, head);
     let k = slots::costs_at(t, o, head);
-    let halves = halves::halve(xs, ys, visits, near, n, v, nv, h, nh, c, k);
+    let halves = halves::halve(columns, n, v, h, c.rect, k);
     let best = halves::improve(halves::improve(st.best, halves.low), halves.high);
     let first = halves.first;
     let first_k = halves.first_costs;
     let second = halves.second;
     let second_k = halves.second_costs;
     let tail = cells::trim(s, o, head + 1, st.tail, best.cost, best.x, best.y);
-    let behind = add(
-        v,
-        nv,
-        h,
-        nh,
-        s,
-        t,
-        o,
-        head + 1,
-        tail,
-        second,
-        second_k,
-        best,
-    );
-    let front = add(v, nv, h, nh, s, t, o, behind, tail, first, first_k, best);
+    let behind = add(v, h, s, t, o, head + 1, tail, second, second_k, best);
+    let front = add(v, h, s, t, o, behind, tail, first, first_k, best);
     Running {
         head: front,
         tail,
@@ -147,23 +133,15 @@ fn round<'a>(
     }
 }
 
-// The costs of the corners of a cell.
-fn corners<'a>(
-    xs: &'a [i32; STOPS],
-    ys: &'a [i32; STOPS],
-    visits: &'a [u32; STOPS],
-    near: &'a [u32; STOPS],
-    n: usize,
-    c: Cell,
-) -> Costs
-    requires { ⌜ Priceable (now xs) (now ys) (now visits) (now near) n × RectInRange (rectIn c) ⌝ }
-    ensures { λ r. ⌜ r
-        ≡ cornerCosts (objectRows (now (xs .entry)) (now (ys .entry)) (now (visits .entry)) (now (near .entry)) n) (rectIn c) ⌝ }
+// The costs of the corners of a rectangle.
+fn corners(columns: &[i32; COLUMNS], n: usize, rect: Rect) -> Costs
+    requires { ⌜ Priceable (now columns) n × RectInRange (rectOf rect) ⌝ }
+    ensures { λ r. ⌜ r ≡ cornerCosts (pricingIn (now (columns .entry)) n) (rectOf rect) ⌝ }
 {
-    let front = problem::priced(xs, ys, visits, near, n, c.xlo, c.ylo);
-    let left = problem::priced(xs, ys, visits, near, n, c.xlo, c.yhi);
-    let right = problem::priced(xs, ys, visits, near, n, c.xhi, c.ylo);
-    let back = problem::priced(xs, ys, visits, near, n, c.xhi, c.yhi);
+    let front = problem::priced(columns, n, rect.xlo, rect.ylo);
+    let left = problem::priced(columns, n, rect.xlo, rect.yhi);
+    let right = problem::priced(columns, n, rect.xhi, rect.ylo);
+    let back = problem::priced(columns, n, rect.xhi, rect.yhi);
     Costs {
         c00: front.cost,
         c01: left.cost,
@@ -172,47 +150,39 @@ fn corners<'a>(
     }
 }
 
-// The best of the corners of a cell.
-fn best_corner(c: Cell, k: Costs) -> Spot
+// The best of the corners of a rectangle.
+fn best_corner(rect: Rect, k: Costs) -> Spot
     requires { ⌜ CostsInRange k ⌝ }
-    ensures { λ r. ⌜ r ≡ bestCorner (rectIn c) k ⌝ }
+    ensures { λ r. ⌜ r ≡ bestCorner (rectOf rect) k ⌝ }
 {
-    let front = problem::place(c.xlo, c.ylo, k.c00);
-    let left = problem::place(c.xlo, c.yhi, k.c01);
-    let right = problem::place(c.xhi, c.ylo, k.c10);
-    let back = problem::place(c.xhi, c.yhi, k.c11);
+    let front = problem::place(rect.xlo, rect.ylo, k.c00);
+    let left = problem::place(rect.xlo, rect.yhi, k.c01);
+    let right = problem::place(rect.xhi, rect.ylo, k.c10);
+    let back = problem::place(rect.xhi, rect.yhi, k.c11);
     halves::improve(halves::improve(halves::improve(front, left), right), back)
 }
 
 // The start of a search of an area.
 fn start<'a>(
-    xs: &'a [i32; STOPS],
-    ys: &'a [i32; STOPS],
-    visits: &'a [u32; STOPS],
-    near: &'a [u32; STOPS],
+    columns: &'a [i32; COLUMNS],
     n: usize,
-    v: &'a [i64; LINES],
-    nv: usize,
-    h: &'a [i64; LINES],
-    nh: usize,
+    v: &'a [i64],
+    h: &'a [i64],
     s: &mut [i64; SPACE],
     t: &mut [u64; CORNER_COSTS],
     o: &mut [u16; CELLS],
-    area: Cell,
+    area: Rect,
 ) -> Running
-    requires { ⌜ Priceable (now xs) (now ys) (now visits) (now near) n × Lined (now v) nv (now h) nh × Ranged (rectIn area)
-        × Numbered (now o) ⌝ }
+    requires { ⌜ Priceable (now columns) n × Lined (now v) (now h) × Ranged (rectOf area) × Numbered (now o) ⌝ }
     ensures { λ r.
-        ⌜ Holds (objectRows (now (xs .entry)) (now (ys .entry)) (now (visits .entry)) (now (near .entry)) n)
-        (Search.start
-        (objectProblem (objectRows (now (xs .entry)) (now (ys .entry)) (now (visits .entry)) (now (near .entry)) n)
-        (gridOf (now (v .entry)) nv (now (h .entry)) nh) (rectIn area))) 1000 (cellsIn (now (s .exit)) (now (o .exit)))
-        (costsIn (now (t .exit)) (now (o .exit))) r × Numbered (now (o .exit)) ⌝ }
+        ⌜ Holds (pricingIn (now (columns .entry)) n)
+        (Search.start (objectProblem (pricingIn (now (columns .entry)) n) (gridOf (now (v .entry)) (now (h .entry))) (rectOf area))) 1000
+        (cellsIn (now (s .exit)) (now (o .exit))) (costsIn (now (t .exit)) (now (o .exit))) r × Numbered (now (o .exit)) ⌝ }
 {
-    let k = corners(xs, ys, visits, near, n, area);
+    let k = corners(columns, n, area);
     let best = best_corner(area, k);
-    let c = halves::bounded(xs, ys, visits, near, n, area, k);
-    let head = add(v, nv, h, nh, s, t, o, CELLS, CELLS, c, k, best);
+    let c = halves::bounded(columns, n, area, k);
+    let head = add(v, h, s, t, o, CELLS, CELLS, c, k, best);
     Running {
         head,
         tail: CELLS,
@@ -223,39 +193,30 @@ fn start<'a>(
 
 // A search of an area: its start, and its rounds while a cell is live, at most so many.
 fn run_of<'a>(
-    xs: &'a [i32; STOPS],
-    ys: &'a [i32; STOPS],
-    visits: &'a [u32; STOPS],
-    near: &'a [u32; STOPS],
+    columns: &'a [i32; COLUMNS],
     n: usize,
-    v: &'a [i64; LINES],
-    nv: usize,
-    h: &'a [i64; LINES],
-    nh: usize,
+    v: &'a [i64],
+    h: &'a [i64],
     s: &mut [i64; SPACE],
     t: &mut [u64; CORNER_COSTS],
     o: &mut [u16; CELLS],
-    area: Cell,
+    area: Rect,
     rounds: u64,
 ) -> Running
-    requires { ⌜ Priceable (now xs) (now ys) (now visits) (now near) n × Lined (now v) nv (now h) nh × Ranged (rectIn area)
-        × (rounds ≤ 1000)
-        × Steady (objectProblem (objectRows (now xs) (now ys) (now visits) (now near) n) (gridOf (now v) nv (now h) nh) (rectIn area))
-        × Numbered (now o) ⌝ }
+    requires { ⌜ Priceable (now columns) n × Lined (now v) (now h) × Ranged (rectOf area) × (rounds ≤ 1000)
+        × Steady (objectProblem (pricingIn (now columns) n) (gridOf (now v) (now h)) (rectOf area)) × Numbered (now o) ⌝ }
     ensures { λ r.
-        ⌜ Holds (objectRows (now (xs .entry)) (now (ys .entry)) (now (visits .entry)) (now (near .entry)) n)
-        (Search.run
-        (objectProblem (objectRows (now (xs .entry)) (now (ys .entry)) (now (visits .entry)) (now (near .entry)) n)
-        (gridOf (now (v .entry)) nv (now (h .entry)) nh) (rectIn area)) rounds) 0 (cellsIn (now (s .exit)) (now (o .exit)))
-        (costsIn (now (t .exit)) (now (o .exit))) r × Numbered (now (o .exit)) ⌝ }
+        ⌜ Holds (pricingIn (now (columns .entry)) n)
+        (Search.run (objectProblem (pricingIn (now (columns .entry)) n) (gridOf (now (v .entry)) (now (h .entry))) (rectOf area)) rounds) 0
+        (cellsIn (now (s .exit)) (now (o .exit))) (costsIn (now (t .exit)) (now (o .exit))) r × Numbered (now (o .exit)) ⌝ }
 {
-    let mut st = start(xs, ys, visits, near, n, v, nv, h, nh, s, t, o, area);
+    let mut st = start(columns, n, v, h, s, t, o, area);
     let mut k: u64 = 0;
     while k < rounds {
         if st.tail <= st.head {
             return st;
         }
-        st = round(xs, ys, visits, near, n, v, nv, h, nh, s, t, o, st);
+        st = round(columns, n, v, h, s, t, o, st);
         k += 1;
     }
     st
@@ -296,36 +257,29 @@ fn answer<'a>(s: &'a [i64; SPACE], o: &'a [u16; CELLS], st: Running) -> Found
     }
 }
 
-// The search of a deck whose objects are given, for at most so many rounds: its answer, with its live cells in the cell space.
-pub fn search(deck: Deck, objects: Objects, rounds: u64, cells: &mut [i64]) -> Found
-    requires { ⌜ Ready deck objects rounds (length (now cells)) ⌝ }
-    ensures { λ r. ⌜ Searched deck rounds (now (cells .entry)) (now (cells .exit)) r ⌝ }
+// The search of a deck's problem, for at most so many rounds: its answer, with its live cells in the cell space.
+pub fn search(p: Problem, rounds: u64, cells: &mut [i64]) -> Found
+    requires { ⌜ Ready p rounds (length (now cells)) ⌝ }
+    ensures { λ r. ⌜ Searched p rounds (now (cells .entry)) (now (cells .exit)) r ⌝ }
 {
-    let area = problem::area_of(deck);
-    let flags = problem::flags_of(area, objects);
-    let v = problem::vertical(deck, area, flags);
-    let h = problem::horizontal(deck, area, flags);
-    let n = objects.count;
-    let nv = v.count;
-    let nh = h.count;
+    let n = p.count;
+    let nv = p.nv;
+    let nh = p.nh;
+    let v: &[i64] = &p.v;
+    let h: &[i64] = &p.h;
     let mut s = [0i64; SPACE];
     let mut t = [0u64; CORNER_COSTS];
     let mut o = [0u16; CELLS];
     slots::number(&mut o);
     let st = run_of(
-        &objects.x,
-        &objects.y,
-        &objects.visits,
-        &objects.near,
+        &p.columns,
         n,
-        &v.at,
-        nv,
-        &h.at,
-        nh,
+        &v[..nv],
+        &h[..nh],
         &mut s,
         &mut t,
         &mut o,
-        area,
+        p.area,
         rounds,
     );
     cells::write_out(&s, &o, st.head, st.tail, cells);

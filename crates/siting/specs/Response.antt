@@ -6,10 +6,9 @@ use mathlib.Core.Bool.{Bool, cond}
 use mathlib.Core.List.{List, []}
 use lib.IntN.{ℤ}
 use lib.ListN.{length}
-use Rattle.query.specs.Place.{NonEmpty}
 use Rattle.query.specs.Figures.{figures}
 use Rattle.query.specs.Space.{space, spaceNeeded}
-use Rattle.query.specs.Range.{InRange, postsLimit, roundsLimit, stopsLimit}
+use Rattle.query.specs.Range.{roundsLimit}
 use Rattle.deck.specs.declared.Deck.{Deck}
 use Rattle.refusal.specs.declared.Refusal.{Refusal}
 use Rattle.deck.specs.DeckOf.{deckOf}
@@ -28,12 +27,8 @@ use Rattle.calls.specs.Call.{reportCall}
 abbrev pub stateFor : Bool → State
 stateFor isDone = cond isDone Done Stopped
 
--- a deck in range, rounds of a job, and room for their cells
-pub record Solvable (deck : Deck) (rounds lent : ℕ) : Type 0 where
-  pub range : InRange (deckOf deck)
-  pub full : NonEmpty (deckOf deck .area)
-  pub posts : deck .posts ≤ postsLimit
-  pub stops : deck .stops ≤ stopsLimit
+-- rounds of a job, and room for their cells
+pub record Room (rounds lent : ℕ) : Type 0 where
   pub rounds-limit : rounds ≤ roundsLimit
   pub room : spaceNeeded rounds ≤ lent
 

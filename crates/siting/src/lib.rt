@@ -20,7 +20,8 @@ ghost use Rattle.calls.specs.Call.{reportCall};
 ghost use Rattle.calls.specs.Entry.{entry};
 ghost use Rattle.calls.specs.Program.{answerText, textRecord};
 ghost use Rattle.calls.specs.CheapestCall.{exhaustiveCall};
-ghost use Rattle.siting.specs.Response.{stateFor, Solvable, Solved, refusedResponse, Responded};
+ghost use Rattle.problem.specs.Prepared.{Solvable};
+ghost use Rattle.siting.specs.Response.{stateFor, Room, Solved, refusedResponse, Responded};
 
 // An answer, and how many bytes it has written.
 struct Response {
@@ -36,13 +37,13 @@ fn state_of(done: bool) -> State
 
 // The report of a deck for so many rounds, with the live cells in the cell space.
 fn solve(deck: Deck, rounds: u64, cells: &mut [i64]) -> Report
-    requires { ⌜ Solvable deck rounds (length (now cells)) ⌝ }
+    requires { ⌜ Solvable deck × Room rounds (length (now cells)) ⌝ }
     ensures { λ r. ⌜ Solved deck rounds (now (cells .entry)) (now (cells .exit)) r ⌝ }
 {
-    let objects = deck::of_deck(deck);
-    let n = objects.count;
-    let before = pricing::before(&objects.visits, &objects.near, n);
-    let found = run::search(deck, objects, rounds, cells);
+    let p = problem::of_deck(deck);
+    let n = p.count;
+    let before = pricing::before(&p.columns, n);
+    let found = run::search(p, rounds, cells);
     let state = state_of(found.done);
     Report {
         state,
@@ -120,10 +121,7 @@ pub fn exhaustive(job: &[u8]) -> Cheapest
     let outcome = j.outcome;
     let deck = j.deck;
     match outcome {
-        Outcome::Accepted(_) => {
-            let objects = deck::of_deck(deck);
-            Cheapest::At(exhaustive::cheapest(deck, objects))
-        }
+        Outcome::Accepted(_) => Cheapest::At(exhaustive::cheapest(problem::of_deck(deck))),
         Outcome::Refused(why) => Cheapest::Refused(why),
     }
 }

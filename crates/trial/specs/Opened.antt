@@ -1,25 +1,43 @@
--- A job that was read, with the objects of its deck, as the code holds it; and what is asked of a place or rectangle that is priced.
+-- A job that was read, with the problem of its deck, as the code holds it; and what is asked of a place or rectangle that is priced.
 -- Assumes nothing.
+use mathlib.Core.Path.{_≡_}
 use mathlib.Core.Bool.{Bool, true, false, _&&_}
-use mathlib.Core.List.{[]}
+use lib.IntN.{pos}
+use lib.ListN.{replicate}
 use lib.Signed.{leZ}
 use Rattle.query.specs.Place.{Place, Rect, corner}
 use Rattle.query.specs.Deck as Query
 use Rattle.job_line.specs.Lines.{coordinates, inRange}
 use Rattle.job.specs.Format.{Result, refused, accepted}
-use Rattle.deck.specs.DeckOf.{deckRecord, emptyDeck}
-use Rattle.deck.specs.Objects.{objectsOf}
-use Rattle.deck.specs.ObjectColumns.{objectsRecord}
+use Rattle.deck.specs.DeckOf.{deckOf, deckRecord, emptyDeck}
+use Rattle.problem.specs.declared.Problem.{Problem}
+use Rattle.problem.specs.Prepared.{Solvable, problemRecord}
 use Rattle.trial.specs.declared.opened.Opened.{Opened}
 
+abbrev pub noProblem : Problem
+noProblem = record {
+  area = record { xlo = pos 0; ylo = pos 0; xhi = pos 0; yhi = pos 0 };
+  count = 0;
+  columns = replicate 2048 (pos 0);
+  nv = 0;
+  v = replicate 514 (pos 0);
+  nh = 0;
+  h = replicate 514 (pos 0);
+}
+
 unfoldable pub openedDeck : Query.Deck → Opened
-unfolding objectsRecord deckRecord objectsOf
-openedDeck deck = record { accepted = true; deck = deckRecord deck; objects = objectsRecord (objectsOf deck) }
+unfolding deckRecord problemRecord
+openedDeck deck = record { accepted = true; deck = deckRecord deck; problem = problemRecord deck }
 
 unfoldable pub openedRecord : Result → Opened
 unfolding openedDeck
-openedRecord (refused why) = record { accepted = false; deck = deckRecord emptyDeck; objects = objectsRecord [] }
+openedRecord (refused why) = record { accepted = false; deck = deckRecord emptyDeck; problem = noProblem }
 openedRecord (accepted job) = openedDeck (job .deck)
+
+-- a deck in range, and its problem
+pub record Whole (o : Opened) : Type 0 where
+  pub solvable : Solvable (o .deck)
+  pub problem-is : o .problem ≡ problemRecord (deckOf (o .deck))
 
 -- a place whose coordinates are in range
 unfoldable pub placeInRange : Place → Bool

@@ -2,8 +2,8 @@
 // its deck.
 pub mod opened;
 
+use deck::Rect;
 use job::Outcome;
-use limits::LINES;
 use refusal::Refusal;
 ghost use mathlib.Core.Path.{_≡_};
 ghost use mathlib.Core.List.{_++_};
@@ -11,7 +11,7 @@ ghost use Prim.Native.Nat.{_≤_};
 ghost use lib.ListN.{length, getD, take, drop};
 ghost use Rattle.refusal.specs.Refusal.{lineOf};
 ghost use Rattle.job.specs.Format.{readJob};
-ghost use Rattle.cuts.specs.CutRecord.{rectOf};
+ghost use Rattle.deck.specs.Rectangle.{rectOf};
 ghost use Rattle.trial.specs.Trial.{
   least,
   refusalNumbers,
@@ -80,9 +80,9 @@ fn before(job: &[u8]) -> i64
     if !o.accepted {
         return -1;
     }
-    let s = o.objects;
-    let n = s.count;
-    pricing::before(&s.visits, &s.near, n) as i64
+    let p = o.problem;
+    let n = p.count;
+    pricing::before(&p.columns, n) as i64
 }
 
 // The near of stop `i`, counted from 0; -1 where there is none.
@@ -93,10 +93,10 @@ fn near(job: &[u8], i: usize) -> i64
     if !o.accepted {
         return -1;
     }
-    let s = o.objects;
-    let n = s.count;
-    let nears = s.near;
-    if i < n { nears[i] as i64 } else { -1 }
+    let p = o.problem;
+    let n = p.count;
+    let columns = p.columns;
+    if i < n { columns[1536 + i] as i64 } else { -1 }
 }
 
 // The cost of a place; -1 where the job is refused or the place is out of range.
@@ -110,56 +110,55 @@ fn cost(job: &[u8], x: i64, y: i64) -> i64
     if !opened::place_in_range(x, y) {
         return -1;
     }
-    let s = o.objects;
-    let n = s.count;
-    let p = problem::priced(&s.x, &s.y, &s.visits, &s.near, n, x, y);
-    p.cost as i64
+    let p = o.problem;
+    let n = p.count;
+    pricing::cost(&p.columns, n, x, y) as i64
 }
 
 // The load of a rectangle; -1 where the job is refused, or the rectangle is out of range or empty.
-fn load(job: &[u8], xlo: i64, ylo: i64, xhi: i64, yhi: i64) -> i64
-    ensures { λ r. ⌜ r ≡ loadFigure (rectOf xlo ylo xhi yhi) (readJob (now (job .entry))) ⌝ }
+fn load(job: &[u8], rect: Rect) -> i64
+    ensures { λ r. ⌜ r ≡ loadFigure (rectOf rect) (readJob (now (job .entry))) ⌝ }
 {
     let o = opened::open_job(job);
     if !o.accepted {
         return -1;
     }
-    if !opened::rect_allowed(xlo, ylo, xhi, yhi) {
+    if !opened::rect_allowed(rect) {
         return -1;
     }
-    let s = o.objects;
-    let n = s.count;
-    opened::load_in(&s.x, &s.y, &s.visits, &s.near, n, xlo, ylo, xhi, yhi) as i64
+    let p = o.problem;
+    let n = p.count;
+    pricing::load(&p.columns, n, rect) as i64
 }
 
 // The bound of a rectangle; the least number where the job is refused, or the rectangle is out of range or empty.
-fn bound(job: &[u8], xlo: i64, ylo: i64, xhi: i64, yhi: i64) -> i64
-    ensures { λ r. ⌜ r ≡ boundFigure (rectOf xlo ylo xhi yhi) (readJob (now (job .entry))) ⌝ }
+fn bound(job: &[u8], rect: Rect) -> i64
+    ensures { λ r. ⌜ r ≡ boundFigure (rectOf rect) (readJob (now (job .entry))) ⌝ }
 {
     let o = opened::open_job(job);
     if !o.accepted {
         return -9223372036854775808;
     }
-    if !opened::rect_allowed(xlo, ylo, xhi, yhi) {
+    if !opened::rect_allowed(rect) {
         return -9223372036854775808;
     }
-    let s = o.objects;
-    let n = s.count;
-    opened::bound_in(&s.x, &s.y, &s.visits, &s.near, n, xlo, ylo, xhi, yhi)
+    let p = o.problem;
+    let n = p.count;
+    opened::bound_in(&p.columns, n, rect)
 }
 
 // 1 for a cut at an x, 2 for one at a y, 0 for none; -1 where the job is refused, or the rectangle is out of range or empty.
-fn cut_axis(job: &[u8], xlo: i64, ylo: i64, xhi: i64, yhi: i64) -> i64
-    ensures { λ r. ⌜ r ≡ cutAxisFigure (rectOf xlo ylo xhi yhi) (readJob (now (job .entry))) ⌝ }
+fn cut_axis(job: &[u8], rect: Rect) -> i64
+    ensures { λ r. ⌜ r ≡ cutAxisFigure (rectOf rect) (readJob (now (job .entry))) ⌝ }
 {
     let o = opened::open_job(job);
     if !o.accepted {
         return -1;
     }
-    if !opened::rect_allowed(xlo, ylo, xhi, yhi) {
+    if !opened::rect_allowed(rect) {
         return -1;
     }
-    let cut = opened::cut_of(o, xlo, ylo, xhi, yhi);
+    let cut = opened::cut_of(o, rect);
     if !cut.found {
         return 0;
     }
@@ -167,17 +166,17 @@ fn cut_axis(job: &[u8], xlo: i64, ylo: i64, xhi: i64, yhi: i64) -> i64
 }
 
 // The line of the cut; the least number where there is none.
-fn cut_line(job: &[u8], xlo: i64, ylo: i64, xhi: i64, yhi: i64) -> i64
-    ensures { λ r. ⌜ r ≡ cutLineFigure (rectOf xlo ylo xhi yhi) (readJob (now (job .entry))) ⌝ }
+fn cut_line(job: &[u8], rect: Rect) -> i64
+    ensures { λ r. ⌜ r ≡ cutLineFigure (rectOf rect) (readJob (now (job .entry))) ⌝ }
 {
     let o = opened::open_job(job);
     if !o.accepted {
         return -9223372036854775808;
     }
-    if !opened::rect_allowed(xlo, ylo, xhi, yhi) {
+    if !opened::rect_allowed(rect) {
         return -9223372036854775808;
     }
-    let cut = opened::cut_of(o, xlo, ylo, xhi, yhi);
+    let cut = opened::cut_of(o, rect);
     if !cut.found {
         return -9223372036854775808;
     }
@@ -195,8 +194,9 @@ pub extern "C" fn trial_figure(
     xhi: i64,
     yhi: i64,
 ) -> i64
-    ensures { λ r. ⌜ r ≡ getD (deckFigures (rectOf xlo ylo xhi yhi) (readJob (now (job .entry)))) which least ⌝ }
+    ensures { λ r. ⌜ r ≡ getD (deckFigures (record { xlo = xlo; ylo = ylo; xhi = xhi; yhi = yhi }) (readJob (now (job .entry)))) which least ⌝ }
 {
+    let rect = Rect { xlo, ylo, xhi, yhi };
     if which == 0 {
         return before(job);
     }
@@ -210,28 +210,28 @@ pub extern "C" fn trial_figure(
         return cost(job, xlo, ylo);
     }
     if which == 3 {
-        return load(job, xlo, ylo, xhi, yhi);
+        return load(job, rect);
     }
     if which == 4 {
-        return bound(job, xlo, ylo, xhi, yhi);
+        return bound(job, rect);
     }
     if which == 5 {
-        return cut_axis(job, xlo, ylo, xhi, yhi);
+        return cut_axis(job, rect);
     }
     if which == 6 {
-        return cut_line(job, xlo, ylo, xhi, yhi);
+        return cut_line(job, rect);
     }
     -9223372036854775808
 }
 
-// Puts the first `n` lines in front of `out`.
-fn put_lines(out: &mut [i64], at: &[i64; LINES], n: usize)
-    requires { ⌜ (n ≤ 514) × (length (now at) ≡ 514) × (n ≤ length (now out)) ⌝ }
-    ensures { λ _. ⌜ now (out .exit) ≡ take n (now (at .entry)) ++ drop n (now (out .entry)) ⌝ }
+// Puts some lines in front of `out`.
+fn put_lines(out: &mut [i64], ls: &[i64])
+    requires { ⌜ length (now ls) ≤ length (now out) ⌝ }
+    ensures { λ _. ⌜ now (out .exit) ≡ now (ls .entry) ++ drop (length (now (ls .entry))) (now (out .entry)) ⌝ }
 {
     let mut i: usize = 0;
-    while i < n {
-        out[i] = at[i];
+    while i < ls.len() {
+        out[i] = ls[i];
         i += 1;
     }
 }
@@ -245,11 +245,17 @@ pub extern "C" fn trial_lines(job: &[u8], across: bool, out: &mut [i64]) -> i64
     if !o.accepted {
         return -1;
     }
-    let found = opened::lines_of(o, across);
-    let n = found.count;
+    let p = o.problem;
+    let n = if across { p.nv } else { p.nh };
     if out.len() < n {
         return -1;
     }
-    put_lines(out, &found.at, n);
+    if across {
+        let v: &[i64] = &p.v;
+        put_lines(out, &v[..n]);
+    } else {
+        let h: &[i64] = &p.h;
+        put_lines(out, &h[..n]);
+    }
     n as i64
 }

@@ -1,0 +1,53 @@
+-- The problem of a deck as the code prepares it, once for each call.
+-- Assumes nothing.
+use Prim.Native.Nat.{_≤_}
+use mathlib.Core.Path.{_≡_}
+use lib.IntN.{pos}
+use lib.ListN.{length, take}
+use Rattle.numbers.specs.Padded.{padded}
+use Rattle.query.specs.Place.{NonEmpty, x-axis, y-axis}
+use Rattle.query.specs.Deck as Query
+use Rattle.query.specs.Deck.{plain}
+use Rattle.query.specs.Lines.{lines}
+use Rattle.query.specs.Problem as QueryProblem
+use Rattle.query.specs.Range.{InRange, postsLimit, stopsLimit}
+use Rattle.deck.specs.declared.Deck.{Deck}
+use Rattle.deck.specs.DeckOf.{deckOf}
+use Rattle.deck.specs.Rectangle.{rectOf, rectRecord}
+use Rattle.deck.specs.Objects.{objectsOf}
+use Rattle.deck.specs.ObjectColumns.{columnsOf, pricingIn}
+use Rattle.lines.specs.LineRecord.{gridOf}
+use Rattle.problem.specs.declared.Problem.{Problem}
+use Rattle.problem.specs.ObjectProblem.{objectProblem}
+
+-- the problem that a record holds
+abbrev pub problemIn : Problem → QueryProblem.Problem
+problemIn p = objectProblem (pricingIn (p .columns) (p .count)) (gridOf (take (p .nv) (p .v)) (take (p .nh) (p .h))) (rectOf (p .area))
+
+-- the record of a deck's problem: its area, the columns of its objects and its lines
+unfoldable pub problemRecord : Query.Deck → Problem
+unfolding objectsOf columnsOf lines padded
+problemRecord deck = record {
+  area = rectRecord (deck .area);
+  count = length (deck .stops);
+  columns = columnsOf (objectsOf deck);
+  nv = length (lines deck x-axis);
+  v = padded 514 (pos 0) (lines deck x-axis);
+  nh = length (lines deck y-axis);
+  h = padded 514 (pos 0) (lines deck y-axis);
+}
+
+-- a deck's record whose deck is in range and has an area
+pub record Solvable (deck : Deck) : Type 0 where
+  pub range : InRange (deckOf deck)
+  pub full : NonEmpty (deckOf deck .area)
+  pub posts : deck .posts ≤ postsLimit
+  pub stops : deck .stops ≤ stopsLimit
+
+-- the record of the problem of such a deck
+pub record Prepared (p : Problem) : Type 0 where
+  pub deck : Query.Deck
+  pub is : p ≡ problemRecord deck
+  pub axis : deck .axis ≡ plain
+  pub range : InRange deck
+  pub full : NonEmpty (deck .area)
