@@ -14,21 +14,16 @@ use Rattle.query.specs.Place.{Axis, x-axis, y-axis, coordinate, low-edge, high-
 use Rattle.query.specs.Deck.{Stop, Deck}
 use Rattle.query.specs.Reach.{reach}
 use Rattle.query.specs.Lines.{stopCoordinates, lines, gaps}
-use Rattle.query.specs.Grid.{grid}
 use Rattle.query.proofs.LineLaws.{lines-law}
 use Rattle.numbers.specs.Padded.{padded}
-use Rattle.lines.specs.LineRecord.{LinesInOrder, flagged, marked, linesBetween, linesRecord, gridOf}
+use Rattle.lines.specs.LineRecord.{LinesInOrder, Lined, flagged, marked, linesBetween, linesRecord}
 use Rattle.lines.specs.declared.Lines.{Lines}
-use Rattle.lines.proofs.LineRecordLaws.{linesBetween-length, record-front, record-in-order}
+use Rattle.lines.proofs.LineRecordLaws.{linesBetween-length, record-front}
 use Rattle.numbers.proofs.Padded.{padded-front}
 
 -- ---- the lines of a deck
 pub deck-front : (deck : Deck) (axis : Axis) (l : Lines) → l ≡ linesRecord (lines deck axis) → take (l .count) (l .at) ≡ lines deck axis
 deck-front deck axis l e = ap (λ (r : Lines). take (r .count) (r .at)) e ∙ record-front (lines deck axis)
-
-pub deck-grid : (deck : Deck) (v h : Lines) → v ≡ linesRecord (lines deck x-axis) → h ≡ linesRecord (lines deck y-axis) → gridOf (v .at) (v .count) (h .at) (h .count) ≡ grid deck
-unfolding grid
-deck-grid deck v h e f = λ i. record { vertical = deck-front deck x-axis v e i; horizontal = deck-front deck y-axis h f i }
 
 abbrev pub flag : Bool → ℕ
 flag b = cond b 1 0
@@ -70,8 +65,8 @@ module _ (deck : Deck) (axis : Axis) where
       let at : Stop → ℤ = λ stop. coordinate axis (stop .at) in
       rw lines-is (omega (arith, linesBetween-length (low-edge axis (deck .area)) (high-edge axis (deck .area)) (map at stops), length-map stops at, keep-length (reach deck (deck .area)) (deck .stops)))
 
-  pub lines-in-order : length (deck .stops) ≤ 512 → LinesInOrder (linesRecord (lines deck axis) .at) (linesRecord (lines deck axis) .count)
-  lines-in-order h = record-in-order (lines deck axis) (lines-law deck axis .increasing) (omega (arith, lines-few))
+  pub lines-in-order : length (deck .stops) ≤ 512 → LinesInOrder (lines deck axis)
+  lines-in-order h = record { few = omega (arith, lines-few); increasing = lines-law deck axis .increasing }
 
   -- an array that holds the flags in front
   pub padded-reached : take (length (deck .stops)) (padded 512 0 reached) ≡ reached
@@ -81,3 +76,7 @@ module _ (deck : Deck) (axis : Axis) where
   pub count-gaps : max 1 (linesRecord (lines deck axis) .count - 1) ≡ gaps deck axis
   unfolding gaps linesRecord
   count-gaps = refl
+
+-- those of both axes
+pub deck-lined : (deck : Deck) → length (deck .stops) ≤ 512 → Lined (lines deck x-axis) (lines deck y-axis)
+deck-lined deck h = record { across = lines-in-order deck x-axis h; deep = lines-in-order deck y-axis h }
