@@ -4,7 +4,6 @@ use native.Mathlib.Omega.{arith}
 use mathlib.Core.Path.{_≡_, ap, _∙_}
 use mathlib.Core.Bool.{not}
 use lib.IntN.{ℤ}
-use lib.ListN.{take}
 use mir.Syntax.{w64}
 use mir.Val.{ofZ, toZ}
 use mir.ValLaws.{toZ-ofZ}
@@ -27,7 +26,7 @@ middle-line-requires c κs = search needs
 -- the line found on the first axis
 module _ (c : tie.After-middle-line) where
   abbrev a-line : ℤ
-  a-line = middleLine (c .before .args .alo) (c .before .args .ahi) (keep (strictlyBetween (c .before .args .alo) (c .before .args .ahi)) (take (c .before .args .na) (now (c .before .args .a))))
+  a-line = let a = c .before .args in middleLine (a .alo) (a .ahi) (keep (strictlyBetween (a .alo) (a .ahi)) (now (a .a)))
 
   same-alo : toZ w64 (ofZ w64 (c .before .args .alo)) ≡ c .before .args .alo
   same-alo = toZ-ofZ w64 (c .before .args .alo) (c .before .fits .alo)
@@ -42,7 +41,12 @@ cut-at-requires : tie.Need-cut-at-requires
 cut-at-requires c κs = search needs
 
 returns : tie.Need-returns
-returns c = let d = c .before .before in let a = d .before .args in c .cut-at .ensures ∙ ap (cutAt (a .across)) (a-read d) ∙ first-cut (a .across) (a .alo) (a .ahi) _ (a .blo) (a .bhi) (take (a .nb) (now (a .b))) (omega (arith, order, rw (same-alo d, a-read d) at (is-true _ (c .before .if1 .taken))))
+returns c =
+    let d = c .before .before in
+    let a = d .before .args in
+    let t = rw (same-alo d, a-read d) at (is-true _ (c .before .if1 .taken)) in
+    c .cut-at .ensures ∙ ap (cutAt (a .across)) (a-read d)
+    ∙ first-cut (a .across) (a .alo) (a .ahi) _ (a .blo) (a .bhi) (now (a .b)) (omega (arith, order, t))
 
 middle-line-requires-2 : tie.Need-middle-line-requires-2
 middle-line-requires-2 c κs = search needs
@@ -53,7 +57,7 @@ module _ (c : tie.After-middle-line2) where
   start = c .before .before .before
 
   abbrev b-line : ℤ
-  b-line = middleLine (start .args .blo) (start .args .bhi) (keep (strictlyBetween (start .args .blo) (start .args .bhi)) (take (start .args .nb) (now (start .args .b))))
+  b-line = let a = start .args in middleLine (a .blo) (a .bhi) (keep (strictlyBetween (a .blo) (a .bhi)) (now (a .b)))
 
   same-blo : toZ w64 (ofZ w64 (start .args .blo)) ≡ start .args .blo
   same-blo = toZ-ofZ w64 (start .args .blo) (start .fits .blo)
