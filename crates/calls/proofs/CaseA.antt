@@ -11,4 +11,18 @@ use Rattle.calls.specs.CaseA.{CaseA}
 
 pub case-A : CaseA
 unfolding reportCall entry answerText exhaustiveCall bytes flatMap
-case-A = record { report-done = refl; report-stopped = refl; report-refused = refl; entry-done = refl; entry-most-rounds = refl; entry-short = refl; entry-refused = refl; program-done = refl; program-most-rounds = refl; program-refused = refl; exhaustive-done = refl; exhaustive-refused = refl }
+case-A = record {
+  report-done = refl;
+  report-stopped = refl;
+  report-refused = refl;
+  entry-done = refl;
+  entry-most-rounds = refl;
+  entry-short =
+      refl;
+  entry-refused = refl;
+  program-done = refl;
+  program-most-rounds = refl;
+  program-refused = refl;
+  exhaustive-done = refl;
+  exhaustive-refused = refl;
+}

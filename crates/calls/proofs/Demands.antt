@@ -35,14 +35,27 @@ use Rattle.calls.proofs.AnswerLaws.{same-number, same-line, same-refusa
 pub job-limits : (job : Job) → Allowed job → FiguresInRange 1000 (jobFigures job)
 job-limits job a =
     let range = run-in-range (job .deck) (allowed-in-range job a) (a .area-full) (job .rounds) .figures-range in
-    record { place = range .place; high-limit = range .high-limit; low-limit = range .low-limit; before-limit = range .before-limit; rounds-limit = omega (arith, range .rounds-limit, most-rounds (a .writable)) }
+    record {
+      place = range .place;
+      high-limit = range .high-limit;
+      low-limit = range .low-limit;
+      before-limit = range .before-limit;
+      rounds-limit =
+          omega (arith, range .rounds-limit, most-rounds (a .writable));
+    }
 
 text-fits : (job : Job) → Allowed job → length (reportText (jobFigures job)) ≤ 128
 text-fits job a = report-fits .report-fits (jobFigures job) (job-limits job a)
 
 -- one more round leaves a job allowed
 allowed-more : (j : Job) → j .rounds < 1000 → Allowed j → Allowed (oneMore j)
-allowed-more j h a = record { writable = other-rounds j (suc (j .rounds)) (a .writable) h; area-full = a .area-full; some-posts = a .some-posts; some-stops = a .some-stops }
+allowed-more j h a = record {
+  writable = other-rounds j (suc (j .rounds)) (a .writable) h;
+  area-full = a .area-full;
+  some-posts = a .some-posts;
+  some-stops =
+      a .some-stops;
+}
 
 -- bytes that spell an allowed job are few enough
 pub read-exactly : (job : List ℕ) (j : Job) → (readJob job ≡ accepted j) ↔ ((job ≡ spell j) × Allowed j)
@@ -61,13 +74,16 @@ module _ (job : List ℕ) (cells : List ℤ) (out : List ℕ) where
   unfolding reportCall answered
   space-call j e h = ap (λ (r : Result). answered r cells out) e ∙ cond-true (ltb (length cells) (5 * (j .rounds + 1))) _ _ (lt→ltb _ _ h)
 
-  pub output-call : (j : Job) → readJob job ≡ accepted j → 5 * (j .rounds + 1) ≤ length cells → length out < 128 → reportCall job cells out ≡ turnedDown ShortOutput cells out
+  pub output-call : (j : Job) → readJob job ≡ accepted j → 5 * (j .rounds + 1) ≤ length cells → length out < 128 →
+      reportCall job cells out ≡ turnedDown ShortOutput cells out
   unfolding reportCall answered
-  output-call j e h k = ap (λ (r : Result). answered r cells out) e ∙ cond-false (ltb (length cells) (5 * (j .rounds + 1))) _ _ (le→nltb _ _ h) ∙ cond-true (ltb (length out) 128) _ _ (lt→ltb _ _ k)
+  output-call j e h k = ap (λ (r : Result). answered r cells out) e ∙ cond-false (ltb (length cells) (5 * (j .rounds + 1))) _ _ (le→nltb _ _ h)
+      ∙ cond-true (ltb (length out) 128) _ _ (lt→ltb _ _ k)
 
   pub call-accepted : (j : Job) → Accepted job cells out j → reportCall job cells out ≡ reported j cells out
   unfolding reportCall answered
-  call-accepted j a = ap (λ (r : Result). answered r cells out) (a .read) ∙ cond-false (ltb (length cells) (5 * (j .rounds + 1))) _ _ (le→nltb _ _ (a .space)) ∙ cond-false (ltb (length out) 128) _ _ (le→nltb _ _ (a .output))
+  call-accepted j a = ap (λ (r : Result). answered r cells out) (a .read) ∙ cond-false (ltb (length cells) (5 * (j .rounds + 1))) _ _ (le→nltb _ _ (a .space))
+      ∙ cond-false (ltb (length out) 128) _ _ (le→nltb _ _ (a .output))
 
   -- in one of these ways: a refusal applies, or the job is accepted
   pub data Ends : Type 0 where
@@ -81,7 +97,9 @@ module _ (job : List ℕ) (cells : List ℤ) (out : List ℕ) where
       go (refused why) e = refusing why (in-reading (refused-law job why .exactly .0 e)) (refused-call why e)
       go (accepted j) e =
           ⊎-elim (λ t. let h = ltb→lt _ _ t in refusing SmallSpace (small-space j e h) (space-call j e h))
-          (λ t. let h = nltb→le _ _ t in ⊎-elim (λ u. let k = ltb→lt _ _ u in refusing ShortOutput (short-output j e h k) (output-call j e h k)) (λ u. reporting j (record { read = e; space = h; output = nltb→le _ _ u })) (test (ltb (length out) 128)))
+          (λ t. let h = nltb→le _ _ t in ⊎-elim (λ u. let k = ltb→lt _ _ u in
+          refusing ShortOutput (short-output j e h k) (output-call j e h k)) (λ u. reporting j (record { read = e; space = h; output = nltb→le _ _ u }))
+          (test (ltb (length out) 128)))
           (test (ltb (length cells) (5 * (j .rounds + 1))))
 
   answer-of : (left : Left) → reportCall job cells out ≡ left → reportCall job cells out .answer ≡ left .answer
@@ -111,7 +129,8 @@ module _ (job : List ℕ) (cells : List ℤ) (out : List ℕ) where
   refuses-so _ (short-output j e h k) = output-call j e h k
 
   -- an answer that refuses
-  pub refused-one : (number line : ℕ) → reportCall job cells out .answer ≡ refuses number line → (why : Refusal) × Applies job cells out why × (reportCall job cells out ≡ turnedDown why cells out)
+  pub refused-one : (number line : ℕ) → reportCall job cells out .answer ≡ refuses number line →
+      (why : Refusal) × Applies job cells out why × (reportCall job cells out ≡ turnedDown why cells out)
   refused-one number line e = go ends
     where
       go : Ends → (why : Refusal) × Applies job cells out why × (reportCall job cells out ≡ turnedDown why cells out)
@@ -127,26 +146,31 @@ module _ (job : List ℕ) (cells : List ℤ) (out : List ℕ) where
       go (reporting j a) = (j, a)
 
   given : (why : Refusal) → reportCall job cells out .answer ≡ refusal why → Applies job cells out why
-  given why e = let (w, c, f) = refused-one (numberOf why) (lineOf why) e in subst (λ (w : Refusal). Applies job cells out w) (same-refusal w why (sym (answer-of _ f) ∙ e)) c
+  given why e = let (w, c, f) = refused-one (numberOf why) (lineOf why) e in
+      subst (λ (w : Refusal). Applies job cells out w) (same-refusal w why (sym (answer-of _ f) ∙ e)) c
 
   demand-1 : Demand1 job cells out
   demand-1 = record {
     reported-exactly = (λ r. accepted-one (r .0) (r .1), λ r. (jobFigures (r .0), reports (r .0) (r .1) .answer));
     refused-exactly = λ why. (given why, λ h. answer-of (turnedDown why cells out) (refuses-so why h));
-    refused-listed = λ number line e. let (w, c, f) = refused-one number line e in let g = sym e ∙ answer-of _ f in (w, same-number number line (numberOf w) (lineOf w) g, same-line number line (numberOf w) (lineOf w) g);
+    refused-listed = λ number line e. let (w, c, f) = refused-one number line e in let g = sym e ∙ answer-of _ f in
+        (w, same-number number line (numberOf w) (lineOf w) g, same-line number line (numberOf w) (lineOf w) g);
     refused-cells = λ number line e. ap (λ (l : Left). l .cells) (refused-one number line e .2);
     refused-out = λ number line e. ap (λ (l : Left). l .out) (refused-one number line e .2);
   }
 
 -- ---- demand 3
-demand-3 : (job : List ℕ) (cells : List ℤ) (out : List ℕ) (j : Job) (f : Figures) → Accepted job cells out j → reportCall job cells out .answer ≡ gives f → Demand3Report j f
+demand-3 : (job : List ℕ) (cells : List ℤ) (out : List ℕ) (j : Job) (f : Figures) → Accepted job cells out j → reportCall job cells out .answer ≡ gives f →
+    Demand3Report j f
 demand-3 job cells out j f a e =
     let allowed = read-exactly job j .0 (a .read) .1 in
     let law = Query.demand-3 (j .deck) (allowed .area-full) in
     let same = figures-are job cells out j f a e in record {
       law = subst (Demand3 (j .deck) (j .rounds)) same (law (j .rounds));
-      one-more-low = λ job′ cells′ out′ f′ a′ e′. subst₂ (λ (p q : Figures). p .low ≤ℤ q .low) same (figures-are job′ cells′ out′ (oneMore j) f′ a′ e′) (law (j .rounds) .low-rises);
-      one-more-high = λ job′ cells′ out′ f′ a′ e′. subst₂ (λ (p q : Figures). q .high ≤ p .high) same (figures-are job′ cells′ out′ (oneMore j) f′ a′ e′) (law (j .rounds) .high-falls);
+      one-more-low = λ job′ cells′ out′ f′ a′ e′. subst₂ (λ (p q : Figures). p .low ≤ℤ q .low) same (figures-are job′ cells′ out′ (oneMore j) f′ a′ e′)
+          (law (j .rounds) .low-rises);
+      one-more-high = λ job′ cells′ out′ f′ a′ e′. subst₂ (λ (p q : Figures). q .high ≤ p .high) same (figures-are job′ cells′ out′ (oneMore j) f′ a′ e′)
+          (law (j .rounds) .high-falls);
       one-more-read = λ h. read-exactly (spell (oneMore j)) (oneMore j) .1 (refl, allowed-more j h allowed);
       every-n = law;
     }

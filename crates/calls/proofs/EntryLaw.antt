@@ -45,13 +45,17 @@ module _ (job out : List ℕ) where
   unfolding entry
   entry-of = refl
 
-  entry-reports : (j : Job) → readJob job ≡ accepted j → 128 ≤ length out → entry job out ≡ record { result = pos (length (reportText (jobFigures j))); out = overwritten (reportText (jobFigures j)) out }
+  entry-reports : (j : Job) → readJob job ≡ accepted j → 128 ≤ length out →
+      entry job out ≡ record { result = pos (length (reportText (jobFigures j))); out = overwritten (reportText (jobFigures j)) out }
   entry-reports j e h =
       let r = reports job ownSpace out j (own-accepted job out j e h) in
-      let result : resultOf (reportCall job ownSpace out .answer) ≡ pos (length (reportText (jobFigures j))) = ap resultOf (r .answer) ∙ given-result (jobFigures j) in
-      entry-of ∙ ap (λ (z : ℤ). record { result = z; out = reportCall job ownSpace out .out }) result ∙ ap (λ (o : List ℕ). record { result = pos (length (reportText (jobFigures j))); out = o }) (r .text)
+      let result : resultOf (reportCall job ownSpace out .answer) ≡ pos (length (reportText (jobFigures j))) =
+      ap resultOf (r .answer) ∙ given-result (jobFigures j) in
+      entry-of ∙ ap (λ (z : ℤ). record { result = z; out = reportCall job ownSpace out .out }) result
+      ∙ ap (λ (o : List ℕ). record { result = pos (length (reportText (jobFigures j))); out = o }) (r .text)
 
-  turned-down : (why : Refusal) → reportCall job ownSpace out ≡ turnedDown why ownSpace out → entry job out ≡ record { result = negℤ (pos (numberOf why)); out = out }
+  turned-down : (why : Refusal) → reportCall job ownSpace out ≡ turnedDown why ownSpace out →
+      entry job out ≡ record { result = negℤ (pos (numberOf why)); out = out }
   turned-down why e = entry-of ∙ ap returned e ∙ ap (λ (z : ℤ). record { result = z; out = out }) (refused-result why)
 
   entry-refuses : (why : Refusal) → Condition job why → entry job out ≡ record { result = negℤ (pos (numberOf why)); out = out }
@@ -68,8 +72,11 @@ module _ (job out : List ℕ) where
   never-7 = go (readJob job) refl
     where
       go : (r : Result) → readJob job ≡ r → entry job out .result ≢ negℤ (pos 7)
-      go (refused why) e = let c = refused-law job why .exactly .0 e in not-7 (numberOf why) (λ s. omega (arith, condition-number job why c)) (entry-refuses why c)
-      go (accepted j) e = ⊎-elim (λ t. not-7 8 (λ s. omega arith) (entry-short j e (ltb→lt _ _ t))) (λ t f. subst (λ (z : ℤ). T (nonNeg z)) (sym (ap (λ (r : Returned). r .result) (entry-reports j e (nltb→le _ _ t))) ∙ f) tt) (test (ltb (length out) 128))
+      go (refused why) e = let c = refused-law job why .exactly .0 e in
+          not-7 (numberOf why) (λ s. omega (arith, condition-number job why c)) (entry-refuses why c)
+      go (accepted j) e = ⊎-elim (λ t. not-7 8 (λ s. omega arith) (entry-short j e (ltb→lt _ _ t)))
+          (λ t f. subst (λ (z : ℤ). T (nonNeg z)) (sym (ap (λ (r : Returned). r .result) (entry-reports j e (nltb→le _ _ t))) ∙ f) tt)
+          (test (ltb (length out) 128))
 
   pub entry-law : EntryLaw job out
   entry-law = record { report = entry-reports; refusal = entry-refuses; short-output = entry-short; never-7 = never-7 }

@@ -44,12 +44,14 @@ module _ (job : List ℕ) where
   law : (j : Job) → readJob job ≡ accepted j → ExhaustiveLaw (j .deck)
   law j e = exhaustive-law (j .deck) (read-exactly job j .0 e .1 .area-full)
 
-  done-report : (cells : List ℤ) (out : List ℕ) (f : Figures) → reportCall job cells out .answer ≡ gives f → f .state ≡ done → exhaustiveCall job ≡ gives (record { at = f .at; cost = f .high })
+  done-report : (cells : List ℤ) (out : List ℕ) (f : Figures) → reportCall job cells out .answer ≡ gives f → f .state ≡ done →
+      exhaustiveCall job ≡ gives (record { at = f .at; cost = f .high })
   done-report cells out f e d =
       let (j, a) = accepted-one job cells out f e in
       let same = figures-are job cells out j f a e in
       let finished = ap (λ (g : Figures). g .state) same ∙ d in
-      let both : record { at = jobFigures j .at; cost = jobFigures j .high } ≡ Query.exhaustive (problem (j .deck)) = rw (law j (a .read) .done-place (j .rounds) finished, law j (a .read) .done-cost (j .rounds) finished) in
+      let both : record { at = jobFigures j .at; cost = jobFigures j .high } ≡ Query.exhaustive (problem (j .deck)) =
+      rw (law j (a .read) .done-place (j .rounds) finished, law j (a .read) .done-cost (j .rounds) finished) in
       call-accepted j (a .read) ∙ ap (λ (p : Priced). gives p) (sym both ∙ ap (λ (g : Figures). record { at = g .at; cost = g .high }) same)
 
   pub exhaustive-call-law : ExhaustiveCallLaw job

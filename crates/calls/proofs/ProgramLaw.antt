@@ -40,18 +40,27 @@ module _ (job : List ℕ) where
   text-of = refl
 
   reported-text : (j : Job) → readJob job ≡ accepted j → answerText job ≡ reportText (jobFigures j)
-  reported-text j e = text-of ∙ ap textOf (reports job ownSpace output j (own-accepted job output j e (omega (arith, length-replicate {A = ℕ} 128 0))) .answer) ∙ given-text (jobFigures j)
+  reported-text j e = text-of ∙ ap textOf (reports job ownSpace output j (own-accepted job output j e (omega (arith, length-replicate {A = ℕ} 128 0))) .answer)
+      ∙ given-text (jobFigures j)
 
   refusal-text : (why : Refusal) → Condition job why → answerText job ≡ refusalText (numberOf why) (lineOf why)
-  refusal-text why c = text-of ∙ ap (λ (l : Left). textOf (l .answer)) (refuses-so job ownSpace output why (in-reading c)) ∙ refused-text (numberOf why) (lineOf why)
+  refusal-text why c = text-of ∙ ap (λ (l : Left). textOf (l .answer)) (refuses-so job ownSpace output why (in-reading c))
+      ∙ refused-text (numberOf why) (lineOf why)
 
   -- no number above 6
   never : (number line : ℕ) → 6 < number → number < 10 ^ 9 → answerText job ≢ refusalText number line
   never number line h k f = go (readJob job) refl
     where
       go : (r : Result) → readJob job ≡ r → ⊥
-      go (refused why) e = let c = refused-law job why .exactly .0 e in let few = condition-number job why c in omega (arith, few, refusal-number (numberOf why) (lineOf why) number line (omega arith) k (sym (refusal-text why c) ∙ f))
+      go (refused why) e = let c = refused-law job why .exactly .0 e in let few = condition-number job why c in
+          omega (arith, few, refusal-number (numberOf why) (lineOf why) number line (omega arith) k (sym (refusal-text why c) ∙ f))
       go (accepted j) e = report-no-refusal (jobFigures j) number line (sym (reported-text j e) ∙ f)
 
   pub program-law : ProgramLaw job
-  program-law = record { report = reported-text; refusal = refusal-text; never-7 = λ line. never 7 line (omega arith) (omega arith); never-8 = λ line. never 8 line (omega arith) (omega arith) }
+  program-law = record {
+    report = reported-text;
+    refusal = refusal-text;
+    never-7 = λ line. never 7 line (omega arith) (omega arith);
+    never-8 =
+        λ line. never 8 line (omega arith) (omega arith);
+  }

@@ -50,7 +50,8 @@ key-starts [] bs = refl
 key-starts (k ∷ ks) [] = refl
 key-starts (k ∷ ks) (b ∷ bs) = go (eqb b k) (key-starts ks bs)
   where
-    go : (t : Bool) → key ks bs ≡ found (startsWith ks bs) (drop (length ks) bs) → bind (cond t (found true bs) none) (λ r. key ks (r .1)) ≡ found (t && startsWith ks bs) (drop (length ks) bs)
+    go : (t : Bool) → key ks bs ≡ found (startsWith ks bs) (drop (length ks) bs) →
+        bind (cond t (found true bs) none) (λ r. key ks (r .1)) ≡ found (t && startsWith ks bs) (drop (length ks) bs)
     go true ih = ih
     go false ih = refl
 
@@ -132,7 +133,8 @@ pub after-key : {s : List ℕ} {at : ℕ} {k : List ℕ} {t : Bool} → Starts s
 after-key {s} {at} {k} is-key on = omega (arith, length-drop at s, starts-fits k (drop at s) (sym (is-key .is) ∙ on))
 
 -- ---- the numbers of a line, from the place where they start
-numbers-is : (range : Range) (others : List Range) (bs : List ℕ) → numbers (range ∷ others) bs ≡ bind (field (endOf others) bs) (λ r. bind (numbers others (r .1)) (λ t. some (r .0 ∷ t .0, t .1)))
+numbers-is : (range : Range) (others : List Range) (bs : List ℕ) →
+    numbers (range ∷ others) bs ≡ bind (field (endOf others) bs) (λ r. bind (numbers others (r .1)) (λ t. some (r .0 ∷ t .0, t .1)))
 unfolding numbers
 numbers-is range others bs = refl
 
@@ -157,7 +159,8 @@ module _ {range : Range} {others : List Range} {s : List ℕ} {at : ℕ} {r : Pa
     unfolding bind
     number-then f = record { is = rw (numbers-is, field-reads field-at e, f .is) }
 
-pub last-number : {range : Range} {s : List ℕ} {at : ℕ} {r : ParsedNumber} → FieldAt s at newline r → {z : ℤ} {next : ℕ} → r ≡ Read z next → NumbersAt (range ∷ []) s at (some (back z ∷ [], drop next s))
+pub last-number : {range : Range} {s : List ℕ} {at : ℕ} {r : ParsedNumber} → FieldAt s at newline r → {z : ℤ} {next : ℕ} → r ≡ Read z next →
+    NumbersAt (range ∷ []) s at (some (back z ∷ [], drop next s))
 last-number {s = s} field-at {z} {next} e = number-then field-at e (record { is = numbers-end (drop next s) })
 
 -- ---- a line by its form and its ranges
@@ -182,14 +185,17 @@ module _ {row : Row} {s : List ℕ} {at n : ℕ} where
   unfolding line
   malformed f = record { is = rw (f .is); within = tt }
 
-  pub out-of-range : {ns : List ℤ} {rest : List ℕ} → FormAt row s at (some (ns, rest)) → inRanges (row .ranges) ns ≡ false → LineAt row s at n (refused (OutOfRange n))
+  pub out-of-range : {ns : List ℤ} {rest : List ℕ} → FormAt row s at (some (ns, rest)) → inRanges (row .ranges) ns ≡ false →
+      LineAt row s at n (refused (OutOfRange n))
   unfolding line
   out-of-range f t = record { is = rw (f .is, t); within = tt }
 
-  pub line-read : {ns : List ℤ} {next : ℕ} → FormAt row s at (some (ns, drop next s)) → inRanges (row .ranges) ns ≡ true → next ≤ length s → LineAt row s at n (read ns next)
+  pub line-read : {ns : List ℤ} {next : ℕ} → FormAt row s at (some (ns, drop next s)) → inRanges (row .ranges) ns ≡ true → next ≤ length s →
+      LineAt row s at n (read ns next)
   unfolding line
   line-read f t h = record { is = rw (f .is, t); within = h }
 
   -- the last number as its size, where it is not negative
-  pub last-natural : (ns : List ℤ) (z : ℤ) {next : ℕ} → T (nonNeg z) → LineAt row s at n (read (ns ++ (z ∷ [])) next) → LineAt row s at n (read (ns ++ (pos (natAbs z) ∷ [])) next)
+  pub last-natural : (ns : List ℤ) (z : ℤ) {next : ℕ} → T (nonNeg z) → LineAt row s at n (read (ns ++ (z ∷ [])) next) →
+      LineAt row s at n (read (ns ++ (pos (natAbs z) ∷ [])) next)
   last-natural ns z t l = rw (pos-natAbs z t) l

@@ -46,7 +46,8 @@ module _ {n : ℤ} {r : Bool} (f : SFits w64 n) where
   unfolding inRanges
   ranges-off {range} e g = record { is = rw (first range e g) }
 
-  pub ranges-on : {range : Range} {ranges : List Range} {ns : List ℤ} {t : Bool} → r ≡ inRange range (back n) → r ≡ true → Tested ranges ns t → Tested (range ∷ ranges) (n ∷ ns) t
+  pub ranges-on : {range : Range} {ranges : List Range} {ns : List ℤ} {t : Bool} → r ≡ inRange range (back n) → r ≡ true → Tested ranges ns t →
+      Tested (range ∷ ranges) (n ∷ ns) t
   unfolding inRanges
   ranges-on {range} e g others = record { is = rw (first range e g) (others .is) }
 

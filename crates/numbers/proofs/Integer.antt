@@ -99,7 +99,24 @@ nat-nleZ a b h = not-T (leZ a b) (λ t. omega (arith, leZ-nat))
 pub nat-nltZ : (a b : ℤ) → pp b + nn a ≤ pp a + nn b → T (not (ltZ a b))
 nat-nltZ a b h = not-T (ltZ a b) (λ t. omega (arith, ltZ-nat))
 
-pub ruleset order = (leZ-nat, nat-leZ, ltZ-nat, nat-ltZ, eqZ-nat, nat-eqZ, nat-eq, eq-nat, le-nat, nat-le, lt-nat, nat-lt, nleZ-nat, nat-nleZ, nltZ-nat, nat-nltZ)
+pub ruleset order = (
+  leZ-nat,
+  nat-leZ,
+  ltZ-nat,
+  nat-ltZ,
+  eqZ-nat,
+  nat-eqZ,
+  nat-eq,
+  eq-nat,
+  le-nat,
+  nat-le,
+  lt-nat,
+  nat-lt,
+  nleZ-nat,
+  nat-nleZ,
+  nltZ-nat,
+  nat-nltZ,
+)
 
 pub <ℤ-prop : (a b : ℤ) → IsProp (a <ℤ b)
 <ℤ-prop a b h k = λ i. record { lt = T-prop (ltZ a b) (h .lt) (k .lt) i }

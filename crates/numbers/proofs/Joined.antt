@@ -26,12 +26,14 @@ pub map-each : {A B : Type 0} (f g : A → B) (xs : List A) → ((x : A) → Lis
 map-each f g [] each = refl
 map-each f g (x ∷ xs) each = ap₂ _∷_ (each x (List·Memᴰ·head refl)) (map-each f g xs (λ y m. each y (List·Memᴰ·tail m)))
 
-pub flatMap-map : {A B C : Type 0} (f : A → List C) (g : B → List C) (h : A → B) (xs : List A) → ((x : A) → List·Memᴰ x xs → f x ≡ g (h x)) → flatMap f xs ≡ flatMap g (map h xs)
+pub flatMap-map : {A B C : Type 0} (f : A → List C) (g : B → List C) (h : A → B) (xs : List A) → ((x : A) → List·Memᴰ x xs → f x ≡ g (h x)) →
+    flatMap f xs ≡ flatMap g (map h xs)
 unfolding flatMap
 flatMap-map f g h [] each = refl
 flatMap-map f g h (x ∷ xs) each = ap₂ _++_ (each x (List·Memᴰ·head refl)) (flatMap-map f g h xs (λ y m. each y (List·Memᴰ·tail m)))
 
-pub flatMap-length : {A B : Type 0} (f : A → List B) (k : ℕ) (xs : List A) → ((x : A) → List·Memᴰ x xs → length (f x) ≤ k) → length (flatMap f xs) ≤ length xs * k
+pub flatMap-length : {A B : Type 0} (f : A → List B) (k : ℕ) (xs : List A) → ((x : A) → List·Memᴰ x xs → length (f x) ≤ k) →
+    length (flatMap f xs) ≤ length xs * k
 unfolding flatMap
 flatMap-length f k [] each = omega arith
 flatMap-length f k (x ∷ xs) each = simp length-append (omega (arith, each x (List·Memᴰ·head refl), flatMap-length f k xs (λ y m. each y (List·Memᴰ·tail m))))

@@ -51,10 +51,16 @@ module _ {A B : Type 0} (key : A → B) where
   strict-on strict = record { asym = λ x y. strict .asym (key x) (key y); chain = λ x y z. strict .chain (key x) (key y) (key z) }
 
   pub ties-on : {before alike : B → B → Bool} → Ties before alike → Ties (λ x y. before (key x) (key y)) (λ x y. alike (key x) (key y))
-  ties-on ties = record { not-before = λ x y. ties .not-before (key x) (key y); not-after = λ x y. ties .not-after (key x) (key y); otherwise = λ x y. ties .otherwise (key x) (key y) }
+  ties-on ties = record {
+    not-before = λ x y. ties .not-before (key x) (key y);
+    not-after = λ x y. ties .not-after (key x) (key y);
+    otherwise =
+        λ x y. ties .otherwise (key x) (key y);
+  }
 
 -- by `before`, and where that puts neither first by `then`
-pub lex-strict : {A : Type 0} {before alike then : A → A → Bool} → Strict before → Ties before alike → Strict then → Strict (λ x y. before x y || (alike x y && then x y))
+pub lex-strict : {A : Type 0} {before alike then : A → A → Bool} → Strict before → Ties before alike → Strict then →
+    Strict (λ x y. before x y || (alike x y && then x y))
 lex-strict {A} {before} {alike} {then} strict ties rest = record { asym = asym; chain = chain }
   where
     asym : (x y : A) → T (before x y || (alike x y && then x y)) → T (not (before y x || (alike y x && then y x)))
@@ -65,11 +71,13 @@ lex-strict {A} {before} {alike} {then} strict ties rest = record { asym = asym; 
           λ v. ⊎-elim (λ u. absurd (T-not (before x y) (ties .not-after y x v) u)) (λ u. rest .asym x y (and-right (alike x y) (then x y) u)) either,
         )
 
-    chain : (x y z : A) → T (not (before y x || (alike y x && then y x))) → T (not (before z y || (alike z y && then z y))) → T (not (before z x || (alike z x && then z x)))
+    chain : (x y z : A) → T (not (before y x || (alike y x && then y x))) → T (not (before z y || (alike z y && then z y))) →
+        T (not (before z x || (alike z x && then z x)))
     chain x y z t u =
         let p = not-either (before y x) (alike y x) (then y x) .0 t in
         let q = not-either (before z y) (alike z y) (then z y) .0 u in
         not-either (before z x) (alike z x) (then z x) .1 (
           strict .chain x y z (p .0) (q .0),
-          λ v. let r = ties .not-after z x v in rest .chain x y z (p .1 (ties .otherwise y x (p .0) (strict .chain y z x (q .0) r))) (q .1 (ties .otherwise z y (q .0) (strict .chain z x y r (p .0)))),
+          λ v. let r = ties .not-after z x v in rest .chain x y z (p .1 (ties .otherwise y x (p .0) (strict .chain y z x (q .0) r)))
+              (q .1 (ties .otherwise z y (q .0) (strict .chain z x y r (p .0)))),
         )

@@ -23,7 +23,11 @@ module _ {A : Type 0} (size : ℕ) (z : A) where
 
   pub padded-more : (xs : List A) (i : ℕ) (a : A) → length xs ≡ i → i < size → set (padded size z xs) i a ≡ padded size z (xs ++ a ∷ [])
   unfolding padded
-  padded-more xs i a e h = rw (split, set-at xs z (replicate (size - suc (length xs)) z) a i e, joined) (sym (append-snoc xs a (replicate (size - suc (length xs)) z)))
+  padded-more xs i a e h = rw (
+    split,
+    set-at xs z (replicate (size - suc (length xs)) z) a i e,
+    joined,
+  ) (sym (append-snoc xs a (replicate (size - suc (length xs)) z)))
     where
       split : replicate (size - length xs) z ≡ z ∷ replicate (size - suc (length xs)) z
       split = let k : size - length xs ≡ suc (size - suc (length xs)) = omega arith in rw k
@@ -31,7 +35,8 @@ module _ {A : Type 0} (size : ℕ) (z : A) where
       joined : length (xs ++ a ∷ []) ≡ suc (length xs)
       joined = rw (length-append xs (a ∷ [])) (omega arith)
 
-  pub padded-map : {B : Type 0} (f : B → A) (bs : List B) (b : B) {i : ℕ} {l : List A} → i ≡ length bs → i < size → l ≡ padded size z (map f bs) → set l i (f b) ≡ padded size z (map f (bs ++ (b ∷ [])))
+  pub padded-map : {B : Type 0} (f : B → A) (bs : List B) (b : B) {i : ℕ} {l : List A} → i ≡ length bs → i < size → l ≡ padded size z (map f bs) →
+      set l i (f b) ≡ padded size z (map f (bs ++ (b ∷ [])))
   padded-map f bs b {i} e h l = rw (l, padded-more (map f bs) i (f b) (length-map bs f ∙ sym e) h, map-append)
 
   pub padded-front : (xs : List A) → take (length xs) (padded size z xs) ≡ xs
@@ -45,7 +50,8 @@ module _ {A : Type 0} (size : ℕ) (z : A) where
   drop-replicate : (m n : ℕ) → m ≤ n → drop m (replicate n z) ≡ replicate (n - m) z
   drop-replicate m n h =
       let e : n ≡ m + (n - m) = omega arith in
-      ap (λ (k : ℕ). drop m (replicate k z)) e ∙ rw (← replicate-append-replicate m (n - m) z) (drop-at (replicate m z) (replicate (n - m) z) m (length-replicate m z))
+      ap (λ (k : ℕ). drop m (replicate k z)) e ∙ rw (← replicate-append-replicate m (n - m) z)
+      (drop-at (replicate m z) (replicate (n - m) z) m (length-replicate m z))
 
   -- a list that is as long or longer, written over the array from its first element on
   pub padded-over : (xs ys : List A) → length xs ≤ length ys → length ys ≤ size → ys ++ drop (length ys) (padded size z xs) ≡ padded size z ys
@@ -69,7 +75,17 @@ module _ {A : Type 0} (size : ℕ) (z : A) (source : List A) (n : ℕ) where
   fill-none = record { count = omega arith; filled = sym (padded-none size z) }
 
   pub fill-more : {to : List A} {i : ℕ} (v d : A) → n ≤ size → n ≤ length source → Filled to i → i < n → v ≡ getD source i d → Filled (set to i v) (i + 1)
-  fill-more {to} {i} v d g h f l e = record { count = omega arith; filled = rw (f .filled, padded-more size z (take i source) i v (length-take-le i source (omega arith)) (omega arith), add-one i, take-suc source i d (omega arith), e) }
+  fill-more {to} {i} v d g h f l e = record {
+    count = omega arith;
+    filled =
+        rw (
+          f .filled,
+          padded-more size z (take i source) i v (length-take-le i source (omega arith)) (omega arith),
+          add-one i,
+          take-suc source i d (omega arith),
+          e,
+        );
+  }
 
   pub fill-all : {to : List A} {i : ℕ} → Filled to i → n ≤ i → to ≡ padded size z (take n source)
   fill-all {to} {i} f h = let k : i ≡ n = omega arith in f .filled ∙ rw k

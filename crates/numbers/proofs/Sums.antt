@@ -19,7 +19,8 @@ module _ {A : Type 0} where
   sumOf-nil f = refl
 
   -- an inequality of every term, with factors that are the same for all, holds of the sums
-  pub sumOf-linear : (α β γ δ : ℕ) (f g h k : A → ℕ) (xs : List A) → ((x : A) → List·Memᴰ x xs → α * f x + β * g x ≤ γ * h x + δ * k x) → α * sumOf f xs + β * sumOf g xs ≤ γ * sumOf h xs + δ * sumOf k xs
+  pub sumOf-linear : (α β γ δ : ℕ) (f g h k : A → ℕ) (xs : List A) → ((x : A) → List·Memᴰ x xs → α * f x + β * g x ≤ γ * h x + δ * k x) →
+      α * sumOf f xs + β * sumOf g xs ≤ γ * sumOf h xs + δ * sumOf k xs
   unfolding sumOf
   sumOf-linear α β γ δ f g h k [] each = omega arith
   sumOf-linear α β γ δ f g h k (x ∷ xs) each = omega (arith, each x (List·Memᴰ·head refl), sumOf-linear α β γ δ f g h k xs (λ y m. each y (List·Memᴰ·tail m)))
@@ -38,16 +39,19 @@ module _ {A : Type 0} where
   sumOf-keep f p [] = refl
   sumOf-keep f p (x ∷ xs) = go (p x) (sumOf-keep f p xs)
     where
-      go : (b : Bool) → sumOf f (keep p xs) ≡ sumOf (λ x. cond (p x) (f x) 0) xs → sumOf f (cond b (x ∷ keep p xs) (keep p xs)) ≡ cond b (f x) 0 + sumOf (λ x. cond (p x) (f x) 0) xs
+      go : (b : Bool) → sumOf f (keep p xs) ≡ sumOf (λ x. cond (p x) (f x) 0) xs →
+          sumOf f (cond b (x ∷ keep p xs) (keep p xs)) ≡ cond b (f x) 0 + sumOf (λ x. cond (p x) (f x) 0) xs
       go true e = omega arith
       go false e = omega arith
 
   pub sumOf-keep-le : (f : A → ℕ) (p : A → Bool) (xs : List A) → sumOf f (keep p xs) ≤ sumOf f xs
   unfolding keep sumOf
   sumOf-keep-le f p [] = omega arith
-  sumOf-keep-le f p (x ∷ xs) = cond-ind (λ (l : List A). sumOf f l ≤ sumOf f (x ∷ xs)) (p x) (λ t. omega (arith, sumOf-keep-le f p xs)) (λ t. omega (arith, sumOf-keep-le f p xs))
+  sumOf-keep-le f p (x ∷ xs) = cond-ind (λ (l : List A). sumOf f l ≤ sumOf f (x ∷ xs)) (p x) (λ t. omega (arith, sumOf-keep-le f p xs))
+      (λ t. omega (arith, sumOf-keep-le f p xs))
 
   pub sumOf-insertBy : (f : A → ℕ) (before : A → A → Bool) (x : A) (ys : List A) → sumOf f (insertBy before x ys) ≡ f x + sumOf f ys
   unfolding insertBy sumOf
   sumOf-insertBy f before x [] = refl
-  sumOf-insertBy f before x (y ∷ ys) = cond-ind (λ (l : List A). sumOf f l ≡ f x + sumOf f (y ∷ ys)) (before x y) (λ t. refl) (λ t. omega (arith, sumOf-insertBy f before x ys))
+  sumOf-insertBy f before x (y ∷ ys) = cond-ind (λ (l : List A). sumOf f l ≡ f x + sumOf f (y ∷ ys)) (before x y) (λ t. refl)
+      (λ t. omega (arith, sumOf-insertBy f before x ys))

@@ -28,16 +28,22 @@ module _ (deck : Deck) where
   -- a place that is not better than another is it, or is beaten by it
   beaten : (best p : Place) → T (not (better (pricedAt (problem deck .rules) p) (pricedAt (problem deck .rules) best))) → p ≢ best → Beaten deck best p
   unfolding problem
-  beaten best p t apart = ⊎-elim (λ more. costs-more (ltb→lt (cost deck best) (cost deck p) more)) (λ same. further (omega (arith, nltb→le, not-better-cost (pricedAt (problem deck .rules) p) (pricedAt (problem deck .rules) best) t))) (test (ltb (cost deck best) (cost deck p)))
+  beaten best p t apart = ⊎-elim (λ more. costs-more (ltb→lt (cost deck best) (cost deck p) more))
+      (λ same. further (omega (arith, nltb→le, not-better-cost (pricedAt (problem deck .rules) p) (pricedAt (problem deck .rules) best) t)))
+      (test (ltb (cost deck best) (cost deck p)))
     where
       behind : (same : cost deck p ≡ cost deck best) → best .x ≤ℤ p .x → (p .x ≡ best .x → best .y ≤ℤ p .y) → Beaten deck best p
       behind same h k =
           ⊎-elim (λ right. further-right same (record { lt = right }))
-          (λ level. let e : p .x ≡ best .x = omega (arith, order) in ⊎-elim (λ back. further-back same e (record { lt = back })) (λ front. absurd (apart (place-eq p best (for-both (λ axis. coordinate axis p ≡ coordinate axis best) e (omega (arith, order, k e)))))) (test (ltZ (best .y) (p .y))))
+          (λ level. let e : p .x ≡ best .x = omega (arith, order) in
+          ⊎-elim (λ back. further-back same e (record { lt = back }))
+          (λ front. absurd (apart (place-eq p best (for-both (λ axis. coordinate axis p ≡ coordinate axis best) e (omega (arith, order, k e))))))
+          (test (ltZ (best .y) (p .y))))
           (test (ltZ (best .x) (p .x)))
 
       further : cost deck p ≡ cost deck best → Beaten deck best p
-      further same = let late = not-better-earlier (pricedAt (problem deck .rules) p) (pricedAt (problem deck .rules) best) t same in behind same (not-earlier-x p best late) (not-earlier-y p best late)
+      further same = let late = not-better-earlier (pricedAt (problem deck .rules) p) (pricedAt (problem deck .rules) best) t same in
+          behind same (not-earlier-x p best late) (not-earlier-y p best late)
 
   pub best-costs : (best : Priced) → BestOk (problem deck) best → cost deck (best .at) ≡ best .cost
   unfolding problem

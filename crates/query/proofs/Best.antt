@@ -18,14 +18,16 @@ pub bestOf-nil : (R : Rules) (best : Priced) → bestOf R best [] ≡ best
 unfolding bestOf
 bestOf-nil R best = refl
 
-pub bestOf-cons : (R : Rules) (best : Priced) (p : Place) (ps : List Place) → bestOf R best (p ∷ ps) ≡ bestOf R (cond (better (pricedAt R p) best) (pricedAt R p) best) ps
+pub bestOf-cons : (R : Rules) (best : Priced) (p : Place) (ps : List Place) →
+    bestOf R best (p ∷ ps) ≡ bestOf R (cond (better (pricedAt R p) best) (pricedAt R p) best) ps
 unfolding bestOf leastBy
 bestOf-cons R best p ps = refl
 
 module _ (R : Rules) (best : Priced) (places : List Place) where
   pub bestOf-from : (bestOf R best places ≡ best) ⊎ ((p : Place) × List·Memᴰ p places × (pricedAt R p ≡ bestOf R best places))
   unfolding bestOf
-  bestOf-from = ⊎-elim inl (λ m. inr (Memᴰ·of-map (pricedAt R) places m)) (List·Memᴰ·cases-cons (least-member better better-strict best (map (pricedAt R) places)))
+  bestOf-from = ⊎-elim inl (λ m. inr (Memᴰ·of-map (pricedAt R) places m))
+      (List·Memᴰ·cases-cons (least-member better better-strict best (map (pricedAt R) places)))
 
   pub bestOf-old : T (not (better best (bestOf R best places)))
   unfolding bestOf

@@ -56,17 +56,36 @@ record Ways (axis : AxisCosts) (r r′ : Rect) : Type 0 where
 
 ways : (axis : AxisCosts) (r r′ : Rect) → NonEmpty r′ → In r (lf r′) → In r (rb r′) → Ways axis r r′
 unfolding travel span
-ways axis r r′ n h k = omega (arith, mul-le-mul-left (axis .a) (pieces (r .xlo) (r′ .xlo) (r′ .xhi) (r .xhi) (h .left) (n .across) (k .right)), mul-le-mul-left (axis .b) (pieces (r .ylo) (r′ .ylo) (r′ .yhi) (r .yhi) (h .front) (n .deep) (k .back)))
+ways axis r r′ n h k = omega (
+  arith,
+  mul-le-mul-left (axis .a) (pieces (r .xlo) (r′ .xlo) (r′ .xhi) (r .xhi) (h .left) (n .across) (k .right)),
+  mul-le-mul-left (axis .b) (pieces (r .ylo) (r′ .ylo) (r′ .yhi) (r .yhi) (h .front) (n .deep) (k .back)),
+)
 
 -- one diagonal: outer corners p, q and inner corners p′, q′
 diagonal : (deck : Deck) (r r′ : Rect) (p q p′ q′ : Place) → In r p′ → In r q′ → load deck r′ ≤ load deck r
     → travel (deck .axis) p′ p + span (deck .axis) r′ + travel (deck .axis) q′ q ≤ span (deck .axis) r
     → cost deck p + cost deck q + slack deck r′ ≤ cost deck p′ + cost deck q′ + slack deck r
-diagonal deck r r′ p q p′ q′ h k l w = omega (arith, lipschitz deck r p p′ h, lipschitz deck r q q′ k, mul-le-mul-left (load deck r) w, mul-le-mul-left (span (deck .axis) r′) l)
+diagonal deck r r′ p q p′ q′ h k l w = omega (
+  arith,
+  lipschitz deck r p p′ h,
+  lipschitz deck r q q′ k,
+  mul-le-mul-left (load deck r) w,
+  mul-le-mul-left (span (deck .axis) r′) l,
+)
 
 -- Theorem 4 of 000 between rectangles: a part has no smaller bound
-pub part : (deck : Deck) (r r′ : Rect) → NonEmpty r′ → In r (record { x = r′ .xlo; y = r′ .ylo }) → In r (record { x = r′ .xhi; y = r′ .yhi }) → bound deck r ≤ℤ bound deck r′
-part deck r r′ n h k = rw (bound-is deck r, bound-is deck r′) (half-sub-mono (cornerSum deck r) (slack deck r) (cornerSum deck r′) (slack deck r′) (omega (arith, cornerSum-is deck r, cornerSum-is deck r′, diagonal deck r r′ (lf r) (rb r) (lf r′) (rb r′) h k less (w .first), diagonal deck r r′ (lb r) (rf r) (lb r′) (rf r′) (omega (arith, order)) (omega (arith, order)) less (w .second))))
+pub part : (deck : Deck) (r r′ : Rect) → NonEmpty r′ → In r (record { x = r′ .xlo; y = r′ .ylo }) → In r (record { x = r′ .xhi; y = r′ .yhi }) →
+    bound deck r ≤ℤ bound deck r′
+part deck r r′ n h k = rw (bound-is deck r, bound-is deck r′)
+    (half-sub-mono (cornerSum deck r) (slack deck r) (cornerSum deck r′) (slack deck r′)
+    (omega (
+      arith,
+      cornerSum-is deck r,
+      cornerSum-is deck r′,
+      diagonal deck r r′ (lf r) (rb r) (lf r′) (rb r′) h k less (w .first),
+      diagonal deck r r′ (lb r) (rf r) (lb r′) (rf r′) (omega (arith, order)) (omega (arith, order)) less (w .second),
+    )))
   where
     less : load deck r′ ≤ load deck r
     less = load-mono deck r r′ (λ p i. omega (arith, order)) n
@@ -83,10 +102,15 @@ pub below : (deck : Deck) (r : Rect) (p : Place) → In r p → bound deck r ≤
 below deck r p h = omega (arith, order, part deck r (point p) (omega (arith, order)) h h, at-point)
   where
     at-point : bound deck (point p) ≤ℤ pos (cost deck p)
-    at-point = rw (bound-is deck (point p)) (half-sub-le (cornerSum deck (point p)) (slack deck (point p)) (cost deck p) (omega (arith, cornerSum-is deck (point p))))
+    at-point = rw (bound-is deck (point p)) (half-sub-le (cornerSum deck (point p)) (slack deck (point p)) (cost deck p)
+        (omega (arith, cornerSum-is deck (point p))))
 
 pub bound-law : (deck : Deck) (r : Rect) → BoundLaw deck r
 bound-law deck r = record { below = below deck r; part = part deck r }
 
 pub half-law : (z : ℤ) → HalfLaw z
-half-law z = record { enough = omega (arith, order, add-nat (halfUp z) (halfUp z), half-nat z); at-most-one-more = omega (arith, order, add-nat (halfUp z) (halfUp z), add-nat z (pos 1), half-nat z) }
+half-law z = record {
+  enough = omega (arith, order, add-nat (halfUp z) (halfUp z), half-nat z);
+  at-most-one-more =
+      omega (arith, order, add-nat (halfUp z) (halfUp z), add-nat z (pos 1), half-nat z);
+}

@@ -36,9 +36,11 @@ module _ (R : Rules) (c : Cell) (others : List Cell) where
   unfolding cellsAfter
   after-is = refl
 
-  pub after-cases : (d : Cell) → List·Memᴰ d (cellsAfter R c others) → (d ≡ cellOf R (firstOf (R .grid) c)) ⊎ ((d ≡ cellOf R (secondOf (R .grid) c)) ⊎ List·Memᴰ d others)
+  pub after-cases : (d : Cell) → List·Memᴰ d (cellsAfter R c others) →
+      (d ≡ cellOf R (firstOf (R .grid) c)) ⊎ ((d ≡ cellOf R (secondOf (R .grid) c)) ⊎ List·Memᴰ d others)
   unfolding cellsAfter
-  after-cases d m = ⊎-elim inl (λ n. inr (insertBy-cases cellBefore (cellOf R (secondOf (R .grid) c)) others n)) (insertBy-cases cellBefore (cellOf R (firstOf (R .grid) c)) (insertBy cellBefore (cellOf R (secondOf (R .grid) c)) others) m)
+  after-cases d m = ⊎-elim inl (λ n. inr (insertBy-cases cellBefore (cellOf R (secondOf (R .grid) c)) others n))
+      (insertBy-cases cellBefore (cellOf R (firstOf (R .grid) c)) (insertBy cellBefore (cellOf R (secondOf (R .grid) c)) others) m)
 
   -- a point of the cells before is in one of the cells after
   pub after-within : (p : Place) → Within p (c ∷ others) → Within p (cellsAfter R c others)
@@ -49,9 +51,18 @@ module _ (R : Rules) (c : Cell) (others : List Cell) where
       behind d m = insertBy-old cellBefore (cellOf R (firstOf (R .grid) c)) (insertBy cellBefore (cellOf R (secondOf (R .grid) c)) others) m
 
       in-part : In (firstOf (R .grid) c) p ⊎ In (secondOf (R .grid) c) p → Within p (cellsAfter R c others)
-      in-part (inl k) = (cellOf R (firstOf (R .grid) c), insertBy-new cellBefore (cellOf R (firstOf (R .grid) c)) (insertBy cellBefore (cellOf R (secondOf (R .grid) c)) others), k)
-      in-part (inr k) = (cellOf R (secondOf (R .grid) c), behind (cellOf R (secondOf (R .grid) c)) (insertBy-new cellBefore (cellOf R (secondOf (R .grid) c)) others), k)
+      in-part (inl k) = (
+        cellOf R (firstOf (R .grid) c),
+        insertBy-new cellBefore (cellOf R (firstOf (R .grid) c)) (insertBy cellBefore (cellOf R (secondOf (R .grid) c)) others),
+        k,
+      )
+      in-part (inr k) = (
+        cellOf R (secondOf (R .grid) c),
+        behind (cellOf R (secondOf (R .grid) c)) (insertBy-new cellBefore (cellOf R (secondOf (R .grid) c)) others),
+        k,
+      )
 
       from : (d : Cell) → List·Memᴰ d (c ∷ others) → In (d .rect) p → Within p (cellsAfter R c others)
-      from d (List·Memᴰ·head e) k = in-part (split-point (axisOf (R .grid) c) (lineOf (R .grid) c) (c .rect) (firstOf (R .grid) c) (secondOf (R .grid) c) (parts (axisOf (R .grid) c) (lineOf (R .grid) c) (c .rect)) p (subst (λ (d : Cell). In (d .rect) p) e k))
+      from d (List·Memᴰ·head e) k = in-part (split-point (axisOf (R .grid) c) (lineOf (R .grid) c) (c .rect) (firstOf (R .grid) c) (secondOf (R .grid) c)
+          (parts (axisOf (R .grid) c) (lineOf (R .grid) c) (c .rect)) p (subst (λ (d : Cell). In (d .rect) p) e k))
       from d (List·Memᴰ·tail m) k = (d, behind d (insertBy-old cellBefore (cellOf R (secondOf (R .grid) c)) others m), k)

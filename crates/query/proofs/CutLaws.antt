@@ -43,7 +43,8 @@ module _ (lo hi : ℤ) where
 
   as-close : (v w : ℤ) → T (not (closerLine lo hi v w)) → offMiddle lo hi v ≡ offMiddle lo hi w → w ≤ℤ v
   unfolding closerLine
-  as-close v w t e = let u : T (not (ltZ v w)) = nand-right (eqb (offMiddle lo hi v) (offMiddle lo hi w)) (ltZ v w) (nor-right (ltb (offMiddle lo hi v) (offMiddle lo hi w)) _ t) (rw e (eqb-refl (offMiddle lo hi w))) in omega (arith, order)
+  as-close v w t e = let u : T (not (ltZ v w)) = nand-right (eqb (offMiddle lo hi v) (offMiddle lo hi w)) (ltZ v w)
+      (nor-right (ltb (offMiddle lo hi v) (offMiddle lo hi w)) _ t) (rw e (eqb-refl (offMiddle lo hi w))) in omega (arith, order)
 
 -- ---- the lines inside
 module _ (G : Grid) (axis : Axis) (r : Rect) where
@@ -56,7 +57,8 @@ module _ (G : Grid) (axis : Axis) (r : Rect) where
 
   pub inside-all : {v : ℤ} → Inside G axis r v → List·Memᴰ v (inside G axis r)
   unfolding inside
-  inside-all {v} h = keep-all (strictlyBetween (low-edge axis r) (high-edge axis r)) (linesAlong G axis) (h .line) (range-strictly (low-edge axis r) (high-edge axis r) v (h .above) (h .below))
+  inside-all {v} h = keep-all (strictlyBetween (low-edge axis r) (high-edge axis r)) (linesAlong G axis) (h .line)
+      (range-strictly (low-edge axis r) (high-edge axis r) v (h .above) (h .below))
 
   pub has-inside : {v : ℤ} → Inside G axis r v → T (nonEmpty (inside G axis r))
   has-inside h = some-nonEmpty (inside G axis r) (inside-all h)
@@ -65,19 +67,24 @@ module _ (G : Grid) (axis : Axis) (r : Rect) where
 module _ (G : Grid) (r : Rect) where
   -- x where it has lines inside, unless y has them too and is longer; otherwise y
   cutAxis-ind : (Q : Axis → Type 0) → (T (nonEmpty (inside G x-axis r)) → (T (nonEmpty (inside G y-axis r)) → side y-axis r ≤ side x-axis r) → Q x-axis)
-      → ((T (nonEmpty (inside G x-axis r)) → side x-axis r < side y-axis r) → (T (nonEmpty (inside G x-axis r)) → T (nonEmpty (inside G y-axis r))) → Q y-axis) → Q (cutAxis G r)
+      → ((T (nonEmpty (inside G x-axis r)) → side x-axis r < side y-axis r) → (T (nonEmpty (inside G x-axis r)) → T (nonEmpty (inside G y-axis r))) →
+      Q y-axis) → Q (cutAxis G r)
   unfolding cutAxis longerSide
   cutAxis-ind Q on-x on-y =
       cond-ind Q (nonEmpty (inside G x-axis r))
-      (λ t. cond-ind Q (nonEmpty (inside G y-axis r)) (λ u. cond-ind Q (ltb (side x-axis r) (side y-axis r)) (λ s. on-y (λ v. ltb→lt _ _ s) (λ v. u)) (λ s. on-x t (λ v. nltb→le _ _ s))) (λ u. on-x t (λ v. absurd (T-not (nonEmpty (inside G y-axis r)) u v))))
+      (λ t. cond-ind Q (nonEmpty (inside G y-axis r))
+      (λ u. cond-ind Q (ltb (side x-axis r) (side y-axis r)) (λ s. on-y (λ v. ltb→lt _ _ s) (λ v. u)) (λ s. on-x t (λ v. nltb→le _ _ s)))
+      (λ u. on-x t (λ v. absurd (T-not (nonEmpty (inside G y-axis r)) u v))))
       (λ t. on-y (λ v. absurd (T-not (nonEmpty (inside G x-axis r)) t v)) (λ v. absurd (T-not (nonEmpty (inside G x-axis r)) t v)))
 
   pub cutAxis-inside : T (canCut G r) → T (nonEmpty (inside G (cutAxis G r) r))
   unfolding canCut
-  cutAxis-inside t = cutAxis-ind (λ (axis : Axis). T (nonEmpty (inside G axis r))) (λ u h. u) (λ h u. ⊎-elim u (λ v. v) (or-cases (nonEmpty (inside G x-axis r)) (nonEmpty (inside G y-axis r)) t))
+  cutAxis-inside t = cutAxis-ind (λ (axis : Axis). T (nonEmpty (inside G axis r))) (λ u h. u)
+      (λ h u. ⊎-elim u (λ v. v) (or-cases (nonEmpty (inside G x-axis r)) (nonEmpty (inside G y-axis r)) t))
 
   pub cutAxis-longer : (axis : Axis) (v : ℤ) → Inside G axis r v → side axis r ≤ side (cutAxis G r) r
-  cutAxis-longer x-axis v i = cutAxis-ind (λ (axis : Axis). side x-axis r ≤ side axis r) (λ t h. omega arith) (λ h t. omega (arith, h (has-inside G x-axis r i)))
+  cutAxis-longer x-axis v i = cutAxis-ind (λ (axis : Axis). side x-axis r ≤ side axis r) (λ t h. omega arith)
+      (λ h t. omega (arith, h (has-inside G x-axis r i)))
   cutAxis-longer y-axis v i = cutAxis-ind (λ (axis : Axis). side y-axis r ≤ side axis r) (λ t h. h (has-inside G y-axis r i)) (λ h t. omega arith)
 
   pub cutAxis-x : (v : ℤ) → Inside G x-axis r v → side x-axis r ≡ side y-axis r → cutAxis G r ≡ x-axis
@@ -106,6 +113,10 @@ module _ (G : Grid) (r : Rect) where
 
 pub cut-law : (G : Grid) (r : Rect) → CutLaw G r
 cut-law G r = record {
-  can-be-cut = (λ t. let m = nonEmpty-some (inside G (cutAxis G r) r) (cutAxis-inside G r t) in (cutAxis G r, m .0, inside-from G (cutAxis G r) r (m .1)), λ i. inside-canCut G r (i .0) (i .2));
+  can-be-cut = (
+    λ t. let m = nonEmpty-some (inside G (cutAxis G r) r) (cutAxis-inside G r t) in
+        (cutAxis G r, m .0, inside-from G (cutAxis G r) r (m .1)),
+    λ i. inside-canCut G r (i .0) (i .2),
+  );
   cut-line = cut-line-law G r;
 }

@@ -41,9 +41,23 @@ abbrev pub allowed : Grid → List Cell → ℕ
 allowed G cells = sumOf (λ c. cutsIn G (c .rect)) cells
 
 -- the parts of a cell allow one cut less than the cell
-parts-cuts : (G : Grid) (increasing : (axis : Axis) → Pairwise _<ℤ_ (linesAlong G axis)) (cut : Axis) (v : ℤ) (r first second : Rect) → Parts cut v r first second → Inside G cut r v → cutsIn G first + cutsIn G second + 1 ≡ cutsIn G r
+parts-cuts : (G : Grid) (increasing : (axis : Axis) → Pairwise _<ℤ_ (linesAlong G axis)) (cut : Axis) (v : ℤ) (r first second : Rect) →
+    Parts cut v r first second → Inside G cut r v → cutsIn G first + cutsIn G second + 1 ≡ cutsIn G r
 unfolding inside
-parts-cuts G increasing cut v r first second split at = rw (by-axis G cut first, by-axis G cut second, by-axis G cut r, split .first-low, split .first-high, split .second-low, split .second-high, split .first-low-other, split .first-high-other, split .second-low-other, split .second-high-other)
+parts-cuts G increasing cut v r first second split at =
+    rw (
+      by-axis G cut first,
+      by-axis G cut second,
+      by-axis G cut r,
+      split .first-low,
+      split .first-high,
+      split .second-low,
+      split .second-high,
+      split .first-low-other,
+      split .first-high-other,
+      split .second-low-other,
+      split .second-high-other,
+    )
     (count _ _ _ _ (inside-split (low-edge cut r) v (high-edge cut r) (linesAlong G cut) (increasing cut) (at .line) (at .above) (at .below)))
   where
     count : (g g₁ g₂ h : ℕ) → g ≡ g₁ + g₂ + 1 → (g₁ + 1) * (h + 1) - 1 + ((g₂ + 1) * (h + 1) - 1) + 1 ≡ (g + 1) * (h + 1) - 1
@@ -57,7 +71,8 @@ module _ (P : Problem) (lawful : Lawful P) (cut-law : (r : Rect) → CutLaw (P .
   R = P .rules
 
   -- cutting the first of some live cells
-  after-allowed : (c : Cell) (others : List Cell) → Inside G (axisOf G c) (c .rect) (lineOf G c) → allowed G (cellsAfter R c others) + 1 ≡ allowed G (c ∷ others)
+  after-allowed : (c : Cell) (others : List Cell) → Inside G (axisOf G c) (c .rect) (lineOf G c) →
+      allowed G (cellsAfter R c others) + 1 ≡ allowed G (c ∷ others)
   after-allowed c others at =
       rw (after-is R c others)
       (omega (
@@ -68,15 +83,25 @@ module _ (P : Problem) (lawful : Lawful P) (cut-law : (r : Rect) → CutLaw (P .
         sumOf-cons (λ c. cutsIn G (c .rect)) c others,
       ))
 
-  round-allowed : (s : Search) (live : List Cell) → s .live ≡ live → Ok P (s .best) live → roundOn R s live .cuts + allowed G (roundOn R s live .live) ≤ s .cuts + allowed G (s .live)
+  round-allowed : (s : Search) (live : List Cell) → s .live ≡ live → Ok P (s .best) live →
+      roundOn R s live .cuts + allowed G (roundOn R s live .live) ≤ s .cuts + allowed G (s .live)
   unfolding roundOn
   round-allowed s [] e ok = omega arith
-  round-allowed s (c ∷ others) e ok = rw e (omega (arith, after-allowed c others (taken-cut P lawful cut-law (s .best) c others ok .is-inside), sumOf-keep-le (λ c. cutsIn G (c .rect)) (isLive G (bestAfter R (s .best) c)) (cellsAfter R c others)))
+  round-allowed s (c ∷ others) e ok = rw e (omega (
+    arith,
+    after-allowed c others (taken-cut P lawful cut-law (s .best) c others ok .is-inside),
+    sumOf-keep-le (λ c. cutsIn G (c .rect)) (isLive G (bestAfter R (s .best) c)) (cellsAfter R c others),
+  ))
 
   -- the cuts made and the cuts that the live cells still allow are together at most those that the area allows
   pub run-allowed : (n : ℕ) → run P n .cuts + allowed G (run P n .live) ≤ cutsIn G (P .area)
   unfolding run round start
-  run-allowed zero = omega (arith, sumOf-keep-le (λ c. cutsIn G (c .rect)) (isLive G (startBest P)) (cellOf R (P .area) ∷ []), sumOf-cons (λ (c : Cell). cutsIn G (c .rect)) (cellOf R (P .area)) [], sumOf-nil (λ (c : Cell). cutsIn G (c .rect)))
+  run-allowed zero = omega (
+    arith,
+    sumOf-keep-le (λ c. cutsIn G (c .rect)) (isLive G (startBest P)) (cellOf R (P .area) ∷ []),
+    sumOf-cons (λ (c : Cell). cutsIn G (c .rect)) (cellOf R (P .area)) [],
+    sumOf-nil (λ (c : Cell). cutsIn G (c .rect)),
+  )
   run-allowed (suc n) = omega (arith, run-allowed n, round-allowed (run P n) (run P n .live) refl (run-ok P lawful cut-law n))
 
   pub run-limit : (n : ℕ) → run P n .cuts ≤ cutsIn G (P .area)

@@ -61,19 +61,28 @@ module _ (deck : Deck) (full : NonEmpty (deck .area)) where
   -- the place of a done search
   pub done-cheapest : (n : ℕ) → run (problem deck) n .live ≡ [] → Cheapest deck (run (problem deck) n .best)
   unfolding problem
-  done-cheapest n e = record { ok = ok n .best-ok; none-better = FigureLaws.done-best (problem deck) (lawful deck full) (cut-law (problem deck .rules .grid)) (run (problem deck) n) (ok n) e }
+  done-cheapest n e = record {
+    ok = ok n .best-ok;
+    none-better =
+        FigureLaws.done-best (problem deck) (lawful deck full) (cut-law (problem deck .rules .grid)) (run (problem deck) n) (ok n) e;
+  }
 
   limit : (n : ℕ) → run (problem deck) n .cuts ≤ gaps deck x-axis * gaps deck y-axis - 1
   unfolding problem
-  limit n = rw (gaps-law deck x-axis .inside-and-one full, gaps-law deck y-axis .inside-and-one full) (run-limit (problem deck) (lawful deck full) (cut-law (problem deck .rules .grid)) n)
+  limit n = rw (
+    gaps-law deck x-axis .inside-and-one full,
+    gaps-law deck y-axis .inside-and-one full,
+  ) (run-limit (problem deck) (lawful deck full) (cut-law (problem deck .rules .grid)) n)
 
   one-more-low : (n : ℕ) → low (run (problem deck) n) ≤ℤ low (run (problem deck) (suc n))
   unfolding run round
-  one-more-low n = FigureLaws.low-rises (problem deck) (lawful deck full) (cut-law (problem deck .rules .grid)) (run (problem deck) n) (run (problem deck) n .live) refl (ok n)
+  one-more-low n = FigureLaws.low-rises (problem deck) (lawful deck full) (cut-law (problem deck .rules .grid)) (run (problem deck) n)
+      (run (problem deck) n .live) refl (ok n)
 
   one-more-high : (n : ℕ) → high (run (problem deck) (suc n)) ≤ high (run (problem deck) n)
   unfolding run round
-  one-more-high n = FigureLaws.high-falls (problem deck) (lawful deck full) (cut-law (problem deck .rules .grid)) (run (problem deck) n) (run (problem deck) n .live) (ok n)
+  one-more-high n = FigureLaws.high-falls (problem deck) (lawful deck full) (cut-law (problem deck .rules .grid)) (run (problem deck) n)
+      (run (problem deck) n .live) (ok n)
 
   pub demand-3 : (n : ℕ) → Demand3 deck n (figures deck n)
   unfolding figures figuresOf problem

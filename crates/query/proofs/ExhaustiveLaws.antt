@@ -33,7 +33,8 @@ unfolding crossings
 crossings-on G p m =
     let (v, on-v, n) = flatMap-from (λ v. map (at v) (G .horizontal)) (G .vertical) m in
     let (h, on-h, e) = Memᴰ·of-map (at v) (G .horizontal) n in
-    for-both (λ axis. List·Memᴰ (coordinate axis p) (linesAlong G axis)) (Memᴰ·cast (ap (λ (q : Place). q .x) (sym e)) on-v) (Memᴰ·cast (ap (λ (q : Place). q .y) (sym e)) on-h)
+    for-both (λ axis. List·Memᴰ (coordinate axis p) (linesAlong G axis)) (Memᴰ·cast (ap (λ (q : Place). q .x) (sym e)) on-v)
+    (Memᴰ·cast (ap (λ (q : Place). q .y) (sym e)) on-h)
 
 pub on-crossings : (G : Grid) (p : Place) → OnLines G p → List·Memᴰ p (crossings G)
 unfolding crossings
@@ -41,14 +42,19 @@ on-crossings G p on = flatMap-member (λ v. map (at v) (G .horizontal)) (G .vert
 
 module _ (deck : Deck) (full : NonEmpty (deck .area)) where
   crossing-in : (p : Place) → OnLines (grid deck) p → In (deck .area) p
-  crossing-in p on = along-in (deck .area) p (λ axis. lines-range deck axis full (coordinate axis p) (subst (List·Memᴰ (coordinate axis p)) (lines-along deck axis) (on axis)))
+  crossing-in p on = along-in (deck .area) p (λ axis. lines-range deck axis full (coordinate axis p)
+      (subst (List·Memᴰ (coordinate axis p)) (lines-along deck axis) (on axis)))
 
   -- no crossing is better than the cheapest, and for each point some crossing is as good
   pub exhaustive-cheapest : Cheapest deck (exhaustive (problem deck))
   unfolding problem exhaustive
   exhaustive-cheapest = record {
-    ok = best-of-ok P (lawful deck full) (cut-law (P .rules .grid)) first (crossings (P .rules .grid)) (first-ok P (lawful deck full) (cut-law (P .rules .grid))) (λ p m. (crossing-in p (crossings-on (P .rules .grid) p m), crossings-on (P .rules .grid) p m));
-    none-better = λ p h. let (q, within, on, as-good) = lawful deck full .crossing p h in better-strict .chain (exhaustive (problem deck)) (pricedAt (P .rules) q) (pricedAt (P .rules) p) (bestOf-new (P .rules) first (crossings (P .rules .grid)) q (on-crossings (P .rules .grid) q on)) as-good;
+    ok = best-of-ok P (lawful deck full) (cut-law (P .rules .grid)) first (crossings (P .rules .grid))
+        (first-ok P (lawful deck full) (cut-law (P .rules .grid)))
+        (λ p m. (crossing-in p (crossings-on (P .rules .grid) p m), crossings-on (P .rules .grid) p m));
+    none-better = λ p h. let (q, within, on, as-good) = lawful deck full .crossing p h in
+        better-strict .chain (exhaustive (problem deck)) (pricedAt (P .rules) q) (pricedAt (P .rules) p)
+        (bestOf-new (P .rules) first (crossings (P .rules .grid)) q (on-crossings (P .rules .grid) q on)) as-good;
   }
     where
       P : Problem
@@ -68,4 +74,5 @@ module _ (deck : Deck) (full : NonEmpty (deck .area)) where
   }
     where
       same : (n : ℕ) → figures deck n .state ≡ done → run (problem deck) n .best ≡ exhaustive (problem deck)
-      same n e = cheapest-only deck (run (problem deck) n .best) (exhaustive (problem deck)) (done-cheapest deck full n (demand-3 deck full n .done-exactly .0 e)) exhaustive-cheapest
+      same n e = cheapest-only deck (run (problem deck) n .best) (exhaustive (problem deck))
+          (done-cheapest deck full n (demand-3 deck full n .done-exactly .0 e)) exhaustive-cheapest

@@ -64,10 +64,18 @@ module _ (P : Problem) (lawful : Lawful P) (cut-law : (r : Rect) → CutLaw (P .
   -- ---- one more round
   module _ (s : Search) (c : Cell) (others : List Cell) (live : s .live ≡ c ∷ others) (ok : Ok P (s .best) (c ∷ others)) where
     low-le-taken : low s ≤ℤ R .bound (c .rect)
-    low-le-taken = subst (λ (z : ℤ). low s ≤ℤ z) (ok .cells c (List·Memᴰ·head refl) .bound-is) (low-le-bound s c (subst (List·Memᴰ c) (sym live) (List·Memᴰ·head refl)))
+    low-le-taken = subst (λ (z : ℤ). low s ≤ℤ z) (ok .cells c (List·Memᴰ·head refl) .bound-is)
+        (low-le-bound s c (subst (List·Memᴰ c) (sym live) (List·Memᴰ·head refl)))
 
     low-le-part : (q : Rect) → PartOf (axisOf G c) (lineOf G c) (c .rect) q → low s ≤ℤ R .bound q
-    low-le-part q part = omega (arith, order, low-le-taken, lawful .part (c .rect) q (part-nonEmpty (axisOf G c) (lineOf G c) (c .rect) (cut .above) (cut .below) q part full) (part-low-in (axisOf G c) (lineOf G c) (c .rect) (cut .above) (cut .below) q part full) (part-high-in (axisOf G c) (lineOf G c) (c .rect) (cut .above) (cut .below) q part full))
+    low-le-part q part = omega (
+      arith,
+      order,
+      low-le-taken,
+      lawful .part (c .rect) q (part-nonEmpty (axisOf G c) (lineOf G c) (c .rect) (cut .above) (cut .below) q part full)
+          (part-low-in (axisOf G c) (lineOf G c) (c .rect) (cut .above) (cut .below) q part full)
+          (part-high-in (axisOf G c) (lineOf G c) (c .rect) (cut .above) (cut .below) q part full),
+    )
       where
         cut : Inside G (axisOf G c) (c .rect) (lineOf G c)
         cut = taken-cut P lawful cut-law (s .best) c others ok .is-inside
@@ -92,7 +100,8 @@ module _ (P : Problem) (lawful : Lawful P) (cut-law : (r : Rect) → CutLaw (P .
   pub low-rises : (s : Search) (live : List Cell) → s .live ≡ live → Ok P (s .best) live → low s ≤ℤ low (roundOn R s live)
   unfolding roundOn
   low-rises s [] e ok = omega (arith, order)
-  low-rises s (c ∷ others) e ok = le-low (roundOn R s (c ∷ others)) (low s) (low-le-best s c others e ok) (λ d m. low-le-after s c others e ok d (keep-from (isLive G (bestAfter R (s .best) c)) (cellsAfter R c others) m))
+  low-rises s (c ∷ others) e ok = le-low (roundOn R s (c ∷ others)) (low s) (low-le-best s c others e ok)
+      (λ d m. low-le-after s c others e ok d (keep-from (isLive G (bestAfter R (s .best) c)) (cellsAfter R c others) m))
 
   pub high-falls : (s : Search) (live : List Cell) → Ok P (s .best) live → high (roundOn R s live) ≤ high s
   unfolding roundOn
@@ -105,4 +114,5 @@ module _ (P : Problem) (lawful : Lawful P) (cut-law : (r : Rect) → CutLaw (P .
   done-best s ok e p h = go (lawful .crossing p h)
     where
       go : ((q : Place) × In (P .area) q × OnLines G q × T (not (better (pricedAt R p) (pricedAt R q)))) → NotBetter (pricedAt R p) (s .best)
-      go w = better-strict .chain (s .best) (pricedAt R (w .0)) (pricedAt R p) (⊎-elim (λ k. k) (λ v. absurd (List·Memᴰ·not-nil (subst (List·Memᴰ (v .0)) e (v .1)))) (ok .cover (w .0) (w .1) (w .2))) (w .3)
+      go w = better-strict .chain (s .best) (pricedAt R (w .0)) (pricedAt R p)
+          (⊎-elim (λ k. k) (λ v. absurd (List·Memᴰ·not-nil (subst (List·Memᴰ (v .0)) e (v .1)))) (ok .cover (w .0) (w .1) (w .2))) (w .3)

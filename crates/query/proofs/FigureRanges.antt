@@ -28,7 +28,10 @@ within-range : (k : ℕ) (lo v hi : ℤ) → natAbs lo ≤ k → natAbs hi ≤ k
 within-range k lo v hi a b h g = let p = abs-range lo k .0 a in let q = abs-range hi k .0 b in abs-range v k .1 (omega (arith, order))
 
 pub point-in-range : (r : Rect) (p : Place) → RectInRange r → In r p → PlaceInRange p
-point-in-range r p h i = record { x-range = within-range 20000 (r .xlo) (p .x) (r .xhi) (h .low-corner .x-range) (h .high-corner .x-range) (i .left) (i .right); y-range = within-range 20000 (r .ylo) (p .y) (r .yhi) (h .low-corner .y-range) (h .high-corner .y-range) (i .front) (i .back) }
+point-in-range r p h i = record {
+  x-range = within-range 20000 (r .xlo) (p .x) (r .xhi) (h .low-corner .x-range) (h .high-corner .x-range) (i .left) (i .right);
+  y-range = within-range 20000 (r .ylo) (p .y) (r .yhi) (h .low-corner .y-range) (h .high-corner .y-range) (i .front) (i .back);
+}
 
 module _ (deck : Deck) (range : InRange deck) (full : NonEmpty (deck .area)) where
   ok : (n : ℕ) → Ok (problem deck) (run (problem deck) n .best) (run (problem deck) n .live)
@@ -38,7 +41,8 @@ module _ (deck : Deck) (range : InRange deck) (full : NonEmpty (deck .area)) whe
   unfolding problem
   cell-in-range n c m = let cell = ok n .cells c m in record {
     low-corner = point-in-range (deck .area) (corner (c .rect)) (range .area) (cell .within (corner (c .rect)) (omega (arith, order, cell .full)));
-    high-corner = point-in-range (deck .area) (record { x = c .rect .xhi; y = c .rect .yhi }) (range .area) (cell .within (record { x = c .rect .xhi; y = c .rect .yhi }) (omega (arith, order, cell .full)));
+    high-corner = point-in-range (deck .area) (record { x = c .rect .xhi; y = c .rect .yhi }) (range .area)
+        (cell .within (record { x = c .rect .xhi; y = c .rect .yhi }) (omega (arith, order, cell .full)));
   }
 
   bound-in-range : (n : ℕ) (c : Cell) → List·Memᴰ c (run (problem deck) n .live) → natAbs (c .bound) ≤ costLimit
@@ -46,15 +50,21 @@ module _ (deck : Deck) (range : InRange deck) (full : NonEmpty (deck .area)) whe
   bound-in-range n c m = rw (ok n .cells c m .bound-is) (figure-limits deck range .bound-limit (c .rect) (cell-in-range n c m))
 
   high-in-range : (n : ℕ) → high (run (problem deck) n) ≤ costLimit
-  high-in-range n = omega (arith, figure-limits deck range .cost-limit (run (problem deck) n .best .at), best-costs deck (run (problem deck) n .best) (ok n .best-ok))
+  high-in-range n = omega (
+    arith,
+    figure-limits deck range .cost-limit (run (problem deck) n .best .at),
+    best-costs deck (run (problem deck) n .best) (ok n .best-ok),
+  )
 
   low-in-range : (n : ℕ) → natAbs (low (run (problem deck) n)) ≤ costLimit
   unfolding low
-  low-in-range n = go (low (run (problem deck) n)) (least-member ltZ ltZ-strict (pos (high (run (problem deck) n))) (map (λ c. c .bound) (run (problem deck) n .live)))
+  low-in-range n = go (low (run (problem deck) n)) (least-member ltZ ltZ-strict (pos (high (run (problem deck) n)))
+      (map (λ c. c .bound) (run (problem deck) n .live)))
     where
       go : (l : ℤ) → List·Memᴰ l (pos (high (run (problem deck) n)) ∷ map (λ c. c .bound) (run (problem deck) n .live)) → natAbs l ≤ costLimit
       go l (List·Memᴰ·head e) = rw e (high-in-range n)
-      go l (List·Memᴰ·tail m) = let w = Memᴰ·of-map (λ (c : Cell). c .bound) (run (problem deck) n .live) m in subst (λ (z : ℤ). natAbs z ≤ costLimit) (w .2) (bound-in-range n (w .0) (w .1))
+      go l (List·Memᴰ·tail m) = let w = Memᴰ·of-map (λ (c : Cell). c .bound) (run (problem deck) n .live) m in
+          subst (λ (z : ℤ). natAbs z ≤ costLimit) (w .2) (bound-in-range n (w .0) (w .1))
 
   pub run-in-range : (n : ℕ) → RunInRange deck n
   unfolding figures figuresOf

@@ -66,7 +66,9 @@ module _ (P : Problem) (lawful : Lawful P) (cut-law : (r : Rect) → CutLaw (P .
 
   -- a crossing in a cell that cannot be cut is one of its corners
   uncut-corner : (r : Rect) (q : Place) → T (not (canCut G r)) → In r q → OnLines G q → Corner r q
-  uncut-corner r q t h on axis = ⊎-elim (λ e. inl e) (λ above. ⊎-elim (λ e. inr e) (λ under. absurd (T-not (canCut G r) t (cut-law r .can-be-cut .1 (axis, coordinate axis q, record { line = on axis; above = above; below = under })))) (at-or-under (along h axis .1))) (at-or-above (along h axis .0))
+  uncut-corner r q t h on axis = ⊎-elim (λ e. inl e) (λ above. ⊎-elim (λ e. inr e)
+      (λ under. absurd (T-not (canCut G r) t (cut-law r .can-be-cut .1 (axis, coordinate axis q, record { line = on axis; above = above; below = under }))))
+      (at-or-under (along h axis .1))) (at-or-above (along h axis .0))
     where
       at-or-above : low-edge axis r ≤ℤ coordinate axis q → (coordinate axis q ≡ low-edge axis r) ⊎ (low-edge axis r <ℤ coordinate axis q)
       at-or-above k = ⊎-elim (λ s. inr (omega (arith, order))) (λ s. inl (omega (arith, order))) (test (ltZ (low-edge axis r) (coordinate axis q)))
@@ -75,12 +77,15 @@ module _ (P : Problem) (lawful : Lawful P) (cut-law : (r : Rect) → CutLaw (P .
       at-or-under k = ⊎-elim (λ s. inr (omega (arith, order))) (λ s. inl (omega (arith, order))) (test (ltZ (coordinate axis q) (high-edge axis r)))
 
   -- a crossing in a cell that is not live is not better than the best
-  settled : (best : Priced) (c : Cell) → CellOk P best c → T (not (isLive G best c)) → (q : Place) → In (c .rect) q → OnLines G q → NotBetter (pricedAt R q) best
+  settled : (best : Priced) (c : Cell) → CellOk P best c → T (not (isLive G best c)) → (q : Place) → In (c .rect) q → OnLines G q →
+      NotBetter (pricedAt R q) best
   unfolding isLive better
   settled best c ok t q h on = ⊎-elim pruned uncut (test (canCut G (c .rect)))
     where
       pruned : T (canCut G (c .rect)) → NotBetter (pricedAt R q) best
-      pruned can = precedes-strict .chain (pricedKey best) (cellKey c) (pricedKey (pricedAt R q)) (nand-right (canCut G (c .rect)) (precedes (cellKey c) (pricedKey best)) t can) (point-after-cell c (pricedAt R q) h (rw (ok .bound-is) (lawful .below (c .rect) q h)))
+      pruned can = precedes-strict .chain (pricedKey best) (cellKey c) (pricedKey (pricedAt R q))
+          (nand-right (canCut G (c .rect)) (precedes (cellKey c) (pricedKey best)) t can)
+          (point-after-cell c (pricedAt R q) h (rw (ok .bound-is) (lawful .below (c .rect) q h)))
 
       uncut : T (not (canCut G (c .rect))) → NotBetter (pricedAt R q) best
       uncut cannot = ok .priced q (uncut-corner (c .rect) q cannot h on)
@@ -93,7 +98,8 @@ module _ (P : Problem) (lawful : Lawful P) (cut-law : (r : Rect) → CutLaw (P .
     best-ok = best-ok;
     cells = λ c m. ok c (keep-from (isLive G best) cells m);
     live-ones = λ c m. keep-test (isLive G best) cells m;
-    cover = λ q h on. ⊎-elim inl (λ w. ⊎-elim (λ t. inr (w .0, keep-all (isLive G best) cells (w .1) t, w .2)) (λ t. inl (settled best (w .0) (ok (w .0) (w .1)) t q (w .2) on)) (test (isLive G best (w .0)))) (cover q h on);
+    cover = λ q h on. ⊎-elim inl (λ w. ⊎-elim (λ t. inr (w .0, keep-all (isLive G best) cells (w .1) t, w .2))
+        (λ t. inl (settled best (w .0) (ok (w .0) (w .1)) t q (w .2) on)) (test (isLive G best (w .0)))) (cover q h on);
   }
 
   -- a later best keeps what was known of a cell
@@ -111,12 +117,16 @@ module _ (P : Problem) (lawful : Lawful P) (cut-law : (r : Rect) → CutLaw (P .
   place-ok : (p : Place) → In (P .area) p → OnLines G p → BestOk P (pricedAt R p)
   place-ok p h on = record { is = refl; inside = h; on-lines = on }
 
-  pub best-of-ok : (best : Priced) (places : List Place) → BestOk P best → ((p : Place) → List·Memᴰ p places → In (P .area) p × OnLines G p) → BestOk P (bestOf R best places)
+  pub best-of-ok : (best : Priced) (places : List Place) → BestOk P best → ((p : Place) → List·Memᴰ p places → In (P .area) p × OnLines G p) →
+      BestOk P (bestOf R best places)
   best-of-ok best places ok all =
-      ⊎-elim (λ e. subst (BestOk P) (sym e) ok) (λ w. subst (BestOk P) (w .2) (place-ok (w .0) (all (w .0) (w .1) .0) (all (w .0) (w .1) .1))) (bestOf-from R best places)
+      ⊎-elim (λ e. subst (BestOk P) (sym e) ok) (λ w. subst (BestOk P) (w .2) (place-ok (w .0) (all (w .0) (w .1) .0) (all (w .0) (w .1) .1)))
+      (bestOf-from R best places)
 
-  corner-on-lines : (r : Rect) → ((axis : Axis) → List·Memᴰ (low-edge axis r) (linesAlong G axis)) → ((axis : Axis) → List·Memᴰ (high-edge axis r) (linesAlong G axis)) → (p : Place) → Corner r p → OnLines G p
-  corner-on-lines r low high p c axis = ⊎-elim (λ e. subst (λ (z : ℤ). List·Memᴰ z (linesAlong G axis)) (sym e) (low axis)) (λ e. subst (λ (z : ℤ). List·Memᴰ z (linesAlong G axis)) (sym e) (high axis)) (c axis)
+  corner-on-lines : (r : Rect) → ((axis : Axis) → List·Memᴰ (low-edge axis r) (linesAlong G axis)) →
+      ((axis : Axis) → List·Memᴰ (high-edge axis r) (linesAlong G axis)) → (p : Place) → Corner r p → OnLines G p
+  corner-on-lines r low high p c axis = ⊎-elim (λ e. subst (λ (z : ℤ). List·Memᴰ z (linesAlong G axis)) (sym e) (low axis))
+      (λ e. subst (λ (z : ℤ). List·Memᴰ z (linesAlong G axis)) (sym e) (high axis)) (c axis)
 
   -- ---- the start
   -- the corners of the area are the places that the start prices
@@ -125,9 +135,12 @@ module _ (P : Problem) (lawful : Lawful P) (cut-law : (r : Rect) → CutLaw (P .
 
   other-corner : (p : Place) → List·Memᴰ p (otherCorners (P .area)) → Corner (P .area) p
   unfolding otherCorners
-  other-corner p (List·Memᴰ·head e) = subst (Corner (P .area)) (sym e) (for-both (OnEdge (P .area) (record { x = P .area .xlo; y = P .area .yhi })) (inl refl) (inr refl))
-  other-corner p (List·Memᴰ·tail (List·Memᴰ·head e)) = subst (Corner (P .area)) (sym e) (for-both (OnEdge (P .area) (record { x = P .area .xhi; y = P .area .ylo })) (inr refl) (inl refl))
-  other-corner p (List·Memᴰ·tail (List·Memᴰ·tail (List·Memᴰ·head e))) = subst (Corner (P .area)) (sym e) (for-both (OnEdge (P .area) (record { x = P .area .xhi; y = P .area .yhi })) (inr refl) (inr refl))
+  other-corner p (List·Memᴰ·head e) = subst (Corner (P .area)) (sym e)
+      (for-both (OnEdge (P .area) (record { x = P .area .xlo; y = P .area .yhi })) (inl refl) (inr refl))
+  other-corner p (List·Memᴰ·tail (List·Memᴰ·head e)) =
+      subst (Corner (P .area)) (sym e) (for-both (OnEdge (P .area) (record { x = P .area .xhi; y = P .area .ylo })) (inr refl) (inl refl))
+  other-corner p (List·Memᴰ·tail (List·Memᴰ·tail (List·Memᴰ·head e))) =
+      subst (Corner (P .area)) (sym e) (for-both (OnEdge (P .area) (record { x = P .area .xhi; y = P .area .yhi })) (inr refl) (inr refl))
 
   every-corner : (p : Place) → Corner (P .area) p → (p ≡ corner (P .area)) ⊎ List·Memᴰ p (otherCorners (P .area))
   unfolding otherCorners
@@ -155,10 +168,20 @@ module _ (P : Problem) (lawful : Lawful P) (cut-law : (r : Rect) → CutLaw (P .
 
   start-priced : (p : Place) → Corner (P .area) p → NotBetter (pricedAt R p) (startBest P)
   unfolding startBest
-  start-priced p c = ⊎-elim (λ e. subst (λ (q : Place). NotBetter (pricedAt R q) (startBest P)) (sym e) (bestOf-old R (pricedAt R (corner (P .area))) (otherCorners (P .area)))) (bestOf-new R (pricedAt R (corner (P .area))) (otherCorners (P .area)) p) (every-corner p c)
+  start-priced p c = ⊎-elim (λ e. subst (λ (q : Place). NotBetter (pricedAt R q) (startBest P)) (sym e)
+      (bestOf-old R (pricedAt R (corner (P .area))) (otherCorners (P .area)))) (bestOf-new R (pricedAt R (corner (P .area))) (otherCorners (P .area)) p)
+      (every-corner p c)
 
   area-cell-ok : CellOk P (startBest P) (cellOf R (P .area))
-  area-cell-ok = record { bound-is = refl; full = lawful .nonEmpty; within = λ p h. h; low-line = lawful .low-line; high-line = lawful .high-line; priced = start-priced }
+  area-cell-ok = record {
+    bound-is = refl;
+    full = lawful .nonEmpty;
+    within = λ p h. h;
+    low-line = lawful .low-line;
+    high-line = lawful .high-line;
+    priced =
+        start-priced;
+  }
 
   pub start-ok : Ok P (start P .best) (start P .live)
   unfolding start
@@ -180,28 +203,38 @@ module _ (P : Problem) (lawful : Lawful P) (cut-law : (r : Rect) → CutLaw (P .
     cut = taken-cut .is-inside
 
     pub is-first-part : PartOf (axisOf G c) (lineOf G c) (c .rect) (firstOf G c)
-    is-first-part = first-part (axisOf G c) (lineOf G c) (c .rect) (cut .above) (cut .below) (firstOf G c) (secondOf G c) (parts (axisOf G c) (lineOf G c) (c .rect))
+    is-first-part = first-part (axisOf G c) (lineOf G c) (c .rect) (cut .above) (cut .below) (firstOf G c) (secondOf G c)
+        (parts (axisOf G c) (lineOf G c) (c .rect))
 
     pub is-second-part : PartOf (axisOf G c) (lineOf G c) (c .rect) (secondOf G c)
-    is-second-part = second-part (axisOf G c) (lineOf G c) (c .rect) (cut .above) (cut .below) (firstOf G c) (secondOf G c) (parts (axisOf G c) (lineOf G c) (c .rect))
+    is-second-part = second-part (axisOf G c) (lineOf G c) (c .rect) (cut .above) (cut .below) (firstOf G c) (secondOf G c)
+        (parts (axisOf G c) (lineOf G c) (c .rect))
 
     -- a new corner is a point of the cell, on lines
     new-corner-in : (p : Place) → List·Memᴰ p (newCorners (axisOf G c) (lineOf G c) (c .rect)) → In (c .rect) p × OnLines G p
     new-corner-in p m = go (new-corner-on (axisOf G c) (lineOf G c) (c .rect) p m)
       where
         on-lines : OnCut (axisOf G c) (lineOf G c) (c .rect) p → OnLines G p
-        on-lines on = cut-or-other (λ a. List·Memᴰ (coordinate a p) (linesAlong G a)) (axisOf G c) (subst (λ (z : ℤ). List·Memᴰ z (linesAlong G (axisOf G c))) (sym (on .on-line)) (cut .line))
-            (⊎-elim (λ e. subst (λ (z : ℤ). List·Memᴰ z (linesAlong G (other (axisOf G c)))) (sym e) (taken .low-line (other (axisOf G c)))) (λ e. subst (λ (z : ℤ). List·Memᴰ z (linesAlong G (other (axisOf G c)))) (sym e) (taken .high-line (other (axisOf G c)))) (on .on-edge))
+        on-lines on = cut-or-other (λ a. List·Memᴰ (coordinate a p) (linesAlong G a)) (axisOf G c)
+            (subst (λ (z : ℤ). List·Memᴰ z (linesAlong G (axisOf G c))) (sym (on .on-line)) (cut .line))
+            (⊎-elim (λ e. subst (λ (z : ℤ). List·Memᴰ z (linesAlong G (other (axisOf G c)))) (sym e) (taken .low-line (other (axisOf G c))))
+            (λ e. subst (λ (z : ℤ). List·Memᴰ z (linesAlong G (other (axisOf G c)))) (sym e) (taken .high-line (other (axisOf G c)))) (on .on-edge))
 
-        at-cut : coordinate (axisOf G c) p ≡ lineOf G c → low-edge (axisOf G c) (c .rect) <ℤ lineOf G c → lineOf G c <ℤ high-edge (axisOf G c) (c .rect) → Along (c .rect) p (axisOf G c)
+        at-cut : coordinate (axisOf G c) p ≡ lineOf G c → low-edge (axisOf G c) (c .rect) <ℤ lineOf G c → lineOf G c <ℤ high-edge (axisOf G c) (c .rect) →
+            Along (c .rect) p (axisOf G c)
         at-cut e h k = (omega (arith, order), omega (arith, order))
 
-        at-edge : OnEdge (c .rect) p (other (axisOf G c)) → low-edge (other (axisOf G c)) (c .rect) ≤ℤ high-edge (other (axisOf G c)) (c .rect) → Along (c .rect) p (other (axisOf G c))
+        at-edge : OnEdge (c .rect) p (other (axisOf G c)) → low-edge (other (axisOf G c)) (c .rect) ≤ℤ high-edge (other (axisOf G c)) (c .rect) →
+            Along (c .rect) p (other (axisOf G c))
         at-edge (inl e) h = (omega (arith, order), omega (arith, order))
         at-edge (inr e) h = (omega (arith, order), omega (arith, order))
 
         go : OnCut (axisOf G c) (lineOf G c) (c .rect) p → In (c .rect) p × OnLines G p
-        go on = (along-in (c .rect) p (cut-or-other (Along (c .rect) p) (axisOf G c) (at-cut (on .on-line) (cut .above) (cut .below)) (at-edge (on .on-edge) (edges-in (taken .full) (other (axisOf G c))))), on-lines on)
+        go on = (
+          along-in (c .rect) p (cut-or-other (Along (c .rect) p) (axisOf G c) (at-cut (on .on-line) (cut .above) (cut .below))
+              (at-edge (on .on-edge) (edges-in (taken .full) (other (axisOf G c))))),
+          on-lines on,
+        )
 
     abbrev pub best′ : Priced
     best′ = bestAfter R best c
@@ -221,7 +254,8 @@ module _ (P : Problem) (lawful : Lawful P) (cut-law : (r : Rect) → CutLaw (P .
 
     best-ok′ : BestOk P best′
     unfolding bestAfter
-    best-ok′ = best-of-ok best (newCorners (axisOf G c) (lineOf G c) (c .rect)) (ok .best-ok) (λ p m. (taken .within p (new-corner-in p m .0), new-corner-in p m .1))
+    best-ok′ = best-of-ok best (newCorners (axisOf G c) (lineOf G c) (c .rect)) (ok .best-ok)
+        (λ p m. (taken .within p (new-corner-in p m .0), new-corner-in p m .1))
 
     part-ok : (q : Rect) → PartOf (axisOf G c) (lineOf G c) (c .rect) q → CellOk P best′ (cellOf R q)
     part-ok q part = record {
@@ -230,14 +264,18 @@ module _ (P : Problem) (lawful : Lawful P) (cut-law : (r : Rect) → CutLaw (P .
       within = λ p h. taken .within p (part-point (axisOf G c) (lineOf G c) (c .rect) (cut .above) (cut .below) q part (taken .full) p h);
       low-line = λ a. on-lines a .0;
       high-line = λ a. on-lines a .1;
-      priced = λ p k. ⊎-elim (λ old. not-better-trans (pricedAt R p) best best′ best-kept (taken .priced p old)) (best-new p) (part-corner (axisOf G c) (lineOf G c) (c .rect) q part p k);
+      priced = λ p k. ⊎-elim (λ old. not-better-trans (pricedAt R p) best best′ best-kept (taken .priced p old)) (best-new p)
+          (part-corner (axisOf G c) (lineOf G c) (c .rect) q part p k);
     }
       where
         on-lines : (a : Axis) → List·Memᴰ (low-edge a q) (linesAlong G a) × List·Memᴰ (high-edge a q) (linesAlong G a)
-        on-lines = part-edges (axisOf G c) (lineOf G c) (c .rect) (cut .above) (cut .below) q part (taken .full) (λ a z. List·Memᴰ z (linesAlong G a)) (taken .low-line) (taken .high-line) (cut .line)
+        on-lines = part-edges (axisOf G c) (lineOf G c) (c .rect) (cut .above) (cut .below) q part (taken .full) (λ a z. List·Memᴰ z (linesAlong G a))
+            (taken .low-line) (taken .high-line) (cut .line)
 
     after-ok : (d : Cell) → List·Memᴰ d (cellsAfter R c others) → CellOk P best′ d
-    after-ok d m = ⊎-elim (λ e. subst (CellOk P best′) (sym e) (part-ok (firstOf G c) is-first-part)) (⊎-elim (λ e. subst (CellOk P best′) (sym e) (part-ok (secondOf G c) is-second-part)) (λ n. later-cell best best′ best-kept d (ok .cells d (List·Memᴰ·tail n)))) (after-cases R c others d m)
+    after-ok d m = ⊎-elim (λ e. subst (CellOk P best′) (sym e) (part-ok (firstOf G c) is-first-part))
+        (⊎-elim (λ e. subst (CellOk P best′) (sym e) (part-ok (secondOf G c) is-second-part))
+        (λ n. later-cell best best′ best-kept d (ok .cells d (List·Memᴰ·tail n)))) (after-cases R c others d m)
 
     after-cover : (q : Place) → In (P .area) q → OnLines G q → NotBetter (pricedAt R q) best′ ⊎ Within q (cellsAfter R c others)
     after-cover q h on = ⊎-elim (λ k. inl (not-better-trans (pricedAt R q) best best′ best-kept k)) (λ w. inr (after-within R c others q w)) (ok .cover q h on)

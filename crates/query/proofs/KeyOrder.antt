@@ -22,7 +22,8 @@ earlier-strict = lex-strict (strict-on (λ (p : Place). p .x) ltZ-strict) (ties-
 
 pub precedes-strict : Strict precedes
 unfolding precedes
-precedes-strict = lex-strict (strict-on (λ (k : Key). k .figure) ltZ-strict) (ties-on (λ (k : Key). k .figure) ltZ-ties) (strict-on (λ (k : Key). k .place) earlier-strict)
+precedes-strict = lex-strict (strict-on (λ (k : Key). k .figure) ltZ-strict) (ties-on (λ (k : Key). k .figure) ltZ-ties)
+    (strict-on (λ (k : Key). k .place) earlier-strict)
 
 pub better-strict : Strict better
 unfolding better
@@ -48,16 +49,25 @@ not-earlier-y p q t e = omega (arith, order, not-either (ltZ (p .x) (q .x)) (eqZ
 
 pub not-better : (p q : Priced) → q .cost ≤ p .cost → (p .cost ≡ q .cost → T (not (earlier (p .at) (q .at)))) → T (not (better p q))
 unfolding better precedes
-not-better p q h k = not-either (ltZ (pos (p .cost)) (pos (q .cost))) (eqZ (pos (p .cost)) (pos (q .cost))) (earlier (p .at) (q .at)) .1 (omega (arith, order), λ e. k (omega (arith, eqb→eq)))
+not-better p q h k = not-either (ltZ (pos (p .cost)) (pos (q .cost))) (eqZ (pos (p .cost)) (pos (q .cost))) (earlier (p .at) (q .at)) .1 (
+  omega (arith, order),
+  λ e. k (omega (arith, eqb→eq)),
+)
 
 -- a place that is not better does not cost less, and where it costs the same is not earlier
 pub not-better-cost : (p q : Priced) → T (not (better p q)) → q .cost ≤ p .cost
 unfolding better precedes
-not-better-cost p q t = omega (arith, order, not-either (ltZ (pos (p .cost)) (pos (q .cost))) (eqZ (pos (p .cost)) (pos (q .cost))) (earlier (p .at) (q .at)) .0 t .0)
+not-better-cost p q t = omega (
+  arith,
+  order,
+  not-either (ltZ (pos (p .cost)) (pos (q .cost))) (eqZ (pos (p .cost)) (pos (q .cost))) (earlier (p .at) (q .at)) .0
+      t .0,
+)
 
 pub not-better-earlier : (p q : Priced) → T (not (better p q)) → p .cost ≡ q .cost → T (not (earlier (p .at) (q .at)))
 unfolding better precedes
-not-better-earlier p q t e = not-either (ltZ (pos (p .cost)) (pos (q .cost))) (eqZ (pos (p .cost)) (pos (q .cost))) (earlier (p .at) (q .at)) .0 t .1 (omega (arith, order))
+not-better-earlier p q t e = not-either (ltZ (pos (p .cost)) (pos (q .cost))) (eqZ (pos (p .cost)) (pos (q .cost))) (earlier (p .at) (q .at)) .0 t .1
+    (omega (arith, order))
 
 -- two places of which neither is better are one
 pub not-better-antisym : (p q : Priced) → T (not (better p q)) → T (not (better q p)) → p ≡ q
@@ -72,4 +82,5 @@ not-better-antisym p q t u =
 -- no point of a cell comes before the cell
 pub point-after-cell : (c : Cell) (p : Priced) → In (c .rect) (p .at) → c .bound ≤ℤ pos (p .cost) → T (not (precedes (pricedKey p) (cellKey c)))
 unfolding precedes
-point-after-cell c p h k = not-either (ltZ (pos (p .cost)) (c .bound)) (eqZ (pos (p .cost)) (c .bound)) (earlier (p .at) (corner (c .rect))) .1 (omega (arith, order), λ e. not-earlier (p .at) (corner (c .rect)) (h .left) (h .front))
+point-after-cell c p h k = not-either (ltZ (pos (p .cost)) (c .bound)) (eqZ (pos (p .cost)) (c .bound)) (earlier (p .at) (corner (c .rect))) .1
+    (omega (arith, order), λ e. not-earlier (p .at) (corner (c .rect)) (h .left) (h .front))

@@ -24,6 +24,8 @@ pub record Lawful (P : Problem) : Type 0 where
   -- the bound of a cell is at most the cost of each of its points
   pub below : (r : Rect) (p : Place) → In r p → P .rules .bound r ≤ℤ pos (P .rules .price p)
   -- and at most the bound of each of its parts
-  pub part : (r q : Rect) → NonEmpty q → In r (record { x = q .xlo; y = q .ylo }) → In r (record { x = q .xhi; y = q .yhi }) → P .rules .bound r ≤ℤ P .rules .bound q
+  pub part : (r q : Rect) → NonEmpty q → In r (record { x = q .xlo; y = q .ylo }) → In r (record { x = q .xhi; y = q .yhi }) →
+      P .rules .bound r ≤ℤ P .rules .bound q
   -- for each point of the area there is a crossing in it that is cheaper, or costs the same and is not later
-  pub crossing : (p : Place) → In (P .area) p → (q : Place) × In (P .area) q × OnLines (P .rules .grid) q × T (not (better (pricedAt (P .rules) p) (pricedAt (P .rules) q)))
+  pub crossing : (p : Place) → In (P .area) p → (q : Place) × In (P .area) q × OnLines (P .rules .grid) q × T
+      (not (better (pricedAt (P .rules) p) (pricedAt (P .rules) q)))

@@ -38,9 +38,11 @@ module _ (deck : Deck) (axis : Axis) {v : ℤ} where
       let reached = keep (reach deck (deck .area)) (deck .stops) in
       let range = between-range lo hi v (keep-test (between lo hi) (map at reached) m) in
       let r = Memᴰ·of-map at reached (keep-from (between lo hi) (map at reached) m) in
-      of-stop (r .0) (keep-from (reach deck (deck .area)) (deck .stops) (r .1)) (keep-test (reach deck (deck .area)) (deck .stops) (r .1)) (sym (r .2)) (range .0) (range .1)
+      of-stop (r .0) (keep-from (reach deck (deck .area)) (deck .stops) (r .1)) (keep-test (reach deck (deck .area)) (deck .stops) (r .1)) (sym (r .2))
+      (range .0) (range .1)
 
-  named-stop : (stop : Stop) → List·Memᴰ stop (deck .stops) → T (reach deck (deck .area) stop) → v ≡ coordinate axis (stop .at) → low-edge axis (deck .area) ≤ℤ v → v ≤ℤ high-edge axis (deck .area) → List·Memᴰ v (stopCoordinates deck axis)
+  named-stop : (stop : Stop) → List·Memᴰ stop (deck .stops) → T (reach deck (deck .area) stop) → v ≡ coordinate axis (stop .at) →
+      low-edge axis (deck .area) ≤ℤ v → v ≤ℤ high-edge axis (deck .area) → List·Memᴰ v (stopCoordinates deck axis)
   unfolding stopCoordinates
   named-stop stop m t e h k =
       let lo = low-edge axis (deck .area) in
@@ -51,7 +53,11 @@ module _ (deck : Deck) (axis : Axis) {v : ℤ} where
 
 pub lines-law : (deck : Deck) (axis : Axis) → LinesLaw deck axis
 unfolding lines
-lines-law deck axis = record { increasing = insertOnce-increasing lo (insertOnce hi others) (insertOnce-increasing hi others (inserted-increasing (stopCoordinates deck axis))); named = λ v. (from v, all v) }
+lines-law deck axis = record {
+  increasing = insertOnce-increasing lo (insertOnce hi others)
+      (insertOnce-increasing hi others (inserted-increasing (stopCoordinates deck axis)));
+  named = λ v. (from v, all v);
+}
   where
     lo : ℤ
     lo = low-edge axis (deck .area)
@@ -63,15 +69,18 @@ lines-law deck axis = record { increasing = insertOnce-increasing lo (insertOnce
     others = foldr insertOnce [] (stopCoordinates deck axis)
 
     from : (v : ℤ) → List·Memᴰ v (insertOnce lo (insertOnce hi others)) → Named deck axis v
-    from v m = ⊎-elim edge-low (λ n. ⊎-elim edge-high (λ k. stop-named deck axis (inserted-from (stopCoordinates deck axis) k)) (insertOnce-cases hi others n)) (insertOnce-cases lo (insertOnce hi others) m)
+    from v m = ⊎-elim edge-low (λ n. ⊎-elim edge-high (λ k. stop-named deck axis (inserted-from (stopCoordinates deck axis) k)) (insertOnce-cases hi others n))
+        (insertOnce-cases lo (insertOnce hi others) m)
 
     all : (v : ℤ) → Named deck axis v → List·Memᴰ v (insertOnce lo (insertOnce hi others))
     all v (edge-low e) = Memᴰ·cast e (insertOnce-new lo (insertOnce hi others))
     all v (edge-high e) = insertOnce-old lo (insertOnce hi others) (Memᴰ·cast e (insertOnce-new hi others))
-    all v (of-stop stop m t e h k) = insertOnce-old lo (insertOnce hi others) (insertOnce-old hi others (inserted-all (stopCoordinates deck axis) (named-stop deck axis stop m t e h k)))
+    all v (of-stop stop m t e h k) = insertOnce-old lo (insertOnce hi others)
+        (insertOnce-old hi others (inserted-all (stopCoordinates deck axis) (named-stop deck axis stop m t e h k)))
 
 -- in an area with a point, every line lies between its edges
-pub lines-range : (deck : Deck) (axis : Axis) → NonEmpty (deck .area) → (v : ℤ) → List·Memᴰ v (lines deck axis) → (low-edge axis (deck .area) ≤ℤ v) × (v ≤ℤ high-edge axis (deck .area))
+pub lines-range : (deck : Deck) (axis : Axis) → NonEmpty (deck .area) → (v : ℤ) → List·Memᴰ v (lines deck axis) →
+    (low-edge axis (deck .area) ≤ℤ v) × (v ≤ℤ high-edge axis (deck .area))
 lines-range deck axis h v m = go (edges-in h axis) (lines-law deck axis .named v .0 m)
   where
     go : low-edge axis (deck .area) ≤ℤ high-edge axis (deck .area) → Named deck axis v → (low-edge axis (deck .area) ≤ℤ v) × (v ≤ℤ high-edge axis (deck .area))
@@ -85,5 +94,6 @@ gaps-law deck axis = record {
   at-least-one = omega arith;
   inside-and-one = λ h.
       let law = lines-law deck axis in
-      rw lines-along (sym (inside-gaps (low-edge axis (deck .area)) (high-edge axis (deck .area)) (lines deck axis) (law .increasing) (edges-in h axis) (law .named _ .1 (edge-low refl)) (law .named _ .1 (edge-high refl)) (lines-range deck axis h)));
+      rw lines-along (sym (inside-gaps (low-edge axis (deck .area)) (high-edge axis (deck .area)) (lines deck axis) (law .increasing) (edges-in h axis)
+      (law .named _ .1 (edge-low refl)) (law .named _ .1 (edge-high refl)) (lines-range deck axis h)));
 }

@@ -15,7 +15,8 @@ use Rattle.query.specs.Reach.{closestPoint, travelTo}
 use Rattle.query.specs.Laws.{NearLaw, TravelToLaw}
 use Rattle.query.proofs.Travel.{closestPoint-in, travelTo-least}
 
-pub closest-some : (axis : AxisCosts) (p : Place) (posts : List Place) → T (nonEmpty posts) → (post : Place) × List·Memᴰ post posts × (closest axis p posts ≡ travel axis p post)
+pub closest-some : (axis : AxisCosts) (p : Place) (posts : List Place) → T (nonEmpty posts) →
+    (post : Place) × List·Memᴰ post posts × (closest axis p posts ≡ travel axis p post)
 unfolding closest
 closest-some axis p [] t = absurd t
 closest-some axis p (q ∷ qs) t =
@@ -33,4 +34,8 @@ near-law deck stop = record { some-post = closest-some (deck .axis) (stop .at) (
 
 pub travelTo-law : (deck : Deck) (r : Rect) (stop : Stop) → TravelToLaw deck r stop
 unfolding travelTo
-travelTo-law deck r stop = record { some-point = λ h. (closestPoint r (stop .at), closestPoint-in r (stop .at) h, refl); every-point = travelTo-least deck r stop }
+travelTo-law deck r stop = record {
+  some-point = λ h. (closestPoint r (stop .at), closestPoint-in r (stop .at) h, refl);
+  every-point =
+      travelTo-least deck r stop;
+}

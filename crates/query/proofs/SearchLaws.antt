@@ -44,14 +44,17 @@ module _ (P : Problem) where
 
   pub run-in-order : (n : ℕ) → CellsInOrder (run P n .live)
   unfolding run round start
-  run-in-order zero = kept-in-order (isLive G (startBest P)) (cellOf R (P .area) ∷ []) (insertBy-sorted cellBefore cellBefore-strict (cellOf R (P .area)) [] Pairwise·nil)
+  run-in-order zero = kept-in-order (isLive G (startBest P)) (cellOf R (P .area) ∷ [])
+      (insertBy-sorted cellBefore cellBefore-strict (cellOf R (P .area)) [] Pairwise·nil)
   run-in-order (suc n) = round-in-order (run P n) (run P n .live) refl (run-in-order n)
 
   -- ---- a cell that is not live for one best is not live for a later one
   still-dead : (best best′ : Priced) → T (not (better best best′)) → (c : Cell) → T (not (isLive G best c)) → T (not (isLive G best′ c))
   unfolding isLive better
   still-dead best best′ h c t =
-      ⊎-elim (λ can. and-fails-right (canCut G (c .rect)) (precedes (cellKey c) (pricedKey best′)) (precedes-strict .chain (pricedKey best′) (pricedKey best) (cellKey c) h (nand-right (canCut G (c .rect)) (precedes (cellKey c) (pricedKey best)) t can)))
+      ⊎-elim (λ can. and-fails-right (canCut G (c .rect)) (precedes (cellKey c) (pricedKey best′))
+      (precedes-strict .chain (pricedKey best′) (pricedKey best) (cellKey c) h
+      (nand-right (canCut G (c .rect)) (precedes (cellKey c) (pricedKey best)) t can)))
       (and-fails-left (canCut G (c .rect)) (precedes (cellKey c) (pricedKey best′))) (test (canCut G (c .rect)))
 
   round-best : (s : Search) (live : List Cell) → T (not (better (s .best) (roundOn R s live .best)))
@@ -71,9 +74,12 @@ module _ (P : Problem) where
   dead-are-not : (n : ℕ) (c : Cell) → List·Memᴰ c (dead P n) → T (not (isLive G (run P n .best) c))
   unfolding dead
   dead-are-not zero c m = notLive-test (run P zero .best) (cellOf R (P .area) ∷ []) c m
-  dead-are-not (suc n) c m = ⊎-elim (notLive-test (run P (suc n) .best) (cutUp R (run P n .live)) c) (λ k. still-dead (run P n .best) (run P (suc n) .best) (run-best n) c (dead-are-not n c k)) (List·Memᴰ·append-cases (notLive G (run P (suc n) .best) (cutUp R (run P n .live))) m)
+  dead-are-not (suc n) c m = ⊎-elim (notLive-test (run P (suc n) .best) (cutUp R (run P n .live)) c)
+      (λ k. still-dead (run P n .best) (run P (suc n) .best) (run-best n) c (dead-are-not n c k))
+      (List·Memᴰ·append-cases (notLive G (run P (suc n) .best) (cutUp R (run P n .live))) m)
 
-  round-live : (s : Search) (live : List Cell) → s .live ≡ live → ((c : Cell) → List·Memᴰ c (s .live) → T (isLive G (s .best) c)) → (c : Cell) → List·Memᴰ c (roundOn R s live .live) → T (isLive G (roundOn R s live .best) c)
+  round-live : (s : Search) (live : List Cell) → s .live ≡ live → ((c : Cell) → List·Memᴰ c (s .live) → T (isLive G (s .best) c)) → (c : Cell) →
+      List·Memᴰ c (roundOn R s live .live) → T (isLive G (roundOn R s live .best) c)
   unfolding roundOn
   round-live s [] e h c m = h c m
   round-live s (d ∷ others) e h c m = keep-test (isLive G (bestAfter R (s .best) d)) (cellsAfter R d others) m
@@ -85,14 +91,16 @@ module _ (P : Problem) where
 
   -- ---- the partition covers the area
   -- a point of some cells is in one that is live or in one that is not
-  sorted-out : (best : Priced) (cells earlier : List Cell) (p : Place) → Within p cells → Within p (keep (isLive G best) cells ++ (notLive G best cells ++ earlier))
+  sorted-out : (best : Priced) (cells earlier : List Cell) (p : Place) → Within p cells →
+      Within p (keep (isLive G best) cells ++ (notLive G best cells ++ earlier))
   unfolding notLive
   sorted-out best cells earlier p w =
       ⊎-elim (λ t. (w .0, Memᴰ·append-left (notLive G best cells ++ earlier) (keep-all (isLive G best) cells (w .1) t), w .2))
       (λ t. (w .0, Memᴰ·append-right (keep (isLive G best) cells) (Memᴰ·append-left earlier (keep-all (λ c. not (isLive G best c)) cells (w .1) t)), w .2))
       (test (isLive G best (w .0)))
 
-  round-covers : (s : Search) (live earlier : List Cell) (p : Place) → s .live ≡ live → Within p (live ++ earlier) → Within p (roundOn R s live .live ++ (notLive G (roundOn R s live .best) (cutUp R live) ++ earlier))
+  round-covers : (s : Search) (live earlier : List Cell) (p : Place) → s .live ≡ live → Within p (live ++ earlier) →
+      Within p (roundOn R s live .live ++ (notLive G (roundOn R s live .best) (cutUp R live) ++ earlier))
   unfolding roundOn cutUp notLive
   round-covers s [] earlier p e w = rw e w
   round-covers s (c ∷ others) earlier p e w =
@@ -105,7 +113,8 @@ module _ (P : Problem) where
 
   covers : (n : ℕ) (p : Place) → In (P .area) p → Within p (partition P n)
   unfolding partition dead run round start
-  covers zero p h = rw (append-nil (notLive G (startBest P) (cellOf R (P .area) ∷ []))) at (sorted-out (startBest P) (cellOf R (P .area) ∷ []) [] p (cellOf R (P .area), List·Memᴰ·head refl, h))
+  covers zero p h = rw (append-nil (notLive G (startBest P) (cellOf R (P .area) ∷ []))) at (sorted-out (startBest P) (cellOf R (P .area) ∷ []) [] p
+      (cellOf R (P .area), List·Memᴰ·head refl, h))
   covers (suc n) p h = round-covers (run P n) (run P n .live) (dead P n) p refl (covers n p h)
 
   pub partition-law : (n : ℕ) → PartitionLaw P n

@@ -23,7 +23,13 @@ allNumbers-length (c ∷ cells) = omega (arith, length-append (cellNumbers c) (a
 
 pub space-law : (deck : Deck) (n : ℕ) → SpaceLaw deck n
 unfolding space
-space-law deck n = record { in-order = run-in-order (problem deck) n; live-cells = count; numbers = room; whole = λ lent h. padded-length lent (pos 0) (allNumbers (run (problem deck) n .live)) (omega (arith, room)) }
+space-law deck n = record {
+  in-order = run-in-order (problem deck) n;
+  live-cells = count;
+  numbers = room;
+  whole =
+      λ lent h. padded-length lent (pos 0) (allNumbers (run (problem deck) n .live)) (omega (arith, room));
+}
   where
     count : length (run (problem deck) n .live) ≤ n + 1
     count = live-count (problem deck) n

@@ -44,12 +44,33 @@ pub record Parts (cut : Axis) (v : ℤ) (r first second : Rect) : Type 0 where
 
 pub parts : (cut : Axis) (v : ℤ) (r : Rect) → Parts cut v r (cutBefore cut v r) (cutAfter cut v r)
 unfolding other
-parts x-axis v r = record { first-low = refl; first-high = refl; second-low = refl; second-high = refl; first-low-other = refl; first-high-other = refl; second-low-other = refl; second-high-other = refl }
-parts y-axis v r = record { first-low = refl; first-high = refl; second-low = refl; second-high = refl; first-low-other = refl; first-high-other = refl; second-low-other = refl; second-high-other = refl }
+parts x-axis v r = record {
+  first-low = refl;
+  first-high = refl;
+  second-low = refl;
+  second-high = refl;
+  first-low-other = refl;
+  first-high-other =
+      refl;
+  second-low-other = refl;
+  second-high-other = refl;
+}
+parts y-axis v r = record {
+  first-low = refl;
+  first-high = refl;
+  second-low = refl;
+  second-high = refl;
+  first-low-other = refl;
+  first-high-other =
+      refl;
+  second-low-other = refl;
+  second-high-other = refl;
+}
 
 -- a point of the cell is in one of the parts
 pub split-point : (cut : Axis) (v : ℤ) (r first second : Rect) → Parts cut v r first second → (p : Place) → In r p → In first p ⊎ In second p
-split-point cut v r first second split p h = ⊎-elim (λ t. inl (along-in first p (cut-or-other (Along first p) cut (before t) first-other))) (λ t. inr (along-in second p (cut-or-other (Along second p) cut (after t) second-other))) (test (leZ (coordinate cut p) v))
+split-point cut v r first second split p h = ⊎-elim (λ t. inl (along-in first p (cut-or-other (Along first p) cut (before t) first-other)))
+    (λ t. inr (along-in second p (cut-or-other (Along second p) cut (after t) second-other))) (test (leZ (coordinate cut p) v))
   where
     first-other : Along first p (other cut)
     first-other = rw (split .first-low-other, split .first-high-other) (along h (other cut))
@@ -74,14 +95,29 @@ pub record PartOf (cut : Axis) (v : ℤ) (r q : Rect) : Type 0 where
 
 module _ (cut : Axis) (v : ℤ) (r : Rect) (above : low-edge cut r <ℤ v) (under : v <ℤ high-edge cut r) where
   pub first-part : (first second : Rect) → Parts cut v r first second → PartOf cut v r first
-  first-part first second s = record { low-is = inl (s .first-low); high-is = inr (s .first-high); ordered = rw (s .first-low, s .first-high) (omega (arith, order)); low-other = s .first-low-other; high-other = s .first-high-other }
+  first-part first second s = record {
+    low-is = inl (s .first-low);
+    high-is = inr (s .first-high);
+    ordered =
+        rw (s .first-low, s .first-high) (omega (arith, order));
+    low-other = s .first-low-other;
+    high-other = s .first-high-other;
+  }
 
   pub second-part : (first second : Rect) → Parts cut v r first second → PartOf cut v r second
-  second-part first second s = record { low-is = inr (s .second-low); high-is = inl (s .second-high); ordered = rw (s .second-low, s .second-high) (omega (arith, order)); low-other = s .second-low-other; high-other = s .second-high-other }
+  second-part first second s = record {
+    low-is = inr (s .second-low);
+    high-is = inl (s .second-high);
+    ordered =
+        rw (s .second-low, s .second-high) (omega (arith, order));
+    low-other = s .second-low-other;
+    high-other = s .second-high-other;
+  }
 
   module _ (q : Rect) (part : PartOf cut v r q) (full : NonEmpty r) where
     pub part-nonEmpty : NonEmpty q
-    part-nonEmpty = edges-nonEmpty q (cut-or-other (λ axis. low-edge axis q ≤ℤ high-edge axis q) cut (part .ordered) (rw (part .low-other, part .high-other) (edges-in full (other cut))))
+    part-nonEmpty = edges-nonEmpty q (cut-or-other (λ axis. low-edge axis q ≤ℤ high-edge axis q) cut (part .ordered)
+        (rw (part .low-other, part .high-other) (edges-in full (other cut))))
 
     -- the edges of a part lie between those of the cell
     abbrev Between : ℤ → Axis → Type 0
@@ -100,7 +136,8 @@ module _ (cut : Axis) (v : ℤ) (r : Rect) (above : low-edge cut r <ℤ v) (unde
         at-other e = let k : low-edge (other cut) r ≤ℤ high-edge (other cut) r = edges-in full (other cut) in (omega (arith, order), omega (arith, order))
 
     high-between : (axis : Axis) → Between (high-edge axis q) axis
-    high-between = cut-or-other (λ axis. Between (high-edge axis q) axis) cut (⊎-elim same (at-cut (high-edge cut q)) (part .high-is)) (at-other (part .high-other))
+    high-between = cut-or-other (λ axis. Between (high-edge axis q) axis) cut (⊎-elim same (at-cut (high-edge cut q)) (part .high-is))
+        (at-other (part .high-other))
       where
         same : high-edge cut q ≡ high-edge cut r → Between (high-edge cut q) cut
         same e = (omega (arith, order), omega (arith, order))
@@ -109,10 +146,12 @@ module _ (cut : Axis) (v : ℤ) (r : Rect) (above : low-edge cut r <ℤ v) (unde
         at-other e = let k : low-edge (other cut) r ≤ℤ high-edge (other cut) r = edges-in full (other cut) in (omega (arith, order), omega (arith, order))
 
     pub part-low-in : In r (record { x = q .xlo; y = q .ylo })
-    part-low-in = along-in r (record { x = q .xlo; y = q .ylo }) (for-both (Along r (record { x = q .xlo; y = q .ylo })) (low-between x-axis) (low-between y-axis))
+    part-low-in = along-in r (record { x = q .xlo; y = q .ylo })
+        (for-both (Along r (record { x = q .xlo; y = q .ylo })) (low-between x-axis) (low-between y-axis))
 
     pub part-high-in : In r (record { x = q .xhi; y = q .yhi })
-    part-high-in = along-in r (record { x = q .xhi; y = q .yhi }) (for-both (Along r (record { x = q .xhi; y = q .yhi })) (high-between x-axis) (high-between y-axis))
+    part-high-in = along-in r (record { x = q .xhi; y = q .yhi })
+        (for-both (Along r (record { x = q .xhi; y = q .yhi })) (high-between x-axis) (high-between y-axis))
 
     -- a point of a part is a point of the cell
     pub part-point : (p : Place) → In q p → In r p
@@ -122,7 +161,8 @@ module _ (cut : Axis) (v : ℤ) (r : Rect) (above : low-edge cut r <ℤ v) (unde
         widen axis k l m = (omega (arith, order), omega (arith, order))
 
     -- what holds of the cell's edges and of the cut holds of a part's edges
-    pub part-edges : (Q : Axis → ℤ → Type 0) → ((axis : Axis) → Q axis (low-edge axis r)) → ((axis : Axis) → Q axis (high-edge axis r)) → Q cut v → (axis : Axis) → Q axis (low-edge axis q) × Q axis (high-edge axis q)
+    pub part-edges : (Q : Axis → ℤ → Type 0) → ((axis : Axis) → Q axis (low-edge axis r)) → ((axis : Axis) → Q axis (high-edge axis r)) → Q cut v →
+        (axis : Axis) → Q axis (low-edge axis q) × Q axis (high-edge axis q)
     part-edges Q low high at-v = cut-or-other (λ axis. Q axis (low-edge axis q) × Q axis (high-edge axis q)) cut
         (⊎-elim (λ e. rw e (low cut)) (λ e. rw e at-v) (part .low-is), ⊎-elim (λ e. rw e (high cut)) (λ e. rw e at-v) (part .high-is))
         (rw (part .low-other) (low (other cut)), rw (part .high-other) (high (other cut)))
@@ -140,8 +180,26 @@ pub record NewCorners (cut : Axis) (v : ℤ) (r : Rect) : Type 0 where
 
 new-corners : (cut : Axis) (v : ℤ) (r : Rect) → NewCorners cut v r
 unfolding other
-new-corners x-axis v r = record { low = record { x = v; y = r .ylo }; high = record { x = v; y = r .yhi }; are = refl; low-on = refl; high-on = refl; low-at = refl; high-at = refl }
-new-corners y-axis v r = record { low = record { x = r .xlo; y = v }; high = record { x = r .xhi; y = v }; are = refl; low-on = refl; high-on = refl; low-at = refl; high-at = refl }
+new-corners x-axis v r = record {
+  low = record { x = v; y = r .ylo };
+  high = record { x = v; y = r .yhi };
+  are = refl;
+  low-on = refl;
+  high-on = refl;
+  low-at =
+      refl;
+  high-at = refl;
+}
+new-corners y-axis v r = record {
+  low = record { x = r .xlo; y = v };
+  high = record { x = r .xhi; y = v };
+  are = refl;
+  low-on = refl;
+  high-on = refl;
+  low-at =
+      refl;
+  high-at = refl;
+}
 
 -- a new corner lies on the cut, and on an edge of the cell along the other axis
 pub record OnCut (cut : Axis) (v : ℤ) (r : Rect) (p : Place) : Type 0 where
@@ -159,7 +217,8 @@ new-corner-on cut v r p m = go (new-corners cut v r)
     one a b h k (List·Memᴰ·tail (List·Memᴰ·head e)) = at b e k
 
     go : NewCorners cut v r → OnCut cut v r p
-    go n = one (n .low) (n .high) (record { on-line = n .low-on; on-edge = inl (n .low-at) }) (record { on-line = n .high-on; on-edge = inr (n .high-at) }) (subst (List·Memᴰ p) (n .are) m)
+    go n = one (n .low) (n .high) (record { on-line = n .low-on; on-edge = inl (n .low-at) }) (record { on-line = n .high-on; on-edge = inr (n .high-at) })
+        (subst (List·Memᴰ p) (n .are) m)
 
 pub on-new-corner : (cut : Axis) (v : ℤ) (r : Rect) (p : Place) → OnCut cut v r p → List·Memᴰ p (newCorners cut v r)
 on-new-corner cut v r p h = go (new-corners cut v r)
@@ -168,11 +227,13 @@ on-new-corner cut v r p h = go (new-corners cut v r)
     same q e f = place-eq p q (cut-or-other (λ axis. coordinate axis p ≡ coordinate axis q) cut (h .on-line ∙ sym e) f)
 
     go : NewCorners cut v r → List·Memᴰ p (newCorners cut v r)
-    go n = subst (List·Memᴰ p) (sym (n .are)) (⊎-elim (λ e. List·Memᴰ·head (same (n .low) (n .low-on) (e ∙ sym (n .low-at)))) (λ e. List·Memᴰ·tail (List·Memᴰ·head (same (n .high) (n .high-on) (e ∙ sym (n .high-at))))) (h .on-edge))
+    go n = subst (List·Memᴰ p) (sym (n .are)) (⊎-elim (λ e. List·Memᴰ·head (same (n .low) (n .low-on) (e ∙ sym (n .low-at))))
+        (λ e. List·Memᴰ·tail (List·Memᴰ·head (same (n .high) (n .high-on) (e ∙ sym (n .high-at))))) (h .on-edge))
 
 -- a corner of a part is a corner of the cell or a new corner
 pub part-corner : (cut : Axis) (v : ℤ) (r q : Rect) → PartOf cut v r q → (p : Place) → Corner q p → Corner r p ⊎ List·Memᴰ p (newCorners cut v r)
-part-corner cut v r q part p c = ⊎-elim (λ e. ⊎-elim (λ f. inl (old (inl (e ∙ f)))) (λ f. new (e ∙ f)) (part .low-is)) (λ e. ⊎-elim (λ f. inl (old (inr (e ∙ f)))) (λ f. new (e ∙ f)) (part .high-is)) (c cut)
+part-corner cut v r q part p c = ⊎-elim (λ e. ⊎-elim (λ f. inl (old (inl (e ∙ f)))) (λ f. new (e ∙ f)) (part .low-is))
+    (λ e. ⊎-elim (λ f. inl (old (inr (e ∙ f)))) (λ f. new (e ∙ f)) (part .high-is)) (c cut)
   where
     edge : OnEdge r p (other cut)
     edge = ⊎-elim (λ e. inl (e ∙ part .low-other)) (λ e. inr (e ∙ part .high-other)) (c (other cut))

@@ -11,7 +11,11 @@ use Rattle.query.specs.Reach.{closestPoint, travelTo}
 
 pub travel-triangle : (axis : AxisCosts) (p q s : Place) → travel axis p s ≤ travel axis p q + travel axis q s
 unfolding travel
-travel-triangle axis p q s = omega (arith, mul-le-mul-left (axis .a) (dist-triangle (p .x) (q .x) (s .x)), mul-le-mul-left (axis .b) (dist-triangle (p .y) (q .y) (s .y)))
+travel-triangle axis p q s = omega (
+  arith,
+  mul-le-mul-left (axis .a) (dist-triangle (p .x) (q .x) (s .x)),
+  mul-le-mul-left (axis .b) (dist-triangle (p .y) (q .y) (s .y)),
+)
 
 pub closestPoint-in : (r : Rect) (p : Place) → NonEmpty r → In r (closestPoint r p)
 unfolding closestPoint

@@ -21,7 +21,9 @@ number-most ShortOutput = omega arith
 
 -- the refusal with a number and a line
 abbrev whyOf : ℕ → ℕ → Refusal
-whyOf number line = cond (eqb number 1) TooLong (cond (eqb number 2) (Malformed line) (cond (eqb number 3) (OutOfRange line) (cond (eqb number 4) EmptyArea (cond (eqb number 5) NoPosts (cond (eqb number 6) NoStops (cond (eqb number 7) SmallSpace ShortOutput))))))
+whyOf number line = cond (eqb number 1) TooLong (cond (eqb number 2) (Malformed line)
+    (cond (eqb number 3) (OutOfRange line) (cond (eqb number 4) EmptyArea
+    (cond (eqb number 5) NoPosts (cond (eqb number 6) NoStops (cond (eqb number 7) SmallSpace ShortOutput))))))
 
 why-of : (why : Refusal) → whyOf (numberOf why) (lineOf why) ≡ why
 why-of TooLong = refl

@@ -41,10 +41,12 @@ join-report :
 unfolding flatten
 join-report a b c d e f g h i j k l m n o = simp (append-assoc, append-nil)
 
-pub report-parts : (f : Figures) → reportText f ≡ statePart (f .state) ++ placePart (f .at .x) (f .at .y) ++ costsPart (f .high) (f .low) (f .before) ++ roundsPart (f .rounds) ++ bytes "\n"
+pub report-parts : (f : Figures) → reportText f ≡ statePart (f .state) ++ placePart (f .at .x) (f .at .y) ++ costsPart (f .high) (f .low) (f .before) ++
+    roundsPart (f .rounds) ++ bytes "\n"
 unfolding reportText
 report-parts f =
-    join-report (bytes "state=") (stateText (f .state)) (bytes "\nat=") (spellInt (f .at .x)) (comma ∷ []) (spellInt (f .at .y)) (bytes "\nhigh=") (spellNat (f .high))
+    join-report (bytes "state=") (stateText (f .state)) (bytes "\nat=") (spellInt (f .at .x)) (comma ∷ []) (spellInt (f .at .y)) (bytes "\nhigh=")
+    (spellNat (f .high))
     (bytes "\nlow=") (spellInt (f .low)) (bytes "\nbefore=") (spellNat (f .before)) (bytes "\nrounds=") (spellNat (f .rounds)) (bytes "\n")
 
 join-refusal : (a b c d e : List ℕ) → flatten (a ∷ b ∷ c ∷ d ∷ e ∷ []) ≡ (a ++ b) ++ (c ++ d) ++ e
@@ -64,7 +66,10 @@ refusal-behind : (number line : ℕ) → drop 8 (refusalText number line) ≡ sp
 unfolding refusalText
 refusal-behind number line = refl
 
-number-read : (number line : ℕ) → number < 10 ^ 9 → natural (drop 8 (refusalText number line)) ≡ some (pos number, flatten (bytes "\nline=" ∷ spellNat line ∷ bytes "\n" ∷ []))
+number-read : (number line : ℕ) → number < 10 ^ 9 → natural (drop 8 (refusalText number line)) ≡ some (
+  pos number,
+  flatten (bytes "\nline=" ∷ spellNat line ∷ bytes "\n" ∷ []),
+)
 unfolding flatten bytes digits
 number-read number line h = ap natural (refusal-behind number line) ∙ natural-spelled number _ h refl
 
@@ -72,8 +77,10 @@ abbrev numberIn : Option (ℤ × List ℕ) → ℤ
 numberIn none = pos 0
 numberIn (some r) = r .0
 
-pub refusal-number : (number line number′ line′ : ℕ) → number < 10 ^ 9 → number′ < 10 ^ 9 → refusalText number line ≡ refusalText number′ line′ → number ≡ number′
-refusal-number number line number′ line′ h h′ e = ap natAbs (ap numberIn (sym (number-read number line h) ∙ ap (λ (text : List ℕ). natural (drop 8 text)) e ∙ number-read number′ line′ h′))
+pub refusal-number : (number line number′ line′ : ℕ) → number < 10 ^ 9 → number′ < 10 ^ 9 → refusalText number line ≡ refusalText number′ line′ →
+    number ≡ number′
+refusal-number number line number′ line′ h h′ e = ap natAbs
+    (ap numberIn (sym (number-read number line h) ∙ ap (λ (text : List ℕ). natural (drop 8 text)) e ∙ number-read number′ line′ h′))
 
 -- ---- their lengths
 pub length-five : (a b c d e : List ℕ) → length (a ++ b ++ c ++ d ++ e) ≡ length a + length b + length c + length d + length e
@@ -91,7 +98,12 @@ length-place x y h k = simp length-append (omega (arith, length-spellInt-below 4
 pub length-costs : (high : ℕ) (low : ℤ) (before : ℕ) → high ≤ costLimit → natAbs low ≤ costLimit → before ≤ costLimit → length (costsPart high low before) ≤ 62
 unfolding bytes
 length-costs high low before h k l =
-    simp length-append (omega (arith, length-spellNat-below 13 high (omega arith), length-spellInt-below 13 low (omega arith), length-spellNat-below 13 before (omega arith)))
+    simp length-append (omega (
+      arith,
+      length-spellNat-below 13 high (omega arith),
+      length-spellInt-below 13 low (omega arith),
+      length-spellNat-below 13 before (omega arith),
+    ))
 
 pub length-rounds : (n : ℕ) → n ≤ 1000 → length (roundsPart n) ≤ 12
 unfolding bytes
@@ -130,4 +142,5 @@ pub refusal-filled :
     Wrote m₁ e₁ (bytes "\nline=" ++ spellNat l) m₂ e₂ →
     Wrote m₂ e₂ (bytes "\n") after end →
     Overwrote out (refusalText number line) after end
-refusal-filled {number = number} {line = line} n l p q v w e = filled (refusalText number line) (rw (refusal-parts, ← p, ← q) (wrote-both (wrote-both v w zero-le) e zero-le))
+refusal-filled {number = number} {line = line} n l p q v w e =
+    filled (refusalText number line) (rw (refusal-parts, ← p, ← q) (wrote-both (wrote-both v w zero-le) e zero-le))

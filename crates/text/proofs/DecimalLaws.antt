@@ -31,7 +31,8 @@ digits-cons b bs t = cond-true (isDigit b) _ _ t
 -- a text that is all digits
 pub digits-parts : (b : ℕ) (bs : List ℕ) → digits (b ∷ bs) ≡ b ∷ bs → T (isDigit b) × (digits bs ≡ bs)
 unfolding digits
-digits-parts b bs = cond-ind (λ (ds : List ℕ). ds ≡ b ∷ bs → T (isDigit b) × (digits bs ≡ bs)) (isDigit b) (λ t e. (t, cc)) (λ t e. absurd (let z : _≡_ {A = ℕ} 0 1 = cc in omega arith))
+digits-parts b bs = cond-ind (λ (ds : List ℕ). ds ≡ b ∷ bs →
+    T (isDigit b) × (digits bs ≡ bs)) (isDigit b) (λ t e. (t, cc)) (λ t e. absurd (let z : _≡_ {A = ℕ} 0 1 = cc in omega arith))
 
 pub digits-append : (ds rest : List ℕ) → digits ds ≡ ds → digits (ds ++ rest) ≡ ds ++ digits rest
 digits-append [] rest e = refl
@@ -40,7 +41,8 @@ digits-append (d ∷ ds) rest e = let (t, f) = digits-parts d ds e in digits-con
 pub digits-first : (bs : List ℕ) → bs ≡ digits bs ++ drop (length (digits bs)) bs
 unfolding digits
 digits-first [] = refl
-digits-first (b ∷ bs) = cond-ind (λ (ds : List ℕ). b ∷ bs ≡ ds ++ drop (length ds) (b ∷ bs)) (isDigit b) (λ t. ap (λ (l : List ℕ). b ∷ l) (digits-first bs)) (λ t. refl)
+digits-first (b ∷ bs) = cond-ind (λ (ds : List ℕ). b ∷ bs ≡ ds ++ drop (length ds) (b ∷ bs)) (isDigit b) (λ t. ap (λ (l : List ℕ). b ∷ l) (digits-first bs))
+    (λ t. refl)
 
 pub digits-rest : (bs : List ℕ) → digits (drop (length (digits bs)) bs) ≡ []
 unfolding digits
@@ -50,7 +52,8 @@ digits-rest (b ∷ bs) = cond-ind (λ (ds : List ℕ). digits (drop (length ds) 
 pub digits-twice : (bs : List ℕ) → digits (digits bs) ≡ digits bs
 unfolding digits
 digits-twice [] = refl
-digits-twice (b ∷ bs) = cond-ind (λ (ds : List ℕ). digits ds ≡ ds) (isDigit b) (λ t. digits-cons b (digits bs) t ∙ ap (λ (l : List ℕ). b ∷ l) (digits-twice bs)) (λ t. refl)
+digits-twice (b ∷ bs) = cond-ind (λ (ds : List ℕ). digits ds ≡ ds) (isDigit b) (λ t. digits-cons b (digits bs) t
+    ∙ ap (λ (l : List ℕ). b ∷ l) (digits-twice bs)) (λ t. refl)
 
 -- ---- a number's digits
 pub decimal-small : (most n : ℕ) → n < 10 → decimal (suc most) n ≡ (48 + n) ∷ []
@@ -74,12 +77,19 @@ pub record DigitsOf (n : ℕ) (ds : List ℕ) : Type 0 where
 
 one-digit : (n : ℕ) → n < 10 → DigitsOf n ((48 + n) ∷ [])
 unfolding valueOf digits
-one-digit n h = record { all-digits = digits-cons (48 + n) [] (range-digit (48 + n) (omega arith) (omega arith)); value = omega arith; some-digit = omega arith; first-digit = λ k. omega arith }
+one-digit n h = record {
+  all-digits = digits-cons (48 + n) [] (range-digit (48 + n) (omega arith) (omega arith));
+  value = omega arith;
+  some-digit =
+      omega arith;
+  first-digit = λ k. omega arith;
+}
 
 one-more : (n : ℕ) (ds : List ℕ) → 10 ≤ n → DigitsOf (n / 10) ds → DigitsOf n (ds ++ ((48 + n % 10) ∷ []))
 unfolding valueOf digits
 one-more n ds h s = record {
-  all-digits = digits-append ds _ (s .all-digits) ∙ ap (λ (l : List ℕ). ds ++ l) (digits-cons (48 + n % 10) [] (range-digit (48 + n % 10) (omega arith) (omega arith)));
+  all-digits = digits-append ds _ (s .all-digits) ∙ ap (λ (l : List ℕ). ds ++ l)
+      (digits-cons (48 + n % 10) [] (range-digit (48 + n % 10) (omega arith) (omega arith)));
   value = rw foldl-append (omega (arith, s .value));
   some-digit = simp length-append (omega arith);
   first-digit = λ k. rw (List·getD-append ds _ 0 0 (s .some-digit)) (s .first-digit (omega arith));
@@ -87,7 +97,9 @@ one-more n ds h s = record {
 
 pub decimal-digits : (most n : ℕ) → n < 10 ^ suc most → DigitsOf n (decimal (suc most) n)
 decimal-digits zero n h = rw (decimal-small 0 n h) (one-digit n h)
-decimal-digits (suc most) n h = ⊎-elim (λ t. let k : n < 10 = ltb→lt n 10 t in rw (decimal-small (suc most) n k) (one-digit n k)) (λ t. let k : 10 ≤ n = nltb→le n 10 t in rw (decimal-large (suc most) n k) (one-more n _ k (decimal-digits most (n / 10) (omega (arith, pow-suc 10 (suc most)))))) (test (ltb n 10))
+decimal-digits (suc most) n h = ⊎-elim (λ t. let k : n < 10 = ltb→lt n 10 t in rw (decimal-small (suc most) n k) (one-digit n k)) (λ t. let k : 10 ≤ n =
+    nltb→le n 10 t in rw (decimal-large (suc most) n k) (one-more n _ k (decimal-digits most (n / 10) (omega (arith, pow-suc 10 (suc most))))))
+    (test (ltb n 10))
 
 -- ---- the number of some digits
 -- the digits of v and, behind them, ds
@@ -99,7 +111,13 @@ decimal-onwards (d ∷ ds) most v e h =
     let tens : (v * 10 + (d - 48)) / 10 ≡ v = omega arith in
     let ones : 48 + (v * 10 + (d - 48)) % 10 ≡ d = omega arith in
     let fuel : most + suc (length ds) ≡ suc most + length ds = omega arith in
-    rw (fuel, decimal-onwards ds (suc most) (v * 10 + (d - 48)) f (omega arith), decimal-large most (v * 10 + (d - 48)) (omega arith), tens, ones) (append-snoc (decimal most v) d ds)
+    rw (
+      fuel,
+      decimal-onwards ds (suc most) (v * 10 + (d - 48)) f (omega arith),
+      decimal-large most (v * 10 + (d - 48)) (omega arith),
+      tens,
+      ones,
+    ) (append-snoc (decimal most v) d ds)
 
 alone : (most d : ℕ) → 48 ≤ d → d ≤ 57 → decimal (suc most) (0 + (d - 48)) ≡ d ∷ []
 alone most d low high = let e : 48 + (0 + (d - 48)) ≡ d = omega arith in decimal-small most (0 + (d - 48)) (omega arith) ∙ ap (λ (b : ℕ). b ∷ []) e
@@ -114,12 +132,15 @@ decimal-value (d ∷ c ∷ ds) e some-digit short first =
     let (low, high) = digit-range d t in
     let apart : d ≢ 48 = λ q. omega (arith, first q) in
     let fuel : 20 ≡ suc (18 - length ds) + suc (length ds) = omega arith in
-    ap (λ (most : ℕ). decimal most (onwards (0 + (d - 48)) (c ∷ ds))) fuel ∙ decimal-onwards (c ∷ ds) (suc (18 - length ds)) (0 + (d - 48)) f (omega arith) ∙ ap (λ (l : List ℕ). l ++ (c ∷ ds)) (alone (18 - length ds) d low high)
+    ap (λ (most : ℕ). decimal most (onwards (0 + (d - 48)) (c ∷ ds))) fuel ∙ decimal-onwards (c ∷ ds) (suc (18 - length ds)) (0 + (d - 48)) f (omega arith)
+    ∙ ap (λ (l : List ℕ). l ++ (c ∷ ds)) (alone (18 - length ds) d low high)
 
 -- so many digits spell a number of at most so many
 value-onwards : (ds : List ℕ) (v : ℕ) → digits ds ≡ ds → onwards v ds < (v + 1) * 10 ^ length ds
 value-onwards [] v e = rw pow-zero (omega arith)
-value-onwards (d ∷ ds) v e = let (t, f) = digits-parts d ds e in rw (pow-suc 10 (length ds)) (more (d - 48) (10 ^ length ds) (onwards (v * 10 + (d - 48)) ds) (omega (arith, digit-range d t)) (value-onwards ds (v * 10 + (d - 48)) f))
+value-onwards (d ∷ ds) v e = let (t, f) = digits-parts d ds e in
+    rw (pow-suc 10 (length ds)) (more (d - 48) (10 ^ length ds) (onwards (v * 10 + (d - 48)) ds) (omega (arith, digit-range d t))
+    (value-onwards ds (v * 10 + (d - 48)) f))
   where
     more : (c p x : ℕ) → c ≤ 9 → x < (v * 10 + c + 1) * p → x < (v + 1) * (p * 10)
     more c p x h k = let l : v * 10 + c + 1 ≤ (v + 1) * 10 = omega arith in omega (arith, mul-le-mul-right p l)

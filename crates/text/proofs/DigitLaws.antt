@@ -99,7 +99,13 @@ module _ {s : List ℕ} {at : ℕ} where
   scanned-small m h = omega (arith, m .below, pow-le-pow-right {n = 10} (omega arith) h)
 
   pub scanned-more : {count value d : ℕ} → Scanned s at count value → DigitAt s (at + count) d → d ≤ 9 → Scanned s at (count + 1) (value * 10 + d)
-  scanned-more {count} {value} {d} m digit h = record { left = rest; enough = omega (arith, longer); value-is = worth; below = rw (add-one, pow-suc) (omega (arith, m .below)) }
+  scanned-more {count} {value} {d} m digit h = record {
+    left = rest;
+    enough = omega (arith, longer);
+    value-is = worth;
+    below =
+        rw (add-one, pow-suc) (omega (arith, m .below));
+  }
     where
       b : ℕ
       b = getD s (at + count) 0
@@ -108,7 +114,9 @@ module _ {s : List ℕ} {at : ℕ} where
       ds = digits (drop at s)
 
       more : drop count ds ≡ b ∷ digits (drop (at + (count + 1)) s)
-      more = m .left ∙ digits-more (drop (at + count) s) (rw (first-at s (at + count)) (is-digit digit h)) ∙ ap (λ x. x ∷ digits (drop 1 (drop (at + count) s))) (first-at s (at + count)) ∙ ap (λ l. b ∷ digits l) (drop-drop 1 (at + count) s ∙ ap (λ n. drop n s) (next at count))
+      more = m .left ∙ digits-more (drop (at + count) s) (rw (first-at s (at + count)) (is-digit digit h))
+          ∙ ap (λ x. x ∷ digits (drop 1 (drop (at + count) s))) (first-at s (at + count))
+          ∙ ap (λ l. b ∷ digits l) (drop-drop 1 (at + count) s ∙ ap (λ n. drop n s) (next at count))
 
       rest : drop (count + 1) ds ≡ digits (drop (at + (count + 1)) s)
       rest = sym (drop-drop 1 count ds) ∙ ap (drop 1) more
@@ -171,7 +179,14 @@ module _ {s : List ℕ} {at count value : ℕ} (run : DigitsAt s at count value)
     natural-is : natural (drop at s) ≡ cond (eqb count 1 || not (startsWith (zeroDigit ∷ []) (drop at s))) (some (pos value, drop count (drop at s))) none
     unfolding natural
     natural-is =
-        rw (le-leb 1 (length (digits (drop at s))) (omega (arith, all)), le-leb (length (digits (drop at s))) 9 (omega (arith, all)), starts-zero (drop at s), ← digits-first (drop at s) (omega (arith, all)), worth, all)
+        rw (
+          le-leb 1 (length (digits (drop at s))) (omega (arith, all)),
+          le-leb (length (digits (drop at s))) 9 (omega (arith, all)),
+          starts-zero (drop at s),
+          ← digits-first (drop at s) (omega (arith, all)),
+          worth,
+          all,
+        )
 
     pub natural-zero : {r : Bool} → 1 < count → ByteIs s at zeroDigit r → r ≡ true → none ≡ natural (drop at s)
     natural-zero h byte e = rw (natural-is, ne-eqb count 1 (λ e. omega arith), ← byte .is, e)

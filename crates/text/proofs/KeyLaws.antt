@@ -61,7 +61,8 @@ module _ {s : List ℕ} {at : ℕ} {key : List ℕ} where
     pub matched-more : {r : Bool} → ByteIs s (at + i) (getD key i 0) r → r ≡ true → Matched s at key (i + 1)
     matched-more byte e =
         record {
-          left = one ∙ ap (λ t. t && startsWith (drop (i + 1) key) (drop 1 (drop (at + i) s))) (sym (byte .is) ∙ e) ∙ ap (startsWith (drop (i + 1) key)) (drop-drop 1 (at + i) s ∙ next);
+          left = one ∙ ap (λ t. t && startsWith (drop (i + 1) key) (drop 1 (drop (at + i) s))) (sym (byte .is) ∙ e)
+              ∙ ap (startsWith (drop (i + 1) key)) (drop-drop 1 (at + i) s ∙ next);
         }
       where
         next : drop (at + i + 1) s ≡ drop (at + (i + 1)) s

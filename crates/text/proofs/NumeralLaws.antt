@@ -33,7 +33,11 @@ natural-form ds t =
 
 form-natural : (ds : List ℕ) → 1 ≤ length ds → length ds ≤ 9 → (getD ds 0 0 ≡ 48 → length ds ≡ 1) → T (isNatural ds)
 unfolding isNatural
-form-natural ds h k first = natural-tests (leb 1 (length ds)) (leb (length ds) 9) (eqb (length ds) 1) (eqb (getD ds 0 0) 48) .1 (le→leb _ _ h, le→leb _ _ k, λ t. rw (first (eqb→eq _ _ t)) tt)
+form-natural ds h k first = natural-tests (leb 1 (length ds)) (leb (length ds) 9) (eqb (length ds) 1) (eqb (getD ds 0 0) 48) .1 (
+  le→leb _ _ h,
+  le→leb _ _ k,
+  λ t. rw (first (eqb→eq _ _ t)) tt,
+)
 
 -- ---- what a text starts with
 -- the number z, up to where no more digits follow
@@ -90,7 +94,9 @@ negative-reads : (bs : List ℕ) (z : ℤ) (rest : List ℕ) → negative bs ≡
 unfolding negative
 negative-reads bs z rest e =
     let (t, p) = cond-some (isNatural (digits bs) && not (eqb (valueOf (digits bs)) 0)) e in
-    subst (λ (r : ℤ × List ℕ). Starts (45 ∷ bs) (r .0) (r .1)) p (minus-starts bs (valueOf (digits bs)) _ (apart (valueOf (digits bs)) (and-right (isNatural (digits bs)) (not (eqb (valueOf (digits bs)) 0)) t)) (natural-starts bs (and-left (isNatural (digits bs)) (not (eqb (valueOf (digits bs)) 0)) t)))
+    subst (λ (r : ℤ × List ℕ). Starts (45 ∷ bs) (r .0) (r .1)) p
+    (minus-starts bs (valueOf (digits bs)) _ (apart (valueOf (digits bs)) (and-right (isNatural (digits bs)) (not (eqb (valueOf (digits bs)) 0)) t))
+    (natural-starts bs (and-left (isNatural (digits bs)) (not (eqb (valueOf (digits bs)) 0)) t)))
   where
     apart : (n : ℕ) → T (not (eqb n 0)) → n ≢ 0
     apart n t e = T-not (eqb n 0) t (rw e tt)
@@ -98,7 +104,8 @@ negative-reads bs z rest e =
 pub number-reads : (bs : List ℕ) (z : ℤ) (rest : List ℕ) → number bs ≡ some (z, rest) → Starts bs z rest
 unfolding number
 number-reads [] z rest = λ e. absurd (Option·none-ne-some (z, rest) e)
-number-reads (b ∷ bs) z rest = cond-ind (λ (r : Option (ℤ × List ℕ)). r ≡ some (z, rest) → Starts (b ∷ bs) z rest) (eqb b 45) (λ t e. rw (eqb→eq b 45 t) (negative-reads bs z rest e)) (λ t e. natural-reads (b ∷ bs) z rest e)
+number-reads (b ∷ bs) z rest = cond-ind (λ (r : Option (ℤ × List ℕ)). r ≡ some (z, rest) →
+    Starts (b ∷ bs) z rest) (eqb b 45) (λ t e. rw (eqb→eq b 45 t) (negative-reads bs z rest e)) (λ t e. natural-reads (b ∷ bs) z rest e)
 
 pub natural-spelled : (n : ℕ) (rest : List ℕ) → n < 10 ^ 9 → digits rest ≡ [] → natural (spellNat n ++ rest) ≡ some (pos n, rest)
 unfolding natural
@@ -113,4 +120,5 @@ number-natural (b ∷ bs) t = cond-false (eqb b 45) _ _ (not-T (eqb b 45) (λ u.
 pub number-spelled : (z : ℤ) (rest : List ℕ) → natAbs z < 10 ^ 9 → digits rest ≡ [] → number (spellInt z ++ rest) ≡ some (z, rest)
 unfolding number spellInt
 number-spelled (pos n) rest h e = number-natural (spellNat n ++ rest) (spelled-found n rest h e .form) ∙ natural-spelled n rest h e
-number-spelled (negsuc n) rest h e = let f = spelled-found (suc n) rest h e in rw (holds (isNatural (digits (spellNat (suc n) ++ rest))) (f .form), f .value, f .after, eqb·suc-zero n)
+number-spelled (negsuc n) rest h e = let f = spelled-found (suc n) rest h e in
+    rw (holds (isNatural (digits (spellNat (suc n) ++ rest))) (f .form), f .value, f .after, eqb·suc-zero n)

@@ -58,7 +58,8 @@ negative-is : (bs : List ℕ) → negative bs ≡ negated (natural bs)
 unfolding negative natural negated
 negative-is bs = go (isNatural (digits bs))
   where
-    go : (t : Bool) → cond (t && not (eqb (valueOf (digits bs)) 0)) (some (negℤ (pos (valueOf (digits bs))), drop (length (digits bs)) bs)) none ≡ negated (cond t (some (pos (valueOf (digits bs)), drop (length (digits bs)) bs)) none)
+    go : (t : Bool) → cond (t && not (eqb (valueOf (digits bs)) 0)) (some (negℤ (pos (valueOf (digits bs))), drop (length (digits bs)) bs)) none ≡ negated
+        (cond t (some (pos (valueOf (digits bs)), drop (length (digits bs)) bs)) none)
     go true = refl
     go false = refl
 
@@ -79,13 +80,21 @@ module _ {s : List ℕ} {at : ℕ} {r : ParsedNatural} (natural-at : NaturalAt s
   module _ {n next : ℕ} (e : r ≡ N.Read n next) where
     pub negative-zero : n ≡ 0 → NegativeAt s at Fault
     unfolding negated
-    negative-zero z = record { is = sym (ap (λ t. cond (not t) (some (negℤ (pos n), drop next s)) none) (eq-eqb n 0 z)) ∙ ap negated (read e .is) ∙ sym (negative-is (drop at s)); within = tt }
+    negative-zero z = record {
+      is = sym (ap (λ t. cond (not t) (some (negℤ (pos n), drop next s)) none) (eq-eqb n 0 z)) ∙ ap negated (read e .is)
+          ∙ sym (negative-is (drop at s));
+      within = tt;
+    }
 
     pub negative-read : (n ≡ 0 → ⊥) → NegativeAt s at (Read (toZ w64 (ofZ w64 (pos 0 -ℤ toZ w64 n))) next)
     unfolding negated
     negative-read z =
         rw (neg-bits n (read-small e))
-        (record { is = sym (ap (λ t. cond (not t) (some (negℤ (pos n), drop next s)) none) (ne-eqb n 0 z)) ∙ ap negated (read e .is) ∙ sym (negative-is (drop at s)); within = (rw (abs-neg n) (read-small e), read e .within .1) })
+        (record {
+          is = sym (ap (λ t. cond (not t) (some (negℤ (pos n), drop next s)) none) (ne-eqb n 0 z)) ∙ ap negated (read e .is)
+              ∙ sym (negative-is (drop at s));
+          within = (rw (abs-neg n) (read-small e), read e .within .1);
+        })
 
 -- ---- `number`
 pub number-negative : {s : List ℕ} {at : ℕ} {t : Bool} {r : ParsedNumber} → ByteIs s at minus t → t ≡ true → NegativeAt s (at + 1) r → NumberAt s at r
@@ -110,4 +119,8 @@ module _ {s : List ℕ} {at : ℕ} {t : Bool} (byte : ByteIs s at minus t) (is-n
     number-fault e = record { is = fault natural-at e .is ∙ sym number-is; within = tt }
 
     pub number-read : {n next : ℕ} → r ≡ N.Read n next → NumberAt s at (Read (toZ w64 n) next)
-    number-read {n} {next} e = rw (pos-bits n (read-small natural-at e)) (record { is = read natural-at e .is ∙ sym number-is; within = read natural-at e .within })
+    number-read {n} {next} e = rw (pos-bits n (read-small natural-at e)) (record {
+      is = read natural-at e .is ∙ sym number-is;
+      within =
+          read natural-at e .within;
+    })

@@ -54,25 +54,29 @@ wrote-nothing out at end e = record { next = omega arith; text = sym (written-ni
 pub wrote-kept : {out bs after : List ℕ} {at end : ℕ} → Wrote out at bs after end → at + length bs ≤ length out → length after ≡ length out
 wrote-kept {out} {bs} {after} {at} {end} w h = ap length (w .text) ∙ length-written out at bs h
 
-pub wrote-both : {out a mid b after : List ℕ} {at place end : ℕ} → Wrote out at a mid place → Wrote mid place b after end → at ≤ length out → Wrote out at (a ++ b) after end
+pub wrote-both : {out a mid b after : List ℕ} {at place end : ℕ} → Wrote out at a mid place → Wrote mid place b after end → at ≤ length out →
+    Wrote out at (a ++ b) after end
 wrote-both {out} {a} {mid} {b} {after} {at} {place} {end} v w h = record {
   next = omega (arith, v .next, w .next, length-append a b);
   text = w .text ∙ rw (v .text, v .next) (written-append out at a b h);
 }
 
 -- two parts behind what was written
-pub wrote-pair : {out front mid after : List ℕ} {at place end : ℕ} (a b : List ℕ) → Wrote out at front mid place → Wrote mid place (a ++ b) after end → at ≤ length out → Wrote out at (front ++ a ++ b) after end
+pub wrote-pair : {out front mid after : List ℕ} {at place end : ℕ} (a b : List ℕ) → Wrote out at front mid place →
+    Wrote mid place (a ++ b) after end → at ≤ length out → Wrote out at (front ++ a ++ b) after end
 wrote-pair {front = front} a b v w h = rw (append-assoc front a b) (wrote-both v w h)
 
 -- a byte stored, and one stored where what was written ends
 pub wrote-store : (out : List ℕ) (at b : ℕ) → at < length out → Wrote out at (b ∷ []) (set out at b) (at + 1)
 wrote-store out at b h = record { next = refl; text = sym (written-one out at b h) }
 
-pub wrote-byte : {out a mid : List ℕ} {at place : ℕ} (b : ℕ) → Wrote out at a mid place → place < length out → length mid ≡ length out → Wrote out at (a ++ (b ∷ [])) (set mid place b) (place + 1)
+pub wrote-byte : {out a mid : List ℕ} {at place : ℕ} (b : ℕ) → Wrote out at a mid place → place < length out → length mid ≡ length out →
+    Wrote out at (a ++ (b ∷ [])) (set mid place b) (place + 1)
 wrote-byte {out} {a} {mid} {at} {place} b w h l = wrote-both w (wrote-store mid place b (omega arith)) (omega (arith, w .next))
 
 -- a turn of a loop that copies s
-pub wrote-turn : {out mid : List ℕ} (s : List ℕ) (at i : ℕ) → Wrote out at (take i s) mid (at + i) → at + length s ≤ length out → i < length s → Wrote out at (take (i + 1) s) (set mid (at + i) (getD s i 0)) (at + (i + 1))
+pub wrote-turn : {out mid : List ℕ} (s : List ℕ) (at i : ℕ) → Wrote out at (take i s) mid (at + i) → at + length s ≤ length out → i < length s →
+    Wrote out at (take (i + 1) s) (set mid (at + i) (getD s i 0)) (at + (i + 1))
 wrote-turn s at i w h k =
     let e : take (i + 1) s ≡ take i s ++ (getD s i 0 ∷ []) = rw add-one (take-suc s i 0 k) in
     rw (e, ← add-assoc at i 1) (wrote-byte (getD s i 0) w (omega arith) (wrote-kept w (omega (arith, length-take-le i s (omega arith)))))

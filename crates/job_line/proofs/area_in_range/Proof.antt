@@ -17,7 +17,8 @@ coordinate-in-range-requires-2 c κs = search needs
 
 returns-2 : tie.Need-returns-2
 returns-2 c =
-    all-tested _ _ (ranges-on (search needs) (c .before .before .before .before .coordinate-in-range .ensures) (not-false _ (c .before .before .before .if1 .left))
+    all-tested _ _ (ranges-on (search needs) (c .before .before .before .before .coordinate-in-range .ensures)
+    (not-false _ (c .before .before .before .if1 .left))
     (ranges-off (search needs) (c .before .coordinate-in-range2 .ensures) (not-true _ (c .if2 .taken))))
 
 coordinate-in-range-requires-3 : tie.Need-coordinate-in-range-requires-3
@@ -25,7 +26,8 @@ coordinate-in-range-requires-3 c κs = search needs
 
 returns-3 : tie.Need-returns-3
 returns-3 c =
-    all-tested _ _ (ranges-on (search needs) (c .before .before .before .before .before .before .before .coordinate-in-range .ensures) (not-false _ (c .before .before .before .before .before .before .if1 .left))
+    all-tested _ _ (ranges-on (search needs) (c .before .before .before .before .before .before .before .coordinate-in-range .ensures)
+    (not-false _ (c .before .before .before .before .before .before .if1 .left))
     (ranges-on (search needs) (c .before .before .before .before .coordinate-in-range2 .ensures) (not-false _ (c .before .before .before .if2 .left))
     (ranges-off (search needs) (c .before .coordinate-in-range3 .ensures) (not-true _ (c .if3 .taken)))))
 
@@ -34,8 +36,10 @@ coordinate-in-range-requires-4 c κs = search needs
 
 returns-4 : tie.Need-returns-4
 returns-4 c =
-    all-tested _ _ (ranges-on (search needs) (c .before .before .before .before .before .before .before .before .before .coordinate-in-range .ensures) (not-false _ (c .before .before .before .before .before .before .before .before .if1 .left))
-    (ranges-on (search needs) (c .before .before .before .before .before .before .coordinate-in-range2 .ensures) (not-false _ (c .before .before .before .before .before .if2 .left))
+    all-tested _ _ (ranges-on (search needs) (c .before .before .before .before .before .before .before .before .before .coordinate-in-range .ensures)
+    (not-false _ (c .before .before .before .before .before .before .before .before .if1 .left))
+    (ranges-on (search needs) (c .before .before .before .before .before .before .coordinate-in-range2 .ensures)
+    (not-false _ (c .before .before .before .before .before .if2 .left))
     (ranges-on (search needs) (c .before .before .before .coordinate-in-range3 .ensures) (not-false _ (c .before .before .if3 .left))
     (ranges-last (search needs) (c .coordinate-in-range4 .ensures)))))
 

@@ -35,7 +35,8 @@ returns-2 c =
 returns-3 : tie.Need-returns-3
 returns-3 c =
     let d = c .before .before .before .before in
-    out-of-range (key-then (d .before .before .starts .ensures) (not-false _ (d .before .if1 .left)) (last-number (d .field .ensures) (c .before .before .z .given .1)))
+    out-of-range (key-then (d .before .before .starts .ensures) (not-false _ (d .before .if1 .left))
+    (last-number (d .field .ensures) (c .before .before .z .given .1)))
     (count-below _ _ (c .if2 .taken))
 
 cast-n : tie.Need-cast-n
@@ -46,14 +47,16 @@ cast-n c =
 returns-4 : tie.Need-returns-4
 returns-4 c =
     let d = c .before .before .before .before .before in
-    out-of-range (key-then (d .before .before .starts .ensures) (not-false _ (d .before .if1 .left)) (last-number (d .field .ensures) (c .before .before .before .z .given .1)))
+    out-of-range (key-then (d .before .before .starts .ensures) (not-false _ (d .before .if1 .left))
+    (last-number (d .field .ensures) (c .before .before .before .z .given .1)))
     (count-above _ _ (field-natural (d .field .ensures) (c .before .before .before .z .given .1) (c .before .if2 .left)) (omega (arith, c .if3 .taken)))
 
 returns-5 : tie.Need-returns-5
 returns-5 c =
     let d = c .before .before .before .before .before in
     let natural = field-natural (d .field .ensures) (c .before .before .before .z .given .1) (c .before .if2 .left) in
-    last-natural [] _ natural (line-read (key-then (d .before .before .starts .ensures) (not-false _ (d .before .if1 .left)) (last-number (d .field .ensures) (c .before .before .before .z .given .1)))
+    last-natural [] _ natural (line-read (key-then (d .before .before .starts .ensures) (not-false _ (d .before .if1 .left))
+    (last-number (d .field .ensures) (c .before .before .before .z .given .1)))
     (count-within _ _ natural (omega (arith, c .if3 .left))) (field-inside (d .field .ensures) (c .before .before .before .z .given .1)))
 
 pub count-line-spec : {M : Type 1} → statement M

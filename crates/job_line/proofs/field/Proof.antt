@@ -23,10 +23,12 @@ enum-told : tie.Need-enum-told
 enum-told c = search needs
 
 returns : tie.Need-returns
-returns c = field-on (c .before .before .before .before .before .number .ensures) _ (c .before .before .before .z .given .1) (c .before .byte-is .ensures) (c .if1 .taken)
+returns c = field-on (c .before .before .before .before .before .number .ensures) _ (c .before .before .before .z .given .1) (c .before .byte-is .ensures)
+    (c .if1 .taken)
 
 returns-2 : tie.Need-returns-2
-returns-2 c = field-off (c .before .before .before .before .before .number .ensures) _ (c .before .before .before .z .given .1) (c .before .byte-is .ensures) (c .if1 .left)
+returns-2 c = field-off (c .before .before .before .before .before .number .ensures) _ (c .before .before .before .z .given .1) (c .before .byte-is .ensures)
+    (c .if1 .left)
 
 returns-3 : tie.Need-returns-3
 returns-3 c = field-none (c .before .before .number .ensures) _ (c .enum-told .given .1)

@@ -12,7 +12,8 @@ coordinate-in-range-requires-2 : tie.Need-coordinate-in-range-requires-2
 coordinate-in-range-requires-2 c κs = search needs
 
 returns : tie.Need-returns
-returns c = all-tested _ _ (ranges-on (search needs) (c .before .before .before .coordinate-in-range .ensures) (c .before .before .if1 .taken) (ranges-last (search needs) (c .coordinate-in-range2 .ensures)))
+returns c = all-tested _ _ (ranges-on (search needs) (c .before .before .before .coordinate-in-range .ensures) (c .before .before .if1 .taken)
+    (ranges-last (search needs) (c .coordinate-in-range2 .ensures)))
 
 returns-2 : tie.Need-returns-2
 returns-2 c = all-tested _ _ (ranges-off (search needs) (c .before .coordinate-in-range .ensures) (c .if1 .left))

@@ -13,7 +13,8 @@ between-requires : tie.Need-between-requires
 between-requires c κs = search needs
 
 returns : tie.Need-returns
-returns c = stop-on _ _ _ (c .before .before .place-in-range .ensures) (c .before .if1 .taken) (range-held visits (c .before .before .before .fits .visits) (c .between .ensures))
+returns c = stop-on _ _ _ (c .before .before .place-in-range .ensures) (c .before .if1 .taken)
+    (range-held visits (c .before .before .before .fits .visits) (c .between .ensures))
 
 returns-2 : tie.Need-returns-2
 returns-2 c = stop-off _ _ _ (c .before .place-in-range .ensures) (c .if1 .left)

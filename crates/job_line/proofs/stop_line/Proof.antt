@@ -96,7 +96,8 @@ returns-5 c =
 cast-t25 : tie.Need-cast-t25
 cast-t25 c =
     let f = c .before .before .before .before .before in
-    field-cast (f .field3 .ensures) (c .before .before .before .visits .given .1) (stop-natural _ _ _ (sym (c .before .stop-in-range .ensures) ∙ not-false _ (c .if2 .left)))
+    field-cast (f .field3 .ensures) (c .before .before .before .visits .given .1)
+    (stop-natural _ _ _ (sym (c .before .stop-in-range .ensures) ∙ not-false _ (c .if2 .left)))
 
 returns-6 : tie.Need-returns-6
 unfolding bytes

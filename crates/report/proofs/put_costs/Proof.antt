@@ -36,7 +36,9 @@ unfolding bytes
 returns c =
     let start = c .before .before .before .before .before .before .before .before .before .before .before .before .before .before .before .before in
     let low = rw (toZ-ofZ w64 (start .args .low) (start .fits .low)) at (c .before .before .before .before .before .before .before .put-key-int .ensures .0) in
-    let both = wrote-pair (bytes "\nlow=") (spellInt (start .args .low)) (c .before .before .before .before .before .before .before .before .before .before .before .before .put-key-nat .ensures .0) low (omega (arith, start .pre)) in
+    let both = wrote-pair (bytes "\nlow=") (spellInt (start .args .low))
+    (c .before .before .before .before .before .before .before .before .before .before .before .before .put-key-nat .ensures .0) low
+    (omega (arith, start .pre)) in
     wrote-pair (bytes "\nbefore=") (spellNat (start .args .before)) both (c .before .before .put-key-nat2 .ensures .0) (omega (arith, start .pre))
 
 pub put-costs-spec : {M : Type 1} → statement M

@@ -22,8 +22,17 @@ same-length c = search needs
 
 returns : tie.Need-returns
 returns c =
-    let w = wrote-both (c .before .before .before .before .before .before .put .ensures) (rw (toZ-ofZ w64 _ (c .before .before .before .before .before .before .before .before .before .before .fits .z)) at (c .before .before .put-int .ensures)) (omega arith) in
-    (w, omega (arith, w .next, length-int-part (c .before .before .before .before .before .before .before .before .before .before .args .key .now) (c .before .before .before .before .before .before .before .before .before .before .args .z)))
+    let w = wrote-both (c .before .before .before .before .before .before .put .ensures)
+    (rw (toZ-ofZ w64 _ (c .before .before .before .before .before .before .before .before .before .before .fits .z)) at
+    (c .before .before .put-int .ensures)) (omega arith) in (
+      w,
+      omega (
+        arith,
+        w .next,
+        length-int-part (c .before .before .before .before .before .before .before .before .before .before .args .key .now)
+            (c .before .before .before .before .before .before .before .before .before .before .args .z),
+      ),
+    )
 
 pub put-key-int-spec : {M : Type 1} → statement M
 put-key-int-spec = tie.close (tie.spec put-requires put-int-requires same-length returns)

@@ -19,8 +19,15 @@ same-length c = search needs
 
 returns : tie.Need-returns
 returns c =
-    let w = wrote-both (c .before .before .before .before .before .before .put .ensures) (c .before .before .put-nat .ensures) (omega arith) in
-    (w, omega (arith, w .next, length-nat-part (c .before .before .before .before .before .before .before .before .before .before .args .key .now) (c .before .before .before .before .before .before .before .before .before .before .args .n)))
+    let w = wrote-both (c .before .before .before .before .before .before .put .ensures) (c .before .before .put-nat .ensures) (omega arith) in (
+      w,
+      omega (
+        arith,
+        w .next,
+        length-nat-part (c .before .before .before .before .before .before .before .before .before .before .args .key .now)
+            (c .before .before .before .before .before .before .before .before .before .before .args .n),
+      ),
+    )
 
 pub put-key-nat-spec : {M : Type 1} → statement M
 put-key-nat-spec = tie.close (tie.spec put-requires put-nat-requires same-length returns)

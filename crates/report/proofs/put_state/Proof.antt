@@ -15,7 +15,8 @@ use Rattle.report.specs.Text.{stateText}
 use Rattle.report.proofs.put_state.Statement.{statement}
 use Rattle.report.proofs.put_state.Tie as tie
 
-finish : {out key mid word after : List ℕ} {at place end : ℕ} (s : State) → stateText (reportState s) ≡ word → Wrote out at key mid place → Wrote mid place word after end → at ≤ length out → Wrote out at (key ++ stateText (reportState s)) after end
+finish : {out key mid word after : List ℕ} {at place end : ℕ} (s : State) → stateText (reportState s) ≡ word → Wrote out at key mid place →
+    Wrote mid place word after end → at ≤ length out → Wrote out at (key ++ stateText (reportState s)) after end
 finish s e v w h = rw e (wrote-both v w h)
 
 slice-aggregate-put : tie.Need-slice-aggregate-put
@@ -49,7 +50,8 @@ returns : tie.Need-returns
 unfolding bytes
 returns c =
     let start = c .before .before .before .before .before .before .before .before .before .before .before .before .before in
-    finish (start .args .state) (ap (λ s. stateText (reportState s)) (c .before .before .before .before .before .enum-told .given .1)) (c .before .before .before .before .before .before .before .before .before .put .ensures) (c .before .before .put2 .ensures) (omega (arith, start .pre))
+    finish (start .args .state) (ap (λ s. stateText (reportState s)) (c .before .before .before .before .before .enum-told .given .1))
+    (c .before .before .before .before .before .before .before .before .before .put .ensures) (c .before .before .put2 .ensures) (omega (arith, start .pre))
 
 same-length-2 : tie.Need-same-length-2
 same-length-2 c = search needs
@@ -58,7 +60,8 @@ returns-2 : tie.Need-returns-2
 unfolding bytes
 returns-2 c =
     let start = c .before .before .before .before .before .before .before .before .before .before .before .before .before in
-    finish (start .args .state) (ap (λ s. stateText (reportState s)) (c .before .before .before .before .before .enum-told2 .given .1)) (c .before .before .before .before .before .before .before .before .before .put .ensures) (c .before .before .put3 .ensures) (omega (arith, start .pre))
+    finish (start .args .state) (ap (λ s. stateText (reportState s)) (c .before .before .before .before .before .enum-told2 .given .1))
+    (c .before .before .before .before .before .before .before .before .before .put .ensures) (c .before .before .put3 .ensures) (omega (arith, start .pre))
 
 pub put-state-spec : {M : Type 1} → statement M
 put-state-spec =

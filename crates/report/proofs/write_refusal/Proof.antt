@@ -35,7 +35,10 @@ same-length c = search needs
 
 returns : tie.Need-returns
 unfolding bytes
-returns c = refusal-filled _ _ (c .before .before .before .before .before .before .before .before .before .before .before .before .before .before .before .before .number-of .ensures) (c .before .before .before .before .before .before .before .before .before .before .before .before .before .before .before .line-of .ensures) (c .before .before .before .before .before .before .before .before .before .before .before .before .put-key-nat .ensures .0) (c .before .before .before .before .before .before .before .put-key-nat2 .ensures .0) (c .before .before .put .ensures)
+returns c = refusal-filled _ _ (c .before .before .before .before .before .before .before .before .before .before .before .before .before .before .before
+    .before .number-of .ensures) (c .before .before .before .before .before .before .before .before .before .before .before .before .before .before .before
+    .line-of .ensures) (c .before .before .before .before .before .before .before .before .before .before .before .before .put-key-nat .ensures .0)
+    (c .before .before .before .before .before .before .before .put-key-nat2 .ensures .0) (c .before .before .put .ensures)
 
 pub write-refusal-spec : {M : Type 1} → statement M
 write-refusal-spec =

@@ -24,10 +24,12 @@ back : (z : ℤ) → natAbs z < 2 ^ 63 → toZ w64 (ofZ w64 z) ≡ z
 back (pos n) h = toZ-ofZ w64 (pos n) (record { sfits = h })
 back (negsuc n) h = toZ-ofZ w64 (negsuc n) (record { sfits = omega arith })
 
-place-wrote : {m m′ : List ℕ} {e e′ : ℕ} (r : Report) → FiguresInRange 1000 (reportFigures r) → Wrote m e (placePart (toZ w64 (ofZ w64 (r .x))) (toZ w64 (ofZ w64 (r .y)))) m′ e′ → Wrote m e (placePart (r .x) (r .y)) m′ e′
+place-wrote : {m m′ : List ℕ} {e e′ : ℕ} (r : Report) → FiguresInRange 1000 (reportFigures r) →
+    Wrote m e (placePart (toZ w64 (ofZ w64 (r .x))) (toZ w64 (ofZ w64 (r .y)))) m′ e′ → Wrote m e (placePart (r .x) (r .y)) m′ e′
 place-wrote r h w = rw (back (r .x) (omega (arith, h .place .x-range)), back (r .y) (omega (arith, h .place .y-range))) at w
 
-costs-wrote : {m m′ : List ℕ} {e e′ : ℕ} (r : Report) → FiguresInRange 1000 (reportFigures r) → Wrote m e (costsPart (r .high) (toZ w64 (ofZ w64 (r .low))) (r .before)) m′ e′ → Wrote m e (costsPart (r .high) (r .low) (r .before)) m′ e′
+costs-wrote : {m m′ : List ℕ} {e e′ : ℕ} (r : Report) → FiguresInRange 1000 (reportFigures r) →
+    Wrote m e (costsPart (r .high) (toZ w64 (ofZ w64 (r .low))) (r .before)) m′ e′ → Wrote m e (costsPart (r .high) (r .low) (r .before)) m′ e′
 costs-wrote r h w = rw (back (r .low) (omega (arith, h .low-limit))) at w
 
 -- the calls that a call stands behind
@@ -61,7 +63,12 @@ place-room c =
     let r = start (state c) .args .r in
     let h = start (state c) .pre .1 in
     record {
-      end-most = omega (arith, state-room (state c) .end-most, place-wrote r h (c .put-place .ensures) .next, length-place (r .x) (r .y) (h .place .x-range) (h .place .y-range));
+      end-most = omega (
+        arith,
+        state-room (state c) .end-most,
+        place-wrote r h (c .put-place .ensures) .next,
+        length-place (r .x) (r .y) (h .place .x-range) (h .place .y-range),
+      );
       room = omega (arith, c .put-place .kept .0, state-room (state c) .room);
     }
 
@@ -71,7 +78,12 @@ costs-room c =
     let r = start (state (place c)) .args .r in
     let h = start (state (place c)) .pre .1 in
     record {
-      end-most = omega (arith, place-room (place c) .end-most, costs-wrote r h (c .put-costs .ensures) .next, length-costs (r .high) (r .low) (r .before) (h .high-limit) (h .low-limit) (h .before-limit));
+      end-most = omega (
+        arith,
+        place-room (place c) .end-most,
+        costs-wrote r h (c .put-costs .ensures) .next,
+        length-costs (r .high) (r .low) (r .before) (h .high-limit) (h .low-limit) (h .before-limit),
+      );
       room = omega (arith, c .put-costs .kept .0, place-room (place c) .room);
     }
 
@@ -80,7 +92,12 @@ unfolding bytes
 rounds-room c =
     let at-start = start (state (place (costs c))) in
     record {
-      end-most = omega (arith, costs-room (costs c) .end-most, c .put-key-nat .ensures .0 .next, length-rounds (at-start .args .r .rounds) (at-start .pre .1 .rounds-limit));
+      end-most = omega (
+        arith,
+        costs-room (costs c) .end-most,
+        c .put-key-nat .ensures .0 .next,
+        length-rounds (at-start .args .r .rounds) (at-start .pre .1 .rounds-limit),
+      );
       room = omega (arith, c .put-key-nat .kept .0, costs-room (costs c) .room);
     }
 
@@ -117,7 +134,8 @@ returns c =
     let at-state = state at-place in
     let r = start at-state .args .r in
     let h = start at-state .pre .1 in
-    report-filled (reportFigures r) (at-state .put-state .ensures) (place-wrote r h (at-place .put-place .ensures)) (costs-wrote r h (at-costs .put-costs .ensures)) (at-rounds .put-key-nat .ensures .0) (c .before .before .put .ensures)
+    report-filled (reportFigures r) (at-state .put-state .ensures) (place-wrote r h (at-place .put-place .ensures))
+    (costs-wrote r h (at-costs .put-costs .ensures)) (at-rounds .put-key-nat .ensures .0) (c .before .before .put .ensures)
 
 pub write-report-spec : {M : Type 1} → statement M
 write-report-spec =

@@ -29,7 +29,10 @@ byte-is-requires : tie.Need-byte-is-requires Inv-loop μ-loop
 byte-is-requires c κs = search needs
 
 returns : tie.Need-returns Inv-loop μ-loop
-returns c = record { is = matched-not (c .before .before .before .before .loop .inv .2) (c .before .before .before .loop-test .taken) (c .before .byte-is .ensures) (not-true _ (c .if1 .taken)) }
+returns c = record {
+  is = matched-not (c .before .before .before .before .loop .inv .2) (c .before .before .before .loop-test .taken)
+      (c .before .byte-is .ensures) (not-true _ (c .if1 .taken));
+}
 
 add-i : tie.Need-add-i Inv-loop μ-loop
 add-i c = omega arith
@@ -41,7 +44,8 @@ loop-again : tie.Need-loop-again Inv-loop μ-loop
 loop-again c = (
   omega arith,
   omega (arith, byte-there (c .before .byte-is .ensures) (not-false _ (c .if1 .left))),
-  matched-more (c .before .before .before .before .loop .inv .2) (c .before .before .before .loop-test .taken) (c .before .byte-is .ensures) (not-false _ (c .if1 .left)),
+  matched-more (c .before .before .before .before .loop .inv .2) (c .before .before .before .loop-test .taken) (c .before .byte-is .ensures)
+      (not-false _ (c .if1 .left)),
 )
 
 returns-2 : tie.Need-returns-2 Inv-loop μ-loop

@@ -22,11 +22,13 @@ single : (out : List ℕ) (at n : ℕ) → n < 10 → at < length out → Wrote 
 single out at n h k = rw (spellNat-one n h) (wrote-store out at (48 + n) k)
 
 -- the digits of n / 10 leave room for one more
-room : (out mid : List ℕ) (at n place : ℕ) → 10 ≤ n → n < 2 ^ 64 → at + length (spellNat n) ≤ length out → Wrote out at (spellNat (n / 10)) mid place → place < length out
+room : (out mid : List ℕ) (at n place : ℕ) → 10 ≤ n → n < 2 ^ 64 → at + length (spellNat n) ≤ length out → Wrote out at (spellNat (n / 10)) mid place →
+    place < length out
 room out mid at n place g h k w = omega (arith, w .next, length-more n g (omega arith))
 
 -- and the last digit behind them
-several : (out mid : List ℕ) (at n place : ℕ) → 10 ≤ n → n < 2 ^ 64 → at + length (spellNat n) ≤ length out → length mid ≡ length out → Wrote out at (spellNat (n / 10)) mid place → Wrote out at (spellNat n) (set mid place (48 + n % 10)) (place + 1)
+several : (out mid : List ℕ) (at n place : ℕ) → 10 ≤ n → n < 2 ^ 64 → at + length (spellNat n) ≤ length out → length mid ≡ length out →
+    Wrote out at (spellNat (n / 10)) mid place → Wrote out at (spellNat n) (set mid place (48 + n % 10)) (place + 1)
 several out mid at n place g h k l w = rw (spellNat-more n g (omega arith)) (wrote-byte (48 + n % 10) w (room out mid at n place g h k w) l)
 
 abbrev μ-put-nat : Measures 1 put-nat-kinds.ps ℕ

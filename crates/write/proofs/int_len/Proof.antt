@@ -21,7 +21,10 @@ returns : tie.Need-returns
 returns c = (omega (arith, ap length (negative _ _ (c .before .before .before .fits .z) (c .if1 .taken) (c .before .before .magnitude .ensures))), omega arith)
 
 returns-2 : tie.Need-returns-2
-returns-2 c = (omega (arith, ap length (nonNegative _ _ (c .before .before .before .fits .z) (c .if1 .left) (c .before .before .magnitude .ensures))), omega arith)
+returns-2 c = (
+  omega (arith, ap length (nonNegative _ _ (c .before .before .before .fits .z) (c .if1 .left) (c .before .before .magnitude .ensures))),
+  omega arith,
+)
 
 pub int-len-spec : {M : Type 1} → statement M
 int-len-spec =

@@ -17,7 +17,8 @@ use Rattle.write.proofs.put_int.Statement.{statement}
 use Rattle.write.proofs.put_int.Tie as tie
 
 -- the `-` at its place, and the digits behind it
-behind : {out after : List ℕ} {at end : ℕ} (z : ℤ) (n : ℕ) → spellInt z ≡ minus ∷ spellNat n → at < length out → Wrote (set out at 45) (at + 1) (spellNat n) after end → Wrote out at (spellInt z) after end
+behind : {out after : List ℕ} {at end : ℕ} (z : ℤ) (n : ℕ) → spellInt z ≡ minus ∷ spellNat n → at < length out →
+    Wrote (set out at 45) (at + 1) (spellNat n) after end → Wrote out at (spellInt z) after end
 behind {out} {after} {at} z n e h w = rw e (wrote-both (wrote-store out at 45 h) w (le-of-lt h))
 
 slice-write-out : tie.Need-slice-write-out
@@ -30,27 +31,36 @@ magnitude-requires : tie.Need-magnitude-requires
 magnitude-requires c κs = search needs
 
 put-nat-requires : tie.Need-put-nat-requires
-put-nat-requires c κs = simp length-set (omega (arith, ap length (negative _ _ (c .before .before .before .before .fits .z) (c .before .before .if1 .taken) (c .magnitude .ensures))))
+put-nat-requires c κs = simp length-set (omega (
+  arith,
+  ap length (negative _ _ (c .before .before .before .before .fits .z) (c .before .before .if1 .taken) (c .magnitude .ensures)),
+))
 
 magnitude-requires-2 : tie.Need-magnitude-requires-2
 magnitude-requires-2 c κs = search needs
 
 put-nat-requires-2 : tie.Need-put-nat-requires-2
-put-nat-requires-2 c κs = omega (arith, ap length (nonNegative _ _ (c .before .before .before .before .fits .z) (c .before .before .if1 .left) (c .magnitude2 .ensures)))
+put-nat-requires-2 c κs = omega (
+  arith,
+  ap length (nonNegative _ _ (c .before .before .before .before .fits .z) (c .before .before .if1 .left)
+      (c .magnitude2 .ensures)),
+)
 
 same-length : tie.Need-same-length
 same-length c = c .before .before .put-nat .kept .0 ∙ simp length-set
 
 returns : tie.Need-returns
 returns c =
-    let e = negative _ _ (c .before .before .before .before .before .before .before .fits .z) (c .before .before .before .before .before .if1 .taken) (c .before .before .before .magnitude .ensures) in
+    let e = negative _ _ (c .before .before .before .before .before .before .before .fits .z) (c .before .before .before .before .before .if1 .taken)
+    (c .before .before .before .magnitude .ensures) in
     behind _ _ e (omega (arith, ap length e)) (c .before .before .put-nat .ensures)
 
 same-length-2 : tie.Need-same-length-2
 same-length-2 c = search needs
 
 returns-2 : tie.Need-returns-2
-returns-2 c = rw (nonNegative _ _ (c .before .before .before .before .before .before .before .fits .z) (c .before .before .before .before .before .if1 .left) (c .before .before .before .magnitude2 .ensures)) (c .before .before .put-nat2 .ensures)
+returns-2 c = rw (nonNegative _ _ (c .before .before .before .before .before .before .before .fits .z) (c .before .before .before .before .before .if1 .left)
+    (c .before .before .before .magnitude2 .ensures)) (c .before .before .put-nat2 .ensures)
 
 pub put-int-spec : {M : Type 1} → statement M
 put-int-spec =
