@@ -3,37 +3,35 @@
 use mathlib.Core.Path.{_≡_, refl, sym, ap, _∙_}
 use mathlib.Core.Bool.{Bool, true, false, cond}
 use mathlib.Core.List.{List, [], _∷_, _++_, zipWith, map}
-use Prim.Native.Nat.{ℕ, zero, suc, _+_, _^_, _≤_, _<_}
+use Prim.Native.Nat.{ℕ, zero, suc, _+_, _^_, _≤_, _<_, min}
 use native.Mathlib.Numerals.{add-one}
 use native.Mathlib.Omega.{arith}
 use lib.Dec.{ltb, ltb→lt}
 use lib.IntN.{ℤ, pos}
-use lib.ListN.{length, getD, take, set, length-take, length-map, List·getD-map}
-use lib.Seq.{take-suc, length-take-le, getD-take}
+use lib.ListN.{length, getD, take, drop, set, length-take, length-map, List·getD-map}
+use lib.Seq.{take-suc, getD-drop}
 use lib.Signed.{ltZ}
 use mir.Syntax.{w32}
-use mir.Val.{toZ, ofZ}
-use mir.ValLaws.{toZ-pos}
+use mir.Val.{SFits, toZ, ofZ}
+use mir.ValLaws.{toZ-ofZ, toZ-pos}
 use Rattle.numbers.specs.Lists.{leastBy}
 use Rattle.numbers.proofs.Truth.{cond-ind}
-use Rattle.numbers.specs.Padded.{padded}
 use Rattle.query.specs.Place.{Place}
 use Rattle.query.specs.Deck.{AxisCosts, plain}
 use Rattle.query.specs.Travel.{travel, closest}
 use Rattle.deck.specs.DeckOf.{places}
 use Rattle.deck.specs.Ranges.{CoordinatesInRange, Near180000}
-use Rattle.deck.proofs.WordLaws.{coordinate, narrowed}
-use Rattle.deck.proofs.TravelLaws.{far, travel-plain, narrow, narrow-place}
-use Rattle.numbers.proofs.Padded.{padded-length, Filled, fill-more, padded-front}
+use Rattle.deck.proofs.WordLaws.{coordinate}
+use Rattle.deck.proofs.TravelLaws.{far, travel-plain, place-word}
+use Rattle.deck.proofs.CopyLaws.{Copied, copied-more, copied-before}
 
 -- ---- two lists side by side
 module _ {A B C : Type 0} (f : A → B → C) where
-  pub zip-length : (k : ℕ) (xs : List A) (ys : List B) → length xs ≡ k → length ys ≡ k → length (zipWith f xs ys) ≡ k
+  pub zip-length : (xs : List A) (ys : List B) → length (zipWith f xs ys) ≡ min (length xs) (length ys)
   unfolding zipWith
-  zip-length k [] ys e g = e
-  zip-length k (x ∷ xs) [] e g = g
-  zip-length zero (x ∷ xs) (y ∷ ys) e g = absurd (omega arith)
-  zip-length (suc k) (x ∷ xs) (y ∷ ys) e g = ap suc (zip-length k xs ys (omega arith) (omega arith))
+  zip-length [] ys = omega arith
+  zip-length (x ∷ xs) [] = omega arith
+  zip-length (x ∷ xs) (y ∷ ys) = omega (arith, zip-length xs ys)
 
   pub zip-at : (a : A) (b : B) (c : C) (xs : List A) (ys : List B) (i : ℕ) → i < length xs → i < length ys → getD (zipWith f xs ys) i c ≡ f (getD xs i a) (getD ys i b)
   unfolding zipWith
@@ -52,9 +50,9 @@ module _ {A B C : Type 0} (f : A → B → C) where
 abbrev pub placeAt : List ℤ → List ℤ → ℕ → Place
 placeAt xs ys i = record { x = getD xs i (pos 0); y = getD ys i (pos 0) }
 
-pub places-length : (k : ℕ) (xs ys : List ℤ) → length xs ≡ k → length ys ≡ k → length (places xs ys) ≡ k
+pub places-length : (xs ys : List ℤ) → length (places xs ys) ≡ min (length xs) (length ys)
 unfolding places
-places-length k xs ys e g = zip-length _ k xs ys e g
+places-length xs ys = zip-length _ xs ys
 
 pub places-at : (xs ys : List ℤ) (i : ℕ) (d : Place) → i < length xs → i < length ys → getD (places xs ys) i d ≡ placeAt xs ys i
 unfolding places
@@ -65,20 +63,9 @@ pub places-front : (k : ℕ) (us vs xs ys : List ℤ) → take k us ≡ take k x
 unfolding places
 places-front k us vs xs ys e g = rw (zip-take _ k us vs, zip-take _ k xs ys, e, g)
 
--- ---- a column that was copied: its first k numbers
-module _ {size k : ℕ} {xs us : List ℤ} (range : CoordinatesInRange size xs k) (e : us ≡ padded size (pos 0) (take k xs)) where
-  few : length (take k xs) ≡ k
-  few = length-take-le k xs (omega (arith, range .count, range .long))
-
-  pub copied-front : take k us ≡ take k xs
-  copied-front = rw e (ap (λ (m : ℕ). take m (padded size (pos 0) (take k xs))) (sym few) ∙ padded-front size (pos 0) (take k xs))
-
-  pub copied-range : CoordinatesInRange size us k
-  copied-range = record {
-    count = range .count;
-    long = rw e (padded-length size (pos 0) (take k xs) (omega (arith, few, range .count)));
-    range = λ i h. rw (sym (getD-take k us i (pos 0) h) ∙ ap (λ (l : List ℤ). getD l i (pos 0)) copied-front ∙ getD-take k xs i (pos 0) h) (range .range i h);
-  }
+-- the near of a place
+abbrev pub nearBy : List ℤ → List ℤ → ℕ → Place → ℤ
+nearBy px py k p = pos (closest plain p (take k (places px py)))
 
 -- ---- one more post
 least-snoc : (x : ℕ) (xs : List ℕ) (y : ℕ) → leastBy ltb x (xs ++ y ∷ []) ≡ cond (ltb y (leastBy ltb x xs)) y (leastBy ltb x xs)
@@ -111,11 +98,11 @@ pub record ClosestSoFar (px py : List ℤ) (k : ℕ) (p : Place) (least j : ℕ)
   pub is : least ≡ closest plain p (take j (places px py))
   pub small : least < 2 ^ 31
 
-module _ (px py : List ℤ) (k : ℕ) (p : Place) (gx : CoordinatesInRange 64 px k) (gy : CoordinatesInRange 64 py k) where
+module _ (px py : List ℤ) (k : ℕ) (p : Place) (gx : CoordinatesInRange px k) (gy : CoordinatesInRange py k) where
   more : (j : ℕ) → j < k → take (j + 1) (places px py) ≡ take j (places px py) ++ placeAt px py j ∷ []
   more j h =
-      let l : j < length (places px py) = omega (arith, places-length 64 px py (gx .long) (gy .long)) in
-      rw (add-one j, take-suc (places px py) j (placeAt px py 0) l, places-at px py j (placeAt px py 0) (omega arith) (omega arith))
+      let l : j < length (places px py) = omega (arith, places-length px py, gx .count, gy .count) in
+      rw (add-one j, take-suc (places px py) j (placeAt px py 0) l, places-at px py j (placeAt px py 0) (omega (arith, gx .count)) (omega (arith, gy .count)))
 
   pub closest-first : (z : ℤ) → 1 ≤ k → far (p .x) (p .y) (getD px 0 (pos 0)) (getD py 0 (pos 0)) < 2 ^ 31 → z ≡ pos (far (p .x) (p .y) (getD px 0 (pos 0)) (getD py 0 (pos 0))) → ClosestSoFar px py k p (ofZ w32 z) 1
   closest-first z h small e = record { some = omega arith; count = h; is = rw (e, more 0 h, closest-one, travel-plain); small = rw e small }
@@ -134,7 +121,7 @@ module _ (px py : List ℤ) (k : ℕ) (p : Place) (gx : CoordinatesInRange 64 px
       new = far (p .x) (p .y) (getD px j (pos 0)) (getD py j (pos 0))
 
       some : 1 ≤ length (take j (places px py))
-      some = omega (arith, so-far .some, length-take j (places px py), places-length 64 px py (gx .long) (gy .long), gx .count)
+      some = omega (arith, so-far .some, length-take j (places px py), places-length px py, gx .count, gy .count)
 
       smaller : ofZ w32 z ≡ cond (ltb new least) new least
       smaller = rw (e, coordinate (getD px j (pos 0)) (gx .range j h), coordinate (getD py j (pos 0)) (gy .range j h), toZ-pos w32 least (so-far .small)) (picked (ltb new least) new least)
@@ -143,16 +130,36 @@ module _ (px py : List ℤ) (k : ℕ) (p : Place) (gx : CoordinatesInRange 64 px
   closest-all {least} {j} so-far h = let e : j ≡ k = omega arith in so-far .is ∙ rw e
 
 -- post j of k
-pub post-range : {px py : List ℤ} {k : ℕ} → CoordinatesInRange 64 px k → CoordinatesInRange 64 py k → (j : ℕ) → j < k → Near180000 (getD px j (pos 0)) (getD py j (pos 0))
+pub post-range : {px py : List ℤ} {k : ℕ} → CoordinatesInRange px k → CoordinatesInRange py k → (j : ℕ) → j < k → Near180000 (getD px j (pos 0)) (getD py j (pos 0))
 post-range gx gy j h = record { x-range = gx .range j h; y-range = gy .range j h }
 
--- ---- a figure of each place, one place after another
-pub narrow-row : {xs ys : List ℤ} {n : ℕ} → CoordinatesInRange 512 xs n → CoordinatesInRange 512 ys n → (i : ℕ) → i < n → Near180000 (narrow (getD xs i (pos 0))) (narrow (getD ys i (pos 0)))
-narrow-row {xs} {ys} gx gy i h = narrow-place (getD xs i (pos 0)) (getD ys i (pos 0)) (gx .range i h) (gy .range i h)
+-- ---- columns whose last one is filled, a number for each place of the first two
+module _ (columns : List ℤ) (n : ℕ) (gx : CoordinatesInRange columns n) (gy : CoordinatesInRange (drop 512 columns) n) (few : n ≤ 512) (long : length columns ≡ 2048) where
+  module _ {s to : List ℤ} {i : ℕ} (so-far : Copied columns 1536 s n to i) (h : i < n) where
+    x-kept : getD to i (pos 0) ≡ getD columns i (pos 0)
+    x-kept = copied-before columns 1536 s n so-far (omega arith) i (pos 0) (omega arith)
 
-module _ (f : Place → ℕ) (xs ys : List ℤ) (n : ℕ) (gx : CoordinatesInRange 512 xs n) (gy : CoordinatesInRange 512 ys n) where
-  pub figures-more : {to : List ℕ} {i : ℕ} (r : ℕ) → Filled 512 0 (map f (places xs ys)) n to i → i < n → r ≡ f (record { x = narrow (getD xs i (pos 0)); y = narrow (getD ys i (pos 0)) }) → Filled 512 0 (map f (places xs ys)) n (set to i r) (i + 1)
-  figures-more {to} {i} r so-far h e = fill-more 512 0 (map f (places xs ys)) n r (f (placeAt xs ys 0)) (gx .count) long so-far h (e ∙ rw (narrowed (getD xs i (pos 0)) (gx .range i h), narrowed (getD ys i (pos 0)) (gy .range i h), List·getD-map f (places xs ys) i (placeAt xs ys 0), places-at xs ys i (placeAt xs ys 0) (omega arith) (omega arith)))
+    y-kept : getD to (512 + i) (pos 0) ≡ getD (drop 512 columns) i (pos 0)
+    y-kept = copied-before columns 1536 s n so-far (omega arith) (512 + i) (pos 0) (omega arith) ∙ sym (getD-drop 512 columns i (pos 0))
+
+    pub place-row : Near180000 (toZ w32 (ofZ w32 (getD to i (pos 0)))) (toZ w32 (ofZ w32 (getD to (512 + i) (pos 0))))
+    place-row =
+        let row : Near180000 (getD columns i (pos 0)) (getD (drop 512 columns) i (pos 0)) = record { x-range = gx .range i h; y-range = gy .range i h } in
+        rw (x-kept, y-kept) (place-word row)
+
+  pub figures-more : (f : Place → ℤ) {to : List ℤ} {i : ℕ} (r : ℤ) → Copied columns 1536 (map f (places columns (drop 512 columns))) n to i → i < n → SFits w32 r →
+      r ≡ f (record { x = toZ w32 (ofZ w32 (getD to i (pos 0))); y = toZ w32 (ofZ w32 (getD to (512 + i) (pos 0))) }) →
+      Copied columns 1536 (map f (places columns (drop 512 columns))) n (set to (1536 + i) (toZ w32 (ofZ w32 r))) (i + 1)
+  figures-more f {to} {i} r so-far h fits e =
+      copied-more columns 1536 (map f (places columns (drop 512 columns))) n (toZ w32 (ofZ w32 r)) (f (placeAt columns columns 0)) (omega arith) count so-far h
+      (toZ-ofZ w32 r fits ∙ e ∙ rw (
+        x-kept so-far h,
+        y-kept so-far h,
+        coordinate (getD columns i (pos 0)) (gx .range i h),
+        coordinate (getD (drop 512 columns) i (pos 0)) (gy .range i h),
+        List·getD-map f (places columns (drop 512 columns)) i (placeAt columns columns 0),
+        places-at columns (drop 512 columns) i (placeAt columns columns 0) (omega (arith, gx .count)) (omega (arith, gy .count)),
+      ))
     where
-      long : n ≤ length (map f (places xs ys))
-      long = omega (arith, gx .count, length-map (places xs ys) f, places-length 512 xs ys (gx .long) (gy .long))
+      count : n ≤ length (map f (places columns (drop 512 columns)))
+      count = omega (arith, length-map (places columns (drop 512 columns)) f, places-length columns (drop 512 columns), gx .count, gy .count)

@@ -9,16 +9,15 @@ use lib.ListN.{length, getD, take, length-take, length-map}
 use Rattle.query.specs.Place.{Place}
 use Rattle.query.specs.Deck as Query
 use Rattle.query.specs.Deck.{Stop, AxisCosts, plain}
-use Rattle.query.specs.Travel.{closest, near}
+use Rattle.query.specs.Travel.{near}
 use Rattle.query.specs.Range.{InRange, StopInRange, PlaceInRange}
 use Rattle.numbers.specs.Padded.{padded}
 use Rattle.deck.specs.declared.Deck.{Deck}
 use Rattle.deck.specs.DeckOf.{places, stopsOf, deckOf, deckRecord}
 use Rattle.deck.specs.Objects.{Object, objectsOf}
 use Rattle.deck.specs.Ranges.{CoordinatesInRange, VisitsInRange}
-use Rattle.deck.specs.Record512.{objectsRecord}
-use Rattle.deck.specs.declared.Objects.{Objects}
-use Rattle.deck.proofs.ClosestLaws.{zip-length, zip-at, placeAt, places-length, places-at}
+use Rattle.deck.specs.ObjectColumns.{columnsOf}
+use Rattle.deck.proofs.ClosestLaws.{zip-length, zip-at, placeAt, places-length, places-at, nearBy}
 
 -- ---- lists
 take-member : {A : Type 0} (d : A) (l : List A) (n i : ℕ) → i < n → i < length l → List·Memᴰ (getD l i d) (take n l)
@@ -79,11 +78,11 @@ allStops deck = stopsOf (places (deck .«stop_x») (deck .«stop_y»)) (deck .vi
 
 module _ (deck : Deck) (columns : DeckColumns deck) where
   places-long : length (places (deck .«stop_x») (deck .«stop_y»)) ≡ 512
-  places-long = places-length 512 (deck .«stop_x») (deck .«stop_y») (columns .stop-x) (columns .stop-y)
+  places-long = omega (arith, places-length (deck .«stop_x») (deck .«stop_y»), columns .stop-x, columns .stop-y)
 
   stops-long : length (allStops deck) ≡ 512
   unfolding stopsOf
-  stops-long = zip-length _ 512 (places (deck .«stop_x») (deck .«stop_y»)) (deck .visits) places-long (columns .visits)
+  stops-long = omega (arith, zip-length stopOf (places (deck .«stop_x») (deck .«stop_y»)) (deck .visits), places-long, columns .visits)
 
   stops-at : (i : ℕ) (d : Stop) → i < 512 → getD (allStops deck) i d ≡ stopAt deck i
   unfolding stopsOf
@@ -96,26 +95,26 @@ module _ (deck : Deck) (columns : DeckColumns deck) where
 
     post-in-range : (i : ℕ) → i < deck .posts → PlaceInRange (placeAt (deck .«post_x») (deck .«post_y») i)
     unfolding deckOf
-    post-in-range i h = range .posts (placeAt (deck .«post_x») (deck .«post_y») i) (rw (places-at (deck .«post_x») (deck .«post_y») i (placeAt [] [] 0) (omega (arith, columns .posts, columns .post-x)) (omega (arith, columns .posts, columns .post-y))) at (take-member (placeAt [] [] 0) (places (deck .«post_x») (deck .«post_y»)) (deck .posts) i h (omega (arith, columns .posts, places-length 64 (deck .«post_x») (deck .«post_y») (columns .post-x) (columns .post-y)))))
+    post-in-range i h = range .posts (placeAt (deck .«post_x») (deck .«post_y») i) (rw (places-at (deck .«post_x») (deck .«post_y») i (placeAt [] [] 0) (omega (arith, columns .posts, columns .post-x)) (omega (arith, columns .posts, columns .post-y))) at (take-member (placeAt [] [] 0) (places (deck .«post_x») (deck .«post_y»)) (deck .posts) i h (omega (arith, columns .posts, places-length (deck .«post_x») (deck .«post_y»), columns .post-x, columns .post-y))))
 
     pub some-post : 1 ≤ deck .posts
     unfolding deckOf
     some-post = omega (arith, range .some-posts, length-take (deck .posts) (places (deck .«post_x») (deck .«post_y»)))
 
-    pub stop-x-range : CoordinatesInRange 512 (deck .«stop_x») (deck .stops)
-    stop-x-range = record { count = columns .stops; long = columns .stop-x; range = λ i h. let r = stop-range i h .place .x-range in omega arith }
+    pub stop-x-range : CoordinatesInRange (deck .«stop_x») (deck .stops)
+    stop-x-range = record { count = omega (arith, columns .stops, columns .stop-x); range = λ i h. let r = stop-range i h .place .x-range in omega arith }
 
-    pub stop-y-range : CoordinatesInRange 512 (deck .«stop_y») (deck .stops)
-    stop-y-range = record { count = columns .stops; long = columns .stop-y; range = λ i h. let r = stop-range i h .place .y-range in omega arith }
+    pub stop-y-range : CoordinatesInRange (deck .«stop_y») (deck .stops)
+    stop-y-range = record { count = omega (arith, columns .stops, columns .stop-y); range = λ i h. let r = stop-range i h .place .y-range in omega arith }
 
     pub visits-in-range : VisitsInRange (deck .visits) (deck .stops)
-    visits-in-range = record { count = columns .stops; long = columns .visits; range = λ i h. stop-range i h .most-visits }
+    visits-in-range = record { count = omega (arith, columns .stops, columns .visits); range = λ i h. stop-range i h .most-visits }
 
-    pub post-x-range : CoordinatesInRange 64 (deck .«post_x») (deck .posts)
-    post-x-range = record { count = columns .posts; long = columns .post-x; range = λ i h. let r = post-in-range i h .x-range in omega arith }
+    pub post-x-range : CoordinatesInRange (deck .«post_x») (deck .posts)
+    post-x-range = record { count = omega (arith, columns .posts, columns .post-x); range = λ i h. let r = post-in-range i h .x-range in omega arith }
 
-    pub post-y-range : CoordinatesInRange 64 (deck .«post_y») (deck .posts)
-    post-y-range = record { count = columns .posts; long = columns .post-y; range = λ i h. let r = post-in-range i h .y-range in omega arith }
+    pub post-y-range : CoordinatesInRange (deck .«post_y») (deck .posts)
+    post-y-range = record { count = omega (arith, columns .posts, columns .post-y); range = λ i h. let r = post-in-range i h .y-range in omega arith }
 
   -- ---- the record of the deck's objects
   pub objects-length : length (objectsOf (deckOf deck)) ≡ deck .stops
@@ -136,20 +135,21 @@ module _ (deck : Deck) (columns : DeckColumns deck) where
   y-column : map (λ (s : Object). s .at .y) (objectsOf (deckOf deck)) ≡ take (deck .stops) (deck .«stop_y»)
   y-column = rw (column (λ (s : Object). s .at .y), by-place (λ (s : Stop). s .at .y) (λ (p : Place). p .y) (λ p v. refl), places-y (deck .«stop_x») (deck .«stop_y») (omega (arith, columns .stop-x, columns .stop-y)))
 
-  visits-column : map (λ (s : Object). s .visits) (objectsOf (deckOf deck)) ≡ take (deck .stops) (deck .visits)
+  visits-column : map (λ (s : Object). pos (s .visits)) (objectsOf (deckOf deck)) ≡ take (deck .stops) (map pos (deck .visits))
   unfolding stopsOf
-  visits-column = rw (column (λ (s : Object). s .visits), zip-second stopOf (λ (s : Stop). s .visits) (λ v. v) (λ p v. refl) (places (deck .«stop_x») (deck .«stop_y»)) (deck .visits) (omega (arith, places-long, columns .visits)), map-id)
+  visits-column = rw (column (λ (s : Object). pos (s .visits)), zip-second stopOf (λ (s : Stop). pos (s .visits)) pos (λ p v. refl) (places (deck .«stop_x») (deck .«stop_y»)) (deck .visits) (omega (arith, places-long, columns .visits)))
 
-  near-is : (p : Place) (v : ℕ) → near (deckOf deck) (stopOf p v) ≡ closest plain p (take (deck .posts) (places (deck .«post_x») (deck .«post_y»)))
+  near-is : (p : Place) (v : ℕ) → pos (near (deckOf deck) (stopOf p v)) ≡ nearBy (deck .«post_x») (deck .«post_y») (deck .posts) p
   unfolding near deckOf
   near-is p v = refl
 
-  near-column : map (λ (s : Object). s .near) (objectsOf (deckOf deck)) ≡ take (deck .stops) (map (λ p. closest plain p (take (deck .posts) (places (deck .«post_x») (deck .«post_y»)))) (places (deck .«stop_x») (deck .«stop_y»)))
-  near-column = rw (column (λ (s : Object). s .near), by-place (near (deckOf deck)) (λ (p : Place). closest plain p (take (deck .posts) (places (deck .«post_x») (deck .«post_y»)))) near-is)
+  near-column : map (λ (s : Object). pos (s .near)) (objectsOf (deckOf deck)) ≡ take (deck .stops) (map (nearBy (deck .«post_x») (deck .«post_y») (deck .posts)) (places (deck .«stop_x») (deck .«stop_y»)))
+  near-column = rw (column (λ (s : Object). pos (s .near)), by-place (λ (s : Stop). pos (near (deckOf deck) s)) (nearBy (deck .«post_x») (deck .«post_y») (deck .posts)) near-is)
 
-  pub record-is : (x y : List ℤ) (visits nears : List ℕ) → x ≡ padded 512 (pos 0) (take (deck .stops) (deck .«stop_x»)) → y ≡ padded 512 (pos 0) (take (deck .stops) (deck .«stop_y»)) → visits ≡ padded 512 0 (take (deck .stops) (deck .visits)) → nears ≡ padded 512 0 (take (deck .stops) (map (λ p. closest plain p (take (deck .posts) (places (deck .«post_x») (deck .«post_y»)))) (places (deck .«stop_x») (deck .«stop_y»)))) → _≡_ {A = Objects} (record { count = deck .stops; x = x; y = y; visits = visits; near = nears }) (objectsRecord (objectsOf (deckOf deck)))
-  unfolding objectsRecord
-  record-is x y visits nears a b c d = rw (a, b, c, d, objects-length, x-column, y-column, visits-column, near-column)
+  -- the columns of the objects are those of the record
+  pub record-columns : columnsOf (objectsOf (deckOf deck)) ≡ padded 512 (pos 0) (take (deck .stops) (deck .«stop_x»)) ++ padded 512 (pos 0) (take (deck .stops) (deck .«stop_y»)) ++ padded 512 (pos 0) (take (deck .stops) (map pos (deck .visits))) ++ padded 512 (pos 0) (take (deck .stops) (map (nearBy (deck .«post_x») (deck .«post_y») (deck .posts)) (places (deck .«stop_x») (deck .«stop_y»))))
+  unfolding columnsOf
+  record-columns = rw (x-column, y-column, visits-column, near-column)
 
 -- ---- the record of a deck holds it, but for axis costs, which no record has
 front-places : (ps : List Place) (xs ys : List ℤ) → take (length ps) (places (map (λ p. p .x) ps ++ xs) (map (λ p. p .y) ps ++ ys)) ≡ ps

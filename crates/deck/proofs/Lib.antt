@@ -1,5 +1,7 @@
 pub mod WordLaws
 pub mod TravelLaws
 pub mod ClosestLaws
+pub mod CopyLaws
 pub mod ColumnLaws
 pub mod DeckLaws
+pub mod MadeColumns

@@ -20,11 +20,11 @@ Inv-loop px py k x y least₀ j₀ least j = ClosestSoFar px py k (record { x = 
 abbrev μ-loop : tie.MeasureT-loop
 μ-loop px py k x y least₀ j₀ least j = k - j
 
-element-copy-out-travelled : tie.Need-element-copy-out-travelled Inv-loop μ-loop
-element-copy-out-travelled c = omega arith
+shared-slice-copy-out-travelled : tie.Need-shared-slice-copy-out-travelled Inv-loop μ-loop
+shared-slice-copy-out-travelled c = omega arith
 
-element-copy-out-travelled-2 : tie.Need-element-copy-out-travelled-2 Inv-loop μ-loop
-element-copy-out-travelled-2 c = omega arith
+shared-slice-copy-out-travelled-2 : tie.Need-shared-slice-copy-out-travelled-2 Inv-loop μ-loop
+shared-slice-copy-out-travelled-2 c = omega arith
 
 travelled-requires : tie.Need-travelled-requires Inv-loop μ-loop
 travelled-requires c κs = let s = c .before .before in (place-word (s .pre .3), place-word (post-range (s .pre .1) (s .pre .2) 0 (s .pre .0)))
@@ -40,14 +40,14 @@ loop-holds c = let s = c .before .before .before in closest-first _ _ _ _ (s .pr
 mul-closer : tie.Need-mul-closer Inv-loop μ-loop
 mul-closer c = omega arith
 
-element-copy-out-closer : tie.Need-element-copy-out-closer Inv-loop μ-loop
-element-copy-out-closer c = omega arith
+shared-slice-copy-out-closer : tie.Need-shared-slice-copy-out-closer Inv-loop μ-loop
+shared-slice-copy-out-closer c = omega arith
 
 mul-closer-2 : tie.Need-mul-closer-2 Inv-loop μ-loop
 mul-closer-2 c = omega arith
 
-element-copy-out-closer-2 : tie.Need-element-copy-out-closer-2 Inv-loop μ-loop
-element-copy-out-closer-2 c = omega arith
+shared-slice-copy-out-closer-2 : tie.Need-shared-slice-copy-out-closer-2 Inv-loop μ-loop
+shared-slice-copy-out-closer-2 c = omega arith
 
 closer-requires : tie.Need-closer-requires Inv-loop μ-loop
 closer-requires c κs =
@@ -65,14 +65,11 @@ loop-again c =
     let s = c .before .before .before .before .before .before .before .before in
     closest-more _ _ _ _ (s .pre .1) (s .pre .2) _ (c .before .before .before .before .loop .inv) (c .before .before .before .loop-test .taken) (c .closer .ensures)
 
-cast-result : tie.Need-cast-result Inv-loop μ-loop
-cast-result c = let small = c .before .loop .inv .small in rw (toZ-pos w32 (c .before .loop .least) small) (tt, record { fits = omega arith })
-
 returns : tie.Need-returns Inv-loop μ-loop
 returns c =
     let s = c .before .before .before .before .before in
     rw (toZ-pos w32 (c .before .loop .least) (c .before .loop .inv .small))
-    (closest-all _ _ _ _ (s .pre .1) (s .pre .2) (c .before .loop .inv) (c .loop-test .left) ∙ rw (coordinate (s .args .x) (s .pre .3 .x-range), coordinate (s .args .y) (s .pre .3 .y-range)))
+    (ap pos (closest-all _ _ _ _ (s .pre .1) (s .pre .2) (c .before .loop .inv) (c .loop-test .left)) ∙ rw (coordinate (s .args .x) (s .pre .3 .x-range), coordinate (s .args .y) (s .pre .3 .y-range)))
 
 pub near-of-spec : {M : Type 1} → statement M
 near-of-spec =
@@ -80,17 +77,16 @@ near-of-spec =
     (tie.spec
     Inv-loop
     μ-loop
-    element-copy-out-travelled
-    element-copy-out-travelled-2
+    shared-slice-copy-out-travelled
+    shared-slice-copy-out-travelled-2
     travelled-requires
     loop-holds
     mul-closer
-    element-copy-out-closer
+    shared-slice-copy-out-closer
     mul-closer-2
-    element-copy-out-closer-2
+    shared-slice-copy-out-closer-2
     closer-requires
     add-j
     loop-less
     loop-again
-    cast-result
     returns)

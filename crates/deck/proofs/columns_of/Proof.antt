@@ -1,0 +1,119 @@
+-- `deck::columns_of` meets its contract: each column is copied of the deck's, whose numbers are in range, or found of such copies.
+-- Assumes nothing.
+use native.Mathlib.Omega.{arith}
+use borrow.Author.Needs.{needs}
+use Rattle.deck.proofs.DeckLaws.{DeckColumns, some-post, stop-x-range, stop-y-range, visits-in-range, post-x-range, post-y-range}
+use Rattle.deck.proofs.MadeColumns.{post-copied, put-length, x-copied, y-copied, made-columns}
+use Rattle.deck.proofs.columns_of.Statement.{statement}
+use Rattle.deck.proofs.columns_of.Tie as tie
+
+columns : (c : tie.Start) → DeckColumns (c .args .t1)
+columns c = record {
+  posts = c .pre .1;
+  post-x = search needs;
+  post-y = search needs;
+  stops = c .pre .2;
+  stop-x = search needs;
+  stop-y = search needs;
+  visits = search needs;
+}
+
+slice-aggregate-copy-coordinates : tie.Need-slice-aggregate-copy-coordinates
+slice-aggregate-copy-coordinates c = search needs
+
+copy-coordinates-requires : tie.Need-copy-coordinates-requires
+copy-coordinates-requires c κs =
+    let s = c .before .before .before .before in
+    (post-x-range _ (columns s) (s .pre .0), omega (arith, s .pre .1, s .pre .2))
+
+slice-aggregate-copy-coordinates-2 : tie.Need-slice-aggregate-copy-coordinates-2
+slice-aggregate-copy-coordinates-2 c = search needs
+
+copy-coordinates-requires-2 : tie.Need-copy-coordinates-requires-2
+copy-coordinates-requires-2 c κs =
+    let s = c .before .before .before .before .before .before .before .before .before .before in
+    (post-y-range _ (columns s) (s .pre .0), omega (arith, s .pre .1, s .pre .2))
+
+slice-aggregate-copy-coordinates-3 : tie.Need-slice-aggregate-copy-coordinates-3
+slice-aggregate-copy-coordinates-3 c = search needs
+
+copy-coordinates-requires-3 : tie.Need-copy-coordinates-requires-3
+copy-coordinates-requires-3 c κs =
+    let s = c .before .before .before .before .before .before .before .before .before .before .before .before .before .before .before .before in
+    (stop-x-range _ (columns s) (s .pre .0), omega (arith, s .pre .1, s .pre .2))
+
+slice-aggregate-copy-coordinates-4 : tie.Need-slice-aggregate-copy-coordinates-4
+slice-aggregate-copy-coordinates-4 c = search needs
+
+copy-coordinates-requires-4 : tie.Need-copy-coordinates-requires-4
+copy-coordinates-requires-4 c κs =
+    let s = c .before .before .before .before .before .before .before .before .before .before .before .before .before .before .before .before .before .before .before .before .before .before in
+    (stop-y-range _ (columns s) (s .pre .0), omega (arith, s .pre .1, s .pre .2))
+
+slice-aggregate-copy-visits : tie.Need-slice-aggregate-copy-visits
+slice-aggregate-copy-visits c = search needs
+
+mul-copy-visits : tie.Need-mul-copy-visits
+mul-copy-visits c = search needs
+
+copy-visits-requires : tie.Need-copy-visits-requires
+copy-visits-requires c κs =
+    let s = c .before .before .before .before .before .before .before .before .before .before .before .before .before .before .before .before .before .before .before .before .before .before .before .before .before .before .before .before in
+    (visits-in-range _ (columns s) (s .pre .0), omega (arith, s .pre .1, s .pre .2))
+
+slice-aggregate-put-nears : tie.Need-slice-aggregate-put-nears
+slice-aggregate-put-nears c = search needs
+
+slice-aggregate-put-nears-2 : tie.Need-slice-aggregate-put-nears-2
+slice-aggregate-put-nears-2 c = search needs
+
+slice-aggregate-put-nears-3 : tie.Need-slice-aggregate-put-nears-3
+slice-aggregate-put-nears-3 c = search needs
+
+put-nears-requires : tie.Need-put-nears-requires
+put-nears-requires c κs =
+    let visits = c .before .before .before .before in
+    let y = visits .before .before .before .before .before .before in
+    let x = y .before .before .before .before .before .before in
+    let py = x .before .before .before .before .before .before in
+    let px = py .before .before .before .before .before .before in
+    let s = px .before .before .before .before .before in (
+      some-post _ (columns s) (s .pre .0),
+      post-copied _ (columns s) (post-x-range _ (columns s) (s .pre .0)) (px .copy-coordinates .ensures),
+      post-copied _ (columns s) (post-y-range _ (columns s) (s .pre .0)) (py .copy-coordinates2 .ensures),
+      x-copied _ (columns s) (x .copy-coordinates3 .ensures) (y .copy-coordinates4 .ensures) (visits .copy-visits .ensures) (s .pre .0),
+      y-copied _ (columns s) (x .copy-coordinates3 .ensures) (y .copy-coordinates4 .ensures) (visits .copy-visits .ensures) (s .pre .0),
+      s .pre .2,
+      put-length _ (columns s) (x .copy-coordinates3 .ensures) (y .copy-coordinates4 .ensures) (visits .copy-visits .ensures),
+    )
+
+returns : tie.Need-returns
+returns c =
+    let visits = c .before .before .before .before .before .before in
+    let y = visits .before .before .before .before .before .before in
+    let x = y .before .before .before .before .before .before in
+    let py = x .before .before .before .before .before .before in
+    let px = py .before .before .before .before .before .before in
+    let s = px .before .before .before .before .before in
+    made-columns _ (columns s) (x .copy-coordinates3 .ensures) (y .copy-coordinates4 .ensures) (visits .copy-visits .ensures) (s .pre .0) (px .copy-coordinates .ensures) (py .copy-coordinates2 .ensures) (c .before .put-nears .ensures)
+
+pub columns-of-spec : {M : Type 1} → statement M
+columns-of-spec =
+    tie.close
+    (tie.spec
+    slice-aggregate-copy-coordinates
+    copy-coordinates-requires
+    slice-aggregate-copy-coordinates-2
+    copy-coordinates-requires-2
+    slice-aggregate-copy-coordinates-3
+    copy-coordinates-requires-3
+    slice-aggregate-copy-coordinates-4
+    copy-coordinates-requires-4
+    slice-aggregate-copy-visits
+    mul-copy-visits
+    copy-visits-requires
+    slice-aggregate-put-nears
+    slice-aggregate-put-nears-2
+    slice-aggregate-put-nears-3
+    put-nears-requires
+    returns)
