@@ -6,7 +6,7 @@ use Prim.Native.Nat.{ℕ, _+_, _-_, _≤_, _<_}
 use native.Mathlib.Numerals.{add-one}
 use native.Mathlib.Omega.{arith}
 use lib.IntN.{ℤ, pos}
-use lib.ListN.{length, getD, take, drop, set, replicate, length-replicate, replicate-append-replicate, List·getD-append, length-append}
+use lib.ListN.{length, getD, take, drop, set, replicate, length-replicate, replicate-append-replicate, List·getD-append}
 use lib.Seq.{paste, paste-zero, paste-suc, length-paste, length-take-le, getD-take, take-at, drop-at, drop-append-add}
 use Rattle.numbers.specs.Padded.{padded}
 

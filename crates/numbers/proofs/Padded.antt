@@ -3,10 +3,9 @@
 use mathlib.Core.Path.{_≡_, refl, sym, ap, _∙_}
 use mathlib.Core.List.{List, [], _∷_, map, map-append, _++_, List·Memᴰ, List·Memᴰ·head, List·Memᴰ·tail}
 use Prim.Native.Nat.{ℕ, zero, suc, _+_, _-_, _≤_, _<_}
-use native.Mathlib.Numerals.{add-one}
 use native.Mathlib.Omega.{arith}
 use lib.ListN.{length, getD, take, drop, set, replicate, length-append, length-map, length-replicate, replicate-append-replicate, List·getD-append}
-use lib.Seq.{set-at, take-at, drop-at, drop-append-add, append-snoc, length-take-le, take-suc}
+use lib.Seq.{set-at, take-at, drop-at, drop-append-add, append-snoc}
 use Rattle.numbers.specs.Padded.{padded}
 
 module _ {A : Type 0} (size : ℕ) (z : A) where
@@ -64,31 +63,6 @@ module _ {A : Type 0} (size : ℕ) (z : A) where
       ∙ drop-append-add xs (replicate (size - length xs) z) (length ys - length xs)
       ∙ drop-replicate (length ys - length xs) (size - length xs) (omega arith)
       ∙ ap (λ (m : ℕ). replicate m z) f)
-
--- an array that is filled from a list, i of whose first n elements it holds
-module _ {A : Type 0} (size : ℕ) (z : A) (source : List A) (n : ℕ) where
-  pub record Filled (to : List A) (i : ℕ) : Type 0 where
-    pub count : i ≤ n
-    pub filled : to ≡ padded size z (take i source)
-
-  pub fill-none : Filled (replicate size z) 0
-  fill-none = record { count = omega arith; filled = sym (padded-none size z) }
-
-  pub fill-more : {to : List A} {i : ℕ} (v d : A) → n ≤ size → n ≤ length source → Filled to i → i < n → v ≡ getD source i d → Filled (set to i v) (i + 1)
-  fill-more {to} {i} v d g h f l e = record {
-    count = omega arith;
-    filled =
-        rw (
-          f .filled,
-          padded-more size z (take i source) i v (length-take-le i source (omega arith)) (omega arith),
-          add-one i,
-          take-suc source i d (omega arith),
-          e,
-        );
-  }
-
-  pub fill-all : {to : List A} {i : ℕ} → Filled to i → n ≤ i → to ≡ padded size z (take n source)
-  fill-all {to} {i} f h = let k : i ≡ n = omega arith in f .filled ∙ rw k
 
 -- what holds of z and of each element holds of each element of the array, and past its end
 module _ {A : Type 0} (P : A → Type 0) (z : A) (h : P z) where

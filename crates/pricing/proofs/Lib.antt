@@ -1,5 +1,6 @@
 pub mod ColumnLaws
 pub mod ObjectLaws
-pub mod TurnLaws
+pub mod NarrowLaws
 pub mod ExcessLaws
+pub mod TurnLaws
 pub mod RecordLaws

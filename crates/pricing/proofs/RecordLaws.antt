@@ -1,99 +1,83 @@
--- The record of a deck's objects: its rows are the objects, and its columns are in range where the deck is.
+-- The columns of a deck's objects: they can be priced where the deck is in range, and they hold the objects.
 -- Assumes nothing.
-use mathlib.Core.Path.{_≡_, refl, sym, ap, subst, _∙_}
-use mathlib.Core.List.{List, [], _∷_, _++_, map, List·Memᴰ, Memᴰ·of-map}
+use mathlib.Core.Path.{_≡_, sym, subst}
+use mathlib.Core.List.{List, map, List·Memᴰ, Memᴰ·of-map}
 use Prim.Native.Nat.{ℕ, _≤_}
 use native.Mathlib.Omega.{arith}
 use lib.IntN.{ℤ, pos, natAbs}
-use lib.ListN.{length, getD, take, length-map}
-use Rattle.query.specs.Place.{Place, Rect}
+use lib.ListN.{length, getD, length-map}
+use lib.Signed.{_≤ℤ_}
+use Rattle.numbers.proofs.Integer.{order}
+use Rattle.numbers.proofs.Padded.{padded-each}
 use Rattle.query.specs.Deck.{Stop, Deck, plain}
-use Rattle.query.specs.Cost.{cost, before}
-use Rattle.query.specs.Reach.{load}
 use Rattle.query.specs.Range.{InRange}
 use Rattle.query.proofs.Ranges.{figure-limits}
-use Rattle.numbers.specs.Padded.{padded}
-use Rattle.deck.specs.Objects.{Object, objectsOf}
-use Rattle.pricing.specs.ObjectFigures.{costOf, beforeOf, loadOf}
-use Rattle.pricing.specs.Columns.{rows, objectRows, ObjectInRange, ColumnsInRange, PaidInRange, ReachInRange, rowsOf, InColumns}
-use Rattle.deck.specs.ObjectColumns.{objectsRecord}
-use Rattle.deck.specs.declared.Objects.{Objects}
-use Rattle.numbers.proofs.Padded.{padded-length, padded-each}
-use Rattle.pricing.proofs.ObjectLaws.{objectOf, objectsOf-map, cost-law, before-law, load-law}
+use Rattle.deck.specs.Objects.{Object, objectsOf, pricingOf}
+use Rattle.deck.specs.ObjectColumns.{column, columnsOf, objectsIn, pricingIn}
+use Rattle.deck.proofs.ColumnLaws.{columns-length, columns-objects, x-row, y-row, visits-row, near-row}
+use Rattle.pricing.specs.Columns.{ObjectInRange, Priceable}
+use Rattle.pricing.proofs.ObjectLaws.{objectOf, objectsOf-map}
 
--- ---- rows
-rows-front : (objects : List Object) (xs ys : List ℤ) (vs ns : List ℕ) → take (length objects) (rows (map (λ s. s .at .x) objects ++ xs) (map (λ s. s .at .y) objects ++ ys) (map (λ s. s .visits) objects ++ vs) (map (λ s. s .near) objects ++ ns)) ≡ objects
-unfolding rows
-rows-front [] xs ys vs ns = refl
-rows-front (s ∷ objects) xs ys vs ns = ap (λ (l : List Object). s ∷ l) (rows-front objects xs ys vs ns)
+-- what holds of 0 and of each object's number holds all down a column
+column-each : (P : ℤ → Type 0) → P (pos 0) → (objects : List Object) (number : Object → ℤ)
+    → ((s : Object) → List·Memᴰ s objects → P (number s)) → (i : ℕ) → P (getD (column number objects) i (pos 0))
+unfolding column
+column-each P h objects number each =
+    padded-each P (pos 0) h 512 (map number objects) (λ a m. let r = Memᴰ·of-map number objects m in subst P (r .2) (each (r .0) (r .1)))
 
--- the rows that a record of objects counts
-pub record-rows : (objects : List Object) → rowsOf (objectsRecord objects) ≡ objects
-unfolding objectsRecord objectRows padded
-record-rows objects = rows-front objects _ _ _ _
+-- a natural number in a column, up to k
+abbrev UpTo : ℕ → ℤ → Type 0
+UpTo k z = (pos 0 ≤ℤ z) × (natAbs z ≤ k)
 
--- ---- ranges
-module _ {A : Type 0} (objects : List Object) (z : A) (f : Object → A) where
-  column-long : length objects ≤ 512 → length (padded 512 z (map f objects)) ≡ 512
-  column-long h = padded-length 512 z (map f objects) (omega (arith, length-map objects f))
-
-  column-each : (P : A → Type 0) → P z → ((s : Object) → List·Memᴰ s objects → P (f s)) → (i : ℕ) → P (getD (padded 512 z (map f objects)) i z)
-  column-each P h g = padded-each P z h 512 (map f objects) (λ a m. let r = Memᴰ·of-map f objects m in subst P (r .2) (g (r .0) (r .1)))
-
-record-range : (objects : List Object) → length objects ≤ 512 → ((s : Object) → List·Memᴰ s objects → ObjectInRange (s .at .x) (s .at .y) (s .visits) (s .near)) → InColumns (objectsRecord objects)
-unfolding objectsRecord
-record-range objects h each = record {
-  x-long = column-long objects (pos 0) (λ s. s .at .x) h;
-  y-long = column-long objects (pos 0) (λ s. s .at .y) h;
-  visits-long = column-long {A = ℕ} objects 0 (λ s. s .visits) h;
-  near-long = column-long {A = ℕ} objects 0 (λ s. s .near) h;
-  x-range = column-each objects (pos 0) (λ s. s .at .x) (λ (z : ℤ). natAbs z ≤ 180000) (omega arith) (λ s m. each s m .x-range);
-  y-range = column-each objects (pos 0) (λ s. s .at .y) (λ (z : ℤ). natAbs z ≤ 180000) (omega arith) (λ s m. each s m .y-range);
-  visits-range = column-each {A = ℕ} objects 0 (λ s. s .visits) (λ (n : ℕ). n ≤ 65535) (omega arith) (λ s m. each s m .visits-range);
-  near-range = column-each {A = ℕ} objects 0 (λ s. s .near) (λ (n : ℕ). n ≤ 720000) (omega arith) (λ s m. each s m .near-range);
+priceable : (objects : List Object) → length objects ≤ 512
+    → ((s : Object) → List·Memᴰ s objects → ObjectInRange (s .at .x) (s .at .y) (pos (s .visits)) (pos (s .near)))
+    → Priceable (columnsOf objects) (length objects)
+priceable objects few each = record {
+  count = few;
+  long = columns-length objects few;
+  row = λ i h.
+      let visits = column-each (UpTo 65535) (omega (arith, order), omega arith) objects (λ s. pos (s .visits))
+      (λ s m. (each s m .visits-some, each s m .visits-range)) i in
+      let near = column-each (UpTo 720000) (omega (arith, order), omega arith) objects (λ s. pos (s .near))
+      (λ s m. (each s m .near-some, each s m .near-range)) i in
+      rw (x-row objects few i h, y-row objects few i h, visits-row objects few i h, near-row objects few i h)
+      (record {
+        place = record {
+          x-range = column-each (λ z. natAbs z ≤ 180000) (omega arith) objects (λ s. s .at .x) (λ s m. each s m .place .x-range) i;
+          y-range = column-each (λ z. natAbs z ≤ 180000) (omega arith) objects (λ s. s .at .y) (λ s m. each s m .place .y-range) i;
+        };
+        visits-some = visits .0;
+        visits-range = visits .1;
+        near-some = near .0;
+        near-range = near .1;
+      });
 }
 
 module _ (deck : Deck) (range : InRange deck) where
-  object-range : (s : Object) → List·Memᴰ s (objectsOf deck) → ObjectInRange (s .at .x) (s .at .y) (s .visits) (s .near)
+  object-range : (s : Object) → List·Memᴰ s (objectsOf deck) → ObjectInRange (s .at .x) (s .at .y) (pos (s .visits)) (pos (s .near))
   object-range s m =
       let r = Memᴰ·of-map (objectOf deck) (deck .stops) (subst (List·Memᴰ s) (objectsOf-map deck) m) in
-      subst (λ (t : Object). ObjectInRange (t .at .x) (t .at .y) (t .visits) (t .near)) (r .2) (of-stop (r .0) (r .1))
+      subst (λ (t : Object). ObjectInRange (t .at .x) (t .at .y) (pos (t .visits)) (pos (t .near))) (r .2) (of-stop (r .0) (r .1))
     where
-      of-stop : (stop : Stop) → List·Memᴰ stop (deck .stops) → ObjectInRange (stop .at .x) (stop .at .y) (stop .visits) (objectOf deck stop .near)
-      of-stop stop n = let g = range .stops stop n in record { x-range = omega arith; y-range = omega arith; visits-range = g .most-visits; near-range = figure-limits deck range .near-limit stop n }
+      of-stop : (stop : Stop) → List·Memᴰ stop (deck .stops) → ObjectInRange (stop .at .x) (stop .at .y) (pos (stop .visits)) (pos (objectOf deck stop .near))
+      of-stop stop n =
+          let g = range .stops stop n in
+          record {
+            place = record { x-range = omega (arith, g .place); y-range = omega (arith, g .place) };
+            visits-some = omega (arith, order);
+            visits-range = g .most-visits;
+            near-some = omega (arith, order);
+            near-range = figure-limits deck range .near-limit stop n;
+          }
 
-  pub objects-range : InColumns (objectsRecord (objectsOf deck))
-  objects-range = record-range (objectsOf deck) (rw objectsOf-map (omega (arith, length-map (deck .stops) (objectOf deck), range .most-stops))) object-range
+  objects-count : length (objectsOf deck) ≡ length (deck .stops)
+  objects-count = rw objectsOf-map (length-map (deck .stops) (objectOf deck))
 
--- ---- a record r that is that of a deck's objects, as `objects` makes it: its rows, its range, and the figures of its rows
-module _ (deck : Deck) (range : InRange deck) (r : Objects) (e : r ≡ objectsRecord (objectsOf deck)) where
-  pub made-rows : rowsOf r ≡ objectsOf deck
-  made-rows = ap rowsOf e ∙ record-rows (objectsOf deck)
+  pub made-priceable : Priceable (columnsOf (objectsOf deck)) (length (deck .stops))
+  made-priceable = rw (← objects-count) (priceable (objectsOf deck) (omega (arith, objects-count, range .most-stops)) object-range)
 
-  pub made-range : InColumns r
-  made-range = subst InColumns (sym e) (objects-range deck range)
+  pub made-objects : objectsIn (columnsOf (objectsOf deck)) (length (deck .stops)) ≡ objectsOf deck
+  made-objects = rw (← objects-count) (columns-objects (objectsOf deck) (omega (arith, objects-count, range .most-stops)))
 
-  pub made-count : r .count ≡ length (deck .stops)
-  unfolding objectsRecord
-  made-count = ap (λ (s : Objects). s .count) e ∙ rw objectsOf-map (length-map (deck .stops) (objectOf deck))
-
-  pub made-most : r .count ≤ 512
-  made-most = omega (arith, made-count, range .most-stops)
-
-  pub made-before : beforeOf (rowsOf r) ≡ before deck
-  made-before = ap beforeOf made-rows ∙ before-law deck
-
-  module _ (plainly : deck .axis ≡ plain) where
-    pub made-cost : (p : Place) → costOf (rowsOf r) p ≡ cost deck p
-    made-cost p = ap (λ (objects : List Object). costOf objects p) made-rows ∙ cost-law deck plainly p
-
-    pub made-load : (rect : Rect) → loadOf (rowsOf r) rect ≡ load deck rect
-    made-load rect = ap (λ (objects : List Object). loadOf objects rect) made-rows ∙ load-law deck plainly rect
-
--- ---- what `before` and the test of reach ask of columns in range
-module _ {xs ys : List ℤ} {vs ns : List ℕ} (range : ColumnsInRange xs ys vs ns) where
-  pub paid-range : PaidInRange vs ns
-  paid-range = record { visits-long = range .visits-long; near-long = range .near-long; visits-range = range .visits-range; near-range = range .near-range }
-
-  pub reach-range : ReachInRange xs ys ns
-  reach-range = record { x-long = range .x-long; y-long = range .y-long; near-long = range .near-long; x-range = range .x-range; y-range = range .y-range; near-range = range .near-range }
+  pub made-pricing : deck .axis ≡ plain → pricingIn (columnsOf (objectsOf deck)) (length (deck .stops)) ≡ pricingOf deck
+  made-pricing e = λ i. record { axis = sym e i; objects = made-objects i }

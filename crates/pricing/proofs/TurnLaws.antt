@@ -1,113 +1,130 @@
--- One turn of each pass of pricing: what the code computes of a row, read from words, is the object's part of the figure.
+-- One turn of each pass of pricing: what the code computes of a row, read from words, is the object's part of the figure; and the most that
+-- the figures of columns in range can be.
 -- Assumes nothing.
-use mathlib.Core.Path.{_≡_, refl, _∙_}
-use mathlib.Core.Bool.{cond}
-use mathlib.Core.List.{List, map, map-append}
+use mathlib.Core.Path.{_≡_, _∙_}
+use mathlib.Core.Bool.{Bool, cond}
+use mathlib.Core.List.{List, map}
 use Prim.Native.Nat.{ℕ, _+_, _*_, _≤_, _<_, min}
 use native.Mathlib.Nat.{mul-le-mul}
 use native.Mathlib.Omega.{arith}
 use lib.Dec.{ltb}
-use lib.IntN.{ℤ, pos}
-use lib.ListN.{length, getD, set, replicate, length-map}
+use lib.IntN.{ℤ, pos, natAbs}
+use lib.ListN.{getD, set, replicate}
 use mir.Syntax.{w32}
-use mir.Val.{toZ, ofZ}
+use mir.Val.{toZ}
 use Rattle.numbers.specs.Integer.{dist}
+use Rattle.numbers.specs.Padded.{padded}
 use Rattle.numbers.proofs.Truth.{cond-ind}
+use Rattle.numbers.proofs.Padded.{padded-none, padded-map}
 use Rattle.query.specs.Place.{Place, Rect}
 use Rattle.query.specs.Reach.{closestPoint}
-use Rattle.numbers.specs.Padded.{padded}
+use Rattle.query.specs.Range.{costLimit, loadLimit}
 use Rattle.deck.specs.Objects.{Object}
-use Rattle.pricing.specs.ObjectFigures.{reaches}
-use Rattle.pricing.specs.Columns.{objectRows, ColumnsInRange, PaidInRange, ReachInRange, EdgesInRange, BeforeIs, FlagsAre}
-use Rattle.deck.specs.Ranges.{Near180000}
-use Rattle.deck.proofs.WordLaws.{coordinate}
-use Rattle.deck.proofs.TravelLaws.{travel-plain, place-word}
+use Rattle.deck.specs.ObjectColumns.{objectAt, objectsIn, pricingIn}
+use Rattle.deck.proofs.TravelLaws.{travel-plain}
+use Rattle.deck.proofs.ColumnLaws.{objectsIn-none, objectsIn-more, objectsIn-length}
+use Rattle.pricing.specs.ObjectFigures.{costOf, beforeOf, reaches, loadOf, flagsOf}
+use Rattle.pricing.specs.Columns.{Priceable, ObjectInRange}
 use Rattle.pricing.proofs.ExcessLaws.{away}
-use Rattle.pricing.proofs.ObjectLaws.{paidBy, paidNow, borneBy, flagBy, beforeOf-sum, flagsOf-map}
-use Rattle.numbers.proofs.Padded.{padded-none, padded-more}
-use Rattle.pricing.proofs.ColumnLaws.{objectAt, objectRows-none, objectRows-more, objectRows-length, Passed, passed-none, passed-more, passed-all, has-row}
+use Rattle.pricing.proofs.NarrowLaws.{word, number-word, visits-word, near-word}
+use Rattle.pricing.proofs.ObjectLaws.{paidBy, paidNow, borneBy, flagBy, costOf-sum, beforeOf-sum, loadOf-sum, flagsOf-map}
+use Rattle.pricing.proofs.ColumnLaws.{Passed, passed-more, sum-most}
 
-reaches-away : (r : Rect) (s : Object) → reaches r s ≡ ltb (away (s .at .x) (s .at .y) (r .xlo) (r .ylo) (r .xhi) (r .yhi)) (s .near)
-unfolding reaches closestPoint
-reaches-away r s = rw travel-plain
-
--- edges as words
-pub edges-word : {xlo ylo xhi yhi : ℤ} → EdgesInRange xlo ylo xhi yhi → EdgesInRange (toZ w32 (ofZ w32 xlo)) (toZ w32 (ofZ w32 ylo)) (toZ w32 (ofZ w32 xhi)) (toZ w32 (ofZ w32 yhi))
-edges-word {xlo} {ylo} {xhi} {yhi} e = rw (coordinate xlo (e .low .x-range), coordinate ylo (e .low .y-range), coordinate xhi (e .high .x-range), coordinate yhi (e .high .y-range)) e
+-- a number of the columns, as a word
+abbrev pub wordAt : List ℤ → ℕ → ℤ
+wordAt columns i = word (getD columns i (pos 0))
 
 abbrev pub rectWords : ℕ → ℕ → ℕ → ℕ → Rect
 rectWords xlo ylo xhi yhi = record { xlo = toZ w32 xlo; ylo = toZ w32 ylo; xhi = toZ w32 xhi; yhi = toZ w32 yhi }
 
-pub rect-words : {xlo ylo xhi yhi : ℤ} → EdgesInRange xlo ylo xhi yhi → rectWords (ofZ w32 xlo) (ofZ w32 ylo) (ofZ w32 xhi) (ofZ w32 yhi) ≡ record { xlo = xlo; ylo = ylo; xhi = xhi; yhi = yhi }
-rect-words {xlo} {ylo} {xhi} {yhi} e = rw (coordinate xlo (e .low .x-range), coordinate ylo (e .low .y-range), coordinate xhi (e .high .x-range), coordinate yhi (e .high .y-range))
+-- the code's test of whether row i reaches a rectangle
+abbrev reached : List ℤ → ℕ → Rect → Bool
+reached columns i r =
+    ltb (away (wordAt columns i) (wordAt columns (512 + i)) (r .xlo) (r .ylo) (r .xhi) (r .yhi)) (natAbs (wordAt columns (1536 + i)))
 
-module _ (xs ys : List ℤ) (vs ns : List ℕ) (range : ColumnsInRange xs ys vs ns) (i : ℕ) where
-  pub x-word : toZ w32 (ofZ w32 (getD xs i (pos 0))) ≡ getD xs i (pos 0)
-  x-word = coordinate _ (range .x-range i)
+reaches-away : (columns : List ℤ) (n : ℕ) (r : Rect) (s : Object)
+    → reaches (pricingIn columns n) r s ≡ ltb (away (s .at .x) (s .at .y) (r .xlo) (r .ylo) (r .xhi) (r .yhi)) (s .near)
+unfolding reaches closestPoint
+reaches-away columns n r s = rw travel-plain
 
-  pub y-word : toZ w32 (ofZ w32 (getD ys i (pos 0))) ≡ getD ys i (pos 0)
-  y-word = coordinate _ (range .y-range i)
+module _ {columns : List ℤ} {n : ℕ} (priceable : Priceable columns n) where
+  -- ---- row i
+  module _ {i : ℕ} (h : i < n) where
+    pub row : ObjectInRange (getD columns i (pos 0)) (getD columns (512 + i) (pos 0)) (getD columns (1024 + i) (pos 0)) (getD columns (1536 + i) (pos 0))
+    row = priceable .row i (omega (arith, priceable .count))
 
-  -- one more row
-  module _ (n sum : ℕ) (most : n ≤ 512) (h : i < n) where
-    pub cost-more : (p : Place) (r : ℕ) → Passed (paidBy p) 47185200000 xs ys vs ns n sum i → r ≡ getD vs i 0 * min (getD ns i 0) (dist (toZ w32 (ofZ w32 (getD xs i (pos 0)))) (p .x) + dist (toZ w32 (ofZ w32 (getD ys i (pos 0)))) (p .y)) → Passed (paidBy p) 47185200000 xs ys vs ns n (sum + r) (i + 1)
-    cost-more p r passed e = passed-more (paidBy p) 47185200000 xs ys vs ns n r passed h (has-row xs ys vs ns range i (omega arith)) (e ∙ rw (x-word, y-word, travel-plain)) (within _ _ _ (range .visits-range i) (range .near-range i) e)
+    x-word : wordAt columns i ≡ getD columns i (pos 0)
+    x-word = number-word _ (omega (arith, row .place))
+
+    y-word : wordAt columns (512 + i) ≡ getD columns (512 + i) (pos 0)
+    y-word = number-word _ (omega (arith, row .place))
+
+    -- the most that its parts of the figures can be
+    times : (m : ℕ) → m ≤ 720000 → natAbs (getD columns (1024 + i) (pos 0)) * m ≤ 47185200000
+    times m k = omega (arith, mul-le-mul (row .visits-range) k)
+
+    pub paid-most : (p : Place) → paidBy (pricingIn columns n) p (objectAt columns i) ≤ 47185200000
+    paid-most p = times _ (least _ _ (row .near-range))
       where
-        within : (v n t : ℕ) → v ≤ 65535 → n ≤ 720000 → r ≡ v * min n t → r ≤ 47185200000
-        within v n t g h q = let k : min n t ≤ 720000 = omega arith in omega (arith, mul-le-mul g k)
+        least : (m t : ℕ) → m ≤ 720000 → min m t ≤ 720000
+        least m t k = omega arith
 
-    pub load-more : (rect : Rect) (r : ℕ) → Passed (borneBy rect) 65535 xs ys vs ns n sum i → r ≡ cond (ltb (away (toZ w32 (ofZ w32 (getD xs i (pos 0)))) (toZ w32 (ofZ w32 (getD ys i (pos 0)))) (rect .xlo) (rect .ylo) (rect .xhi) (rect .yhi)) (getD ns i 0)) (getD vs i 0) 0 → Passed (borneBy rect) 65535 xs ys vs ns n (sum + r) (i + 1)
-    load-more rect r passed e =
-        let q : r ≡ borneBy rect (objectAt xs ys vs ns i) = e ∙ rw (x-word, y-word, reaches-away) in
-        passed-more (borneBy rect) 65535 xs ys vs ns n r passed h (has-row xs ys vs ns range i (omega arith)) q (rw q (cond-ind (λ (k : ℕ). k ≤ 65535) (reaches rect (objectAt xs ys vs ns i)) (λ t. range .visits-range i) (λ t. omega arith)))
+    pub paidNow-most : paidNow (objectAt columns i) ≤ 47185200000
+    paidNow-most = times _ (row .near-range)
 
--- ---- `before`, wherever the rows lie
-pub record PaidSoFar (vs ns : List ℕ) (n sum i : ℕ) : Type 0 where
+    pub paidNow-word : natAbs (wordAt columns (1024 + i)) * natAbs (wordAt columns (1536 + i)) ≡ paidNow (objectAt columns i)
+    paidNow-word = rw (visits-word row, near-word row)
+
+    pub borne-most : (r : Rect) → borneBy (pricingIn columns n) r (objectAt columns i) ≤ 65535
+    borne-most r = cond-ind (λ (k : ℕ). k ≤ 65535) (reaches (pricingIn columns n) r (objectAt columns i)) (λ t. row .visits-range) (λ t. omega arith)
+
+  -- ---- one more row
+  module _ {sum i : ℕ} (h : i < n) (v : ℕ) where
+    pub cost-more : (p : Place) → Passed (paidBy (pricingIn columns n) p) 47185200000 columns n sum i
+        → v ≡ natAbs (wordAt columns (1024 + i))
+        * min (natAbs (wordAt columns (1536 + i))) (dist (wordAt columns i) (p .x) + dist (wordAt columns (512 + i)) (p .y))
+        → Passed (paidBy (pricingIn columns n) p) 47185200000 columns n (sum + v) (i + 1)
+    cost-more p passed e =
+        passed-more _ _ columns n v passed h (e ∙ rw (x-word h, y-word h, visits-word (row h), near-word (row h), travel-plain)) (paid-most h p)
+
+    pub load-more : (r : Rect) → Passed (borneBy (pricingIn columns n) r) 65535 columns n sum i
+        → v ≡ cond (reached columns i r) (natAbs (wordAt columns (1024 + i))) 0
+        → Passed (borneBy (pricingIn columns n) r) 65535 columns n (sum + v) (i + 1)
+    load-more r passed e =
+        passed-more _ _ columns n v passed h (e ∙ rw (x-word h, y-word h, visits-word (row h), near-word (row h), reaches-away)) (borne-most h r)
+
+  -- ---- all rows
+  pub cost-most : (p : Place) → costOf (pricingIn columns n) p ≤ costLimit
+  cost-most p = rw costOf-sum (omega (arith, priceable .count, sum-most (paidBy (pricingIn columns n) p) 47185200000 columns n (λ i h. paid-most h p)))
+
+  pub before-most : beforeOf (pricingIn columns n) ≤ costLimit
+  before-most = rw beforeOf-sum (omega (arith, priceable .count, sum-most paidNow 47185200000 columns n (λ i h. paidNow-most h)))
+
+  pub load-most : (r : Rect) → loadOf (pricingIn columns n) r ≤ loadLimit
+  load-most r = rw loadOf-sum (omega (arith, priceable .count, sum-most (borneBy (pricingIn columns n) r) 65535 columns n (λ i h. borne-most h r)))
+
+-- ---- which rows reach a rectangle: the flags of the first i rows of n
+pub record Flagged (columns : List ℤ) (n : ℕ) (r : Rect) (flags : List ℕ) (i : ℕ) : Type 0 where
   pub count : i ≤ n
-  pub most : sum ≤ i * 47185200000
-  pub passed : (xs ys : List ℤ) → length xs ≡ 512 → length ys ≡ 512 → Passed paidNow 47185200000 xs ys vs ns n sum i
+  pub flagged : flags ≡ padded 512 0 (map (flagBy (pricingIn columns n) r) (objectsIn columns i))
 
-module _ (vs ns : List ℕ) (n : ℕ) where
-  pub paid-none : PaidSoFar vs ns n 0 0
-  paid-none = record { count = omega arith; most = omega arith; passed = λ xs ys g h. passed-none paidNow 47185200000 xs ys vs ns n }
+module _ (columns : List ℤ) (n : ℕ) (r : Rect) where
+  pub flagged-none : Flagged columns n r (replicate 512 0) 0
+  flagged-none = record { count = omega arith; flagged = rw (objectsIn-none, padded-none) }
 
-  pub paid-more : {sum i : ℕ} → n ≤ 512 → PaidInRange vs ns → PaidSoFar vs ns n sum i → i < n → PaidSoFar vs ns n (sum + getD vs i 0 * getD ns i 0) (i + 1)
-  paid-more {sum} {i} most range so-far h =
-      let k : getD vs i 0 * getD ns i 0 ≤ 47185200000 = omega (arith, mul-le-mul (range .visits-range i) (range .near-range i)) in
+  pub flagged-more : {flags : List ℕ} {i : ℕ} (v : ℕ) → Priceable columns n → Flagged columns n r flags i → i < n
+      → v ≡ cond (reached columns i r) 1 0
+      → Flagged columns n r (set flags i v) (i + 1)
+  flagged-more {flags} {i} v priceable so-far h e =
+      let q : v ≡ flagBy (pricingIn columns n) r (objectAt columns i) =
+      e ∙ rw (x-word priceable h, y-word priceable h, near-word (row priceable h), reaches-away) in
       record {
         count = omega arith;
-        most = let p = so-far .most in omega arith;
-        passed = λ xs ys e f. passed-more paidNow 47185200000 xs ys vs ns n _ (so-far .passed xs ys e f) h (record { x-row = omega arith; y-row = omega arith; visits-row = omega arith; near-row = omega arith }) refl k;
+        flagged =
+            rw (q, objectsIn-more columns i)
+            (padded-map 512 0 (flagBy (pricingIn columns n) r) (objectsIn columns i) (objectAt columns i) (omega (arith, objectsIn-length columns i))
+            (omega (arith, priceable .count)) (so-far .flagged));
       }
 
-  pub paid-all : {sum i : ℕ} → n ≤ 512 → PaidSoFar vs ns n sum i → n ≤ i → BeforeIs vs ns n sum
-  paid-all {sum} {i} most so-far h = record {
-    is = λ xs ys e f. passed-all paidNow 47185200000 xs ys vs ns n (so-far .passed xs ys e f) h .0 ∙ rw beforeOf-sum;
-    within = omega arith;
-  }
-
--- ---- which rows reach a rectangle, whatever their visits
-pub row-place : {xs ys : List ℤ} {ns : List ℕ} → ReachInRange xs ys ns → (i : ℕ) → Near180000 (toZ w32 (ofZ w32 (getD xs i (pos 0)))) (toZ w32 (ofZ w32 (getD ys i (pos 0))))
-row-place {xs} {ys} range i = place-word {x = getD xs i (pos 0)} {y = getD ys i (pos 0)} (record { x-range = range .x-range i; y-range = range .y-range i })
-
-pub record FlaggedSoFar (xs ys : List ℤ) (ns : List ℕ) (n : ℕ) (rect : Rect) (flags : List ℕ) (i : ℕ) : Type 0 where
-  pub count : i ≤ n
-  pub flagged : (vs : List ℕ) → length vs ≡ 512 → flags ≡ padded 512 0 (map (flagBy rect) (objectRows xs ys vs ns i))
-
-module _ (xs ys : List ℤ) (ns : List ℕ) (n : ℕ) (rect : Rect) where
-  pub flagged-none : FlaggedSoFar xs ys ns n rect (replicate 512 0) 0
-  flagged-none = record { count = omega arith; flagged = λ vs e. rw (objectRows-none, padded-none) }
-
-  pub flagged-more : {flags : List ℕ} {i : ℕ} (r : ℕ) → n ≤ 512 → ReachInRange xs ys ns → FlaggedSoFar xs ys ns n rect flags i → i < n
-      → r ≡ cond (ltb (away (toZ w32 (ofZ w32 (getD xs i (pos 0)))) (toZ w32 (ofZ w32 (getD ys i (pos 0)))) (rect .xlo) (rect .ylo) (rect .xhi) (rect .yhi)) (getD ns i 0)) 1 0
-      → FlaggedSoFar xs ys ns n rect (set flags i r) (i + 1)
-  flagged-more {flags} {i} r most range so-far h e = record { count = omega arith; flagged = next }
-    where
-      next : (vs : List ℕ) → length vs ≡ 512 → set flags i r ≡ padded 512 0 (map (flagBy rect) (objectRows xs ys vs ns (i + 1)))
-      next vs f =
-          let q : r ≡ flagBy rect (objectAt xs ys vs ns i) = e ∙ rw (coordinate (getD xs i (pos 0)) (range .x-range i), coordinate (getD ys i (pos 0)) (range .y-range i), reaches-away) in
-          let k : length (map (flagBy rect) (objectRows xs ys vs ns i)) ≡ i = length-map (objectRows xs ys vs ns i) (flagBy rect) ∙ objectRows-length 512 xs ys vs ns (range .x-long) (range .y-long) f (range .near-long) i (omega arith) in
-          rw (so-far .flagged vs f, padded-more 512 0 _ i r k (omega arith), objectRows-more xs ys vs ns i (record { x-row = omega arith; y-row = omega arith; visits-row = omega arith; near-row = omega arith }), map-append, q)
-
-  pub flagged-all : {flags : List ℕ} {i : ℕ} → FlaggedSoFar xs ys ns n rect flags i → n ≤ i → FlagsAre xs ys ns n rect flags
-  flagged-all {flags} {i} so-far h = record { is = λ vs e. let k : i ≡ n = omega arith in so-far .flagged vs e ∙ rw (k, flagsOf-map) }
+  pub flagged-all : {flags : List ℕ} {i : ℕ} → Flagged columns n r flags i → n ≤ i → flags ≡ flagsOf (pricingIn columns n) r
+  flagged-all {flags} {i} so-far h = let k : i ≡ n = omega arith in so-far .flagged ∙ rw (k, flagsOf-map)

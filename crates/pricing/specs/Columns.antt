@@ -24,7 +24,9 @@ pub record ObjectInRange (x y visits near : ℤ) : Type 0 where
 pub record Priceable (columns : List ℤ) (n : ℕ) : Type 0 where
   pub count : n ≤ stopsLimit
   pub long : length columns ≡ 2048
-  pub row : (i : ℕ) → i < stopsLimit → ObjectInRange (getD columns i (pos 0)) (getD columns (512 + i) (pos 0)) (getD columns (1024 + i) (pos 0)) (getD columns (1536 + i) (pos 0))
+  pub row : (i : ℕ) → i < stopsLimit
+      → ObjectInRange (getD columns i (pos 0)) (getD columns (512 + i) (pos 0)) (getD columns (1024 + i) (pos 0))
+      (getD columns (1536 + i) (pos 0))
 
 -- a rectangle in range that has a point
 pub record Ranged (r : Rect) : Type 0 where

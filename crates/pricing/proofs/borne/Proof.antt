@@ -1,7 +1,7 @@
 -- `pricing::borne` meets its contract.
 -- Assumes nothing.
 use borrow.Author.Needs.{needs}
-use Rattle.deck.specs.Ranges.{Near180000}
+use Rattle.pricing.proofs.NarrowLaws.{visits-word, visits-cast}
 use Rattle.pricing.proofs.ExcessLaws.{reach-word}
 use Rattle.pricing.proofs.borne.Statement.{statement}
 use Rattle.pricing.proofs.borne.Tie as tie
@@ -9,14 +9,18 @@ use Rattle.pricing.proofs.borne.Tie as tie
 reached-requires : tie.Need-reached-requires
 reached-requires c κs = search needs
 
-at : (c : tie.Start) → Near180000 (c .args .sx) (c .args .sy)
-at c = record { x-range = c .pre .0 .x-range; y-range = c .pre .0 .y-range }
+cast-result : tie.Need-cast-result
+cast-result c = visits-cast (c .before .before .pre .0)
 
 returns : tie.Need-returns
-returns c = rw (reach-word _ _ _ _ _ _ (at (c .before .before)) (c .before .before .pre .1) _ _ _ (c .before .reached .ensures) (c .if1 .taken))
+returns c =
+    let s = c .before .before in
+    rw (reach-word _ _ _ _ _ _ (s .pre .0 .place) (s .pre .1) _ _ _ (s .fits .near) (c .before .reached .ensures) (c .if1 .taken), visits-word (s .pre .0))
 
 returns-2 : tie.Need-returns-2
-returns-2 c = rw (reach-word _ _ _ _ _ _ (at (c .before .before)) (c .before .before .pre .1) _ _ _ (c .before .reached .ensures) (c .if1 .left))
+returns-2 c =
+    let s = c .before .before in
+    rw (reach-word _ _ _ _ _ _ (s .pre .0 .place) (s .pre .1) _ _ _ (s .fits .near) (c .before .reached .ensures) (c .if1 .left))
 
 pub borne-spec : {M : Type 1} → statement M
-borne-spec = tie.close (tie.spec reached-requires returns returns-2)
+borne-spec = tie.close (tie.spec reached-requires cast-result returns returns-2)

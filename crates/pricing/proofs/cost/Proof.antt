@@ -5,22 +5,28 @@ use Prim.Native.Nat.{_-_}
 use native.Mathlib.Omega.{arith}
 use mir.Syntax.{w32}
 use mir.Val.{toZ}
-use Rattle.deck.proofs.WordLaws.{coordinate}
-use Rattle.deck.proofs.TravelLaws.{place-word}
+use Rattle.deck.specs.ObjectColumns.{pricingIn}
 use Rattle.pricing.proofs.ObjectLaws.{paidBy, costOf-sum}
-use Rattle.pricing.proofs.ColumnLaws.{Passed, passed-none, passed-all, row-range}
-use Rattle.pricing.proofs.TurnLaws.{x-word, y-word, cost-more}
+use Rattle.pricing.proofs.ColumnLaws.{Passed, passed-none, passed-all}
+use Rattle.pricing.proofs.NarrowLaws.{coordinate-fits, coordinate-narrow, place-narrow, row-word}
+use Rattle.pricing.proofs.TurnLaws.{row, cost-more}
 use Rattle.pricing.proofs.cost.Statement.{statement}
 use Rattle.pricing.proofs.cost.Tie as tie
 
 abbrev Inv-loop : tie.InvT-loop
-Inv-loop xs ys visits near n x y sum₀ i₀ sum i = Passed (paidBy (record { x = toZ w32 x; y = toZ w32 y })) 47185200000 xs ys visits near n sum i
+Inv-loop columns n x y px py sum₀ i₀ sum i = Passed (paidBy (pricingIn columns n) (record { x = toZ w32 px; y = toZ w32 py })) 47185200000 columns n sum i
 
 abbrev μ-loop : tie.MeasureT-loop
-μ-loop xs ys visits near n x y sum₀ i₀ sum i = n - i
+μ-loop columns n x y px py sum₀ i₀ sum i = n - i
+
+cast-px : tie.Need-cast-px Inv-loop μ-loop
+cast-px c = coordinate-fits (c .args .x) (c .pre .1 .x-range)
+
+cast-py : tie.Need-cast-py Inv-loop μ-loop
+cast-py c = coordinate-fits (c .args .y) (c .pre .1 .y-range)
 
 loop-holds : tie.Need-loop-holds Inv-loop μ-loop
-loop-holds c = passed-none _ _ _ _ _ _ _
+loop-holds c = passed-none _ _ _ _
 
 mul-paid : tie.Need-mul-paid Inv-loop μ-loop
 mul-paid c = omega arith
@@ -28,17 +34,26 @@ mul-paid c = omega arith
 element-copy-out-paid : tie.Need-element-copy-out-paid Inv-loop μ-loop
 element-copy-out-paid c = omega arith
 
+add-paid : tie.Need-add-paid Inv-loop μ-loop
+add-paid c = omega arith
+
 mul-paid-2 : tie.Need-mul-paid-2 Inv-loop μ-loop
 mul-paid-2 c = omega arith
 
 element-copy-out-paid-2 : tie.Need-element-copy-out-paid-2 Inv-loop μ-loop
 element-copy-out-paid-2 c = omega arith
 
+add-paid-2 : tie.Need-add-paid-2 Inv-loop μ-loop
+add-paid-2 c = omega arith
+
 mul-paid-3 : tie.Need-mul-paid-3 Inv-loop μ-loop
 mul-paid-3 c = omega arith
 
 element-copy-out-paid-3 : tie.Need-element-copy-out-paid-3 Inv-loop μ-loop
 element-copy-out-paid-3 c = omega arith
+
+add-paid-3 : tie.Need-add-paid-3 Inv-loop μ-loop
+add-paid-3 c = omega arith
 
 mul-paid-4 : tie.Need-mul-paid-4 Inv-loop μ-loop
 mul-paid-4 c = omega arith
@@ -48,13 +63,14 @@ element-copy-out-paid-4 c = omega arith
 
 paid-requires : tie.Need-paid-requires Inv-loop μ-loop
 paid-requires c κs =
-    let s = c .before .before .before .before .before .before in
-    (rw (x-word _ _ _ _ (s .pre .1) _, y-word _ _ _ _ (s .pre .1) _) (row-range _ _ _ _ (s .pre .1) _), place-word (s .pre .2))
+    let turn = c .before .before .before .before in
+    let pre = turn .before .before .pre in
+    (row-word (row (pre .0) (turn .loop-test .taken)), place-narrow _ _ (pre .1))
 
 loop-again : tie.Need-loop-again Inv-loop μ-loop
 loop-again c =
-    let at = c .before .before .before .before .before .before in
-    cost-more _ _ _ _ (at .before .pre .1) _ _ _ (at .before .pre .0) (c .before .before .before .before .before .loop-test .taken) _ _ (at .loop .inv) (c .paid .ensures)
+    let turn = c .before .before .before .before .before in
+    cost-more (turn .before .before .pre .0) (turn .loop-test .taken) _ _ (turn .before .loop .inv) (c .paid .ensures)
 
 add-sum : tie.Need-add-sum Inv-loop μ-loop
 add-sum c = let next = loop-again c in omega arith
@@ -68,8 +84,12 @@ loop-less c = omega arith
 returns : tie.Need-returns Inv-loop μ-loop
 returns c =
     let s = c .before .before in
-    let all = passed-all _ _ _ _ _ _ _ (c .before .loop .inv) (c .loop-test .left) in
-    record { is = all .0 ∙ rw (coordinate (s .args .x) (s .pre .2 .x-range), coordinate (s .args .y) (s .pre .2 .y-range), costOf-sum); within = omega arith }
+    let pre = s .pre in
+    let all = passed-all _ _ _ _ (c .before .loop .inv) (c .loop-test .left) in
+    record {
+      is = all .0 ∙ rw (coordinate-narrow (s .args .x) (pre .1 .x-range), coordinate-narrow (s .args .y) (pre .1 .y-range), costOf-sum);
+      within = omega (arith, all .1, pre .0 .count);
+    }
 
 pub cost-spec : {M : Type 1} → statement M
 cost-spec =
@@ -77,13 +97,18 @@ cost-spec =
     (tie.spec
     Inv-loop
     μ-loop
+    cast-px
+    cast-py
     loop-holds
     mul-paid
     element-copy-out-paid
+    add-paid
     mul-paid-2
     element-copy-out-paid-2
+    add-paid-2
     mul-paid-3
     element-copy-out-paid-3
+    add-paid-3
     mul-paid-4
     element-copy-out-paid-4
     paid-requires

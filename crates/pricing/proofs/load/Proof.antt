@@ -3,20 +3,36 @@
 use mathlib.Core.Path.{_∙_}
 use Prim.Native.Nat.{_-_}
 use native.Mathlib.Omega.{arith}
+use Rattle.deck.specs.ObjectColumns.{pricingIn}
 use Rattle.pricing.proofs.ObjectLaws.{borneBy, loadOf-sum}
-use Rattle.pricing.proofs.ColumnLaws.{Passed, passed-none, passed-all, row-range}
-use Rattle.pricing.proofs.TurnLaws.{x-word, y-word, edges-word, rectWords, rect-words, load-more}
+use Rattle.pricing.proofs.ColumnLaws.{Passed, passed-none, passed-all}
+use Rattle.pricing.proofs.NarrowLaws.{coordinate-fits, rect-narrow, edges-narrow, row-word}
+use Rattle.pricing.proofs.TurnLaws.{rectWords, row, load-more}
 use Rattle.pricing.proofs.load.Statement.{statement}
 use Rattle.pricing.proofs.load.Tie as tie
 
 abbrev Inv-loop : tie.InvT-loop
-Inv-loop xs ys visits near n xlo ylo xhi yhi sum₀ i₀ sum i = Passed (borneBy (rectWords xlo ylo xhi yhi)) 65535 xs ys visits near n sum i
+Inv-loop columns n xlo ylo xhi yhi sum₀ i₀ sum i = Passed (borneBy (pricingIn columns n) (rectWords xlo ylo xhi yhi)) 65535 columns n sum i
 
 abbrev μ-loop : tie.MeasureT-loop
-μ-loop xs ys visits near n xlo ylo xhi yhi sum₀ i₀ sum i = n - i
+μ-loop columns n xlo ylo xhi yhi sum₀ i₀ sum i = n - i
+
+cast-xlo : tie.Need-cast-xlo Inv-loop μ-loop
+cast-xlo c = let s = c .before .before in coordinate-fits (s .args .r .xlo) (s .pre .1 .range .low-corner .x-range)
+
+cast-ylo : tie.Need-cast-ylo Inv-loop μ-loop
+cast-ylo c = let s = c .before .before .before .before in coordinate-fits (s .args .r .ylo) (s .pre .1 .range .low-corner .y-range)
+
+cast-xhi : tie.Need-cast-xhi Inv-loop μ-loop
+cast-xhi c = let s = c .before .before .before .before .before .before in coordinate-fits (s .args .r .xhi) (s .pre .1 .range .high-corner .x-range)
+
+cast-yhi : tie.Need-cast-yhi Inv-loop μ-loop
+cast-yhi c =
+    let s = c .before .before .before .before .before .before .before .before in
+    coordinate-fits (s .args .r .yhi) (s .pre .1 .range .high-corner .y-range)
 
 loop-holds : tie.Need-loop-holds Inv-loop μ-loop
-loop-holds c = passed-none _ _ _ _ _ _ _
+loop-holds c = passed-none _ _ _ _
 
 mul-borne : tie.Need-mul-borne Inv-loop μ-loop
 mul-borne c = omega arith
@@ -24,17 +40,26 @@ mul-borne c = omega arith
 element-copy-out-borne : tie.Need-element-copy-out-borne Inv-loop μ-loop
 element-copy-out-borne c = omega arith
 
+add-borne : tie.Need-add-borne Inv-loop μ-loop
+add-borne c = omega arith
+
 mul-borne-2 : tie.Need-mul-borne-2 Inv-loop μ-loop
 mul-borne-2 c = omega arith
 
 element-copy-out-borne-2 : tie.Need-element-copy-out-borne-2 Inv-loop μ-loop
 element-copy-out-borne-2 c = omega arith
 
+add-borne-2 : tie.Need-add-borne-2 Inv-loop μ-loop
+add-borne-2 c = omega arith
+
 mul-borne-3 : tie.Need-mul-borne-3 Inv-loop μ-loop
 mul-borne-3 c = omega arith
 
 element-copy-out-borne-3 : tie.Need-element-copy-out-borne-3 Inv-loop μ-loop
 element-copy-out-borne-3 c = omega arith
+
+add-borne-3 : tie.Need-add-borne-3 Inv-loop μ-loop
+add-borne-3 c = omega arith
 
 mul-borne-4 : tie.Need-mul-borne-4 Inv-loop μ-loop
 mul-borne-4 c = omega arith
@@ -44,13 +69,15 @@ element-copy-out-borne-4 c = omega arith
 
 borne-requires : tie.Need-borne-requires Inv-loop μ-loop
 borne-requires c κs =
-    let s = c .before .before .before .before .before .before in
-    (rw (x-word _ _ _ _ (s .pre .1) _, y-word _ _ _ _ (s .pre .1) _) (row-range _ _ _ _ (s .pre .1) _), edges-word (s .pre .2))
+    let turn = c .before .before .before .before in
+    let pre = turn .before .before .before .before .before .before .before .before .before .before .pre in
+    (row-word (row (pre .0) (turn .loop-test .taken)), edges-narrow _ (pre .1))
 
 loop-again : tie.Need-loop-again Inv-loop μ-loop
 loop-again c =
-    let at = c .before .before .before .before .before .before in
-    load-more _ _ _ _ (at .before .pre .1) _ _ _ (at .before .pre .0) (c .before .before .before .before .before .loop-test .taken) _ _ (at .loop .inv) (c .borne .ensures)
+    let turn = c .before .before .before .before .before in
+    let pre = turn .before .before .before .before .before .before .before .before .before .before .pre in
+    load-more (pre .0) (turn .loop-test .taken) _ _ (turn .before .loop .inv) (c .borne .ensures)
 
 add-sum : tie.Need-add-sum Inv-loop μ-loop
 add-sum c = let next = loop-again c in omega arith
@@ -66,8 +93,9 @@ cast-result c = omega arith
 
 returns : tie.Need-returns Inv-loop μ-loop
 returns c =
-    let all = passed-all _ _ _ _ _ _ _ (c .before .loop .inv) (c .loop-test .left) in
-    record { is = all .0 ∙ rw (rect-words (c .before .before .pre .2), loadOf-sum); within = omega arith }
+    let pre = c .before .before .before .before .before .before .before .before .before .before .pre in
+    let all = passed-all _ _ _ _ (c .before .loop .inv) (c .loop-test .left) in
+    record { is = all .0 ∙ rw (rect-narrow _ (pre .1 .range), loadOf-sum); within = omega (arith, all .1, pre .0 .count) }
 
 pub load-spec : {M : Type 1} → statement M
 load-spec =
@@ -75,13 +103,20 @@ load-spec =
     (tie.spec
     Inv-loop
     μ-loop
+    cast-xlo
+    cast-ylo
+    cast-xhi
+    cast-yhi
     loop-holds
     mul-borne
     element-copy-out-borne
+    add-borne
     mul-borne-2
     element-copy-out-borne-2
+    add-borne-2
     mul-borne-3
     element-copy-out-borne-3
+    add-borne-3
     mul-borne-4
     element-copy-out-borne-4
     borne-requires

@@ -20,10 +20,15 @@ small : (c : tie.Start) → dist (c .args .v) (clamp (c .args .lo) (c .args .hi)
 small c = omega (arith, outside-most (c .args .v) (c .args .lo) (c .args .hi) (c .pre .0) (c .pre .1) (c .pre .2))
 
 add-result : tie.Need-add-result
-add-result c = let p = c .before .before .pre in natural-fits w32 _ _ (outside-sum _ _ _ (p .0) (p .1) (p .2) _ _ (c .before .excess .ensures) (c .excess2 .ensures)) (small (c .before .before))
+add-result c =
+    let p = c .before .before .pre in
+    natural-fits w32 _ _ (outside-sum _ _ _ (p .0) (p .1) (p .2) _ _ (c .before .excess .ensures) (c .excess2 .ensures)) (small (c .before .before))
 
 returns : tie.Need-returns
-returns c = let p = c .before .before .pre in result-is w32 _ _ (outside-sum _ _ _ (p .0) (p .1) (p .2) _ _ (c .before .excess .ensures) (c .excess2 .ensures)) (record { sfits = small (c .before .before) })
+returns c =
+    let p = c .before .before .pre in
+    result-is w32 _ _ (outside-sum _ _ _ (p .0) (p .1) (p .2) _ _ (c .before .excess .ensures) (c .excess2 .ensures))
+    (record { sfits = small (c .before .before) })
 
 pub outside-spec : {M : Type 1} → statement M
 outside-spec = tie.close (tie.spec excess-requires excess-requires-2 add-result returns)

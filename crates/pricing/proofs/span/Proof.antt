@@ -1,0 +1,27 @@
+-- `pricing::span` meets its contract: two sides that are in range.
+-- Assumes nothing.
+use native.Mathlib.Omega.{arith}
+use Rattle.pricing.proofs.NarrowLaws.{width-fits, width-cast, height-fits, height-cast, span-is}
+use Rattle.pricing.proofs.span.Statement.{statement}
+use Rattle.pricing.proofs.span.Tie as tie
+
+sub-result : tie.Need-sub-result
+sub-result c = width-fits (c .before .before .pre)
+
+cast-result : tie.Need-cast-result
+cast-result c = width-cast (c .before .before .pre)
+
+sub-result-2 : tie.Need-sub-result-2
+sub-result-2 c = height-fits (c .before .before .before .before .pre)
+
+cast-result-2 : tie.Need-cast-result-2
+cast-result-2 c = height-cast (c .before .before .before .before .pre)
+
+add-result : tie.Need-add-result
+add-result c = omega (arith, span-is (c .before .before .before .before .pre) .within)
+
+returns : tie.Need-returns
+returns c = span-is (c .before .before .before .before .pre)
+
+pub span-spec : {M : Type 1} → statement M
+span-spec = tie.close (tie.spec sub-result cast-result sub-result-2 cast-result-2 add-result returns)
