@@ -107,14 +107,19 @@ module _ (p : Problem) (prepared : Prepared p) where
 
   -- what pricing needs, the lines and the whole problem are the deck's
   pub prepared-pricing : pricingIn (p .columns) (p .count) ≡ pricingOf deck
-  prepared-pricing = rw (prepared .is, record-columns deck, record-count deck) (made-pricing deck (prepared .range) (prepared .axis))
+  prepared-pricing = ap (λ (q : Problem). pricingIn (q .columns) (q .count)) (prepared .is) ∙ rw (record-columns deck, record-count deck) (made-pricing deck (prepared .range) (prepared .axis))
 
   pub prepared-grid : gridOf (take (p .nv) (p .v)) (take (p .nh) (p .h)) ≡ grid deck
   unfolding grid
-  prepared-grid = rw (prepared .is, vertical-front deck, horizontal-front deck)
+  prepared-grid =
+      ap (λ (q : Problem). gridOf (take (q .nv) (q .v)) (take (q .nh) (q .h))) (prepared .is)
+      ∙ (λ i. gridOf (vertical-front deck i) (horizontal-front deck i))
 
   pub prepared-problem : problemIn p ≡ problem deck
-  prepared-problem = (λ i. objectProblem (prepared-pricing i) (prepared-grid i) (rectOf (prepared .is i .area))) ∙ rw (record-area deck) (deck-problem deck)
+  prepared-problem =
+      (λ i. objectProblem (prepared-pricing i) (prepared-grid i) (rectOf (prepared .is i .area)))
+      ∙ ap (objectProblem (pricingOf deck) (grid deck)) (record-area deck)
+      ∙ deck-problem deck
 
 -- ---- the problem of a record's deck
 pub solvable-prepared : (deck : Deck) → Solvable deck → (p : Problem) → p ≡ problemRecord (deckOf deck) → Prepared p
