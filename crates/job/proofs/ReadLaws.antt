@@ -20,7 +20,7 @@ use Rattle.job.specs.Format.{refused, accepted, areaOf, countOf, postOf,
 use Rattle.job.specs.JobRecord.{jobRecord}
 use Rattle.numbers.specs.Padded.{padded}
 use Rattle.job_line.specs.Reading.{areaNumbers, areaAnswer, countAnswer, answerIn, LineAt}
-use Rattle.job.specs.ManyLines.{postLines, stopLines, allPosts, allStops, lastLine, nextIn, PostsHold, StopsHold, PostsAt, StopsAt, LastAt, CheckedAt}
+use Rattle.job.specs.ManyLines.{postLines, stopLines, countedLines, allPosts, allStops, lastLine, nextIn, PlacesHeld, PostsHold, StopsHold, PostsAt, StopsAt, LastAt, CheckedAt}
 use Rattle.job_line.specs.declared.Area.{Area}
 use Rattle.job_line.specs.declared.AreaLine.{AreaLine}
 use Rattle.job_line.specs.declared.AreaLine.the-variants as A
@@ -93,11 +93,33 @@ accepted-is : (a : List ℤ) (ps ss : List (List ℤ)) (n : List ℤ) → jobRec
 unfolding jobRecord
 accepted-is a ps ss n = refl
 
-parts-are : (a : Area) {postsRead : Posts} {stopsRead : Stops} (n : ℕ) {ps ss : List (List ℤ)} → PostsHold postsRead ps → StopsHold stopsRead ss → jobOfParts (a .xlo) (a .ylo) (a .xhi) (a .yhi) postsRead stopsRead n ≡ jobRecord (accepted (jobOf (areaNumbers a) ps ss (pos n ∷ [])))
-parts-are a n {ps} {ss} p s = rw (accepted-is (areaNumbers a) ps ss (pos n ∷ []), p .count-is, p .x-is, p .y-is, s .count-is, s .x-is, s .y-is, s .visits-is, length-map ps postOf, map-map (λ p. p .x) postOf ps, map-map (λ p. p .y) postOf ps, length-map ss stopOf, map-map (λ s. s .at .x) stopOf ss, map-map (λ s. s .at .y) stopOf ss, map-map (λ s. s .visits) stopOf ss)
+parts-are : (a : Area) (postsRead : Posts) (stopsRead : Stops) (n : ℕ) {ps ss : List (List ℤ)} → PostsHold postsRead ps → StopsHold stopsRead ss
+    → jobOfParts (a .xlo) (a .ylo) (a .xhi) (a .yhi) postsRead stopsRead n ≡ jobRecord (accepted (jobOf (areaNumbers a) ps ss (pos n ∷ [])))
+parts-are a postsRead stopsRead n {ps} {ss} p s = rw (
+  accepted-is (areaNumbers a) ps ss (pos n ∷ []),
+  p .count-is,
+  p .x-is,
+  p .y-is,
+  s .places .count-is,
+  s .places .x-is,
+  s .places .y-is,
+  s .visits-is,
+  length-map ps postOf,
+  map-map (λ p. p .x) postOf ps,
+  map-map (λ p. p .y) postOf ps,
+  length-map ss stopOf,
+  map-map (λ s. s .at .x) stopOf ss,
+  map-map (λ s. s .at .y) stopOf ss,
+  map-map (λ s. s .visits) stopOf ss,
+)
 
-some-places : {postsRead : Posts} → (postsRead .count ≡ 0 → ⊥) → {ps : List (List ℤ)} → PostsHold postsRead ps → nonEmpty (map postOf ps) ≡ true
-some-places some-posts {ps} p = some-elements (map postOf ps) (λ z. some-posts (p .count-is ∙ sym (length-map ps postOf) ∙ z))
+-- places that are held are some, or none, by their count
+module _ {A : Type 0} (f : List ℤ → A) {size count : ℕ} {x y : List ℤ} {ls : List (List ℤ)} (p : PlacesHeld size count x y ls) where
+  some-held : (count ≡ 0 → ⊥) → nonEmpty (map f ls) ≡ true
+  some-held some = some-elements (map f ls) (λ z. some (p .count-is ∙ sym (length-map ls f) ∙ z))
+
+  none-held : count ≡ 0 → nonEmpty (map f ls) ≡ false
+  none-held z = no-elements (map f ls) (length-map ls f ∙ sym (p .count-is) ∙ z)
 
 module _ {a : Area} {postsRead : Posts} {stopsRead : Stops} (n : ℕ) {t : Bool} (is-empty : t ≡ emptyArea (areaOf (areaNumbers a))) where
   pub checked-empty : {r : Job} → t ≡ true → r ≡ jobRecord (refused EmptyArea) → CheckedAt a postsRead stopsRead n r
@@ -107,20 +129,23 @@ module _ {a : Area} {postsRead : Posts} {stopsRead : Stops} (n : ℕ) {t : Bool}
   module _ (off : t ≡ false) where
     pub checked-no-posts : {r : Job} → postsRead .count ≡ 0 → r ≡ jobRecord (refused NoPosts) → CheckedAt a postsRead stopsRead n r
     unfolding checked
-    checked-no-posts z e = record { is = λ {ps} p s. rw (← is-empty, off, no-elements (map postOf ps) (length-map ps postOf ∙ sym (p .count-is) ∙ z)) e }
+    checked-no-posts z e = record { is = λ p s. rw (← is-empty, off, none-held postOf p z) e }
 
     module _ (some-posts : postsRead .count ≡ 0 → ⊥) where
       pub checked-no-stops : {r : Job} → stopsRead .count ≡ 0 → r ≡ jobRecord (refused NoStops) → CheckedAt a postsRead stopsRead n r
       unfolding checked
-      checked-no-stops z e = record { is = λ {ps} {ss} p s. rw (← is-empty, off, some-places some-posts p, no-elements (map stopOf ss) (length-map ss stopOf ∙ sym (s .count-is) ∙ z)) e }
+      checked-no-stops z e = record { is = λ p s. rw (← is-empty, off, some-held postOf p some-posts, none-held stopOf (s .places) z) e }
 
       module _ (some-stops : stopsRead .count ≡ 0 → ⊥) where
-        job-accepted : {ps ss : List (List ℤ)} → PostsHold postsRead ps → StopsHold stopsRead ss → accepted (jobOf (areaNumbers a) ps ss (pos n ∷ [])) ≡ checked (jobOf (areaNumbers a) ps ss (pos n ∷ []))
-        unfolding checked
-        job-accepted {ps} {ss} p s = rw (← is-empty, off, some-places some-posts p, some-elements (map stopOf ss) (λ z. some-stops (s .count-is ∙ sym (length-map ss stopOf) ∙ z)))
-
         pub checked-accepted : SFits w64 (a .xlo) → SFits w64 (a .ylo) → SFits w64 (a .xhi) → SFits w64 (a .yhi) → CheckedAt a postsRead stopsRead n (jobOfParts (back (a .xlo)) (back (a .ylo)) (back (a .xhi)) (back (a .yhi)) postsRead stopsRead n)
-        checked-accepted xlo ylo xhi yhi = record { is = λ p s. rw (back-is xlo, back-is ylo, back-is xhi, back-is yhi) (parts-are a n p s) ∙ ap jobRecord (job-accepted p s) }
+        unfolding checked
+        checked-accepted xlo ylo xhi yhi = record {
+          is = λ p s. rw (back-is xlo, back-is ylo, back-is xhi, back-is yhi) (parts-are a postsRead stopsRead n p s) ∙ ap jobRecord (job-accepted p s);
+        }
+          where
+            job-accepted : {ps ss : List (List ℤ)} → PostsHold postsRead ps → StopsHold stopsRead ss
+                → accepted (jobOf (areaNumbers a) ps ss (pos n ∷ [])) ≡ checked (jobOf (areaNumbers a) ps ss (pos n ∷ []))
+            job-accepted p s = rw (← is-empty, off, some-held postOf p some-posts, some-held stopOf (s .places) some-stops)
 
 -- ---- the lines of a job, part by part
 -- one reading after another
@@ -143,11 +168,11 @@ unfolding jobLines after-area after-posts after-stops
 lines-are n bs = refl
 
 after-area-is : (a : List ℤ) (n : ℕ) (bs : List ℕ) → after-area a n bs ≡ andThen (allPosts n bs) (after-posts a)
-unfolding after-area allPosts
+unfolding after-area countedLines
 after-area-is a n bs = then-assoc (line (row posts) n bs) (λ k. postLines (countOf k)) (after-posts a)
 
 after-posts-is : (a : List ℤ) (ps : List (List ℤ)) (n : ℕ) (bs : List ℕ) → after-posts a ps n bs ≡ andThen (allStops n bs) (after-stops a ps)
-unfolding after-posts allStops
+unfolding after-posts countedLines
 after-posts-is a ps n bs = then-assoc (line (row stops) n bs) (λ k. stopLines (countOf k)) (after-stops a ps)
 
 after-stops-is : (a : List ℤ) (ps ss : List (List ℤ)) (n : ℕ) (bs : List ℕ) → after-stops a ps ss n bs ≡ andThen (lastLine n bs) (λ k n bs. got (jobOf a ps ss k) n bs)

@@ -5,7 +5,7 @@ use mathlib.Core.Path.{_≡_}
 use mathlib.Core.List.{List, [], _∷_, map}
 use lib.IntN.{ℤ, pos}
 use lib.ListN.{length, drop}
-use Rattle.job_line.specs.Lines.{posts, post, stops, stop, rounds, row}
+use Rattle.job_line.specs.Lines.{Kind, posts, post, stops, stop, rounds, row}
 use Rattle.job_line.specs.OneLine.{Reading, fault, got, Reader, line}
 use Rattle.job.specs.Reader.{_>>=_, _>>_, return, repeated, end}
 use Rattle.job_line.specs.Reading.{areaNumbers, countAnswer, answerIn, Within}
@@ -26,53 +26,60 @@ abbrev pub nextIn : {A : Type 0} → List ℕ → A → ℕ → Next → Reading
 nextIn s a n (At at) = got a n (drop at s)
 nextIn s a n (Refused why) = fault why
 
--- so many lines `post=x,y`
-abbrev pub postLines : ℕ → Reader (List (List ℤ))
-postLines count = repeated count (line (row post)) []
-
--- posts as the arrays hold them
-pub record PostsHold (r : Posts) (lines : List (List ℤ)) : Type 0 where
-  pub count-is : r .count ≡ length lines
-  pub x-is : r .x ≡ padded postsLimit (pos 0) (map (λ l. postOf l .x) lines)
-  pub y-is : r .y ≡ padded postsLimit (pos 0) (map (λ l. postOf l .y) lines)
-
--- what posts are read as from line n on: the arrays hold those read before the refusal, or all
-pub record PostsAt (s : List ℕ) (n : ℕ) (reading : Reading (List (List ℤ))) (r : Posts) : Type 0 where
-  pub lines : List (List ℤ)
-  pub hold : PostsHold r lines
-  pub few : r .count ≤ postsLimit
-  pub is : nextIn s lines (n + r .count) (r .next) ≡ reading
-
--- so many lines `stop=x,y,visits`
-abbrev pub stopLines : ℕ → Reader (List (List ℤ))
-stopLines count = repeated count (line (row stop)) []
-
--- stops as the arrays hold them
-pub record StopsHold (r : Stops) (lines : List (List ℤ)) : Type 0 where
-  pub count-is : r .count ≡ length lines
-  pub x-is : r .x ≡ padded stopsLimit (pos 0) (map (λ l. stopOf l .at .x) lines)
-  pub y-is : r .y ≡ padded stopsLimit (pos 0) (map (λ l. stopOf l .at .y) lines)
-  pub visits-is : r .visits ≡ padded stopsLimit 0 (map (λ l. stopOf l .visits) lines)
-
--- what stops are read as from line n on: the arrays hold those read before the refusal, or all
-pub record StopsAt (s : List ℕ) (n : ℕ) (reading : Reading (List (List ℤ))) (r : Stops) : Type 0 where
-  pub lines : List (List ℤ)
-  pub hold : StopsHold r lines
-  pub few : r .count ≤ stopsLimit
-  pub is : nextIn s lines (n + r .count) (r .next) ≡ reading
+-- so many lines of a kind
+abbrev pub manyLines : Kind → ℕ → Reader (List (List ℤ))
+manyLines kind count = repeated count (line (row kind)) []
 
 -- a line of a count, and the lines that it counts
-unfoldable pub allPosts : Reader (List (List ℤ))
+unfoldable pub countedLines : Kind → Kind → Reader (List (List ℤ))
 unfolding line repeated _>>=_
-allPosts = do
-  n ← line (row posts)
-  postLines (countOf n)
+countedLines count kind = do
+  n ← line (row count)
+  manyLines kind (countOf n)
 
-unfoldable pub allStops : Reader (List (List ℤ))
-unfolding line repeated _>>=_
-allStops = do
-  n ← line (row stops)
-  stopLines (countOf n)
+-- the places of lines as two arrays of a size hold them, and how many they are
+pub record PlacesHeld (size count : ℕ) (x y : List ℤ) (lines : List (List ℤ)) : Type 0 where
+  pub count-is : count ≡ length lines
+  pub x-is : x ≡ padded size (pos 0) (map (λ l. postOf l .x) lines)
+  pub y-is : y ≡ padded size (pos 0) (map (λ l. postOf l .y) lines)
+
+-- the same of stops, with their visits
+pub record StopsHeld (count : ℕ) (x y : List ℤ) (visits : List ℕ) (lines : List (List ℤ)) : Type 0 where
+  pub places : PlacesHeld stopsLimit count x y lines
+  pub visits-is : visits ≡ padded stopsLimit 0 (map (λ l. stopOf l .visits) lines)
+
+abbrev pub PostsHold : Posts → List (List ℤ) → Type 0
+PostsHold r = PlacesHeld postsLimit (r .count) (r .x) (r .y)
+
+abbrev pub StopsHold : Stops → List (List ℤ) → Type 0
+StopsHold r = StopsHeld (r .count) (r .x) (r .y) (r .visits)
+
+-- what lines are read as from line n on: those read before the refusal, or all, are held, and they are `count`, at most `most`
+pub record LinesAt (Hold : List (List ℤ) → Type 0) (most : ℕ) (s : List ℕ) (n : ℕ) (reading : Reading (List (List ℤ))) (count : ℕ)
+    (next : Next) : Type 0 where
+  pub lines : List (List ℤ)
+  pub hold : Hold lines
+  pub few : count ≤ most
+  pub is : nextIn s lines (n + count) next ≡ reading
+
+abbrev pub PostsAt : List ℕ → ℕ → Reading (List (List ℤ)) → Posts → Type 0
+PostsAt s n reading r = LinesAt (PostsHold r) postsLimit s n reading (r .count) (r .next)
+
+abbrev pub StopsAt : List ℕ → ℕ → Reading (List (List ℤ)) → Stops → Type 0
+StopsAt s n reading r = LinesAt (StopsHold r) stopsLimit s n reading (r .count) (r .next)
+
+-- lines `post=x,y` and `stop=x,y,visits`: so many, and those that a line of a count counts
+abbrev pub postLines : ℕ → Reader (List (List ℤ))
+postLines = manyLines post
+
+abbrev pub stopLines : ℕ → Reader (List (List ℤ))
+stopLines = manyLines stop
+
+abbrev pub allPosts : Reader (List (List ℤ))
+allPosts = countedLines posts post
+
+abbrev pub allStops : Reader (List (List ℤ))
+allStops = countedLines stops stop
 
 -- the last line, and nothing behind it
 unfoldable pub lastLine : Reader (List ℤ)

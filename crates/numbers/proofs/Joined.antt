@@ -1,10 +1,12 @@
--- Lists joined end to end: what `flatten` and `flatMap` make, and how long it is.
+-- Lists joined end to end: what `flatten` and `flatMap` make, and how long it is; and an element with those behind it.
 -- Assumes nothing.
 use mathlib.Core.Path.{_≡_, refl, sym, ap, ap₂, _∙_}
 use mathlib.Core.List.{List, [], _∷_, _++_, foldr, foldr-append, append-assoc, map, flatten, flatMap, List·Memᴰ, List·Memᴰ·head, List·Memᴰ·tail}
-use Prim.Native.Nat.{ℕ, _*_, _≤_}
+use Prim.Native.Nat.{ℕ, _+_, _*_, _≤_, _<_}
+use native.Mathlib.Numerals.{add-one}
 use native.Mathlib.Omega.{arith}
-use lib.ListN.{length, length-append}
+use lib.ListN.{length, getD, drop, length-append}
+use lib.Seq.{drop-cons}
 
 module _ {A : Type 0} where
   -- joined, with one more list behind
@@ -37,3 +39,7 @@ pub flatMap-length : {A B : Type 0} (f : A → List B) (k : ℕ) (xs : List A) �
 unfolding flatMap
 flatMap-length f k [] each = omega arith
 flatMap-length f k (x ∷ xs) each = simp length-append (omega (arith, each x (List·Memᴰ·head refl), flatMap-length f k xs (λ y m. each y (List·Memᴰ·tail m))))
+
+-- an element and those behind it
+pub drop-next : {A : Type 0} (l : List A) (i : ℕ) {k : ℕ} (z : A) → k ≡ i + 1 → i < length l → drop i l ≡ getD l i z ∷ drop k l
+drop-next l i z e h = rw (e, add-one i) (drop-cons l i z h)

@@ -5,17 +5,13 @@ use mathlib.Core.Bool.{Bool, true, false, _&&_}
 use mathlib.Core.List.{List, [], _∷_}
 use Prim.Native.Nat.{ℕ, _+_, _-_, _≤_, _<_}
 use native.Mathlib.Nat.{add-zero}
-use native.Mathlib.Numerals.{add-one}
 use native.Mathlib.Omega.{arith}
 use borrow.Author.Tests.{eqb-true}
 use lib.Dec.{eqb}
 use lib.ListN.{length, getD, drop, length-drop, drop-of-length-le}
-use lib.Seq.{drop-cons, drop-drop}
+use lib.Seq.{drop-drop}
+use Rattle.numbers.proofs.Joined.{drop-next}
 use Rattle.text.specs.TextReading.{startsWith, ByteIs}
-
--- one byte more of a text
-pub drop-next : (s : List ℕ) (at : ℕ) → at < length s → drop at s ≡ getD s at 0 ∷ drop (at + 1) s
-drop-next s at h = rw (add-one, ← drop-cons s at 0 h)
 
 pub starts-past : (k : ℕ) (ks s : List ℕ) (at : ℕ) → length s ≤ at → startsWith (k ∷ ks) (drop at s) ≡ false
 unfolding startsWith
@@ -23,7 +19,7 @@ starts-past k ks s at h = rw (drop-of-length-le s h)
 
 pub starts-byte : (s : List ℕ) (at b : ℕ) → at < length s → startsWith (b ∷ []) (drop at s) ≡ eqb (getD s at 0) b
 unfolding startsWith
-starts-byte s at b h = rw (drop-next s at h) (go (eqb (getD s at 0) b))
+starts-byte s at b h = rw (drop-next s at 0 refl h) (go (eqb (getD s at 0) b))
   where
     go : (t : Bool) → t && true ≡ t
     go true = refl
@@ -53,7 +49,7 @@ module _ {s : List ℕ} {at : ℕ} {key : List ℕ} where
 
   module _ {i : ℕ} (m : Matched s at key i) (h : i < length key) where
     one : startsWith key (drop at s) ≡ startsWith (getD key i 0 ∷ []) (drop (at + i) s) && startsWith (drop (i + 1) key) (drop 1 (drop (at + i) s))
-    one = m .left ∙ ap (λ ks. startsWith ks (drop (at + i) s)) (drop-next key i h) ∙ starts-first _ _ _
+    one = m .left ∙ ap (λ ks. startsWith ks (drop (at + i) s)) (drop-next key i 0 refl h) ∙ starts-first _ _ _
 
     pub matched-not : {r : Bool} → ByteIs s (at + i) (getD key i 0) r → r ≡ false → false ≡ startsWith key (drop at s)
     matched-not byte e = ap (λ t. t && startsWith (drop (i + 1) key) (drop 1 (drop (at + i) s))) (sym e ∙ byte .is) ∙ sym one
@@ -79,4 +75,4 @@ module _ {s : List ℕ} {at b : ℕ} {r : Bool} (byte : ByteIs s at b r) (yes : 
       go (x ∷ xs) n e = omega arith
 
   pub byte-drop : drop at s ≡ b ∷ drop (at + 1) s
-  byte-drop = drop-next s at byte-there ∙ ap (λ x. x ∷ drop (at + 1) s) (eqb-true _ _ (sym (starts-byte s at b byte-there) ∙ sym (byte .is) ∙ yes))
+  byte-drop = drop-next s at 0 refl byte-there ∙ ap (λ x. x ∷ drop (at + 1) s) (eqb-true _ _ (sym (starts-byte s at b byte-there) ∙ sym (byte .is) ∙ yes))

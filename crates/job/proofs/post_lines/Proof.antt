@@ -1,20 +1,25 @@
 -- `job::post_lines` meets its contract. The invariant: the lines read stand in the arrays, and the others are left to read.
 -- Assumes nothing.
 use Prim.Native.Nat.{_-_, _≤_}
+use mathlib.Core.Path.{ap}
+use mathlib.Core.List.{[]}
 use native.Mathlib.Omega.{arith}
 use borrow.Author.Needs.{needs}
-use Rattle.job.proofs.PartLaws.{PostsFilled, posts-none, posts-all, posts-refused, posts-more}
+use Rattle.job_line.specs.Lines.{post}
+use Rattle.job_line.specs.Reading.{postAnswer}
+use Rattle.job.specs.ManyLines.{PlacesHeld}
+use Rattle.job.proofs.PartLaws.{Filled, filled-none, filled-all, filled-refused, filled-more, places-none, places-more}
 use Rattle.job.proofs.post_lines.Statement.{statement}
 use Rattle.job.proofs.post_lines.Tie as tie
 
 abbrev Inv-loop : tie.InvT-loop
-Inv-loop s start count first x₀ y₀ at₀ i₀ x y at i = (i ≤ count) × PostsFilled s start count first x y at i
+Inv-loop s start count first x₀ y₀ at₀ i₀ x y at i = (i ≤ count) × Filled post (PlacesHeld 64 i x y) s start count first at i
 
 abbrev μ-loop : tie.MeasureT-loop
 μ-loop s start count first x₀ y₀ at₀ i₀ x y at i = count - i
 
 loop-holds : tie.Need-loop-holds Inv-loop μ-loop
-loop-holds c = (omega arith, posts-none)
+loop-holds c = (omega arith, filled-none (places-none 64))
 
 add-post-line : tie.Need-add-post-line Inv-loop μ-loop
 add-post-line c = omega arith
@@ -47,7 +52,8 @@ loop-again : tie.Need-loop-again Inv-loop μ-loop
 loop-again c =
     let t = c .before .before .before in (
       omega arith,
-      posts-more (t .before .before .loop .inv .1) (t .post-line .ensures) (t .before .loop-test .taken) (t .before .before .before .before .pre .0) (c .before .post-x .given .1) (search needs) (search needs),
+      filled-more (t .before .before .loop .inv .1) (t .post-line .ensures) (t .before .loop-test .taken) (ap postAnswer (c .before .post-x .given .1))
+          (places-more (search needs) (search needs) [] (omega arith)),
     )
 
 enum-known-why : tie.Need-enum-known-why Inv-loop μ-loop
@@ -56,10 +62,11 @@ enum-known-why c = search needs
 returns : tie.Need-returns Inv-loop μ-loop
 returns c =
     let t = c .before .before .before in
-    posts-refused (t .before .before .loop .inv .1) (t .post-line .ensures) (t .before .loop-test .taken) (t .before .before .before .before .pre .0) (c .before .why .given .1)
+    filled-refused (t .before .before .loop .inv .1) (t .post-line .ensures) (t .before .loop-test .taken) (ap postAnswer (c .before .why .given .1))
+    (t .before .before .before .before .pre .0)
 
 returns-2 : tie.Need-returns-2 Inv-loop μ-loop
-returns-2 c = posts-all (c .before .loop .inv .1) (c .before .loop .inv .0) (c .loop-test .left) (c .before .before .before .pre .0)
+returns-2 c = filled-all (c .before .loop .inv .1) (c .before .loop .inv .0) (c .loop-test .left) (c .before .before .before .pre .0)
 
 pub post-lines-spec : {M : Type 1} → statement M
 post-lines-spec =

@@ -3,7 +3,9 @@
 use native.Mathlib.Omega.{arith}
 use borrow.Author.Needs.{needs}
 use Rattle.text.specs.Ascii.{bytes}
-use Rattle.job.proofs.PartLaws.{stops-most, all-stops, all-stops-refused}
+use Rattle.job_line.specs.Lines.{stops, stop}
+use Rattle.job.proofs.RangeLaws.{count-range}
+use Rattle.job.proofs.PartLaws.{counted-in, counted-lines, count-refused, stops-none}
 use Rattle.job.proofs.read_stops.Statement.{statement}
 use Rattle.job.proofs.read_stops.Tie as tie
 
@@ -21,18 +23,18 @@ add-stop-lines c = search needs
 
 stop-lines-requires : tie.Need-stop-lines-requires
 unfolding bytes
-stop-lines-requires c κs = (stops-most (c .before .before .before .count-line .ensures) (c .before .count .given .1), omega arith)
+stop-lines-requires c κs = (count-range 512 _ .0 (counted-in stops (c .before .before .before .count-line .ensures) (c .before .count .given .1)), omega arith)
 
 enum-known-why : tie.Need-enum-known-why
 enum-known-why c = search needs
 
 returns : tie.Need-returns
 unfolding bytes
-returns c = all-stops (c .before .before .before .before .count-line .ensures) (c .before .before .count .given .1) (c .stop-lines .ensures)
+returns c = counted-lines stops (c .before .before .before .before .count-line .ensures) stop (c .before .before .count .given .1) (c .stop-lines .ensures)
 
 returns-2 : tie.Need-returns-2
 unfolding bytes
-returns-2 c = all-stops-refused (c .before .before .before .count-line .ensures) (c .before .why .given .1)
+returns-2 c = count-refused stops (c .before .before .before .count-line .ensures) stop (c .before .why .given .1) stops-none
 
 pub read-stops-spec : {M : Type 1} → statement M
 read-stops-spec =

@@ -1,20 +1,24 @@
 -- `job::stop_lines` meets its contract. The invariant: the lines read stand in the arrays, and the others are left to read.
 -- Assumes nothing.
 use Prim.Native.Nat.{_-_, _≤_}
+use mathlib.Core.Path.{ap}
 use native.Mathlib.Omega.{arith}
 use borrow.Author.Needs.{needs}
-use Rattle.job.proofs.PartLaws.{StopsFilled, stops-none, stops-all, stops-refused, stops-more}
+use Rattle.job_line.specs.Lines.{stop}
+use Rattle.job_line.specs.Reading.{stopAnswer}
+use Rattle.job.specs.ManyLines.{StopsHeld}
+use Rattle.job.proofs.PartLaws.{Filled, filled-none, filled-all, filled-refused, filled-more, stops-none, stops-more}
 use Rattle.job.proofs.stop_lines.Statement.{statement}
 use Rattle.job.proofs.stop_lines.Tie as tie
 
 abbrev Inv-loop : tie.InvT-loop
-Inv-loop s start count first x₀ y₀ visits₀ at₀ i₀ x y visits at i = (i ≤ count) × StopsFilled s start count first x y visits at i
+Inv-loop s start count first x₀ y₀ visits₀ at₀ i₀ x y visits at i = (i ≤ count) × Filled stop (StopsHeld i x y visits) s start count first at i
 
 abbrev μ-loop : tie.MeasureT-loop
 μ-loop s start count first x₀ y₀ visits₀ at₀ i₀ x y visits at i = count - i
 
 loop-holds : tie.Need-loop-holds Inv-loop μ-loop
-loop-holds c = (omega arith, stops-none)
+loop-holds c = (omega arith, filled-none stops-none)
 
 add-stop-line : tie.Need-add-stop-line Inv-loop μ-loop
 add-stop-line c = omega arith
@@ -53,7 +57,8 @@ loop-again : tie.Need-loop-again Inv-loop μ-loop
 loop-again c =
     let t = c .before .before .before in (
       omega arith,
-      stops-more (t .before .before .loop .inv .1) (t .stop-line .ensures) (t .before .loop-test .taken) (t .before .before .before .before .pre .0) (c .before .stop-x .given .1) (search needs) (search needs),
+      filled-more (t .before .before .loop .inv .1) (t .stop-line .ensures) (t .before .loop-test .taken) (ap stopAnswer (c .before .stop-x .given .1))
+          (stops-more (search needs) (search needs) _ (omega arith)),
     )
 
 enum-known-why : tie.Need-enum-known-why Inv-loop μ-loop
@@ -62,10 +67,11 @@ enum-known-why c = search needs
 returns : tie.Need-returns Inv-loop μ-loop
 returns c =
     let t = c .before .before .before in
-    stops-refused (t .before .before .loop .inv .1) (t .stop-line .ensures) (t .before .loop-test .taken) (t .before .before .before .before .pre .0) (c .before .why .given .1)
+    filled-refused (t .before .before .loop .inv .1) (t .stop-line .ensures) (t .before .loop-test .taken) (ap stopAnswer (c .before .why .given .1))
+    (t .before .before .before .before .pre .0)
 
 returns-2 : tie.Need-returns-2 Inv-loop μ-loop
-returns-2 c = stops-all (c .before .loop .inv .1) (c .before .loop .inv .0) (c .loop-test .left) (c .before .before .before .pre .0)
+returns-2 c = filled-all (c .before .loop .inv .1) (c .before .loop .inv .0) (c .loop-test .left) (c .before .before .before .pre .0)
 
 pub stop-lines-spec : {M : Type 1} → statement M
 stop-lines-spec =
