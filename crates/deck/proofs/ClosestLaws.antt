@@ -130,11 +130,13 @@ module _ (px py : List ℤ) (k : ℕ) (p : Place) (gx : CoordinatesInRange px k)
   closest-all {least} {j} so-far h = let e : j ≡ k = omega arith in so-far .is ∙ rw e
 
 -- post j of k
-pub post-range : {px py : List ℤ} {k : ℕ} → CoordinatesInRange px k → CoordinatesInRange py k → (j : ℕ) → j < k → Near180000 (getD px j (pos 0)) (getD py j (pos 0))
+pub post-range : {px py : List ℤ} {k : ℕ} → CoordinatesInRange px k → CoordinatesInRange py k → (j : ℕ) → j < k →
+    Near180000 (getD px j (pos 0)) (getD py j (pos 0))
 post-range gx gy j h = record { x-range = gx .range j h; y-range = gy .range j h }
 
 -- ---- columns whose last one is filled, a number for each place of the first two
-module _ (columns : List ℤ) (n : ℕ) (gx : CoordinatesInRange columns n) (gy : CoordinatesInRange (drop 512 columns) n) (few : n ≤ 512) (long : length columns ≡ 2048) where
+module _ (columns : List ℤ) (n : ℕ) (gx : CoordinatesInRange columns n) (gy : CoordinatesInRange (drop 512 columns) n)
+    (few : n ≤ 512) (long : length columns ≡ 2048) where
   module _ {s to : List ℤ} {i : ℕ} (so-far : Copied columns 1536 s n to i) (h : i < n) where
     x-kept : getD to i (pos 0) ≡ getD columns i (pos 0)
     x-kept = copied-before columns 1536 s n so-far (omega arith) i (pos 0) (omega arith)
@@ -147,7 +149,8 @@ module _ (columns : List ℤ) (n : ℕ) (gx : CoordinatesInRange columns n) (gy 
         let row : Near180000 (getD columns i (pos 0)) (getD (drop 512 columns) i (pos 0)) = record { x-range = gx .range i h; y-range = gy .range i h } in
         rw (x-kept, y-kept) (place-word row)
 
-  pub figures-more : (f : Place → ℤ) {to : List ℤ} {i : ℕ} (r : ℤ) → Copied columns 1536 (map f (places columns (drop 512 columns))) n to i → i < n → SFits w32 r →
+  pub figures-more : (f : Place → ℤ) {to : List ℤ} {i : ℕ} (r : ℤ) → Copied columns 1536 (map f (places columns (drop 512 columns))) n to i → i < n →
+      SFits w32 r →
       r ≡ f (record { x = toZ w32 (ofZ w32 (getD to i (pos 0))); y = toZ w32 (ofZ w32 (getD to (512 + i) (pos 0))) }) →
       Copied columns 1536 (map f (places columns (drop 512 columns))) n (set to (1536 + i) (toZ w32 (ofZ w32 r))) (i + 1)
   figures-more f {to} {i} r so-far h fits e =

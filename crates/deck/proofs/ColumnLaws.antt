@@ -103,9 +103,12 @@ module _ (objects : List Object) (few : length objects ≤ 512) where
     near-row = rw columns-are (fourth-row x y visits near (column-length _) (column-length _) (column-length _) i)
 
   -- row i is object i
-  number-at : (number : Object → ℤ) → number nothing ≡ pos 0 → (i : ℕ) → i < length objects → getD (column number objects) i (pos 0) ≡ number (getD objects i nothing)
+  number-at : (number : Object → ℤ) → number nothing ≡ pos 0 → (i : ℕ) → i < length objects →
+      getD (column number objects) i (pos 0) ≡ number (getD objects i nothing)
   unfolding column
-  number-at number e i h = padded-at 512 (pos 0) (map number objects) i (omega (arith, length-map objects number)) ∙ ap (getD (map number objects) i) (sym e) ∙ List·getD-map number objects i nothing
+  number-at number e i h =
+      padded-at 512 (pos 0) (map number objects) i (omega (arith, length-map objects number))
+      ∙ ap (getD (map number objects) i) (sym e) ∙ List·getD-map number objects i nothing
 
   pub row-object : (i : ℕ) → i < length objects → objectAt (columnsOf objects) i ≡ getD objects i nothing
   row-object i h =

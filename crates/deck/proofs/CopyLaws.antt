@@ -20,7 +20,8 @@ module _ {A : Type 0} (d : List A) (at : ℕ) (s : List A) (n : ℕ) where
   pub copied-none : Copied d 0
   copied-none = record { count = omega arith; long = refl; copied = paste-zero d at s }
 
-  pub copied-more : {to : List A} {i : ℕ} (v z : A) → at + n ≤ length d → n ≤ length s → Copied to i → i < n → v ≡ getD s i z → Copied (set to (at + i) v) (i + 1)
+  pub copied-more : {to : List A} {i : ℕ} (v z : A) → at + n ≤ length d → n ≤ length s → Copied to i → i < n → v ≡ getD s i z →
+      Copied (set to (at + i) v) (i + 1)
   copied-more {to} {i} v z g h so-far l e = record { count = omega arith; long = rw is (length-paste d at s (i + 1) (omega arith) (omega arith)); copied = is }
     where
       is : set to (at + i) v ≡ paste d at s (i + 1)
@@ -36,7 +37,8 @@ module _ {A : Type 0} (d : List A) (at : ℕ) (s : List A) (n : ℕ) where
       (List·getD-append (take at d) _ z j (omega (arith, length-take-le at d h)) ∙ getD-take at d j z l)
 
 -- a column copied behind others, where all is 0 yet
-pub put-column : (before : List ℤ) (at m n : ℕ) (xs : List ℤ) → length before ≡ at → n ≤ 512 → n ≤ length xs → paste (before ++ replicate (512 + m) (pos 0)) at xs n ≡ before ++ padded 512 (pos 0) (take n xs) ++ replicate m (pos 0)
+pub put-column : (before : List ℤ) (at m n : ℕ) (xs : List ℤ) → length before ≡ at → n ≤ 512 → n ≤ length xs →
+    paste (before ++ replicate (512 + m) (pos 0)) at xs n ≡ before ++ padded 512 (pos 0) (take n xs) ++ replicate m (pos 0)
 unfolding padded
 put-column before at m n xs e h l =
     ap (λ (r : List ℤ). r ++ take n xs ++ drop (at + n) (before ++ replicate (512 + m) (pos 0))) (take-at before _ at e)

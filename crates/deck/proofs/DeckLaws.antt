@@ -137,17 +137,30 @@ module _ (deck : Deck) (columns : DeckColumns deck) where
 
   visits-column : map (λ (s : Object). pos (s .visits)) (objectsOf (deckOf deck)) ≡ take (deck .stops) (map pos (deck .visits))
   unfolding stopsOf
-  visits-column = rw (column (λ (s : Object). pos (s .visits)), zip-second stopOf (λ (s : Stop). pos (s .visits)) pos (λ p v. refl) (places (deck .«stop_x») (deck .«stop_y»)) (deck .visits) (omega (arith, places-long, columns .visits)))
+  visits-column =
+      rw (
+        column (λ (s : Object). pos (s .visits)),
+        zip-second stopOf (λ (s : Stop). pos (s .visits)) pos (λ p v. refl) (places (deck .«stop_x») (deck .«stop_y»)) (deck .visits)
+            (omega (arith, places-long, columns .visits)),
+      )
 
   near-is : (p : Place) (v : ℕ) → pos (near (deckOf deck) (stopOf p v)) ≡ nearBy (deck .«post_x») (deck .«post_y») (deck .posts) p
   unfolding near deckOf
   near-is p v = refl
 
-  near-column : map (λ (s : Object). pos (s .near)) (objectsOf (deckOf deck)) ≡ take (deck .stops) (map (nearBy (deck .«post_x») (deck .«post_y») (deck .posts)) (places (deck .«stop_x») (deck .«stop_y»)))
-  near-column = rw (column (λ (s : Object). pos (s .near)), by-place (λ (s : Stop). pos (near (deckOf deck) s)) (nearBy (deck .«post_x») (deck .«post_y») (deck .posts)) near-is)
+  near-column : map (λ (s : Object). pos (s .near)) (objectsOf (deckOf deck)) ≡
+      take (deck .stops) (map (nearBy (deck .«post_x») (deck .«post_y») (deck .posts)) (places (deck .«stop_x») (deck .«stop_y»)))
+  near-column =
+      rw (
+        column (λ (s : Object). pos (s .near)),
+        by-place (λ (s : Stop). pos (near (deckOf deck) s)) (nearBy (deck .«post_x») (deck .«post_y») (deck .posts)) near-is,
+      )
 
   -- the columns of the objects are those of the record
-  pub record-columns : columnsOf (objectsOf (deckOf deck)) ≡ padded 512 (pos 0) (take (deck .stops) (deck .«stop_x»)) ++ padded 512 (pos 0) (take (deck .stops) (deck .«stop_y»)) ++ padded 512 (pos 0) (take (deck .stops) (map pos (deck .visits))) ++ padded 512 (pos 0) (take (deck .stops) (map (nearBy (deck .«post_x») (deck .«post_y») (deck .posts)) (places (deck .«stop_x») (deck .«stop_y»))))
+  pub record-columns : columnsOf (objectsOf (deckOf deck)) ≡
+      padded 512 (pos 0) (take (deck .stops) (deck .«stop_x»)) ++ padded 512 (pos 0) (take (deck .stops) (deck .«stop_y»))
+      ++ padded 512 (pos 0) (take (deck .stops) (map pos (deck .visits)))
+      ++ padded 512 (pos 0) (take (deck .stops) (map (nearBy (deck .«post_x») (deck .«post_y») (deck .posts)) (places (deck .«stop_x») (deck .«stop_y»))))
   unfolding columnsOf
   record-columns = rw (x-column, y-column, visits-column, near-column)
 

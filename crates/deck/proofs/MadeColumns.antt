@@ -30,10 +30,12 @@ front-range us xs n e h range = record {
 }
 
 -- near, found by posts and stops of the same first numbers
-near-front : (k n : ℕ) (px py us vs qx qy xs ys : List ℤ) → take k px ≡ take k qx → take k py ≡ take k qy → take n us ≡ take n xs → take n vs ≡ take n ys → take n (map (nearBy px py k) (places us vs)) ≡ take n (map (nearBy qx qy k) (places xs ys))
+near-front : (k n : ℕ) (px py us vs qx qy xs ys : List ℤ) → take k px ≡ take k qx → take k py ≡ take k qy → take n us ≡ take n xs →
+    take n vs ≡ take n ys → take n (map (nearBy px py k) (places us vs)) ≡ take n (map (nearBy qx qy k) (places xs ys))
 near-front k n px py us vs qx qy xs ys a b c d =
     sym (map-take (nearBy px py k) n (places us vs))
-    ∙ rw (places-front n us vs xs ys c d) (ap (λ (posts : List Place). map (λ p. pos (closest plain p posts)) (take n (places xs ys))) (places-front k px py qx qy a b))
+    ∙ rw (places-front n us vs xs ys c d)
+    (ap (λ (posts : List Place). map (λ p. pos (closest plain p posts)) (take n (places xs ys))) (places-front k px py qx qy a b))
     ∙ map-take (nearBy qx qy k) n (places xs ys)
 
 module _ (deck : Deck) (columns : DeckColumns deck) where
@@ -70,10 +72,14 @@ module _ (deck : Deck) (columns : DeckColumns deck) where
     post-copied = front-range us xs (deck .posts) post-front (omega (arith, rest)) range
       where
         rest : length us ≡ 64
-        rest = rw e (length-paste (replicate 64 (pos 0)) 0 xs (deck .posts) (omega (arith, columns .posts, length-replicate 64 (pos 0))) (range .count) ∙ length-replicate 64 (pos 0))
+        rest =
+            rw e
+            (length-paste (replicate 64 (pos 0)) 0 xs (deck .posts) (omega (arith, columns .posts, length-replicate 64 (pos 0))) (range .count)
+            ∙ length-replicate 64 (pos 0))
 
   -- x, y and visits of the stops, one behind another
-  module _ {a b c : List ℤ} (ea : a ≡ paste (replicate 2048 (pos 0)) 0 (deck .«stop_x») (deck .stops)) (eb : b ≡ paste a 512 (deck .«stop_y») (deck .stops)) (ec : c ≡ paste b 1024 (map pos (deck .visits)) (deck .stops)) where
+  module _ {a b c : List ℤ} (ea : a ≡ paste (replicate 2048 (pos 0)) 0 (deck .«stop_x») (deck .stops))
+      (eb : b ≡ paste a 512 (deck .«stop_y») (deck .stops)) (ec : c ≡ paste b 1024 (map pos (deck .visits)) (deck .stops)) where
     x-put : a ≡ x ++ replicate 1536 (pos 0)
     x-put = ea ∙ put-column [] 0 1536 (deck .stops) (deck .«stop_x») refl (columns .stops) (omega (arith, columns .stops, columns .stop-x))
 
@@ -81,37 +87,55 @@ module _ (deck : Deck) (columns : DeckColumns deck) where
     y-put = eb ∙ rw x-put (put-column x 512 1024 (deck .stops) (deck .«stop_y») (long _) (columns .stops) (omega (arith, columns .stops, columns .stop-y)))
 
     put : c ≡ x ++ y ++ visits ++ replicate 512 (pos 0)
-    put = ec ∙ rw y-put (put-column (x ++ y) 1024 512 (deck .stops) (map pos (deck .visits)) two (columns .stops) (omega (arith, columns .stops, columns .visits, length-map {B = ℤ} (deck .visits) pos)))
+    put =
+        ec
+        ∙ rw y-put
+        (put-column (x ++ y) 1024 512 (deck .stops) (map pos (deck .visits)) two (columns .stops)
+        (omega (arith, columns .stops, columns .visits, length-map {B = ℤ} (deck .visits) pos)))
 
     pub put-length : length c ≡ 2048
     put-length = rw put (omega (arith, length-append (x ++ y ++ visits) (replicate 512 (pos 0)), three, length-replicate 512 (pos 0)))
 
     x-front : take (deck .stops) c ≡ take (deck .stops) (deck .«stop_x»)
     x-front =
-        rw put (take-append-le (deck .stops) (x ++ y ++ visits) _ (omega (arith, three, columns .stops)) ∙ take-append-le (deck .stops) (x ++ y) visits (omega (arith, two, columns .stops))
-        ∙ take-append-le (deck .stops) x y (omega (arith, long (deck .«stop_x»), columns .stops)) ∙ front (deck .«stop_x») (omega (arith, columns .stops, columns .stop-x)))
+        rw put
+        (take-append-le (deck .stops) (x ++ y ++ visits) _ (omega (arith, three, columns .stops))
+        ∙ take-append-le (deck .stops) (x ++ y) visits (omega (arith, two, columns .stops))
+        ∙ take-append-le (deck .stops) x y (omega (arith, long (deck .«stop_x»), columns .stops))
+        ∙ front (deck .«stop_x») (omega (arith, columns .stops, columns .stop-x)))
 
     y-front : take (deck .stops) (drop 512 c) ≡ take (deck .stops) (deck .«stop_y»)
     y-front =
-        rw (put, append-assoc (x ++ y) visits (replicate 512 (pos 0)), append-assoc x y (visits ++ replicate 512 (pos 0)), drop-at x (y ++ (visits ++ replicate 512 (pos 0))) 512 (long _))
-        (take-append-le (deck .stops) y _ (omega (arith, long (deck .«stop_y»), columns .stops)) ∙ front (deck .«stop_y») (omega (arith, columns .stops, columns .stop-y)))
+        rw (
+          put,
+          append-assoc (x ++ y) visits (replicate 512 (pos 0)),
+          append-assoc x y (visits ++ replicate 512 (pos 0)),
+          drop-at x (y ++ (visits ++ replicate 512 (pos 0))) 512 (long _),
+        )
+        (take-append-le (deck .stops) y _ (omega (arith, long (deck .«stop_y»), columns .stops))
+        ∙ front (deck .«stop_y») (omega (arith, columns .stops, columns .stop-y)))
 
     module _ (range : InRange (deckOf deck)) where
       pub x-copied : CoordinatesInRange c (deck .stops)
       x-copied = front-range c _ (deck .stops) x-front (omega (arith, put-length, columns .stops)) (stop-x-range deck columns range)
 
       pub y-copied : CoordinatesInRange (drop 512 c) (deck .stops)
-      y-copied = front-range (drop 512 c) _ (deck .stops) y-front (omega (arith, length-drop 512 c, put-length, columns .stops)) (stop-y-range deck columns range)
+      y-copied =
+          front-range (drop 512 c) _ (deck .stops) y-front (omega (arith, length-drop 512 c, put-length, columns .stops))
+          (stop-y-range deck columns range)
 
       -- near put behind them
-      pub made-columns : {px py d : List ℤ} → px ≡ paste (replicate 64 (pos 0)) 0 (deck .«post_x») (deck .posts) → py ≡ paste (replicate 64 (pos 0)) 0 (deck .«post_y») (deck .posts) → d ≡ paste c 1536 (map (nearBy px py (deck .posts)) (places c (drop 512 c))) (deck .stops) → d ≡ columnsOf (objectsOf (deckOf deck))
+      pub made-columns : {px py d : List ℤ} → px ≡ paste (replicate 64 (pos 0)) 0 (deck .«post_x») (deck .posts) →
+          py ≡ paste (replicate 64 (pos 0)) 0 (deck .«post_y») (deck .posts) →
+          d ≡ paste c 1536 (map (nearBy px py (deck .posts)) (places c (drop 512 c))) (deck .stops) → d ≡ columnsOf (objectsOf (deckOf deck))
       made-columns {px} {py} {d} ex ey ed =
           ed
           ∙ ap (λ (l : List ℤ). paste l 1536 nears (deck .stops)) put
           ∙ put-column (x ++ y ++ visits) 1536 0 (deck .stops) nears three (columns .stops) count
           ∙ append-nil _
           ∙ ap (λ (l : List ℤ). x ++ y ++ visits ++ padded 512 (pos 0) l)
-          (near-front (deck .posts) (deck .stops) px py c (drop 512 c) _ _ _ _ (post-front (post-x-range deck columns range) ex) (post-front (post-y-range deck columns range) ey) x-front y-front)
+          (near-front (deck .posts) (deck .stops) px py c (drop 512 c) _ _ _ _ (post-front (post-x-range deck columns range) ex)
+          (post-front (post-y-range deck columns range) ey) x-front y-front)
           ∙ sym (record-columns deck columns)
         where
           nears : List ℤ

@@ -47,7 +47,8 @@ slice-aggregate-copy-coordinates-4 c = search needs
 
 copy-coordinates-requires-4 : tie.Need-copy-coordinates-requires-4
 copy-coordinates-requires-4 c κs =
-    let s = c .before .before .before .before .before .before .before .before .before .before .before .before .before .before .before .before .before .before .before .before .before .before in
+    let later = c .before .before .before .before .before .before .before .before .before .before .before in
+    let s = later .before .before .before .before .before .before .before .before .before .before .before in
     (stop-y-range _ (columns s) (s .pre .0), omega (arith, s .pre .1, s .pre .2))
 
 slice-aggregate-copy-visits : tie.Need-slice-aggregate-copy-visits
@@ -58,7 +59,8 @@ mul-copy-visits c = search needs
 
 copy-visits-requires : tie.Need-copy-visits-requires
 copy-visits-requires c κs =
-    let s = c .before .before .before .before .before .before .before .before .before .before .before .before .before .before .before .before .before .before .before .before .before .before .before .before .before .before .before .before in
+    let later = c .before .before .before .before .before .before .before .before .before .before .before .before .before .before in
+    let s = later .before .before .before .before .before .before .before .before .before .before .before .before .before .before in
     (visits-in-range _ (columns s) (s .pre .0), omega (arith, s .pre .1, s .pre .2))
 
 slice-aggregate-put-nears : tie.Need-slice-aggregate-put-nears
@@ -95,7 +97,8 @@ returns c =
     let py = x .before .before .before .before .before .before in
     let px = py .before .before .before .before .before .before in
     let s = px .before .before .before .before .before in
-    made-columns _ (columns s) (x .copy-coordinates3 .ensures) (y .copy-coordinates4 .ensures) (visits .copy-visits .ensures) (s .pre .0) (px .copy-coordinates .ensures) (py .copy-coordinates2 .ensures) (c .before .put-nears .ensures)
+    made-columns _ (columns s) (x .copy-coordinates3 .ensures) (y .copy-coordinates4 .ensures) (visits .copy-visits .ensures) (s .pre .0)
+    (px .copy-coordinates .ensures) (py .copy-coordinates2 .ensures) (c .before .put-nears .ensures)
 
 pub columns-of-spec : {M : Type 1} → statement M
 columns-of-spec =

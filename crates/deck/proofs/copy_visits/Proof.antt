@@ -52,7 +52,8 @@ loop-less c = omega arith
 loop-again : tie.Need-loop-again Inv-loop μ-loop
 loop-again c =
     let s = c .before .before .before in
-    copied-more _ _ _ _ _ _ (s .pre .1) (omega (arith, length-map {B = ℤ} (s .args .from .now) pos, s .pre .0 .count)) (c .before .before .loop .inv) (c .before .loop-test .taken)
+    copied-more _ _ _ _ _ _ (s .pre .1) (omega (arith, length-map {B = ℤ} (s .args .from .now) pos, s .pre .0 .count))
+    (c .before .before .loop .inv) (c .before .loop-test .taken)
     (toZ-pos w32 _ (small c) ∙ sym (List·getD-map pos (s .args .from .now) (c .before .before .loop .i) 0))
 
 same-length : tie.Need-same-length Inv-loop μ-loop

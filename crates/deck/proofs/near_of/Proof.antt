@@ -69,7 +69,8 @@ returns : tie.Need-returns Inv-loop μ-loop
 returns c =
     let s = c .before .before .before .before .before in
     rw (toZ-pos w32 (c .before .loop .least) (c .before .loop .inv .small))
-    (ap pos (closest-all _ _ _ _ (s .pre .1) (s .pre .2) (c .before .loop .inv) (c .loop-test .left)) ∙ rw (coordinate (s .args .x) (s .pre .3 .x-range), coordinate (s .args .y) (s .pre .3 .y-range)))
+    (ap pos (closest-all _ _ _ _ (s .pre .1) (s .pre .2) (c .before .loop .inv) (c .loop-test .left))
+    ∙ rw (coordinate (s .args .x) (s .pre .3 .x-range), coordinate (s .args .y) (s .pre .3 .y-range)))
 
 pub near-of-spec : {M : Type 1} → statement M
 near-of-spec =
