@@ -129,10 +129,10 @@ module _ (deck : Deck) (columns : DeckColumns deck) where
   unfolding stopsOf
   by-place g h e = zip-first stopOf g h e (places (deck .«stop_x») (deck .«stop_y»)) (deck .visits) (omega (arith, places-long, columns .visits))
 
-  x-column : map (λ (s : Object). s .at .x) (objectsOf (deckOf deck)) ≡ take (deck .stops) (deck .«stop_x»)
+  pub x-column : map (λ (s : Object). s .at .x) (objectsOf (deckOf deck)) ≡ take (deck .stops) (deck .«stop_x»)
   x-column = rw (column (λ (s : Object). s .at .x), by-place (λ (s : Stop). s .at .x) (λ (p : Place). p .x) (λ p v. refl), places-x (deck .«stop_x») (deck .«stop_y») (omega (arith, columns .stop-x, columns .stop-y)))
 
-  y-column : map (λ (s : Object). s .at .y) (objectsOf (deckOf deck)) ≡ take (deck .stops) (deck .«stop_y»)
+  pub y-column : map (λ (s : Object). s .at .y) (objectsOf (deckOf deck)) ≡ take (deck .stops) (deck .«stop_y»)
   y-column = rw (column (λ (s : Object). s .at .y), by-place (λ (s : Stop). s .at .y) (λ (p : Place). p .y) (λ p v. refl), places-y (deck .«stop_x») (deck .«stop_y») (omega (arith, columns .stop-x, columns .stop-y)))
 
   visits-column : map (λ (s : Object). pos (s .visits)) (objectsOf (deckOf deck)) ≡ take (deck .stops) (map pos (deck .visits))

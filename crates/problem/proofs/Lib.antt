@@ -1,2 +1,3 @@
 pub mod Coordinates
 pub mod DeckProblem
+pub mod MadeProblem

@@ -1,38 +1,61 @@
+-- `problem::of_deck` meets its contract: the columns are those of the deck's objects, and give the flags and the lines.
+-- Assumes nothing.
+use mathlib.Core.Path.{_≡_, ap, _∙_}
 use borrow.Author.Needs.{needs}
+use native.Mathlib.Omega.{arith}
+use lib.ListN.{length}
+use Rattle.deck.proofs.DeckLaws.{DeckColumns}
+use Rattle.numbers.proofs.WordTests.{back}
+use Rattle.pricing.specs.ObjectFigures.{flagsOf}
+use Rattle.problem.proofs.MadeProblem.{columns-priceable, vertical-is, horizontal-is, edges, area-back, area-ranged, made-problem}
 use Rattle.problem.proofs.of_deck.Statement.{statement}
 use Rattle.problem.proofs.of_deck.Tie as tie
-use Rattle.problem.proofs.of_deck.Reads as reads
-use Rattle.problem.proofs.of_deck.Lts as lts
-use Rattle.deck.proofs.columns_of.Reads as columns-of-reads
-use Rattle.lines.proofs.find_lines.Reads as find-lines-reads
-use Rattle.pricing.proofs.reach_flags.Reads as reach-flags-reads
 
--- src/lib.rt:62:19
+held : (c : tie.Start) → DeckColumns (c .args .t1)
+held c = record {
+  posts = c .pre .posts;
+  post-x = search needs;
+  post-y = search needs;
+  stops = c .pre .stops;
+  stop-x = search needs;
+  stop-y = search needs;
+  visits = search needs;
+}
+
+flags-long : (c : tie.After-reach-flags) → length (c .reach-flags .result) ≡ 512
+flags-long c = search needs
+
 columns-of-requires : tie.Need-columns-of-requires
 columns-of-requires c κs = search needs
 
--- src/lib.rt:63:17
 reach-flags-requires : tie.Need-reach-flags-requires
-reach-flags-requires c κs = ?
+reach-flags-requires c κs =
+    let s = c .before .before .before .before .before .before in
+    (columns-priceable _ (held s) (s .pre) _ (c .before .columns-of .ensures), area-ranged _ (held s) (s .pre))
 
--- src/lib.rt:64:9
 find-lines-requires : tie.Need-find-lines-requires
-find-lines-requires c κs = ?
+find-lines-requires c κs =
+    let f = c .before .before .before .before .before in
+    let s = f .before .before .before .before .before .before .before in
+    record { within = s .pre .stops; coords-full = omega (arith, held s .stop-x, s .pre .stops); flags-full = omega (arith, flags-long f, s .pre .stops) }
 
--- src/lib.rt:65:9
 find-lines-requires-2 : tie.Need-find-lines-requires-2
-find-lines-requires-2 c κs = ?
+find-lines-requires-2 c κs =
+    let f = c .before .before .before .before .before .before .before .before .before .before .before in
+    let s = f .before .before .before .before .before .before .before in
+    record { within = s .pre .stops; coords-full = omega (arith, held s .stop-y, s .pre .stops); flags-full = omega (arith, flags-long f, s .pre .stops) }
 
--- src/lib.rt:51:1
 returns : tie.Need-returns
-returns c = ?
+returns c =
+    let f = c .before .before .before .before .before .before .before .before .before .before .before .before .before .before in
+    let made = f .before .before in
+    let s = made .before .before .before .before .before in
+    let e = edges _ (held s) (s .pre) in
+    let flags = f .reach-flags .ensures ∙ ap (flagsOf _) (area-back _ (held s) (s .pre)) in
+    let vertical = c .before .before .before .before .before .before .before .before .find-lines .ensures .0 in
+    made-problem _ (held s) (s .pre) _ (made .columns-of .ensures) _ _
+    (vertical ∙ vertical-is _ (held s) (s .pre) _ (made .columns-of .ensures) _ flags _ _ (ap back (e .0) ∙ e .0) (ap back (e .2) ∙ e .2))
+    (c .before .before .find-lines2 .ensures .0 ∙ horizontal-is _ (held s) (s .pre) _ (made .columns-of .ensures) _ flags _ _ (ap back (e .1) ∙ e .1) (ap back (e .3) ∙ e .3))
 
 pub of-deck-spec : {M : Type 1} → statement M
-of-deck-spec =
-    tie.close
-    (tie.spec
-    columns-of-requires
-    reach-flags-requires
-    find-lines-requires
-    find-lines-requires-2
-    returns)
+of-deck-spec = tie.close (tie.spec columns-of-requires reach-flags-requires find-lines-requires find-lines-requires-2 returns)

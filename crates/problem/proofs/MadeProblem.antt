@@ -1,0 +1,107 @@
+-- What `of_deck` makes of a deck's record: the columns and the flags give the deck's lines.
+-- Assumes nothing.
+use mathlib.Core.Path.{_≡_, refl, sym, ap, subst, _∙_}
+use mathlib.Core.List.{List, map, map-map}
+use Prim.Native.Nat.{ℕ, _≤_}
+use native.Mathlib.Omega.{arith}
+use lib.IntN.{ℤ, pos}
+use lib.ListN.{length, take, length-map}
+use Rattle.numbers.specs.Padded.{padded}
+use Rattle.query.specs.Place.{Rect, Axis, x-axis, y-axis, low-edge, high-edge}
+use Rattle.query.specs.Lines.{lines}
+use Rattle.deck.specs.declared.Deck.{Deck}
+use Rattle.deck.specs.DeckOf.{deckOf}
+use Rattle.deck.specs.Rectangle.{rectRecord}
+use Rattle.deck.specs.Objects.{Object, objectsOf}
+use Rattle.deck.specs.ObjectColumns.{columnsOf, pricingIn}
+use Rattle.deck.proofs.DeckLaws.{DeckColumns, objects-length, x-column, y-column}
+use Rattle.pricing.specs.ObjectFigures.{flagsOf}
+use Rattle.pricing.specs.Columns.{Priceable, Ranged}
+use Rattle.pricing.proofs.ObjectLaws.{objectOf, objectsOf-map, flags-law}
+use Rattle.pricing.proofs.RecordLaws.{made-priceable, made-pricing}
+use Rattle.lines.specs.LineRecord.{MarkedRows, marked, linesBetween, linesRecord}
+use Rattle.lines.specs.declared.Lines.{Lines}
+use Rattle.lines.proofs.DeckLines.{coordinates, reached, lines-marked, padded-reached}
+use Rattle.numbers.proofs.WordTests.{back}
+use Rattle.problem.specs.declared.Problem.{Problem}
+use Rattle.problem.specs.Prepared.{Solvable, problemRecord}
+use Rattle.problem.proofs.Coordinates.{near-back, rect-back}
+
+module _ (deck : Deck) (held : DeckColumns deck) (h : Solvable deck) where
+  stops-count : length (deckOf deck .stops) ≡ deck .stops
+  stops-count = sym (length-map (deckOf deck .stops) (objectOf (deckOf deck))) ∙ ap length (sym (objectsOf-map (deckOf deck))) ∙ objects-length deck held
+
+  module _ (columns : List ℤ) (e : columns ≡ columnsOf (objectsOf (deckOf deck))) where
+    pub columns-priceable : Priceable columns (deck .stops)
+    columns-priceable = subst (λ n. Priceable columns n) stops-count (rw e (made-priceable (deckOf deck) (h .range)))
+
+    module _ (flags : List ℕ) (f : flags ≡ flagsOf (pricingIn columns (deck .stops)) (deckOf deck .area)) where
+      flags-are : flags ≡ padded 512 0 (reached (deckOf deck) x-axis)
+      unfolding deckOf
+      flags-are =
+          f ∙ (λ i. flagsOf (pricingIn (e i) (sym stops-count i)) (deckOf deck .area))
+          ∙ ap (λ P. flagsOf P (deckOf deck .area)) (made-pricing (deckOf deck) (h .range) refl)
+          ∙ flags-law (deckOf deck) (deckOf deck .area)
+
+      flags-front : (axis : Axis) → take (deck .stops) flags ≡ reached (deckOf deck) axis
+      flags-front axis = (λ i. take (sym stops-count i) (flags-are i)) ∙ padded-reached (deckOf deck) axis
+
+      -- the columns of coordinates
+      column-of : (number : Object → ℤ) → map (λ stop. number (objectOf (deckOf deck) stop)) (deckOf deck .stops) ≡ map number (objectsOf (deckOf deck))
+      column-of number = sym (ap (map number) (objectsOf-map (deckOf deck)) ∙ map-map _ _ (deckOf deck .stops))
+
+      pub vertical-is : (lo hi : ℤ) → lo ≡ deck .xlo → hi ≡ deck .xhi →
+          linesRecord (linesBetween lo hi (marked (deck .«stop_x») flags (deck .stops))) ≡ linesRecord (lines (deckOf deck) x-axis)
+      unfolding linesBetween linesRecord deckOf
+      vertical-is lo hi g k =
+          rw (g, k)
+          (ap linesRecord (lines-marked (deckOf deck) x-axis (deck .«stop_x») flags (deck .stops)
+          (sym (x-column deck held) ∙ sym (column-of (λ s. s .at .x))) (flags-front x-axis)))
+
+      pub horizontal-is : (lo hi : ℤ) → lo ≡ deck .ylo → hi ≡ deck .yhi →
+          linesRecord (linesBetween lo hi (marked (deck .«stop_y») flags (deck .stops))) ≡ linesRecord (lines (deckOf deck) y-axis)
+      unfolding linesBetween linesRecord deckOf
+      horizontal-is lo hi g k =
+          rw (g, k)
+          (ap linesRecord (lines-marked (deckOf deck) y-axis (deck .«stop_y») flags (deck .stops)
+          (sym (y-column deck held) ∙ sym (column-of (λ s. s .at .y))) (flags-front y-axis)))
+
+  -- the area in words
+  pub edges : (back (deck .xlo) ≡ deck .xlo) × (back (deck .ylo) ≡ deck .ylo) × (back (deck .xhi) ≡ deck .xhi) × (back (deck .yhi) ≡ deck .yhi)
+  unfolding deckOf
+  edges =
+      let r = h .range .area in (
+        near-back (deck .xlo) (r .low-corner .x-range),
+        near-back (deck .ylo) (r .low-corner .y-range),
+        near-back (deck .xhi) (r .high-corner .x-range),
+        near-back (deck .yhi) (r .high-corner .y-range),
+      )
+
+  pub area-back : record { xlo = back (deck .xlo); ylo = back (deck .ylo); xhi = back (deck .xhi); yhi = back (deck .yhi) } ≡ deckOf deck .area
+  unfolding deckOf
+  area-back = rect-back (deckOf deck .area) (h .range .area)
+
+  pub area-ranged : Ranged (record { xlo = back (deck .xlo); ylo = back (deck .ylo); xhi = back (deck .xhi); yhi = back (deck .yhi) })
+  area-ranged = rw area-back (record { range = h .range .area; full = h .full })
+
+  -- the record
+  pub made-problem : (columns : List ℤ) → columns ≡ columnsOf (objectsOf (deckOf deck)) → (v w : Lines) → v ≡ linesRecord (lines (deckOf deck) x-axis) →
+      w ≡ linesRecord (lines (deckOf deck) y-axis) → _≡_ {A = Problem} (record {
+        area = record { xlo = back (deck .xlo); ylo = back (deck .ylo); xhi = back (deck .xhi); yhi = back (deck .yhi) };
+        count = deck .stops;
+        columns = columns;
+        nv = v .count;
+        v = v .at;
+        nh = w .count;
+        h = w .at;
+      }) (problemRecord (deckOf deck))
+  unfolding problemRecord linesRecord
+  made-problem columns e v w f g = λ i. record {
+    area = rectRecord (area-back i);
+    count = sym stops-count i;
+    columns = e i;
+    nv = f i .count;
+    v = f i .at;
+    nh = g i .count;
+    h = g i .at;
+  }
