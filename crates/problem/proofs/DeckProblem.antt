@@ -11,6 +11,7 @@ use Rattle.numbers.specs.Padded.{padded}
 use Rattle.numbers.proofs.Padded.{padded-front, padded-length}
 use Rattle.query.specs.Place.{Rect, Axis, x-axis, y-axis}
 use Rattle.query.specs.Deck as Query
+use Rattle.query.specs.Deck.{plain}
 use Rattle.query.specs.Bound.{span, bound}
 use Rattle.query.specs.Reach.{load}
 use Rattle.query.specs.Lines.{lines}
@@ -122,6 +123,9 @@ module _ (p : Problem) (prepared : Prepared p) where
       ∙ deck-problem deck
 
 -- ---- the problem of a record's deck
-pub solvable-prepared : (deck : Deck) → Solvable deck → (p : Problem) → p ≡ problemRecord (deckOf deck) → Prepared p
+pub plain-axis : (deck : Deck) → deckOf deck .axis ≡ plain
 unfolding deckOf
-solvable-prepared deck h p e = record { deck = deckOf deck; is = e; axis = refl; range = h .range; full = h .full }
+plain-axis deck = refl
+
+abbrev pub solvable-prepared : (deck : Deck) → Solvable deck → (p : Problem) → p ≡ problemRecord (deckOf deck) → Prepared p
+solvable-prepared deck h p e = record { deck = deckOf deck; is = e; axis = plain-axis deck; range = h .range; full = h .full }

@@ -1,4 +1,4 @@
--- `exhaustive` from the job that was read: what `cheapest` asks, and that its answer is the call's.
+-- `exhaustive` from the job that was read: the answer of `cheapest` is the call's.
 -- Assumes nothing.
 use Prim.Native.Nat.{ℕ}
 use mathlib.Core.Path.{_≡_, sym, ap, _∙_}
@@ -13,29 +13,28 @@ use Rattle.job.specs.declared.Job as Held
 use Rattle.job.specs.declared.Outcome.the-variants.{Accepted, Refused}
 use Rattle.refusal.specs.declared.Refusal.{Refusal}
 use Rattle.deck.specs.DeckOf.{deckOf}
-use Rattle.deck.specs.Objects.{objectsOf}
-use Rattle.deck.specs.ObjectColumns.{objectsRecord}
-use Rattle.deck.specs.declared.Objects.{Objects}
-use Rattle.problem.specs.ObjectProblem.{pricedOf, Prepared}
+use Rattle.problem.specs.ObjectProblem.{pricedOf}
+use Rattle.problem.specs.Prepared.{problemIn, problemRecord}
+use Rattle.problem.specs.declared.Problem.{Problem}
 use Rattle.problem.specs.declared.Spot.{Spot}
+use Rattle.problem.proofs.DeckProblem.{prepared-problem, solvable-prepared}
 use Rattle.calls.specs.declared.Cheapest.the-variants as Cheapest
 use Rattle.calls.specs.Answers.{gives, cheapestAnswer}
 use Rattle.calls.specs.CheapestCall.{exhaustiveCall}
-use Rattle.job.proofs.ReadDeck.{read-accepted, read-refused, read-deckOf, read-full, objects-ask}
+use Rattle.job.proofs.ReadDeck.{read-accepted, read-refused, read-deckOf}
+use Rattle.siting.proofs.SolveLaws.{solvable}
 use Rattle.calls.proofs.ExhaustiveCall.{call-accepted, call-refused}
 
 module _ (job : List ℕ) (j : Held.Job) (e : j ≡ jobRecord (readJob job)) where
-  -- what `cheapest` asks
-  pub exhaustive-ready : (rounds : ℕ) → j .outcome ≡ Accepted rounds → (objects : Objects) → objects ≡ objectsRecord (objectsOf (deckOf (j .deck))) → Prepared (j .deck) objects
-  exhaustive-ready rounds o objects f =
-      let s = read-accepted job j e rounds o in
-      let (range, posts, stops) = objects-ask s j e in
-      record { objects-are = f; range = range; full = read-full s j e; posts = posts; stops = stops }
-
-  pub exhaustive-found : (rounds : ℕ) → j .outcome ≡ Accepted rounds → (s : Spot) → pricedOf s ≡ Query.exhaustive (problem (deckOf (j .deck))) → cheapestAnswer (Cheapest.At s) ≡ exhaustiveCall job
-  exhaustive-found rounds o s f =
+  pub exhaustive-found : (rounds : ℕ) → j .outcome ≡ Accepted rounds → (p : Problem) → p ≡ problemRecord (deckOf (j .deck)) → (s : Spot) →
+      pricedOf s ≡ Query.exhaustive (problemIn p) → cheapestAnswer (Cheapest.At s) ≡ exhaustiveCall job
+  exhaustive-found rounds o p g s f =
       let t = read-accepted job j e rounds o in
-      ap (λ (p : Priced). gives p) (f ∙ ap (λ (d : Deck). Query.exhaustive (problem d)) (read-deckOf t j e)) ∙ sym (call-accepted job (t .job) (t .read))
+      ap (λ (q : Priced). gives q)
+      (f
+      ∙ ap Query.exhaustive (prepared-problem p (solvable-prepared (j .deck) (solvable job j e rounds o) p g))
+      ∙ ap (λ (d : Deck). Query.exhaustive (problem d)) (read-deckOf t j e))
+      ∙ sym (call-accepted job (t .job) (t .read))
 
   pub exhaustive-refused : (why : Refusal) → j .outcome ≡ Refused why → cheapestAnswer (Cheapest.Refused why) ≡ exhaustiveCall job
   exhaustive-refused why o = sym (call-refused job why (read-refused job j e why o))

@@ -5,19 +5,21 @@ use mathlib.Core.Path.{_≡_, refl, sym, ap, subst, _∙_}
 use mathlib.Core.List.{List, [], _∷_}
 use native.Mathlib.Omega.{arith}
 use mir.Syntax.{w64}
-use mir.Val.{toZ, ofZ}
 use mir.ValLaws.{toZ-ofZ}
-use lib.IntN.{ℤ}
+use lib.IntN.{ℤ, pos}
 use lib.ListN.{length}
+use Rattle.numbers.specs.Padded.{padded}
 use Rattle.numbers.proofs.Words.{word-fits}
+use Rattle.numbers.proofs.WordTests.{back}
 use Rattle.query.specs.Deck as Deck
+use Rattle.query.specs.Problem as QueryProblem
 use Rattle.query.specs.Problem.{problem}
 use Rattle.query.specs.Order as Query
 use Rattle.query.specs.Search.{run}
 use Rattle.query.specs.Cost.{before}
 use Rattle.query.specs.Figures as Figures
 use Rattle.query.specs.Figures.{figures}
-use Rattle.query.specs.Space.{space}
+use Rattle.query.specs.Space.{allNumbers, space}
 use Rattle.query.specs.Range.{FiguresInRange}
 use Rattle.query.proofs.FigureRanges.{run-in-range}
 use Rattle.job.specs.Format.{Job, readJob}
@@ -27,11 +29,12 @@ use Rattle.deck.specs.declared.Deck.{Deck}
 use Rattle.job.specs.declared.Outcome.the-variants.{Accepted}
 use Rattle.refusal.specs.declared.Refusal.{Refusal}
 use Rattle.deck.specs.DeckOf.{deckOf}
-use Rattle.deck.specs.Objects.{objectsOf}
-use Rattle.deck.specs.ObjectColumns.{objectsRecord}
-use Rattle.pricing.specs.Columns.{BeforeIs}
-use Rattle.deck.specs.declared.Objects.{Objects}
-use Rattle.pricing.proofs.RecordLaws.{made-range, made-before}
+use Rattle.deck.specs.ObjectColumns.{pricingIn}
+use Rattle.pricing.specs.ObjectFigures.{beforeOf}
+use Rattle.pricing.proofs.ObjectLaws.{before-law}
+use Rattle.problem.specs.declared.Problem.{Problem}
+use Rattle.problem.specs.Prepared.{problemIn, problemRecord, Solvable}
+use Rattle.problem.proofs.DeckProblem.{prepared-pricing, prepared-problem, solvable-prepared}
 use Rattle.report.specs.Report.{reportState, reportFigures}
 use Rattle.report.specs.Text.{reportText}
 use Rattle.write.specs.Written.{overwritten, Overwrote}
@@ -44,7 +47,7 @@ use Rattle.calls.specs.declared.Answer.the-variants as Answered
 use Rattle.siting.specs.declared.Response.{Response}
 use Rattle.calls.specs.Answers.{gives}
 use Rattle.calls.specs.Call.{turnedDown, reported, reportCall}
-use Rattle.siting.specs.Response.{stateFor, Solvable, Solved, refusedResponse, Responded}
+use Rattle.siting.specs.Response.{stateFor, Solved, refusedResponse, Responded}
 use Rattle.job.proofs.JobLaws.{most-rounds}
 use Rattle.job.proofs.ReadDeck.{Spelt, read-accepted, read-rounds, read-deckOf, read-full, objects-ask}
 use Rattle.calls.proofs.Demands.{job-limits, call-accepted}
@@ -58,28 +61,48 @@ found-report : (deck : Deck) (n : ℕ) (f : Found) (state : State) (b : ℕ) →
 unfolding figures Figures.figuresOf foundOf
 found-report deck n f state b e s h = rw (s, e, h, state-is (run (problem (deckOf deck)) n .live))
 
-module _ (deck : Deck) (n lent : ℕ) (h : Solvable deck n lent) (objects : Objects) (e : objects ≡ objectsRecord (objectsOf (deckOf deck))) where
-  pub before-is : (b : ℕ) → BeforeIs (objects .visits) (objects .near) (objects .count) b → b ≡ before (deckOf deck)
-  before-is b f = let range = made-range (deckOf deck) (h .range) objects e in f .is (objects .x) (objects .y) (range .x-long) (range .y-long) ∙ made-before (deckOf deck) (h .range) objects e
-
+module _ (deck : Deck) (n : ℕ) (h : Solvable deck) (p : Problem) (e : p ≡ problemRecord (deckOf deck)) where
   figures-range : FiguresInRange n (figures (deckOf deck) n)
   figures-range = run-in-range (deckOf deck) (h .range) (h .full) n .figures-range
 
+  -- the problem and `before` are the deck's
+  problem-is : problemIn p ≡ problem (deckOf deck)
+  problem-is = prepared-problem p (solvable-prepared deck h p e)
+
+  before-is : (b : ℕ) → b ≡ beforeOf (pricingIn (p .columns) (p .count)) → b ≡ before (deckOf deck)
+  before-is b f = f ∙ ap beforeOf (prepared-pricing p (solvable-prepared deck h p e)) ∙ before-law (deckOf deck)
+
   -- the signed fields of an answer, as the code holds them
-  place-x : (f : Found) → f ≡ foundOf (run (problem (deckOf deck)) n) → toZ w64 (ofZ w64 (f .x)) ≡ f .x
-  unfolding figures Figures.figuresOf foundOf
-  place-x f e = toZ-ofZ w64 (f .x) (word-fits w64 (f .x) (rw e (omega (arith, figures-range .place .x-range))))
+  module _ (f : Found) (found : f ≡ foundOf (run (problem (deckOf deck)) n)) where
+    place-x : back (f .x) ≡ f .x
+    unfolding figures Figures.figuresOf foundOf
+    place-x = toZ-ofZ w64 (f .x) (word-fits w64 (f .x) (rw found (omega (arith, figures-range .place .x-range))))
 
-  place-y : (f : Found) → f ≡ foundOf (run (problem (deckOf deck)) n) → toZ w64 (ofZ w64 (f .y)) ≡ f .y
-  unfolding figures Figures.figuresOf foundOf
-  place-y f e = toZ-ofZ w64 (f .y) (word-fits w64 (f .y) (rw e (omega (arith, figures-range .place .y-range))))
+    place-y : back (f .y) ≡ f .y
+    unfolding figures Figures.figuresOf foundOf
+    place-y = toZ-ofZ w64 (f .y) (word-fits w64 (f .y) (rw found (omega (arith, figures-range .place .y-range))))
 
-  low-word : (f : Found) → f ≡ foundOf (run (problem (deckOf deck)) n) → toZ w64 (ofZ w64 (f .low)) ≡ f .low
-  unfolding figures Figures.figuresOf foundOf
-  low-word f e = toZ-ofZ w64 (f .low) (word-fits w64 (f .low) (rw e (omega (arith, figures-range .low-limit))))
+    low-word : back (f .low) ≡ f .low
+    unfolding figures Figures.figuresOf foundOf
+    low-word = toZ-ofZ w64 (f .low) (word-fits w64 (f .low) (rw found (omega (arith, figures-range .low-limit))))
 
-  pub solved : (cells cells′ : List ℤ) (f : Found) (state : State) (b : ℕ) → BeforeIs (objects .visits) (objects .near) (objects .count) b → Searched deck n cells cells′ f → state ≡ stateFor (f .done) → Solved deck n cells cells′ (record { state = state; x = toZ w64 (ofZ w64 (f .x)); y = toZ w64 (ofZ w64 (f .y)); high = f .high; low = toZ w64 (ofZ w64 (f .low)); before = b; rounds = f .cuts })
-  solved cells cells′ f state b g s t = record { report = rw (place-x f (s .found), place-y f (s .found), low-word f (s .found)) (found-report deck n f state b (s .found) t (before-is b g)); cells = s .cells }
+  pub solved : (cells cells′ : List ℤ) (f : Found) (state : State) (b : ℕ) → b ≡ beforeOf (pricingIn (p .columns) (p .count)) →
+      Searched p n cells cells′ f → state ≡ stateFor (f .done) → Solved deck n cells cells′ (record {
+        state = state;
+        x = back (f .x);
+        y = back (f .y);
+        high = f .high;
+        low = back (f .low);
+        before = b;
+        rounds = f .cuts;
+      })
+  unfolding space
+  solved cells cells′ f state b g s t =
+      let found = s .found ∙ ap (λ (q : QueryProblem.Problem). foundOf (run q n)) problem-is in
+      record {
+        report = rw (place-x f found, place-y f found, low-word f found) (found-report deck n f state b found t (before-is b g));
+        cells = s .cells ∙ ap (λ (q : QueryProblem.Problem). padded (length cells) (pos 0) (allNumbers (run q n .live))) problem-is;
+      }
 
 -- ---- respond
 pub respond-refused : (job : List ℕ) (cells : List ℤ) (out : List ℕ) (why : Refusal) → reportCall job cells out ≡ turnedDown why cells out → (r : Response) → r ≡ refusedResponse why → Responded job cells out cells out r
@@ -101,8 +124,8 @@ module _ (job : List ℕ) (j : Held.Job) (e : j ≡ jobRecord (readJob job)) (ro
   pub rounds-limit : rounds ≤ 1000
   rounds-limit = omega (arith, rounds-same, most-rounds (spelt .allowed .writable))
 
-  pub solvable : (lent : ℕ) → 5 * (rounds + 1) ≤ lent → Solvable (j .deck) rounds lent
-  solvable lent h = let (range, posts, stops) = objects-ask spelt j e in record { range = range; full = read-full spelt j e; posts = posts; stops = stops; rounds-limit = rounds-limit; room = h }
+  pub solvable : Solvable (j .deck)
+  solvable = let (range, posts, stops) = objects-ask spelt j e in record { range = range; full = read-full spelt j e; posts = posts; stops = stops }
 
   module _ (cells cells′ : List ℤ) (r : Report) (s : Solved (j .deck) rounds cells cells′ r) where
     solved-figures : reportFigures r ≡ figures (spelt .job .deck) (spelt .job .rounds)

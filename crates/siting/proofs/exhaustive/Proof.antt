@@ -1,7 +1,8 @@
 -- `siting::exhaustive` meets its contract.
 -- Assumes nothing.
-use Rattle.job.proofs.ReadDeck.{read-accepted, objects-ask}
-use Rattle.siting.proofs.ExhaustiveLaws.{exhaustive-ready, exhaustive-found, exhaustive-refused}
+use Rattle.problem.proofs.DeckProblem.{solvable-prepared}
+use Rattle.siting.proofs.SolveLaws.{solvable}
+use Rattle.siting.proofs.ExhaustiveLaws.{exhaustive-found, exhaustive-refused}
 use borrow.Author.Needs.{needs}
 use Rattle.siting.proofs.exhaustive.Statement.{statement}
 use Rattle.siting.proofs.exhaustive.Tie as tie
@@ -13,16 +14,17 @@ enum-told : tie.Need-enum-told
 enum-told c = search needs
 
 of-deck-requires : tie.Need-of-deck-requires
-of-deck-requires c κs = let e = c .before .before .before .read .ensures in objects-ask (read-accepted _ _ e _ (c .enum-told .given .1)) _ e
+of-deck-requires c κs = solvable _ _ (c .before .before .before .read .ensures) _ (c .enum-told .given .1)
 
 cheapest-requires : tie.Need-cheapest-requires
-cheapest-requires c κs = exhaustive-ready _ _ (c .before .before .before .before .read .ensures) _ (c .before .enum-told .given .1) _ (c .of-deck .ensures)
+cheapest-requires c κs =
+    solvable-prepared _ (solvable _ _ (c .before .before .before .before .read .ensures) _ (c .before .enum-told .given .1)) _ (c .of-deck .ensures)
 
 enum-known-outcome : tie.Need-enum-known-outcome
 enum-known-outcome c = search needs
 
 returns : tie.Need-returns
-returns c = exhaustive-found _ _ (c .before .before .before .before .before .read .ensures) _ (c .before .before .enum-told .given .1) _ (c .cheapest .ensures)
+returns c = exhaustive-found _ _ (c .before .before .before .before .before .read .ensures) _ (c .before .before .enum-told .given .1) _ (c .before .of-deck .ensures) _ (c .cheapest .ensures)
 
 returns-2 : tie.Need-returns-2
 returns-2 c = exhaustive-refused _ _ (c .before .before .before .before .read .ensures) _ (c .before .outcome .given .1)
