@@ -21,7 +21,7 @@ use Rattle.job.specs.JobRecord.{jobRecord}
 use Rattle.numbers.specs.Padded.{padded}
 use Rattle.job_line.specs.Reading.{areaNumbers, areaAnswer, countAnswer, answerIn, LineAt}
 use Rattle.job.specs.ManyLines.{postLines, stopLines, countedLines, allPosts, allStops, lastLine, nextIn, PlacesHeld, PostsHold, StopsHold, PostsAt, StopsAt, LastAt, CheckedAt}
-use Rattle.job_line.specs.declared.Area.{Area}
+use Rattle.deck.specs.declared.Rect.{Rect}
 use Rattle.job_line.specs.declared.AreaLine.{AreaLine}
 use Rattle.job_line.specs.declared.AreaLine.the-variants as A
 use Rattle.job_line.specs.declared.CountLine.{CountLine}
@@ -36,7 +36,7 @@ use Rattle.refusal.specs.declared.Refusal.the-variants.{TooLong, EmptyArea, NoP
 use Rattle.numbers.proofs.WordTests.{back, back-is}
 
 -- ---- refusal 4
-module _ {a : Area} (xlo : SFits w64 (a .xlo)) (ylo : SFits w64 (a .ylo)) (xhi : SFits w64 (a .xhi)) (yhi : SFits w64 (a .yhi)) where
+module _ {a : Rect} (xlo : SFits w64 (a .xlo)) (ylo : SFits w64 (a .ylo)) (xhi : SFits w64 (a .xhi)) (yhi : SFits w64 (a .yhi)) where
   pub empty-across : ltZ (back (a .xhi)) (back (a .xlo)) ≡ true → true ≡ emptyArea (areaOf (areaNumbers a))
   unfolding emptyArea
   empty-across e = rw (rw (back-is xhi, back-is xlo) at e)
@@ -93,7 +93,7 @@ accepted-is : (a : List ℤ) (ps ss : List (List ℤ)) (n : List ℤ) → jobRec
 unfolding jobRecord
 accepted-is a ps ss n = refl
 
-parts-are : (a : Area) (postsRead : Posts) (stopsRead : Stops) (n : ℕ) {ps ss : List (List ℤ)} → PostsHold postsRead ps → StopsHold stopsRead ss
+parts-are : (a : Rect) (postsRead : Posts) (stopsRead : Stops) (n : ℕ) {ps ss : List (List ℤ)} → PostsHold postsRead ps → StopsHold stopsRead ss
     → jobOfParts (a .xlo) (a .ylo) (a .xhi) (a .yhi) postsRead stopsRead n ≡ jobRecord (accepted (jobOf (areaNumbers a) ps ss (pos n ∷ [])))
 parts-are a postsRead stopsRead n {ps} {ss} p s = rw (
   accepted-is (areaNumbers a) ps ss (pos n ∷ []),
@@ -121,7 +121,7 @@ module _ {A : Type 0} (f : List ℤ → A) {size count : ℕ} {x y : List ℤ} {
   none-held : count ≡ 0 → nonEmpty (map f ls) ≡ false
   none-held z = no-elements (map f ls) (length-map ls f ∙ sym (p .count-is) ∙ z)
 
-module _ {a : Area} {postsRead : Posts} {stopsRead : Stops} (n : ℕ) {t : Bool} (is-empty : t ≡ emptyArea (areaOf (areaNumbers a))) where
+module _ {a : Rect} {postsRead : Posts} {stopsRead : Stops} (n : ℕ) {t : Bool} (is-empty : t ≡ emptyArea (areaOf (areaNumbers a))) where
   pub checked-empty : {r : Job} → t ≡ true → r ≡ jobRecord (refused EmptyArea) → CheckedAt a postsRead stopsRead n r
   unfolding checked
   checked-empty on e = record { is = λ p s. rw (← is-empty, on) e }
@@ -200,7 +200,7 @@ module _ {s : List ℕ} (short : length s ≤ 16384) {area-answer : AreaLine} (a
   pub read-area : {why : Refusal} → area-answer ≡ A.Refused why → refused why ≡ readJob s
   read-area e = rw (read-short s short, lines-are 1 s, ← subst (λ (r : AreaLine). LineAt (row area) s 0 1 (areaAnswer r)) e area-at .is)
 
-  module _ {a : Area} {at₁ : ℕ} (area-is : area-answer ≡ A.Read a at₁) {postsRead : Posts} (posts-at : PostsAt s 3 (allPosts 2 (drop at₁ s)) postsRead) where
+  module _ {a : Rect} {at₁ : ℕ} (area-is : area-answer ≡ A.Read a at₁) {postsRead : Posts} (posts-at : PostsAt s 3 (allPosts 2 (drop at₁ s)) postsRead) where
     from-posts : jobLines 1 s ≡ andThen (nextIn s (posts-at .lines) (3 + postsRead .count) (postsRead .next)) (after-posts (areaNumbers a))
     from-posts = rw (lines-are 1 s, ← subst (λ (r : AreaLine). LineAt (row area) s 0 1 (areaAnswer r)) area-is area-at .is, after-area-is (areaNumbers a) 2 (drop at₁ s), posts-at .is)
 

@@ -12,7 +12,7 @@ use Rattle.job_line.specs.Reading.{areaNumbers, countAnswer, answerIn, Within}
 use Rattle.job.specs.Format.{countOf, postOf, stopOf, jobOf, checked}
 use Rattle.job.specs.JobRecord.{jobRecord}
 use Rattle.numbers.specs.Padded.{padded}
-use Rattle.job_line.specs.declared.Area.{Area}
+use Rattle.deck.specs.declared.Rect.{Rect}
 use Rattle.job.specs.declared.Job.{Job}
 use Rattle.job_line.specs.declared.CountLine.{CountLine}
 use Rattle.job.specs.declared.Next.{Next}
@@ -94,6 +94,6 @@ pub record LastAt (s : List ℕ) (at n : ℕ) (r : CountLine) : Type 0 where
   pub within : Within s (countAnswer r)
 
 -- refusals 4, 5 and 6 of what the lines hold, or the job
-pub record CheckedAt (area : Area) (postsRead : Posts) (stopsRead : Stops) (n : ℕ) (r : Job) : Type 0 where
+pub record CheckedAt (area : Rect) (postsRead : Posts) (stopsRead : Stops) (n : ℕ) (r : Job) : Type 0 where
   pub is : {ps ss : List (List ℤ)} → PostsHold postsRead ps → StopsHold stopsRead ss →
       r ≡ jobRecord (checked (jobOf (areaNumbers area) ps ss (pos n ∷ [])))

@@ -1,7 +1,7 @@
 // The job format: a job's bytes are read as the deck and rounds that they spell, or refused at their first fault.
 
 use deck::Deck;
-use job_line::Area;
+use deck::Rect;
 use job_line::AreaLine;
 use job_line::CountLine;
 use job_line::PostLine;
@@ -186,7 +186,7 @@ fn last_line(s: &[u8], at: usize, line: u64) -> CountLine
 // ---- the job
 
 // Refusal 4: the area has no point.
-fn empty_area(a: Area) -> bool
+fn empty_area(a: Rect) -> bool
     ensures { λ r. ⌜ r ≡ emptyArea (areaOf (areaNumbers a)) ⌝ }
 {
     if a.xhi < a.xlo { true } else { a.yhi < a.ylo }
@@ -217,7 +217,7 @@ fn refuse(why: Refusal) -> Job
 }
 
 // Refusals 4, 5 and 6, in this order, or the job.
-fn check(area: Area, posts: Posts, stops: Stops, rounds: u64) -> Job
+fn check(area: Rect, posts: Posts, stops: Stops, rounds: u64) -> Job
     ensures { λ r. ⌜ CheckedAt area posts stops rounds r ⌝ }
 {
     let empty = empty_area(area);

@@ -11,7 +11,7 @@ use Rattle.job_line.specs.Form.{field}
 use Rattle.job_line.specs.Lines.{Row, upTo}
 use Rattle.job_line.specs.OneLine.{Reading, fault, got, line}
 use Rattle.refusal.specs.declared.Refusal.{Refusal}
-use Rattle.job_line.specs.declared.Area.{Area}
+use Rattle.deck.specs.declared.Rect.{Rect}
 use Rattle.job_line.specs.declared.Place.{Place}
 use Rattle.job_line.specs.declared.AreaLine.{AreaLine}
 use Rattle.job_line.specs.declared.AreaLine.the-variants as A
@@ -28,7 +28,7 @@ pub record FieldAt (s : List ℕ) (at end : ℕ) (r : ParsedNumber) : Type 0 whe
   pub within : NumberWithin s r
 
 -- ---- the numbers of a line, as the code holds them
-abbrev pub areaNumbers : Area → List ℤ
+abbrev pub areaNumbers : Rect → List ℤ
 areaNumbers a = a .xlo ∷ a .ylo ∷ a .xhi ∷ a .yhi ∷ []
 
 abbrev pub placeNumbers : Place → List ℤ

@@ -1,5 +1,6 @@
 // One line of a job: what it holds and the place after it, or the refusal of a line without its form or of a value out of range.
 
+use deck::Rect;
 use limits::LEAST_COORDINATE;
 use limits::MOST_COORDINATE;
 use limits::MOST_VISITS;
@@ -11,14 +12,7 @@ ghost use mathlib.Core.List.{_∷_, []};
 ghost use Rattle.job_line.specs.Lines.{area, post, stop, coordinates, row, inRange, inRanges};
 ghost use Rattle.job_line.specs.Reading.{areaNumbers, placeNumbers, FieldAt, areaAnswer, countAnswer, postAnswer, stopAnswer, LineAt, countRow};
 
-// An area and a place as a line has them.
-pub struct Area {
-    pub xlo: i64,
-    pub ylo: i64,
-    pub xhi: i64,
-    pub yhi: i64,
-}
-
+// A place as a line has it.
 struct Place {
     x: i64,
     y: i64,
@@ -26,7 +20,7 @@ struct Place {
 
 // What one line is read as: what it holds and the place after it, or the refusal.
 pub enum AreaLine {
-    Read(Area, usize),
+    Read(Rect, usize),
     Refused(Refusal),
 }
 
@@ -69,7 +63,7 @@ fn place_in_range(p: Place) -> bool
     }
 }
 
-fn area_in_range(a: Area) -> bool
+fn area_in_range(a: Rect) -> bool
     ensures { λ r. ⌜ r ≡ inRanges (row area .ranges) (areaNumbers a) ⌝ }
 {
     if !coordinate_in_range(a.xlo) {
@@ -131,7 +125,7 @@ pub fn area_line(s: &[u8], at: usize, line: u64) -> AreaLine
     let ParsedNumber::Read(yhi, next) = field(s, after_xhi, b'\n') else {
         return AreaLine::Refused(Refusal::Malformed(line));
     };
-    let area = Area { xlo, ylo, xhi, yhi };
+    let area = Rect { xlo, ylo, xhi, yhi };
     if !area_in_range(area) {
         return AreaLine::Refused(Refusal::OutOfRange(line));
     }

@@ -44,9 +44,10 @@ returns-3 c = let m = c .before .before .before .before in let s = spelt _ _ (m 
 solve-requires : tie.Need-solve-requires
 solve-requires c κs =
     let m = c .before .before .before .before in
-    let read = m .before .before .before .read .ensures in
-    (solvable _ _ read _ (m .outcome .given .1),
-    record { rounds-limit = rounds-limit _ _ read _ (m .outcome .given .1); room = omega (arith, c .before .before .if1 .left) })
+    let read = m .before .before .before .read .ensures in (
+      solvable _ _ read _ (m .outcome .given .1),
+      record { rounds-limit = rounds-limit _ _ read _ (m .outcome .given .1); room = omega (arith, c .before .before .if1 .left) },
+    )
 
 write-report-requires : tie.Need-write-report-requires
 write-report-requires c κs = let m = c .before .before .before .before .before .before .before in (omega (arith, c .before .before .before .before .if2 .left), report-limits _ _ (m .before .before .before .read .ensures) _ (m .outcome .given .1) _ _ _ (c .before .before .solve .ensures))
