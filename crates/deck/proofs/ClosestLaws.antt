@@ -33,7 +33,8 @@ module _ {A B C : Type 0} (f : A → B → C) where
   zip-length (x ∷ xs) [] = omega arith
   zip-length (x ∷ xs) (y ∷ ys) = omega (arith, zip-length xs ys)
 
-  pub zip-at : (a : A) (b : B) (c : C) (xs : List A) (ys : List B) (i : ℕ) → i < length xs → i < length ys → getD (zipWith f xs ys) i c ≡ f (getD xs i a) (getD ys i b)
+  pub zip-at : (a : A) (b : B) (c : C) (xs : List A) (ys : List B) (i : ℕ) → i < length xs → i < length ys →
+      getD (zipWith f xs ys) i c ≡ f (getD xs i a) (getD ys i b)
   unfolding zipWith
   zip-at a b c [] ys i g h = absurd (omega arith)
   zip-at a b c (x ∷ xs) [] i g h = absurd (omega arith)
@@ -77,7 +78,8 @@ map-snoc : (f : Place → ℕ) (ps : List Place) (q : Place) → map f (ps ++ q 
 map-snoc f [] q = refl
 map-snoc f (p ∷ ps) q = ap (λ (l : List ℕ). f p ∷ l) (map-snoc f ps q)
 
-closest-snoc : (axis : AxisCosts) (p : Place) (posts : List Place) (q : Place) → 1 ≤ length posts → closest axis p (posts ++ q ∷ []) ≡ cond (ltb (travel axis p q) (closest axis p posts)) (travel axis p q) (closest axis p posts)
+closest-snoc : (axis : AxisCosts) (p : Place) (posts : List Place) (q : Place) → 1 ≤ length posts →
+    closest axis p (posts ++ q ∷ []) ≡ cond (ltb (travel axis p q) (closest axis p posts)) (travel axis p q) (closest axis p posts)
 unfolding closest
 closest-snoc axis p [] q h = absurd (omega arith)
 closest-snoc axis p (post ∷ posts) q h = rw (map-snoc (travel axis p) posts q) (least-snoc (travel axis p post) (map (travel axis p) posts) (travel axis p q))
@@ -104,11 +106,13 @@ module _ (px py : List ℤ) (k : ℕ) (p : Place) (gx : CoordinatesInRange px k)
       let l : j < length (places px py) = omega (arith, places-length px py, gx .count, gy .count) in
       rw (add-one j, take-suc (places px py) j (placeAt px py 0) l, places-at px py j (placeAt px py 0) (omega (arith, gx .count)) (omega (arith, gy .count)))
 
-  pub closest-first : (z : ℤ) → 1 ≤ k → far (p .x) (p .y) (getD px 0 (pos 0)) (getD py 0 (pos 0)) < 2 ^ 31 → z ≡ pos (far (p .x) (p .y) (getD px 0 (pos 0)) (getD py 0 (pos 0))) → ClosestSoFar px py k p (ofZ w32 z) 1
+  pub closest-first : (z : ℤ) → 1 ≤ k → far (p .x) (p .y) (getD px 0 (pos 0)) (getD py 0 (pos 0)) < 2 ^ 31 →
+      z ≡ pos (far (p .x) (p .y) (getD px 0 (pos 0)) (getD py 0 (pos 0))) → ClosestSoFar px py k p (ofZ w32 z) 1
   closest-first z h small e = record { some = omega arith; count = h; is = rw (e, more 0 h, closest-one, travel-plain); small = rw e small }
 
   pub closest-more : {least j : ℕ} (z : ℤ) → ClosestSoFar px py k p least j → j < k →
-      z ≡ cond (ltZ (pos (far (p .x) (p .y) (toZ w32 (ofZ w32 (getD px j (pos 0)))) (toZ w32 (ofZ w32 (getD py j (pos 0)))))) (toZ w32 least)) (pos (far (p .x) (p .y) (toZ w32 (ofZ w32 (getD px j (pos 0)))) (toZ w32 (ofZ w32 (getD py j (pos 0)))))) (toZ w32 least) →
+      z ≡ cond (ltZ (pos (far (p .x) (p .y) (toZ w32 (ofZ w32 (getD px j (pos 0)))) (toZ w32 (ofZ w32 (getD py j (pos 0)))))) (toZ w32 least))
+      (pos (far (p .x) (p .y) (toZ w32 (ofZ w32 (getD px j (pos 0)))) (toZ w32 (ofZ w32 (getD py j (pos 0)))))) (toZ w32 least) →
       ClosestSoFar px py k p (ofZ w32 z) (j + 1)
   closest-more {least} {j} z so-far h e = record {
     some = omega arith;
@@ -124,7 +128,12 @@ module _ (px py : List ℤ) (k : ℕ) (p : Place) (gx : CoordinatesInRange px k)
       some = omega (arith, so-far .some, length-take j (places px py), places-length px py, gx .count, gy .count)
 
       smaller : ofZ w32 z ≡ cond (ltb new least) new least
-      smaller = rw (e, coordinate (getD px j (pos 0)) (gx .range j h), coordinate (getD py j (pos 0)) (gy .range j h), toZ-pos w32 least (so-far .small)) (picked (ltb new least) new least)
+      smaller = rw (
+        e,
+        coordinate (getD px j (pos 0)) (gx .range j h),
+        coordinate (getD py j (pos 0)) (gy .range j h),
+        toZ-pos w32 least (so-far .small),
+      ) (picked (ltb new least) new least)
 
   pub closest-all : {least j : ℕ} → ClosestSoFar px py k p least j → k ≤ j → least ≡ closest plain p (take k (places px py))
   closest-all {least} {j} so-far h = let e : j ≡ k = omega arith in so-far .is ∙ rw e

@@ -86,16 +86,23 @@ module _ (deck : Deck) (columns : DeckColumns deck) where
 
   stops-at : (i : ℕ) (d : Stop) → i < 512 → getD (allStops deck) i d ≡ stopAt deck i
   unfolding stopsOf
-  stops-at i d h = zip-at _ (placeAt [] [] 0) 0 d (places (deck .«stop_x») (deck .«stop_y»)) (deck .visits) i (omega (arith, places-long)) (omega (arith, columns .visits)) ∙ rw (places-at (deck .«stop_x») (deck .«stop_y») i (placeAt [] [] 0) (omega (arith, columns .stop-x)) (omega (arith, columns .stop-y)))
+  stops-at i d h = zip-at _ (placeAt [] [] 0) 0 d (places (deck .«stop_x») (deck .«stop_y»)) (deck .visits) i (omega (arith, places-long))
+      (omega (arith, columns .visits)) ∙ rw (places-at (deck .«stop_x») (deck .«stop_y») i (placeAt [] [] 0) (omega (arith, columns .stop-x))
+      (omega (arith, columns .stop-y)))
 
   module _ (range : InRange (deckOf deck)) where
     stop-range : (i : ℕ) → i < deck .stops → StopInRange (stopAt deck i)
     unfolding deckOf
-    stop-range i h = range .stops (stopAt deck i) (rw (stops-at i (stopAt deck 0) (omega (arith, columns .stops))) at (take-member (stopAt deck 0) (allStops deck) (deck .stops) i h (omega (arith, columns .stops, stops-long))))
+    stop-range i h = range .stops (stopAt deck i) (rw
+        (stops-at i (stopAt deck 0) (omega (arith, columns .stops))) at (take-member (stopAt deck 0) (allStops deck) (deck .stops) i h
+        (omega (arith, columns .stops, stops-long))))
 
     post-in-range : (i : ℕ) → i < deck .posts → PlaceInRange (placeAt (deck .«post_x») (deck .«post_y») i)
     unfolding deckOf
-    post-in-range i h = range .posts (placeAt (deck .«post_x») (deck .«post_y») i) (rw (places-at (deck .«post_x») (deck .«post_y») i (placeAt [] [] 0) (omega (arith, columns .posts, columns .post-x)) (omega (arith, columns .posts, columns .post-y))) at (take-member (placeAt [] [] 0) (places (deck .«post_x») (deck .«post_y»)) (deck .posts) i h (omega (arith, columns .posts, places-length (deck .«post_x») (deck .«post_y»), columns .post-x, columns .post-y))))
+    post-in-range i h = range .posts (placeAt (deck .«post_x») (deck .«post_y») i)
+        (rw (places-at (deck .«post_x») (deck .«post_y») i (placeAt [] [] 0) (omega (arith, columns .posts, columns .post-x))
+        (omega (arith, columns .posts, columns .post-y))) at (take-member (placeAt [] [] 0) (places (deck .«post_x») (deck .«post_y»)) (deck .posts) i h
+        (omega (arith, columns .posts, places-length (deck .«post_x») (deck .«post_y»), columns .post-x, columns .post-y))))
 
     pub some-post : 1 ≤ deck .posts
     unfolding deckOf
@@ -121,19 +128,29 @@ module _ (deck : Deck) (columns : DeckColumns deck) where
   unfolding objectsOf deckOf
   objects-length = rw length-map (omega (arith, length-take (deck .stops) (allStops deck), stops-long, columns .stops))
 
-  column : {D : Type 0} (g : Object → D) → map g (objectsOf (deckOf deck)) ≡ take (deck .stops) (map (λ stop. g (record { at = stop .at; visits = stop .visits; near = near (deckOf deck) stop })) (allStops deck))
+  column : {D : Type 0} (g : Object → D) → map g (objectsOf (deckOf deck)) ≡ take (deck .stops)
+      (map (λ stop. g (record { at = stop .at; visits = stop .visits; near = near (deckOf deck) stop })) (allStops deck))
   unfolding objectsOf deckOf
   column g = rw (map-map, map-take)
 
-  by-place : {D : Type 0} (g : Stop → D) (h : Place → D) → ((p : Place) (v : ℕ) → g (stopOf p v) ≡ h p) → map g (allStops deck) ≡ map h (places (deck .«stop_x») (deck .«stop_y»))
+  by-place : {D : Type 0} (g : Stop → D) (h : Place → D) → ((p : Place) (v : ℕ) → g (stopOf p v) ≡ h p) →
+      map g (allStops deck) ≡ map h (places (deck .«stop_x») (deck .«stop_y»))
   unfolding stopsOf
   by-place g h e = zip-first stopOf g h e (places (deck .«stop_x») (deck .«stop_y»)) (deck .visits) (omega (arith, places-long, columns .visits))
 
   pub x-column : map (λ (s : Object). s .at .x) (objectsOf (deckOf deck)) ≡ take (deck .stops) (deck .«stop_x»)
-  x-column = rw (column (λ (s : Object). s .at .x), by-place (λ (s : Stop). s .at .x) (λ (p : Place). p .x) (λ p v. refl), places-x (deck .«stop_x») (deck .«stop_y») (omega (arith, columns .stop-x, columns .stop-y)))
+  x-column = rw (
+    column (λ (s : Object). s .at .x),
+    by-place (λ (s : Stop). s .at .x) (λ (p : Place). p .x) (λ p v. refl),
+    places-x (deck .«stop_x») (deck .«stop_y») (omega (arith, columns .stop-x, columns .stop-y)),
+  )
 
   pub y-column : map (λ (s : Object). s .at .y) (objectsOf (deckOf deck)) ≡ take (deck .stops) (deck .«stop_y»)
-  y-column = rw (column (λ (s : Object). s .at .y), by-place (λ (s : Stop). s .at .y) (λ (p : Place). p .y) (λ p v. refl), places-y (deck .«stop_x») (deck .«stop_y») (omega (arith, columns .stop-x, columns .stop-y)))
+  y-column = rw (
+    column (λ (s : Object). s .at .y),
+    by-place (λ (s : Stop). s .at .y) (λ (p : Place). p .y) (λ p v. refl),
+    places-y (deck .«stop_x») (deck .«stop_y») (omega (arith, columns .stop-x, columns .stop-y)),
+  )
 
   visits-column : map (λ (s : Object). pos (s .visits)) (objectsOf (deckOf deck)) ≡ take (deck .stops) (map pos (deck .visits))
   unfolding stopsOf
@@ -170,7 +187,8 @@ unfolding places
 front-places [] xs ys = refl
 front-places (p ∷ ps) xs ys = ap (λ (l : List Place). p ∷ l) (front-places ps xs ys)
 
-front-stops : (ss : List Stop) (xs ys : List ℤ) (vs : List ℕ) → take (length ss) (stopsOf (places (map (λ s. s .at .x) ss ++ xs) (map (λ s. s .at .y) ss ++ ys)) (map (λ s. s .visits) ss ++ vs)) ≡ ss
+front-stops : (ss : List Stop) (xs ys : List ℤ) (vs : List ℕ) →
+    take (length ss) (stopsOf (places (map (λ s. s .at .x) ss ++ xs) (map (λ s. s .at .y) ss ++ ys)) (map (λ s. s .visits) ss ++ vs)) ≡ ss
 unfolding places stopsOf
 front-stops [] xs ys vs = refl
 front-stops (s ∷ ss) xs ys vs = ap (λ (l : List Stop). s ∷ l) (front-stops ss xs ys vs)

@@ -34,7 +34,8 @@ module _ (ux uy vx vy : ℤ) (u : Near180000 ux uy) (v : Near180000 vx vy) where
   pub far-word : far (toZ w32 (ofZ w32 ux)) (toZ w32 (ofZ w32 uy)) (toZ w32 (ofZ w32 vx)) (toZ w32 (ofZ w32 vy)) ≡ far ux uy vx vy
   far-word = rw (coordinate ux (u .x-range), coordinate uy (u .y-range), coordinate vx (v .x-range), coordinate vy (v .y-range))
 
-  pub far-sum : (a b : ℤ) → a ≡ pos (dist (toZ w32 (ofZ w32 ux)) (toZ w32 (ofZ w32 vx))) → b ≡ pos (dist (toZ w32 (ofZ w32 uy)) (toZ w32 (ofZ w32 vy))) → toZ w32 (ofZ w32 a) +ℤ toZ w32 (ofZ w32 b) ≡ pos (far ux uy vx vy)
+  pub far-sum : (a b : ℤ) → a ≡ pos (dist (toZ w32 (ofZ w32 ux)) (toZ w32 (ofZ w32 vx))) → b ≡ pos (dist (toZ w32 (ofZ w32 uy)) (toZ w32 (ofZ w32 vy))) →
+      toZ w32 (ofZ w32 a) +ℤ toZ w32 (ofZ w32 b) ≡ pos (far ux uy vx vy)
   far-sum a b p q =
       sum-is a b (dist ux vx) (dist uy vy)
       (p ∙ rw (coordinate ux (u .x-range), coordinate vx (v .x-range))) (q ∙ rw (coordinate uy (u .y-range), coordinate vy (v .y-range)))
@@ -50,7 +51,8 @@ module _ (t z least : ℤ) (e : toZ w32 (ofZ w32 t) ≡ z) (f : SFits w32 least)
 
 -- ---- posts
 module _ (x y px py : ℤ) (at : Near180000 x y) (post : Near180000 px py) where
-  pub post-far : far (toZ w32 (ofZ w32 x)) (toZ w32 (ofZ w32 y)) (toZ w32 (ofZ w32 px)) (toZ w32 (ofZ w32 py)) ≡ far (toZ w32 (ofZ w32 x)) (toZ w32 (ofZ w32 y)) px py
+  pub post-far : far (toZ w32 (ofZ w32 x)) (toZ w32 (ofZ w32 y)) (toZ w32 (ofZ w32 px)) (toZ w32 (ofZ w32 py)) ≡ far (toZ w32 (ofZ w32 x)) (toZ w32 (ofZ w32 y))
+      px py
   post-far = rw (coordinate px (post .x-range), coordinate py (post .y-range))
 
   pub post-small : far (toZ w32 (ofZ w32 x)) (toZ w32 (ofZ w32 y)) px py < 2 ^ 31

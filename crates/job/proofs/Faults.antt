@@ -26,9 +26,11 @@ use Rattle.job.proofs.ReaderLaws.{not-got}
 -- the fault of the text bs from line n on, where lines of these kinds are due
 pub data Faults : List Kind → ℕ → List ℕ → Refusal → Type 0 where
   bad-form : {k : Kind} {due : List Kind} {n : ℕ} {bs : List ℕ} → formOf (row k) bs ≡ none → Faults (k ∷ due) n bs (Malformed n)
-  bad-value : {k : Kind} {due : List Kind} {n : ℕ} {bs : List ℕ} (ns : List ℤ) (rest : List ℕ) → formOf (row k) bs ≡ some (ns, rest) → T (not (inRanges (row k .ranges) ns)) → Faults (k ∷ due) n bs (OutOfRange n)
+  bad-value : {k : Kind} {due : List Kind} {n : ℕ} {bs : List ℕ} (ns : List ℤ) (rest : List ℕ) → formOf (row k) bs ≡ some (ns, rest) →
+      T (not (inRanges (row k .ranges) ns)) → Faults (k ∷ due) n bs (OutOfRange n)
   more-text : {n b : ℕ} {bs : List ℕ} → Faults [] n (b ∷ bs) (Malformed n)
-  further : {k : Kind} {due : List Kind} {n : ℕ} {bs : List ℕ} {why : Refusal} (ns : List ℤ) (rest : List ℕ) → formOf (row k) bs ≡ some (ns, rest) → T (inRanges (row k .ranges) ns) → Faults (dueAfter k ns ++ due) (n + 1) rest why → Faults (k ∷ due) n bs why
+  further : {k : Kind} {due : List Kind} {n : ℕ} {bs : List ℕ} {why : Refusal} (ns : List ℤ) (rest : List ℕ) → formOf (row k) bs ≡ some (ns, rest) →
+      T (inRanges (row k .ranges) ns) → Faults (dueAfter k ns ++ due) (n + 1) rest why → Faults (k ∷ due) n bs why
 
 -- what a reading says of a refusal: it is its fault, or it is due to what comes after
 abbrev Outcome : {A : Type 0} → Reading A → (A → ℕ → List ℕ → Refusal → Type 0) → Refusal → Type 0
@@ -39,7 +41,9 @@ Outcome (got a n bs) After why = After a n bs why
 record Finds {A : Type 0} (reader : Reader A) (Before : ℕ → List ℕ → Refusal → Type 0) (After : A → ℕ → List ℕ → Refusal → Type 0) : Type 0 where
   finds : (n : ℕ) (bs : List ℕ) (why : Refusal) → Before n bs why ↔ Outcome (reader n bs) After why
 
-bind-finds : {A B : Type 0} {first : Reader A} {next : A → Reader B} {Before : ℕ → List ℕ → Refusal → Type 0} {Between : A → ℕ → List ℕ → Refusal → Type 0} {After : B → ℕ → List ℕ → Refusal → Type 0} → Finds first Before Between → ((a : A) → Finds (next a) (Between a) After) → Finds (first >>= next) Before After
+bind-finds : {A B : Type 0} {first : Reader A} {next : A → Reader B} {Before : ℕ → List ℕ → Refusal → Type 0} {Between : A → ℕ → List ℕ → Refusal →
+    Type 0} {After : B → ℕ → List ℕ → Refusal → Type 0} → Finds first Before Between → ((a : A) → Finds (next a) (Between a) After) →
+    Finds (first >>= next) Before After
 unfolding _>>=_
 bind-finds {A} {B} {first} {next} {Before} {Between} {After} f g = record { finds = λ n bs why. go n bs why (first n bs) (f .finds n bs why) }
   where
@@ -51,7 +55,8 @@ return-finds : {A : Type 0} (a : A) {Before : ℕ → List ℕ → Refusal → T
 unfolding return
 return-finds a = record { finds = λ n bs why. (λ x. x, λ x. x) }
 
-line-found : {k : Kind} {due : List Kind} {n : ℕ} {bs : List ℕ} {why : Refusal} → Faults (k ∷ due) n bs why → Outcome (lineResult (row k) n (formOf (row k) bs)) (λ ns. Faults (dueAfter k ns ++ due)) why
+line-found : {k : Kind} {due : List Kind} {n : ℕ} {bs : List ℕ} {why : Refusal} → Faults (k ∷ due) n bs why →
+    Outcome (lineResult (row k) n (formOf (row k) bs)) (λ ns. Faults (dueAfter k ns ++ due)) why
 line-found (bad-form e) = rw e refl
 line-found {k} (bad-value ns rest e t) = rw (e, fails (inRanges (row k .ranges) ns) t) refl
 line-found {k} (further ns rest e t f) = rw (e, holds (inRanges (row k .ranges) ns) t) f
@@ -60,15 +65,20 @@ line-finds : (k : Kind) (due : List Kind) → Finds (line (row k)) (Faults (k �
 unfolding line
 line-finds k due = record { finds = λ n bs why. (line-found, fault-of n bs why (formOf (row k) bs) refl) }
   where
-    fault-of : (n : ℕ) (bs : List ℕ) (why : Refusal) (o : Option (List ℤ × List ℕ)) → formOf (row k) bs ≡ o → Outcome (lineResult (row k) n o) (λ ns. Faults (dueAfter k ns ++ due)) why → Faults (k ∷ due) n bs why
+    fault-of : (n : ℕ) (bs : List ℕ) (why : Refusal) (o : Option (List ℤ × List ℕ)) → formOf (row k) bs ≡ o →
+        Outcome (lineResult (row k) n o) (λ ns. Faults (dueAfter k ns ++ due)) why → Faults (k ∷ due) n bs why
     fault-of n bs why none p = λ e. subst (Faults (k ∷ due) n bs) e (bad-form p)
-    fault-of n bs why (some r) p = cond-ind (λ (x : Reading (List ℤ)). Outcome x (λ ns. Faults (dueAfter k ns ++ due)) why → Faults (k ∷ due) n bs why) (inRanges (row k .ranges) (r .0)) (λ t f. further (r .0) (r .1) p t f) (λ t e. subst (Faults (k ∷ due) n bs) e (bad-value (r .0) (r .1) p t))
+    fault-of n bs why (some r) p = cond-ind (λ (x : Reading (List ℤ)). Outcome x (λ ns. Faults (dueAfter k ns ++ due)) why →
+        Faults (k ∷ due) n bs why) (inRanges (row k .ranges) (r .0)) (λ t f. further (r .0) (r .1) p t f)
+        (λ t e. subst (Faults (k ∷ due) n bs) e (bad-value (r .0) (r .1) p t))
 
 -- lines of a kind that makes no others due
-repeated-finds : (k : Kind) → ((ns : List ℤ) → dueAfter k ns ≡ []) → (count : ℕ) (read : List (List ℤ)) (due : List Kind) → Finds (repeated count (line (row k)) read) (Faults (replicate count k ++ due)) (λ all. Faults due)
+repeated-finds : (k : Kind) → ((ns : List ℤ) → dueAfter k ns ≡ []) → (count : ℕ) (read : List (List ℤ)) (due : List Kind) →
+    Finds (repeated count (line (row k)) read) (Faults (replicate count k ++ due)) (λ all. Faults due)
 unfolding repeated
 repeated-finds k alone zero read due = return-finds read
-repeated-finds k alone (suc count) read due = bind-finds (line-finds k (replicate count k ++ due)) (λ ns. rw (alone ns) (repeated-finds k alone count (read ++ (ns ∷ [])) due))
+repeated-finds k alone (suc count) read due = bind-finds (line-finds k (replicate count k ++ due))
+    (λ ns. rw (alone ns) (repeated-finds k alone count (read ++ (ns ∷ [])) due))
 
 end-found : {n : ℕ} {why : Refusal} → Faults [] n [] why → ⊥
 end-found f = elim f [ ]
@@ -91,7 +101,9 @@ allDue = area ∷ posts ∷ stops ∷ rounds ∷ []
 job-finds : (n : ℕ) (bs : List ℕ) (why : Refusal) → Faults allDue n bs why ↔ Outcome (jobLines n bs) (λ job n bs why. ⊥) why
 unfolding jobLines
 job-finds n bs why =
-    (bind-finds (line-finds area (posts ∷ stops ∷ rounds ∷ [])) (λ r. bind-finds (line-finds posts (stops ∷ rounds ∷ [])) (λ p. bind-finds (repeated-finds post (λ ns. refl) (countOf p) [] (stops ∷ rounds ∷ [])) (λ ps.
+    (bind-finds (line-finds area (posts ∷ stops ∷ rounds ∷ []))
+    (λ r. bind-finds (line-finds posts (stops ∷ rounds ∷ []))
+    (λ p. bind-finds (repeated-finds post (λ ns. refl) (countOf p) [] (stops ∷ rounds ∷ [])) (λ ps.
     bind-finds (line-finds stops (rounds ∷ [])) (λ q. bind-finds (repeated-finds stop (λ ns. refl) (countOf q) [] (rounds ∷ [])) (λ ss.
     bind-finds (line-finds rounds []) (λ z. bind-finds end-finds (λ u. return-finds (jobOf r ps ss z))))))))) .finds n bs why
 
@@ -104,7 +116,8 @@ job-faults n bs why = go (jobLines n bs) (job-finds n bs why)
 
 -- ---- the same fault, by the lines before it
 -- from a fault behind good lines to the fault of the whole text
-from-top : {lines : List (List ℕ)} {due : List Kind} → Good lines due → {rest : List ℕ} {why : Refusal} → Faults due (suc (length lines)) rest why → Faults allDue 1 (flatten lines ++ rest) why
+from-top : {lines : List (List ℕ)} {due : List Kind} → Good lines due → {rest : List ℕ} {why : Refusal} → Faults due (suc (length lines)) rest why →
+    Faults allDue 1 (flatten lines ++ rest) why
 unfolding flatten
 from-top top f = f
 from-top (one-more {lines} {k} {due} good text ns e t) {rest} {why} f =
@@ -113,12 +126,30 @@ from-top (one-more {lines} {k} {due} good text ns e t) {rest} {why} f =
     rw (flatten-snoc lines text rest) (from-top good here)
 
 -- and back, the good lines being those that come before the fault
-pub first-fault : {lines : List (List ℕ)} {due : List Kind} {n : ℕ} {rest : List ℕ} {why : Refusal} (bytes : List ℕ) → length bytes ≤ 16384 → Good lines due → n ≡ suc (length lines) → bytes ≡ flatten lines ++ rest → Faults due n rest why → Condition bytes why
+pub first-fault : {lines : List (List ℕ)} {due : List Kind} {n : ℕ} {rest : List ℕ} {why : Refusal} (bytes : List ℕ) → length bytes ≤ 16384 → Good lines due →
+    n ≡ suc (length lines) → bytes ≡ flatten lines ++ rest → Faults due n rest why → Condition bytes why
 first-fault {lines} bytes short good number split (bad-form {k} {due} {n} {bs} e) = malformed short (no-form lines bs k due good split number e)
-first-fault {lines} bytes short good number split (bad-value {k} {due} {n} {bs} ns rest e t) = out-of-range short (record { lines = lines; rest = bs; after = rest; k = k; due = due; before = good; split = split; number = number; numbers = ns; form = e; range = t })
-first-fault {lines} bytes short good number split (more-text {n} {b} {bs}) = malformed short (too-much lines (b ∷ bs) good split number (λ e. absurd (let z : _≡_ {A = ℕ} 0 1 = cc in omega arith)))
+first-fault {lines} bytes short good number split (bad-value {k} {due} {n} {bs} ns rest e t) =
+    out-of-range short (record {
+      lines = lines;
+      rest = bs;
+      after = rest;
+      k = k;
+      due = due;
+      before = good;
+      split = split;
+      number = number;
+      numbers = ns;
+      form =
+          e;
+      range = t;
+    })
+first-fault {lines} bytes short good number split (more-text {n} {b} {bs}) =
+    malformed short (too-much lines (b ∷ bs) good split number (λ e. absurd (let z : _≡_ {A = ℕ} 0 1 = cc in omega arith)))
 first-fault {lines} bytes short good number split (further {k} {due} {n} {bs} {why} ns rest e t f) =
-    first-fault bytes short (one-more good (textOf (row k) ns) ns (form-whole (row k) ns (range-fits k ns t)) t) (omega (arith, length-append lines (textOf (row k) ns ∷ []))) (split ∙ ap (λ (l : List ℕ). flatten lines ++ l) (form-spells (row k) .reads bs ns rest e .0) ∙ sym (flatten-snoc lines (textOf (row k) ns) rest)) f
+    first-fault bytes short (one-more good (textOf (row k) ns) ns (form-whole (row k) ns (range-fits k ns t)) t)
+    (omega (arith, length-append lines (textOf (row k) ns ∷ []))) (split
+    ∙ ap (λ (l : List ℕ). flatten lines ++ l) (form-spells (row k) .reads bs ns rest e .0) ∙ sym (flatten-snoc lines (textOf (row k) ns) rest)) f
 
 pub malformed-faults : (bytes : List ℕ) (n : ℕ) → FirstMalformed bytes n → Faults allDue 1 bytes (Malformed n)
 malformed-faults bytes n (no-form lines rest k due good split number e) = rw (split, number) (from-top good (bad-form e))

@@ -30,7 +30,8 @@ some-parts : {A : Type 0} {a b : A} {l m : List ℕ} → _≡_ {A = Option (A ×
 some-parts {A} {a} {b} {l} {m} e = let p = Option·some-injective (a, l) (b, m) e in (ap (λ (r : A × List ℕ). r .0) p, ap (λ (r : A × List ℕ). r .1) p)
 
 -- what two forms read, one after the other
-bind-reads : {A B C : Type 0} (first : Form A) (next : A → Form B) (bs : List ℕ) {r : B × List ℕ} → ((a : A) (mid : List ℕ) → first bs ≡ some (a, mid) → next a mid ≡ some r → C) → (first >>= next) bs ≡ some r → C
+bind-reads : {A B C : Type 0} (first : Form A) (next : A → Form B) (bs : List ℕ) {r : B × List ℕ} →
+    ((a : A) (mid : List ℕ) → first bs ≡ some (a, mid) → next a mid ≡ some r → C) → (first >>= next) bs ≡ some r → C
 unfolding _>>=_
 bind-reads first next bs go e = let (s, p, q) = bind-eq-some-iff (first bs) (λ s. next (s .0) (s .1)) .0 e in go (s .0) (s .1) p q
 
@@ -40,13 +41,15 @@ byte-spells b = record { reads = reads; writes = λ u rest s. cond-true (eqb b b
   where
     reads : (bs : List ℕ) (u : Unit {0}) (rest : List ℕ) → byte b bs ≡ some (u, rest) → (bs ≡ b ∷ rest) × Unit {0}
     reads [] u rest = λ e. absurd (Option·none-ne-some (u, rest) e)
-    reads (c ∷ bs) u rest = cond-ind (λ (o : Option (Unit {0} × List ℕ)). o ≡ some (u, rest) → (c ∷ bs ≡ b ∷ rest) × Unit {0}) (eqb c b) (λ t e. (cc (eqb→eq c b t, some-parts e .1), tt)) (λ t e. absurd (Option·none-ne-some (u, rest) e))
+    reads (c ∷ bs) u rest = cond-ind (λ (o : Option (Unit {0} × List ℕ)). o ≡ some (u, rest) →
+        (c ∷ bs ≡ b ∷ rest) × Unit {0}) (eqb c b) (λ t e. (cc (eqb→eq c b t, some-parts e .1), tt)) (λ t e. absurd (Option·none-ne-some (u, rest) e))
 
 pub key-spells : (ks : List ℕ) → Spells (key ks) (λ u rest. ks ++ rest) (λ u. Unit)
 unfolding key
 key-spells [] = record { reads = λ bs u rest e. (some-parts e .1, tt); writes = λ u rest s. refl }
 key-spells (k ∷ ks) = record {
-  reads = λ bs u rest. bind-reads (byte k) (λ v. key ks) bs (λ v mid p q. (byte-spells k .reads bs v mid p .0 ∙ ap (λ (l : List ℕ). k ∷ l) (key-spells ks .reads mid u rest q .0), tt));
+  reads = λ bs u rest. bind-reads (byte k) (λ v. key ks) bs
+      (λ v mid p q. (byte-spells k .reads bs v mid p .0 ∙ ap (λ (l : List ℕ). k ∷ l) (key-spells ks .reads mid u rest q .0), tt));
   writes = λ u rest s. rw (byte-spells k .writes tt (ks ++ rest) tt) (key-spells ks .writes u rest s);
 }
 
@@ -103,19 +106,29 @@ numbers-spells [] = record {
     writes [] rest f = refl
     writes (n ∷ ns) rest f = let e = f .as-many in absurd (omega arith)
 numbers-spells (range ∷ others) = record {
-  reads = λ bs ns rest. bind-reads (field (endOf others)) (λ z. numbers others >>= (λ zs. return (z ∷ zs))) bs (λ z mid p. bind-reads (numbers others) (λ zs. return (z ∷ zs)) mid (λ zs after q e.
+  reads = λ bs ns rest. bind-reads (field (endOf others)) (λ z. numbers others >>= (λ zs. return (z ∷ zs))) bs
+      (λ z mid p. bind-reads (numbers others) (λ zs. return (z ∷ zs)) mid (λ zs after q e.
       let (first, size) = field-spells (endOf others) (end-no-digit others) .reads bs z mid p in
       let (text, fit) = numbers-spells others .reads mid zs after q in
       let (same, last) = some-parts e in
-      rw (← same, ← last) (rw (append-assoc, end-same zs others (fit .as-many)) (first ∙ ap (λ (l : List ℕ). spellInt z ++ (endOf others ∷ l)) text), record { as-many = ap suc (fit .as-many); small = (size, fit .small) })));
+      rw (← same, ← last) (
+        rw (append-assoc, end-same zs others (fit .as-many)) (first ∙ ap (λ (l : List ℕ). spellInt z ++ (endOf others ∷ l)) text),
+        record { as-many = ap suc (fit .as-many); small = (size, fit .small) },
+      )));
   writes = writes (numbers-spells others);
 }
   where
-    writes : Spells (numbers others) (λ ns rest. spellNumbers ns ++ rest) (Fitting others) → (ns : List ℤ) (rest : List ℕ) → Fitting (range ∷ others) ns → numbers (range ∷ others) (spellNumbers ns ++ rest) ≡ some (ns, rest)
+    writes : Spells (numbers others) (λ ns rest. spellNumbers ns ++ rest) (Fitting others) → (ns : List ℤ) (rest : List ℕ) → Fitting (range ∷ others) ns →
+        numbers (range ∷ others) (spellNumbers ns ++ rest) ≡ some (ns, rest)
     writes ih [] rest f = let e = f .as-many in absurd (omega arith)
     writes ih (n ∷ ns) rest f =
         let e : length ns ≡ length others = omega (arith, f .as-many) in
-        rw (append-assoc, end-same ns others e, field-spells (endOf others) (end-no-digit others) .writes n (spellNumbers ns ++ rest) (f .small .0), ih .writes ns rest (record { as-many = e; small = f .small .1 }))
+        rw (
+          append-assoc,
+          end-same ns others e,
+          field-spells (endOf others) (end-no-digit others) .writes n (spellNumbers ns ++ rest) (f .small .0),
+          ih .writes ns rest (record { as-many = e; small = f .small .1 }),
+        )
 
 -- ---- the lines
 abbrev pub textOf : Row → List ℤ → List ℕ
@@ -125,7 +138,9 @@ module _ (row : Row) where
   pub form-spells : Spells (formOf row) (λ ns rest. textOf row ns ++ rest) (Fitting (row .ranges))
   unfolding formOf
   form-spells = record {
-    reads = λ bs ns rest. bind-reads (key (row .key)) (λ u. numbers (row .ranges)) bs (λ u mid p e. let (text, fit) = numbers-spells (row .ranges) .reads mid ns rest e in (rw append-assoc (key-spells (row .key) .reads bs u mid p .0 ∙ ap (λ (l : List ℕ). row .key ++ l) text), fit));
+    reads = λ bs ns rest. bind-reads (key (row .key)) (λ u. numbers (row .ranges)) bs (λ u mid p e. let (text, fit) =
+        numbers-spells (row .ranges) .reads mid ns rest e in
+        (rw append-assoc (key-spells (row .key) .reads bs u mid p .0 ∙ ap (λ (l : List ℕ). row .key ++ l) text), fit));
     writes = λ ns rest fit. rw (append-assoc, key-spells (row .key) .writes tt (spellNumbers ns ++ rest) tt) (numbers-spells (row .ranges) .writes ns rest fit);
   }
 

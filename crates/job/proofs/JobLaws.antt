@@ -30,8 +30,10 @@ line-text : (k : Kind) (ns : List ℤ) → textOf (row k) ns ≡ spellLine (line
 unfolding spellLine
 line-text k ns = refl
 
-kind-text : (k : Kind) (all : List (List ℤ)) (others : List JobLine) → flatMap spellLine (map (lineOf k) all ++ others) ≡ flatMap (textOf (row k)) all ++ flatMap spellLine others
-kind-text k all others = flatMap-append spellLine (map (lineOf k) all) others ∙ ap (λ (l : List ℕ). l ++ flatMap spellLine others) (sym (flatMap-map (textOf (row k)) spellLine (lineOf k) all (λ ns m. line-text k ns)))
+kind-text : (k : Kind) (all : List (List ℤ)) (others : List JobLine) →
+    flatMap spellLine (map (lineOf k) all ++ others) ≡ flatMap (textOf (row k)) all ++ flatMap spellLine others
+kind-text k all others = flatMap-append spellLine (map (lineOf k) all) others
+    ∙ ap (λ (l : List ℕ). l ++ flatMap spellLine others) (sym (flatMap-map (textOf (row k)) spellLine (lineOf k) all (λ ns m. line-text k ns)))
 
 InRanges : JobLine → Type 0
 InRanges l = T (inRanges (row (l .kind) .ranges) (l .numbers))
@@ -42,7 +44,8 @@ module _ (a n : List ℤ) (ps : List (List ℤ)) (m : List ℤ) (ss : List (List
   readLines = lineOf area a ∷ lineOf posts n ∷ (map (lineOf post) ps ++ (lineOf stops m ∷ (map (lineOf stop) ss ++ (lineOf rounds k ∷ []))))
 
   linesText : List ℕ
-  linesText = textOf (row area) a ++ (textOf (row posts) n ++ (flatMap (textOf (row post)) ps ++ (textOf (row stops) m ++ (flatMap (textOf (row stop)) ss ++ (textOf (row rounds) k ++ [])))))
+  linesText = textOf (row area) a ++ (textOf (row posts) n ++
+      (flatMap (textOf (row post)) ps ++ (textOf (row stops) m ++ (flatMap (textOf (row stop)) ss ++ (textOf (row rounds) k ++ [])))))
 
   text-is : flatMap spellLine readLines ≡ linesText
   unfolding readLines linesText flatMap spellLine
@@ -76,12 +79,18 @@ module _ (a n : List ℤ) (ps : List (List ℤ)) (m : List ℤ) (ss : List (List
     each-line : (l : JobLine) → List·Memᴰ l readLines → InRanges l
     unfolding readLines InRanges
     each-line =
-        each-cons InRanges (i .area-in) (each-cons InRanges (i .posts-in) (each-append InRanges (map (lineOf post) ps) (each-map InRanges (lineOf post) ps (i .post-in))
-        (each-cons InRanges (i .stops-in) (each-append InRanges (map (lineOf stop) ss) (each-map InRanges (lineOf stop) ss (i .stop-in)) (each-cons InRanges (i .rounds-in) (λ l j. absurd (List·Memᴰ·not-nil j)))))))
+        each-cons InRanges (i .area-in) (each-cons InRanges (i .posts-in)
+        (each-append InRanges (map (lineOf post) ps) (each-map InRanges (lineOf post) ps (i .post-in))
+        (each-cons InRanges (i .stops-in) (each-append InRanges (map (lineOf stop) ss) (each-map InRanges (lineOf stop) ss (i .stop-in))
+        (each-cons InRanges (i .rounds-in) (λ l j. absurd (List·Memᴰ·not-nil j)))))))
 
     lines-writable : Writable (jobOf a ps ss k)
     unfolding InRanges
-    lines-writable = record { plain-axis = refl; in-ranges = subst (λ (ls : List JobLine). (l : JobLine) → List·Memᴰ l ls → InRanges l) (sym lines-are) each-line }
+    lines-writable = record {
+      plain-axis = refl;
+      in-ranges =
+          subst (λ (ls : List JobLine). (l : JobLine) → List·Memᴰ l ls → InRanges l) (sym lines-are) each-line;
+    }
 
     lines-spelled : spell (jobOf a ps ss k) ≡ linesText
     unfolding spell
@@ -95,8 +104,19 @@ module _ (a n : List ℤ) (ps : List (List ℤ)) (m : List ℤ) (ss : List (List
         let b₃ = textOf (row stops) m ++ b₄ in
         let b₂ = flatMap (textOf (row post)) ps ++ b₃ in
         let (m₃, e₃) = repeated-gets post ps [] (from + 1 + 1) b₃ (i .post-in) in
-        let (m₅, e₅) = repeated-gets stop ss [] (m₃ + 1) b₅ (i .stop-in) in
-        (m₅ + 1, rw (line-gets area from a (textOf (row posts) n ++ b₂) (i .area-in), line-gets posts (from + 1) n b₂ (i .posts-in), ← i .all-posts, e₃, line-gets stops m₃ m b₄ (i .stops-in), ← i .all-stops, e₅, line-gets rounds m₅ k [] (i .rounds-in)))
+        let (m₅, e₅) = repeated-gets stop ss [] (m₃ + 1) b₅ (i .stop-in) in (
+          m₅ + 1,
+          rw (
+            line-gets area from a (textOf (row posts) n ++ b₂) (i .area-in),
+            line-gets posts (from + 1) n b₂ (i .posts-in),
+            ← i .all-posts,
+            e₃,
+            line-gets stops m₃ m b₄ (i .stops-in),
+            ← i .all-stops,
+            e₅,
+            line-gets rounds m₅ k [] (i .rounds-in),
+          ),
+        )
 
     lines-length : length linesText ≤ 16384
     unfolding linesText bytes
@@ -118,15 +138,27 @@ module _ (a n : List ℤ) (ps : List (List ℤ)) (m : List ℤ) (ss : List (List
 pub job-got : (from : ℕ) (bs : List ℕ) (job : Job) (to : ℕ) (rest : List ℕ) → jobLines from bs ≡ got job to rest → (bs ≡ spell job) × Writable job
 unfolding jobLines linesText
 job-got from bs job to rest =
-    bind-got (line (row area)) _ from bs (λ a n₁ b₁ e₁. bind-got (line (row posts)) _ n₁ b₁ (λ n n₂ b₂ e₂. bind-got (repeated (countOf n) (line (row post)) []) _ n₂ b₂ (λ ps n₃ b₃ e₃.
-    bind-got (line (row stops)) _ n₃ b₃ (λ m n₄ b₄ e₄. bind-got (repeated (countOf m) (line (row stop)) []) _ n₄ b₄ (λ ss n₅ b₅ e₅. bind-got (line (row rounds)) _ n₅ b₅ (λ k n₆ b₆ e₆. bind-got end _ n₆ b₆ (λ u n₇ b₇ e₇ e₈.
+    bind-got (line (row area)) _ from bs (λ a n₁ b₁ e₁. bind-got (line (row posts)) _ n₁ b₁
+    (λ n n₂ b₂ e₂. bind-got (repeated (countOf n) (line (row post)) []) _ n₂ b₂ (λ ps n₃ b₃ e₃.
+    bind-got (line (row stops)) _ n₃ b₃ (λ m n₄ b₄ e₄. bind-got (repeated (countOf m) (line (row stop)) []) _ n₄ b₄
+    (λ ss n₅ b₅ e₅. bind-got (line (row rounds)) _ n₅ b₅ (λ k n₆ b₆ e₆. bind-got end _ n₆ b₆ (λ u n₇ b₇ e₇ e₈.
     let (t₁, i₁) = line-got area from bs a n₁ b₁ e₁ in
     let (t₂, i₂) = line-got posts n₁ b₁ n n₂ b₂ e₂ in
     let (t₃, l₃, i₃) = all-got post (countOf n) n₂ b₂ ps n₃ b₃ e₃ in
     let (t₄, i₄) = line-got stops n₃ b₃ m n₄ b₄ e₄ in
     let (t₅, l₅, i₅) = all-got stop (countOf m) n₄ b₄ ss n₅ b₅ e₅ in
     let (t₆, i₆) = line-got rounds n₅ b₅ k n₆ b₆ e₆ in
-    let i : LinesInRange a n ps m ss k = record { area-in = i₁; posts-in = i₂; post-in = i₃; stops-in = i₄; stop-in = i₅; rounds-in = i₆; all-posts = l₃; all-stops = l₅ } in
+    let i : LinesInRange a n ps m ss k = record {
+      area-in = i₁;
+      posts-in = i₂;
+      post-in = i₃;
+      stops-in = i₄;
+      stop-in = i₅;
+      rounds-in = i₆;
+      all-posts =
+          l₃;
+      all-stops = l₅;
+    } in
     let same : jobOf a ps ss k ≡ job = cc in
     rw (← same) (cc (end-got n₆ b₆ e₇, lines-spelled a n ps m ss k i), lines-writable a n ps m ss k i))))))))
 
@@ -142,7 +174,8 @@ module _ {job : Job} (w : Writable job) where
   post-in p i = w .in-ranges (postLine p) (List·Memᴰ·tail (List·Memᴰ·tail (Memᴰ·append-left _ (Memᴰ·map postLine i))))
 
   -- a line behind those of the posts
-  behind : {l : JobLine} → List·Memᴰ l (countLine stops (length (job .deck .stops)) ∷ (map stopLine (job .deck .stops) ++ (countLine rounds (job .rounds) ∷ []))) → T (inRanges (row (l .kind) .ranges) (l .numbers))
+  behind : {l : JobLine} → List·Memᴰ l (countLine stops (length (job .deck .stops))
+      ∷ (map stopLine (job .deck .stops) ++ (countLine rounds (job .rounds) ∷ []))) → T (inRanges (row (l .kind) .ranges) (l .numbers))
   behind {l} i = w .in-ranges l (List·Memᴰ·tail (List·Memᴰ·tail (Memᴰ·append-right (map postLine (job .deck .posts)) i)))
 
   stops-in : Ranged stops (pos (length (job .deck .stops)) ∷ [])
@@ -182,7 +215,8 @@ module _ (deck : Deck) where
   stopsNumbers = map (λ s. stopLine s .numbers) (deck .stops)
 
   DeckLines : ℕ → Type 0
-  DeckLines n = LinesInRange (areaLine (deck .area) .numbers) (pos (length (deck .posts)) ∷ []) postsNumbers (pos (length (deck .stops)) ∷ []) stopsNumbers (pos n ∷ [])
+  DeckLines n = LinesInRange (areaLine (deck .area) .numbers) (pos (length (deck .posts)) ∷ []) postsNumbers (pos (length (deck .stops)) ∷ []) stopsNumbers
+      (pos n ∷ [])
 
 deck-lines : (job : Job) (n : ℕ) → Writable job → n ≤ 1000 → DeckLines (job .deck) n
 unfolding DeckLines
@@ -197,7 +231,8 @@ deck-lines job n w h = record {
   all-stops = length-map (job .deck .stops) (λ s. stopLine s .numbers);
 }
 
-job-back : (job : Job) → job .deck .axis ≡ plain → jobOf (areaLine (job .deck .area) .numbers) (postsNumbers (job .deck)) (stopsNumbers (job .deck)) (pos (job .rounds) ∷ []) ≡ job
+job-back : (job : Job) → job .deck .axis ≡ plain → jobOf (areaLine (job .deck .area) .numbers) (postsNumbers (job .deck)) (stopsNumbers (job .deck))
+    (pos (job .rounds) ∷ []) ≡ job
 job-back job e =
     let p = map-map postOf (λ p. postLine p .numbers) (job .deck .posts) ∙ map-id (job .deck .posts) in
     let s = map-map stopOf (λ s. stopLine s .numbers) (job .deck .stops) ∙ map-id (job .deck .stops) in
@@ -205,11 +240,14 @@ job-back job e =
 
 pub job-gets : (from : ℕ) (job : Job) → Writable job → (to : ℕ) × (jobLines from (spell job) ≡ got job to [])
 unfolding DeckLines
-job-gets from job w = let i = deck-lines job (job .rounds) w (most-rounds w) in subst (λ (j : Job). (to : ℕ) × (jobLines from (spell j) ≡ got j to [])) (job-back job (w .plain-axis)) (rw (lines-spelled _ _ _ _ _ _ i) (lines-gets _ _ _ _ _ _ i from))
+job-gets from job w = let i = deck-lines job (job .rounds) w (most-rounds w) in
+    subst (λ (j : Job). (to : ℕ) × (jobLines from (spell j) ≡ got j to [])) (job-back job (w .plain-axis))
+    (rw (lines-spelled _ _ _ _ _ _ i) (lines-gets _ _ _ _ _ _ i from))
 
 pub spell-length : (job : Job) → Writable job → length (spell job) ≤ 16384
 unfolding DeckLines
-spell-length job w = let i = deck-lines job (job .rounds) w (most-rounds w) in subst (λ (j : Job). length (spell j) ≤ 16384) (job-back job (w .plain-axis)) (rw (lines-spelled _ _ _ _ _ _ i) (lines-length _ _ _ _ _ _ i))
+spell-length job w = let i = deck-lines job (job .rounds) w (most-rounds w) in
+    subst (λ (j : Job). length (spell j) ≤ 16384) (job-back job (w .plain-axis)) (rw (lines-spelled _ _ _ _ _ _ i) (lines-length _ _ _ _ _ _ i))
 
 -- another number of rounds
 pub other-rounds : (job : Job) (n : ℕ) → Writable job → n ≤ 1000 → Writable (record { deck = job .deck; rounds = n })

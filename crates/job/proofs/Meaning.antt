@@ -35,7 +35,8 @@ Says (accepted job) bytes = (length bytes ≤ 16384) × (bytes ≡ spell job) ×
 full-area : (r : Rect) → T (not (emptyArea r)) ↔ NonEmpty r
 unfolding emptyArea
 full-area r = (
-  λ t. let across = nor-left (ltZ (r .xhi) (r .xlo)) (ltZ (r .yhi) (r .ylo)) t in let deep = nor-right (ltZ (r .xhi) (r .xlo)) (ltZ (r .yhi) (r .ylo)) t in omega (arith, order),
+  λ t. let across = nor-left (ltZ (r .xhi) (r .xlo)) (ltZ (r .yhi) (r .ylo)) t in let deep = nor-right (ltZ (r .xhi) (r .xlo)) (ltZ (r .yhi) (r .ylo)) t in
+      omega (arith, order),
   λ h. nor-intro (ltZ (r .xhi) (r .xlo)) (ltZ (r .yhi) (r .ylo)) (omega (arith, order)) (omega (arith, order)),
 )
 
@@ -43,15 +44,29 @@ checked-says : (bytes : List ℕ) (job : Job) → length bytes ≤ 16384 → byt
 unfolding checked
 checked-says bytes job short e w =
     cond-ind (λ (r : Result). Says r bytes) (emptyArea (job .deck .area)) (λ t. empty-area short spelled t)
-    (λ t. cond-ind (λ (r : Result). Says r bytes) (nonEmpty (job .deck .posts)) (λ p. cond-ind (λ (r : Result). Says r bytes) (nonEmpty (job .deck .stops)) (λ s. (short, e, record { writable = w; area-full = full-area (job .deck .area) .0 t; some-posts = nonEmpty-length (job .deck .posts) p; some-stops = nonEmpty-length (job .deck .stops) s }))
-    (λ s. no-stops short spelled t (nonEmpty-iff (job .deck .posts) .0 p) (empty-iff (job .deck .stops) .0 s))) (λ p. no-posts short spelled t (empty-iff (job .deck .posts) .0 p)))
+    (λ t. cond-ind (λ (r : Result). Says r bytes) (nonEmpty (job .deck .posts))
+    (λ p. cond-ind (λ (r : Result). Says r bytes) (nonEmpty (job .deck .stops))
+    (λ s. (
+      short,
+      e,
+      record {
+        writable = w;
+        area-full = full-area (job .deck .area) .0 t;
+        some-posts = nonEmpty-length (job .deck .posts) p;
+        some-stops =
+            nonEmpty-length (job .deck .stops) s;
+      },
+    ))
+    (λ s. no-stops short spelled t (nonEmpty-iff (job .deck .posts) .0 p) (empty-iff (job .deck .stops) .0 s)))
+    (λ p. no-posts short spelled t (empty-iff (job .deck .posts) .0 p)))
   where
     spelled : Spelled bytes
     spelled = record { job = job; writable = w; spelled = e }
 
 read-says : (bytes : List ℕ) → Says (readJob bytes) bytes
 unfolding readJob flatten
-read-says bytes = cond-ind (λ (r : Result). Says r bytes) (ltb 16384 (length bytes)) (λ t. too-long (ltb→lt 16384 (length bytes) t)) (λ t. go (nltb→le 16384 (length bytes) t) (jobLines 1 bytes) refl)
+read-says bytes = cond-ind (λ (r : Result). Says r bytes) (ltb 16384 (length bytes)) (λ t. too-long (ltb→lt 16384 (length bytes) t))
+    (λ t. go (nltb→le 16384 (length bytes) t) (jobLines 1 bytes) refl)
   where
     go : length bytes ≤ 16384 → (r : Reading Job) → jobLines 1 bytes ≡ r → Says (readingResult r) bytes
     go short (fault why) e = first-fault bytes short top refl refl (job-faults 1 bytes why .0 e)
@@ -74,12 +89,23 @@ condition-read bytes _ (too-long h) = cond-true (ltb 16384 (length bytes)) _ _ (
 condition-read bytes _ (malformed {n} short f) = read-fault bytes (Malformed n) short (malformed-faults bytes n f)
 condition-read bytes _ (out-of-range {n} short f) = read-fault bytes (OutOfRange n) short (range-faults bytes n f)
 condition-read bytes _ (empty-area short s t) = read-checked bytes (s .job) short (s .spelled) (s .writable) ∙ rw (holds (emptyArea (s .job .deck .area)) t)
-condition-read bytes _ (no-posts short s t p) = read-checked bytes (s .job) short (s .spelled) (s .writable) ∙ rw (fails (emptyArea (s .job .deck .area)) t, fails (nonEmpty (s .job .deck .posts)) (empty-iff (s .job .deck .posts) .1 p))
-condition-read bytes _ (no-stops short s t p q) = read-checked bytes (s .job) short (s .spelled) (s .writable) ∙ rw (fails (emptyArea (s .job .deck .area)) t, holds (nonEmpty (s .job .deck .posts)) (nonEmpty-iff (s .job .deck .posts) .1 p), fails (nonEmpty (s .job .deck .stops)) (empty-iff (s .job .deck .stops) .1 q))
+condition-read bytes _ (no-posts short s t p) = read-checked bytes (s .job) short (s .spelled) (s .writable)
+    ∙ rw (fails (emptyArea (s .job .deck .area)) t, fails (nonEmpty (s .job .deck .posts)) (empty-iff (s .job .deck .posts) .1 p))
+condition-read bytes _ (no-stops short s t p q) = read-checked bytes (s .job) short (s .spelled) (s .writable)
+    ∙ rw (
+      fails (emptyArea (s .job .deck .area)) t,
+      holds (nonEmpty (s .job .deck .posts)) (nonEmpty-iff (s .job .deck .posts) .1 p),
+      fails (nonEmpty (s .job .deck .stops)) (empty-iff (s .job .deck .stops) .1 q),
+    )
 
 allowed-read : (bytes : List ℕ) (job : Job) → length bytes ≤ 16384 → bytes ≡ spell job → Allowed job → readJob bytes ≡ accepted job
 unfolding checked
-allowed-read bytes job short e a = read-checked bytes job short e (a .writable) ∙ rw (fails (emptyArea (job .deck .area)) (full-area (job .deck .area) .1 (a .area-full)), holds (nonEmpty (job .deck .posts)) (length-nonEmpty (job .deck .posts) (a .some-posts)), holds (nonEmpty (job .deck .stops)) (length-nonEmpty (job .deck .stops) (a .some-stops)))
+allowed-read bytes job short e a = read-checked bytes job short e (a .writable)
+    ∙ rw (
+      fails (emptyArea (job .deck .area)) (full-area (job .deck .area) .1 (a .area-full)),
+      holds (nonEmpty (job .deck .posts)) (length-nonEmpty (job .deck .posts) (a .some-posts)),
+      holds (nonEmpty (job .deck .stops)) (length-nonEmpty (job .deck .stops) (a .some-stops)),
+    )
 
 -- ---- the laws
 pub accepted-law : (bytes : List ℕ) (job : Job) → AcceptedLaw bytes job
@@ -91,7 +117,11 @@ refused-law bytes why = record { exactly = (λ e. subst (λ (r : Result). Says r
 pub spelling-law : (job : Job) → SpellingLaw job
 spelling-law job = record {
   fits = λ a. spell-length job (a .writable);
-  one-job = λ other a b e. cc (e, allowed-read (spell job) job (spell-length job (a .writable)) refl a, allowed-read (spell other) other (spell-length other (b .writable)) refl b);
+  one-job = λ other a b e. cc (
+    e,
+    allowed-read (spell job) job (spell-length job (a .writable)) refl a,
+    allowed-read (spell other) other (spell-length other (b .writable)) refl b,
+  );
 }
 
 -- an accepted job's deck is one of those that the searches are proved for
@@ -100,4 +130,15 @@ allowed-in-range job a =
     let w = a .writable in
     let p = ap (λ (c : AxisCosts). c .a) (w .plain-axis) in
     let q = ap (λ (c : AxisCosts). c .b) (w .plain-axis) in
-    record { axis-some = omega arith; axis-most = omega arith; area = ranged-area w; posts = ranged-posts w; some-posts = a .some-posts; most-posts = most-posts w; stops = ranged-stops w; some-stops = a .some-stops; most-stops = most-stops w }
+    record {
+      axis-some = omega arith;
+      axis-most = omega arith;
+      area = ranged-area w;
+      posts = ranged-posts w;
+      some-posts = a .some-posts;
+      most-posts =
+          most-posts w;
+      stops = ranged-stops w;
+      some-stops = a .some-stops;
+      most-stops = most-stops w;
+    }

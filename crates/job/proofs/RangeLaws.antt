@@ -32,7 +32,10 @@ unfolding inRanges
 each-in [] [] t = tt
 each-in [] (n ∷ ns) t = t
 each-in (range ∷ ranges) [] t = t
-each-in (range ∷ ranges) (n ∷ ns) t = (and-left (inRange range n) (inRanges ranges ns) t, each-in ranges ns (and-right (inRange range n) (inRanges ranges ns) t))
+each-in (range ∷ ranges) (n ∷ ns) t = (
+  and-left (inRange range n) (inRanges ranges ns) t,
+  each-in ranges ns (and-right (inRange range n) (inRanges ranges ns) t),
+)
 
 -- as many numbers as ranges
 as-many : (ranges : List Range) (ns : List ℤ) → EachIn ranges ns → length ns ≡ length ranges
@@ -56,7 +59,17 @@ narrow rounds = omega arith
 
 range-narrow : (range : Range) (n : ℤ) → (natAbs (range .low) < 10 ^ 5) × (natAbs (range .high) < 10 ^ 5) → T (inRange range n) → natAbs n < 10 ^ 5
 unfolding inRange
-range-narrow range n h t = omega (arith, abs-range n 99999 .1 (omega (arith, order, between-range (range .low) (range .high) n t, abs-range (range .low) 99999 .0 (omega arith), abs-range (range .high) 99999 .0 (omega arith))))
+range-narrow range n h t = omega (
+  arith,
+  abs-range n 99999 .1
+      (omega (
+        arith,
+        order,
+        between-range (range .low) (range .high) n t,
+        abs-range (range .low) 99999 .0 (omega arith),
+        abs-range (range .high) 99999 .0 (omega arith),
+      )),
+)
 
 ranges-narrow : (ranges : List Range) (ns : List ℤ) → Narrow ranges → EachIn ranges ns → Within 5 ns
 ranges-narrow [] [] h e = tt
@@ -74,10 +87,14 @@ module _ (k : Kind) (ns : List ℤ) (t : T (inRanges (row k .ranges) ns)) where
 -- ---- what a range says of a number
 pub coordinate-range : (v : ℤ) → T (inRange coordinates v) ↔ (natAbs v ≤ 20000)
 unfolding inRange
-coordinate-range v = (λ t. abs-range v 20000 .1 (omega (arith, order, between-range (negsuc 19999) (pos 20000) v t)), λ h. range-between (negsuc 19999) (pos 20000) v (omega (arith, order, abs-range v 20000 .0 h)) (omega (arith, order, abs-range v 20000 .0 h)))
+coordinate-range v = (
+  λ t. abs-range v 20000 .1 (omega (arith, order, between-range (negsuc 19999) (pos 20000) v t)),
+  λ h. range-between (negsuc 19999) (pos 20000) v (omega (arith, order, abs-range v 20000 .0 h)) (omega (arith, order, abs-range v 20000 .0 h)),
+)
 
 -- a number that is not negative
-natural-range : (least most : ℕ) (z : ℤ) → T (inRange (record { low = pos least; high = pos most }) z) → (z ≡ pos (natAbs z)) × (least ≤ natAbs z) × (natAbs z ≤ most)
+natural-range : (least most : ℕ) (z : ℤ) → T (inRange (record { low = pos least; high = pos most }) z) →
+    (z ≡ pos (natAbs z)) × (least ≤ natAbs z) × (natAbs z ≤ most)
 unfolding inRange
 natural-range least most (pos n) t = let (low, high) = between-range (pos least) (pos most) (pos n) t in (refl, omega (arith, order), omega (arith, order))
 natural-range least most (negsuc n) t = let (low, high) = between-range (pos least) (pos most) (negsuc n) t in absurd (omega (arith, order))
@@ -107,7 +124,12 @@ pub stop-range : (s : Stop) → T (inRanges (row stop .ranges) (stopLine s .numb
 stop-range s t =
     let e = each-in (row stop .ranges) (stopLine s .numbers) t in
     let v = natural-range 1 65535 (pos (s .visits)) (e .1 .1 .0) in
-    record { place = record { x-range = coordinate-range (s .at .x) .0 (e .0); y-range = coordinate-range (s .at .y) .0 (e .1 .0) }; some-visits = v .1; most-visits = v .2 }
+    record {
+      place = record { x-range = coordinate-range (s .at .x) .0 (e .0); y-range = coordinate-range (s .at .y) .0 (e .1 .0) };
+      some-visits =
+          v .1;
+      most-visits = v .2;
+    }
 
 -- ---- numbers in their ranges are those of the line of what they say
 pub area-back : (ns : List ℤ) → T (inRanges (row area .ranges) ns) → areaLine (areaOf ns) .numbers ≡ ns

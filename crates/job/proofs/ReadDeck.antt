@@ -82,4 +82,8 @@ module _ {bytes : List ℕ} (s : Spelt bytes) where
     -- what `objects` asks
     pub objects-ask : InRange (deckOf (j .deck)) × (j .deck .posts ≤ 64) × (j .deck .stops ≤ 512)
     unfolding deckRecord
-    objects-ask = (subst InRange (sym read-deckOf) spelt-range, rw (read-deck bytes j e s) (most-posts (s .allowed .writable)), rw (read-deck bytes j e s) (most-stops (s .allowed .writable)))
+    objects-ask = (
+      subst InRange (sym read-deckOf) spelt-range,
+      rw (read-deck bytes j e s) (most-posts (s .allowed .writable)),
+      rw (read-deck bytes j e s) (most-stops (s .allowed .writable)),
+    )

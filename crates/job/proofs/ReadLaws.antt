@@ -137,7 +137,8 @@ module _ {a : Rect} {postsRead : Posts} {stopsRead : Stops} (n : ℕ) {t : Bool}
       checked-no-stops z e = record { is = λ p s. rw (← is-empty, off, some-held postOf p some-posts, none-held stopOf (s .places) z) e }
 
       module _ (some-stops : stopsRead .count ≡ 0 → ⊥) where
-        pub checked-accepted : SFits w64 (a .xlo) → SFits w64 (a .ylo) → SFits w64 (a .xhi) → SFits w64 (a .yhi) → CheckedAt a postsRead stopsRead n (jobOfParts (back (a .xlo)) (back (a .ylo)) (back (a .xhi)) (back (a .yhi)) postsRead stopsRead n)
+        pub checked-accepted : SFits w64 (a .xlo) → SFits w64 (a .ylo) → SFits w64 (a .xhi) → SFits w64 (a .yhi) →
+            CheckedAt a postsRead stopsRead n (jobOfParts (back (a .xlo)) (back (a .ylo)) (back (a .xhi)) (back (a .yhi)) postsRead stopsRead n)
         unfolding checked
         checked-accepted xlo ylo xhi yhi = record {
           is = λ p s. rw (back-is xlo, back-is ylo, back-is xhi, back-is yhi) (parts-are a postsRead stopsRead n p s) ∙ ap jobRecord (job-accepted p s);
@@ -175,15 +176,18 @@ after-posts-is : (a : List ℤ) (ps : List (List ℤ)) (n : ℕ) (bs : List ℕ)
 unfolding after-posts countedLines
 after-posts-is a ps n bs = then-assoc (line (row stops) n bs) (λ k. stopLines (countOf k)) (after-stops a ps)
 
-after-stops-is : (a : List ℤ) (ps ss : List (List ℤ)) (n : ℕ) (bs : List ℕ) → after-stops a ps ss n bs ≡ andThen (lastLine n bs) (λ k n bs. got (jobOf a ps ss k) n bs)
+after-stops-is : (a : List ℤ) (ps ss : List (List ℤ)) (n : ℕ) (bs : List ℕ) →
+    after-stops a ps ss n bs ≡ andThen (lastLine n bs) (λ k n bs. got (jobOf a ps ss k) n bs)
 unfolding after-stops lastLine
 after-stops-is a ps ss n bs = go (line (row rounds) n bs)
   where
-    last : (k : List ℤ) (r : Reading (Unit {0})) → andThen r (λ u n bs. got (jobOf a ps ss k) n bs) ≡ andThen (andThen r (λ u n bs. got k n bs)) (λ k n bs. got (jobOf a ps ss k) n bs)
+    last : (k : List ℤ) (r : Reading (Unit {0})) → andThen r (λ u n bs. got (jobOf a ps ss k) n bs) ≡ andThen (andThen r (λ u n bs. got k n bs))
+        (λ k n bs. got (jobOf a ps ss k) n bs)
     last k (fault why) = refl
     last k (got u n bs) = refl
 
-    go : (r : Reading (List ℤ)) → andThen r (λ k n bs. andThen (end n bs) (λ u n bs. got (jobOf a ps ss k) n bs)) ≡ andThen (andThen r (λ k n bs. andThen (end n bs) (λ u n bs. got k n bs))) (λ k n bs. got (jobOf a ps ss k) n bs)
+    go : (r : Reading (List ℤ)) → andThen r (λ k n bs. andThen (end n bs) (λ u n bs. got (jobOf a ps ss k) n bs)) ≡ andThen
+        (andThen r (λ k n bs. andThen (end n bs) (λ u n bs. got k n bs))) (λ k n bs. got (jobOf a ps ss k) n bs)
     go (fault why) = refl
     go (got k n bs) = last k (end n bs)
 
@@ -202,24 +206,39 @@ module _ {s : List ℕ} (short : length s ≤ 16384) {area-answer : AreaLine} (a
 
   module _ {a : Rect} {at₁ : ℕ} (area-is : area-answer ≡ A.Read a at₁) {postsRead : Posts} (posts-at : PostsAt s 3 (allPosts 2 (drop at₁ s)) postsRead) where
     from-posts : jobLines 1 s ≡ andThen (nextIn s (posts-at .lines) (3 + postsRead .count) (postsRead .next)) (after-posts (areaNumbers a))
-    from-posts = rw (lines-are 1 s, ← subst (λ (r : AreaLine). LineAt (row area) s 0 1 (areaAnswer r)) area-is area-at .is, after-area-is (areaNumbers a) 2 (drop at₁ s), posts-at .is)
+    from-posts = rw (
+      lines-are 1 s,
+      ← subst (λ (r : AreaLine). LineAt (row area) s 0 1 (areaAnswer r)) area-is area-at .is,
+      after-area-is (areaNumbers a) 2 (drop at₁ s),
+      posts-at .is,
+    )
 
     pub read-posts : {why : Refusal} → postsRead .next ≡ Refused why → refused why ≡ readJob s
     read-posts e = rw (read-short s short, from-posts, e)
 
-    module _ {at₂ : ℕ} (posts-is : postsRead .next ≡ At at₂) {stopsRead : Stops} (stops-at : StopsAt s (3 + postsRead .count + 1) (allStops (3 + postsRead .count) (drop at₂ s)) stopsRead) where
-      from-stops : jobLines 1 s ≡ andThen (nextIn s (stops-at .lines) (3 + postsRead .count + 1 + stopsRead .count) (stopsRead .next)) (after-stops (areaNumbers a) (posts-at .lines))
+    module _ {at₂ : ℕ} (posts-is : postsRead .next ≡ At at₂) {stopsRead : Stops}
+        (stops-at : StopsAt s (3 + postsRead .count + 1) (allStops (3 + postsRead .count) (drop at₂ s)) stopsRead) where
+      from-stops : jobLines 1 s ≡ andThen (nextIn s (stops-at .lines) (3 + postsRead .count + 1 + stopsRead .count) (stopsRead .next))
+          (after-stops (areaNumbers a) (posts-at .lines))
       from-stops = rw (from-posts, posts-is, after-posts-is (areaNumbers a) (posts-at .lines) (3 + postsRead .count) (drop at₂ s), stops-at .is)
 
       pub read-stops : {why : Refusal} → stopsRead .next ≡ Refused why → refused why ≡ readJob s
       read-stops e = rw (read-short s short, from-stops, e)
 
-      module _ {at₃ : ℕ} (stops-is : stopsRead .next ≡ At at₃) {last : CountLine} (last-at : LastAt s at₃ (3 + postsRead .count + 1 + stopsRead .count) last) where
-        from-last : jobLines 1 s ≡ andThen (answerIn s (3 + postsRead .count + 1 + stopsRead .count) (countAnswer last)) (λ k n bs. got (jobOf (areaNumbers a) (posts-at .lines) (stops-at .lines) k) n bs)
-        from-last = rw (from-stops, stops-is, after-stops-is (areaNumbers a) (posts-at .lines) (stops-at .lines) (3 + postsRead .count + 1 + stopsRead .count) (drop at₃ s), last-at .is)
+      module _ {at₃ : ℕ} (stops-is : stopsRead .next ≡ At at₃) {last : CountLine} (last-at : LastAt s at₃ (3 + postsRead .count + 1 + stopsRead .count) last)
+        where
+          from-last : jobLines 1 s ≡ andThen (answerIn s (3 + postsRead .count + 1 + stopsRead .count) (countAnswer last))
+              (λ k n bs. got (jobOf (areaNumbers a) (posts-at .lines) (stops-at .lines) k) n bs)
+          from-last = rw (
+            from-stops,
+            stops-is,
+            after-stops-is (areaNumbers a) (posts-at .lines) (stops-at .lines) (3 + postsRead .count + 1 + stopsRead .count)
+                (drop at₃ s),
+            last-at .is,
+          )
 
-        pub read-last : {why : Refusal} → last ≡ C.Refused why → refused why ≡ readJob s
-        read-last e = rw (read-short s short, from-last, e)
+          pub read-last : {why : Refusal} → last ≡ C.Refused why → refused why ≡ readJob s
+          read-last e = rw (read-short s short, from-last, e)
 
-        pub read-all : {n next : ℕ} → last ≡ C.Read n next → {r : Job} → CheckedAt a postsRead stopsRead n r → r ≡ jobRecord (readJob s)
-        read-all e checked-at = rw (read-short s short, from-last, e) (checked-at .is (posts-at .hold) (stops-at .hold))
+          pub read-all : {n next : ℕ} → last ≡ C.Read n next → {r : Job} → CheckedAt a postsRead stopsRead n r → r ≡ jobRecord (readJob s)
+          read-all e checked-at = rw (read-short s short, from-last, e) (checked-at .is (posts-at .hold) (stops-at .hold))

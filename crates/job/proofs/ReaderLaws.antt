@@ -25,7 +25,8 @@ pub not-got : {A C : Type 0} {why : Refusal} {a : A} {n : ℕ} {bs : List ℕ} �
 not-got e = absurd (let z : _≡_ {A = ℕ} 0 1 = cc in omega arith)
 
 -- what two readers got, one after the other
-pub bind-got : {A B C : Type 0} (first : Reader A) (next : A → Reader B) (n : ℕ) (bs : List ℕ) {b : B} {m : ℕ} {rest : List ℕ} → ((a : A) (k : ℕ) (mid : List ℕ) → first n bs ≡ got a k mid → next a k mid ≡ got b m rest → C) → (first >>= next) n bs ≡ got b m rest → C
+pub bind-got : {A B C : Type 0} (first : Reader A) (next : A → Reader B) (n : ℕ) (bs : List ℕ) {b : B} {m : ℕ} {rest : List ℕ} →
+    ((a : A) (k : ℕ) (mid : List ℕ) → first n bs ≡ got a k mid → next a k mid ≡ got b m rest → C) → (first >>= next) n bs ≡ got b m rest → C
 unfolding _>>=_
 bind-got {A} {B} {C} first next n bs {b} {m} {rest} then = go (first n bs) refl
   where
@@ -33,7 +34,8 @@ bind-got {A} {B} {C} first next n bs {b} {m} {rest} then = go (first n bs) refl
     go (fault why) p e = not-got e
     go (got a k mid) p e = then a k mid p e
 
-got-parts : {A : Type 0} (b : Bool) (v : A) (n : ℕ) (l : List ℕ) (why : Refusal) {w : A} {m : ℕ} {rest : List ℕ} → cond b (got v n l) (fault why) ≡ got w m rest → T b × (v ≡ w) × (l ≡ rest)
+got-parts : {A : Type 0} (b : Bool) (v : A) (n : ℕ) (l : List ℕ) (why : Refusal) {w : A} {m : ℕ} {rest : List ℕ} →
+    cond b (got v n l) (fault why) ≡ got w m rest → T b × (v ≡ w) × (l ≡ rest)
 got-parts true v n l why e = (tt, cc, cc)
 got-parts false v n l why e = not-got e
 
@@ -58,25 +60,36 @@ module _ (k : Kind) where
     where
       go : (o : Option (List ℤ × List ℕ)) → formOf (row k) bs ≡ o → lineResult (row k) n o ≡ got ns m rest → (bs ≡ textOf (row k) ns ++ rest) × Ranged ns
       go none p e = not-got e
-      go (some r) p e = let (t, same, last) = got-parts (inRanges (row k .ranges) (r .0)) (r .0) (n + 1) (r .1) (OutOfRange n) e in rw (← same, ← last) (form-spells (row k) .reads bs (r .0) (r .1) p .0, t)
+      go (some r) p e = let (t, same, last) = got-parts (inRanges (row k .ranges) (r .0)) (r .0) (n + 1) (r .1) (OutOfRange n) e in
+          rw (← same, ← last) (form-spells (row k) .reads bs (r .0) (r .1) p .0, t)
 
   pub line-gets : (n : ℕ) (ns : List ℤ) (rest : List ℕ) → Ranged ns → line (row k) n (textOf (row k) ns ++ rest) ≡ got ns (n + 1) rest
   unfolding line
   line-gets n ns rest t = rw (form-spells (row k) .writes ns rest (range-fits k ns t), holds (inRanges (row k .ranges) ns) t)
 
   -- so many lines of a kind, behind those read before
-  repeated-got : (count : ℕ) (read : List (List ℤ)) (n : ℕ) (bs : List ℕ) (all : List (List ℤ)) (m : ℕ) (rest : List ℕ) → repeated count (line (row k)) read n bs ≡ got all m rest → (more : List (List ℤ)) × (read ++ more ≡ all) × (bs ≡ flatMap (textOf (row k)) more ++ rest) × (length more ≡ count) × ((ns : List ℤ) → List·Memᴰ ns more → Ranged ns)
+  repeated-got : (count : ℕ) (read : List (List ℤ)) (n : ℕ) (bs : List ℕ) (all : List (List ℤ)) (m : ℕ) (rest : List ℕ) →
+      repeated count (line (row k)) read n bs ≡ got all m rest →
+      (more : List (List ℤ)) × (read ++ more ≡ all) × (bs ≡ flatMap (textOf (row k)) more ++ rest) × (length more ≡ count) × ((ns : List ℤ) →
+      List·Memᴰ ns more → Ranged ns)
   unfolding repeated flatMap
   repeated-got zero read n bs all m rest = λ e. ([], cc (append-nil read), cc, refl, λ ns i. absurd (List·Memᴰ·not-nil i))
   repeated-got (suc count) read n bs all m rest = bind-got (line (row k)) (λ ns. repeated count (line (row k)) (read ++ (ns ∷ []))) n bs (λ ns j mid p e.
       let (text, t) = line-got n bs ns j mid p in
-      let (more, same, texts, long, ts) = repeated-got count (read ++ (ns ∷ [])) j mid all m rest e in
-      (ns ∷ more, sym (append-snoc read ns more) ∙ same, rw append-assoc (text ∙ ap (λ (l : List ℕ). textOf (row k) ns ++ l) texts), ap suc long, each-cons Ranged t ts))
+      let (more, same, texts, long, ts) = repeated-got count (read ++ (ns ∷ [])) j mid all m rest e in (
+        ns ∷ more,
+        sym (append-snoc read ns more) ∙ same,
+        rw append-assoc (text ∙ ap (λ (l : List ℕ). textOf (row k) ns ++ l) texts),
+        ap suc long,
+        each-cons Ranged t ts,
+      ))
 
-  pub all-got : (count n : ℕ) (bs : List ℕ) (all : List (List ℤ)) (m : ℕ) (rest : List ℕ) → repeated count (line (row k)) [] n bs ≡ got all m rest → (bs ≡ flatMap (textOf (row k)) all ++ rest) × (length all ≡ count) × ((ns : List ℤ) → List·Memᴰ ns all → Ranged ns)
+  pub all-got : (count n : ℕ) (bs : List ℕ) (all : List (List ℤ)) (m : ℕ) (rest : List ℕ) → repeated count (line (row k)) [] n bs ≡ got all m rest →
+      (bs ≡ flatMap (textOf (row k)) all ++ rest) × (length all ≡ count) × ((ns : List ℤ) → List·Memᴰ ns all → Ranged ns)
   all-got count n bs all m rest e = let (more, same, texts, long, ts) = repeated-got count [] n bs all m rest e in rw (← same) (texts, long, ts)
 
-  pub repeated-gets : (more read : List (List ℤ)) (n : ℕ) (rest : List ℕ) → ((ns : List ℤ) → List·Memᴰ ns more → Ranged ns) → (m : ℕ) × (repeated (length more) (line (row k)) read n (flatMap (textOf (row k)) more ++ rest) ≡ got (read ++ more) m rest)
+  pub repeated-gets : (more read : List (List ℤ)) (n : ℕ) (rest : List ℕ) → ((ns : List ℤ) → List·Memᴰ ns more → Ranged ns) →
+      (m : ℕ) × (repeated (length more) (line (row k)) read n (flatMap (textOf (row k)) more ++ rest) ≡ got (read ++ more) m rest)
   unfolding repeated flatMap
   repeated-gets [] read n rest ts = (n, rw append-nil)
   repeated-gets (ns ∷ more) read n rest ts =

@@ -37,9 +37,19 @@ good-length top = omega arith
 good-length (one-more {lines} {k} {due} good text ns e t) =
     let joined : flatten (lines ++ (text ∷ [])) ++ [] ≡ flatten lines ++ (text ++ []) = flatten-snoc lines text [] in
     let same = ap length joined in
-    omega (arith, good-length good, some-bytes k text e, length-append lines (text ∷ []), length-append (flatten lines) (text ++ []), length-append text [], length-append (flatten (lines ++ (text ∷ []))) [], same)
+    omega (
+      arith,
+      good-length good,
+      some-bytes k text e,
+      length-append lines (text ∷ []),
+      length-append (flatten lines) (text ++ []),
+      length-append text [],
+      length-append (flatten (lines ++ (text ∷ []))) [],
+      same,
+    )
 
-line-number : (bytes : List ℕ) (lines : List (List ℕ)) (rest : List ℕ) {due : List Kind} {n : ℕ} → length bytes ≤ 16384 → Good lines due → bytes ≡ flatten lines ++ rest → n ≡ suc (length lines) → n ≤ 16385
+line-number : (bytes : List ℕ) (lines : List (List ℕ)) (rest : List ℕ) {due : List Kind} {n : ℕ} → length bytes ≤ 16384 → Good lines due →
+    bytes ≡ flatten lines ++ rest → n ≡ suc (length lines) → n ≤ 16385
 line-number bytes lines rest short good split number = omega (arith, good-length good, ap length split, length-append (flatten lines) rest)
 
 malformed-most : (bytes : List ℕ) (n : ℕ) → length bytes ≤ 16384 → FirstMalformed bytes n → n ≤ 16385

@@ -34,7 +34,9 @@ unfolding flagged keep
 flagged-map f p [] = refl
 flagged-map {A} f p (x ∷ xs) = go (p x) (flagged-map f p xs)
   where
-    go : (b : Bool) → flagged (map f xs) (map (λ x. flag (p x)) xs) ≡ map f (keep p xs) → cond (eqb (flag b) 1) (f x ∷ flagged (map f xs) (map (λ x. flag (p x)) xs)) (flagged (map f xs) (map (λ x. flag (p x)) xs)) ≡ map f (cond b (x ∷ keep p xs) (keep p xs))
+    go : (b : Bool) → flagged (map f xs) (map (λ x. flag (p x)) xs) ≡ map f (keep p xs) →
+        cond (eqb (flag b) 1) (f x ∷ flagged (map f xs) (map (λ x. flag (p x)) xs)) (flagged (map f xs) (map (λ x. flag (p x)) xs)) ≡ map f
+        (cond b (x ∷ keep p xs) (keep p xs))
     go true e = ap (λ (l : List ℤ). f x ∷ l) e
     go false e = e
 
@@ -46,7 +48,8 @@ module _ (deck : Deck) (axis : Axis) where
   abbrev pub reached : List ℕ
   reached = map (λ stop. flag (reach deck (deck .area) stop)) (deck .stops)
 
-  lines-is : lines deck axis ≡ linesBetween (low-edge axis (deck .area)) (high-edge axis (deck .area)) (map (λ stop. coordinate axis (stop .at)) (keep (reach deck (deck .area)) (deck .stops)))
+  lines-is : lines deck axis ≡ linesBetween (low-edge axis (deck .area)) (high-edge axis (deck .area))
+      (map (λ stop. coordinate axis (stop .at)) (keep (reach deck (deck .area)) (deck .stops)))
   unfolding linesBetween lines stopCoordinates
   lines-is = refl
 
@@ -63,7 +66,12 @@ module _ (deck : Deck) (axis : Axis) where
   lines-few =
       let stops = keep (reach deck (deck .area)) (deck .stops) in
       let at : Stop → ℤ = λ stop. coordinate axis (stop .at) in
-      rw lines-is (omega (arith, linesBetween-length (low-edge axis (deck .area)) (high-edge axis (deck .area)) (map at stops), length-map stops at, keep-length (reach deck (deck .area)) (deck .stops)))
+      rw lines-is (omega (
+        arith,
+        linesBetween-length (low-edge axis (deck .area)) (high-edge axis (deck .area)) (map at stops),
+        length-map stops at,
+        keep-length (reach deck (deck .area)) (deck .stops),
+      ))
 
   pub lines-in-order : length (deck .stops) ≤ 512 → LinesInOrder (lines deck axis)
   lines-in-order h = record { few = omega (arith, lines-few); increasing = lines-law deck axis .increasing }

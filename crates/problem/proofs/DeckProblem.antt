@@ -108,7 +108,8 @@ module _ (p : Problem) (prepared : Prepared p) where
 
   -- what pricing needs, the lines and the whole problem are the deck's
   pub prepared-pricing : pricingIn (p .columns) (p .count) ≡ pricingOf deck
-  prepared-pricing = ap (λ (q : Problem). pricingIn (q .columns) (q .count)) (prepared .is) ∙ rw (record-columns deck, record-count deck) (made-pricing deck (prepared .range) (prepared .axis))
+  prepared-pricing = ap (λ (q : Problem). pricingIn (q .columns) (q .count)) (prepared .is)
+      ∙ rw (record-columns deck, record-count deck) (made-pricing deck (prepared .range) (prepared .axis))
 
   pub prepared-grid : gridOf (take (p .nv) (p .v)) (take (p .nh) (p .h)) ≡ grid deck
   unfolding grid

@@ -77,14 +77,18 @@ returns-2 c =
     let e = d .before .before in
     let a = e .before .args in
     let at-line : c .cut-at2 .result ≡ cutAt (not (a .across)) (toZ w64 (ofZ w64 (d .middle-line2 .result))) = c .cut-at2 .ensures in
-    at-line ∙ ap (cutAt (not (a .across))) (b-read d) ∙ second-cut (a .across) (a .alo) (a .ahi) _ (a .blo) (a .bhi) _ (omega (arith, order, rw (same-alo e, a-read e) at (is-false _ (d .before .if1 .left)))) (omega (arith, order, rw (same-blo d, b-read d) at (is-true _ (c .before .if2 .taken))))
+    at-line ∙ ap (cutAt (not (a .across))) (b-read d)
+    ∙ second-cut (a .across) (a .alo) (a .ahi) _ (a .blo) (a .bhi) _
+    (omega (arith, order, rw (same-alo e, a-read e) at (is-false _ (d .before .if1 .left))))
+    (omega (arith, order, rw (same-blo d, b-read d) at (is-true _ (c .before .if2 .taken))))
 
 returns-3 : tie.Need-returns-3
 returns-3 c =
     let d = c .before in
     let e = d .before .before in
     let a = e .before .args in
-    neither-cut (a .across) (a .alo) (a .ahi) _ (a .blo) (a .bhi) _ (omega (arith, order, rw (same-alo e, a-read e) at (is-false _ (d .before .if1 .left)))) (omega (arith, order, rw (same-blo d, b-read d) at (is-false _ (c .if2 .left))))
+    neither-cut (a .across) (a .alo) (a .ahi) _ (a .blo) (a .bhi) _ (omega (arith, order, rw (same-alo e, a-read e) at (is-false _ (d .before .if1 .left))))
+    (omega (arith, order, rw (same-blo d, b-read d) at (is-false _ (c .if2 .left))))
 
 pub first-of-spec : {M : Type 1} → statement M
 first-of-spec =

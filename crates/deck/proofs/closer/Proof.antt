@@ -16,7 +16,8 @@ travelled-requires c κs = search needs
 total : (c : tie.After-travelled) → c .travelled .result ≡ pos (far (c .before .args .x) (c .before .args .y) (c .before .args .px) (c .before .args .py))
 total c = c .travelled .ensures ∙ ap pos (far-word _ _ _ _ (c .before .pre .0) (c .before .pre .1))
 
-total-is : (c : tie.After-travelled) → toZ w32 (ofZ w32 (c .travelled .result)) ≡ pos (far (c .before .args .x) (c .before .args .y) (c .before .args .px) (c .before .args .py))
+total-is : (c : tie.After-travelled) → toZ w32 (ofZ w32 (c .travelled .result)) ≡ pos
+    (far (c .before .args .x) (c .before .args .y) (c .before .args .px) (c .before .args .py))
 total-is c = rw (total c) (toZ-pos w32 _ (far-small _ _ _ _ (c .before .pre .0) (c .before .pre .1)))
 
 returns : tie.Need-returns

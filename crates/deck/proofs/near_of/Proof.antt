@@ -31,11 +31,13 @@ travelled-requires c κs = let s = c .before .before in (place-word (s .pre .3),
 
 first : (c : tie.After-travelled Inv-loop μ-loop) →
     let s = c .before .before .before in
-    c .travelled .result ≡ pos (far (toZ w32 (ofZ w32 (s .args .x))) (toZ w32 (ofZ w32 (s .args .y))) (getD (s .args .px .now) 0 (pos 0)) (getD (s .args .py .now) 0 (pos 0)))
+    c .travelled .result ≡ pos (far (toZ w32 (ofZ w32 (s .args .x))) (toZ w32 (ofZ w32 (s .args .y))) (getD (s .args .px .now) 0 (pos 0))
+    (getD (s .args .py .now) 0 (pos 0)))
 first c = let s = c .before .before .before in c .travelled .ensures ∙ ap pos (post-far _ _ _ _ (s .pre .3) (post-range (s .pre .1) (s .pre .2) 0 (s .pre .0)))
 
 loop-holds : tie.Need-loop-holds Inv-loop μ-loop
-loop-holds c = let s = c .before .before .before in closest-first _ _ _ _ (s .pre .1) (s .pre .2) _ (s .pre .0) (post-small _ _ _ _ (s .pre .3) (post-range (s .pre .1) (s .pre .2) 0 (s .pre .0))) (first c)
+loop-holds c = let s = c .before .before .before in closest-first _ _ _ _ (s .pre .1) (s .pre .2) _ (s .pre .0)
+    (post-small _ _ _ _ (s .pre .3) (post-range (s .pre .1) (s .pre .2) 0 (s .pre .0))) (first c)
 
 mul-closer : tie.Need-mul-closer Inv-loop μ-loop
 mul-closer c = omega arith
@@ -63,7 +65,8 @@ loop-less c = omega arith
 loop-again : tie.Need-loop-again Inv-loop μ-loop
 loop-again c =
     let s = c .before .before .before .before .before .before .before .before in
-    closest-more _ _ _ _ (s .pre .1) (s .pre .2) _ (c .before .before .before .before .loop .inv) (c .before .before .before .loop-test .taken) (c .closer .ensures)
+    closest-more _ _ _ _ (s .pre .1) (s .pre .2) _ (c .before .before .before .before .loop .inv) (c .before .before .before .loop-test .taken)
+    (c .closer .ensures)
 
 returns : tie.Need-returns Inv-loop μ-loop
 returns c =

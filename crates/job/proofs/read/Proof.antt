@@ -35,7 +35,8 @@ returns-2 : tie.Need-returns-2
 returns-2 c =
     let p = c .before .before .before .before in
     let a = p .before .before .before .before in
-    c .refuse2 .ensures ∙ ap jobRecord (read-posts (a .before .if1 .left) (a .area-line .ensures) (p .before .before .area .given .1) (p .read-posts .ensures) (c .before .before .after-posts2 .given .1))
+    c .refuse2 .ensures ∙ ap jobRecord (read-posts (a .before .if1 .left) (a .area-line .ensures) (p .before .before .area .given .1) (p .read-posts .ensures)
+    (c .before .before .after-posts2 .given .1))
 
 add-line : tie.Need-add-line
 add-line c = search needs
@@ -57,7 +58,8 @@ returns-3 c =
     let s = c .before .before .before .before in
     let p = s .before .before .before .before in
     let a = p .before .before .before .before in
-    c .refuse3 .ensures ∙ ap jobRecord (read-stops (a .before .if1 .left) (a .area-line .ensures) (p .before .before .area .given .1) (p .read-posts .ensures) (s .before .before .after-posts .given .1) (s .read-stops .ensures) (c .before .before .after-stops2 .given .1))
+    c .refuse3 .ensures ∙ ap jobRecord (read-stops (a .before .if1 .left) (a .area-line .ensures) (p .before .before .area .given .1) (p .read-posts .ensures)
+    (s .before .before .after-posts .given .1) (s .read-stops .ensures) (c .before .before .after-stops2 .given .1))
 
 add-last-line : tie.Need-add-last-line
 add-last-line c = search needs
@@ -80,7 +82,9 @@ returns-4 c =
     let s = l .before .before .before .before in
     let p = s .before .before .before .before in
     let a = p .before .before .before .before in
-    read-all (a .before .if1 .left) (a .area-line .ensures) (p .before .before .area .given .1) (p .read-posts .ensures) (s .before .before .after-posts .given .1) (s .read-stops .ensures) (l .before .before .after-stops .given .1) (l .last-line .ensures) (c .before .before .rounds .given .1) (c .check .ensures)
+    read-all (a .before .if1 .left) (a .area-line .ensures) (p .before .before .area .given .1) (p .read-posts .ensures)
+    (s .before .before .after-posts .given .1) (s .read-stops .ensures) (l .before .before .after-stops .given .1) (l .last-line .ensures)
+    (c .before .before .rounds .given .1) (c .check .ensures)
 
 enum-known-why : tie.Need-enum-known-why
 enum-known-why c = search needs
@@ -94,7 +98,9 @@ returns-5 c =
     let s = l .before .before .before .before in
     let p = s .before .before .before .before in
     let a = p .before .before .before .before in
-    c .refuse4 .ensures ∙ ap jobRecord (read-last (a .before .if1 .left) (a .area-line .ensures) (p .before .before .area .given .1) (p .read-posts .ensures) (s .before .before .after-posts .given .1) (s .read-stops .ensures) (l .before .before .after-stops .given .1) (l .last-line .ensures) (c .before .before .why .given .1))
+    c .refuse4 .ensures ∙ ap jobRecord (read-last (a .before .if1 .left) (a .area-line .ensures) (p .before .before .area .given .1) (p .read-posts .ensures)
+    (s .before .before .after-posts .given .1) (s .read-stops .ensures) (l .before .before .after-stops .given .1) (l .last-line .ensures)
+    (c .before .before .why .given .1))
 
 enum-known-why-2 : tie.Need-enum-known-why-2
 enum-known-why-2 c = search needs

@@ -55,7 +55,8 @@ returns c =
     let vertical = c .before .before .before .before .before .before .before .before .find-lines .ensures .0 in
     made-problem _ (held s) (s .pre) _ (made .columns-of .ensures) _ _
     (vertical ∙ vertical-is _ (held s) (s .pre) _ (made .columns-of .ensures) _ flags _ _ (ap back (e .0) ∙ e .0) (ap back (e .2) ∙ e .2))
-    (c .before .before .find-lines2 .ensures .0 ∙ horizontal-is _ (held s) (s .pre) _ (made .columns-of .ensures) _ flags _ _ (ap back (e .1) ∙ e .1) (ap back (e .3) ∙ e .3))
+    (c .before .before .find-lines2 .ensures .0 ∙ horizontal-is _ (held s) (s .pre) _ (made .columns-of .ensures) _ flags _ _ (ap back (e .1)
+    ∙ e .1) (ap back (e .3) ∙ e .3))
 
 pub of-deck-spec : {M : Type 1} → statement M
 of-deck-spec = tie.close (tie.spec columns-of-requires reach-flags-requires find-lines-requires find-lines-requires-2 returns)
