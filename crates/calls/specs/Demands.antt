@@ -23,7 +23,8 @@ use Rattle.calls.specs.Answers.{gives, refuses, refusal}
 use Rattle.calls.specs.Call.{jobFigures, outputSize, reportCall}
 use Rattle.query.specs.Range.{roundsLimit}
 
--- 01 "A job is accepted if none of the refusals that its call can give applies to it and to what is lent": it is read as j, and enough is lent
+-- 01 "A job is accepted if none of the refusals that its call can give applies to it and to what is lent": it is read as j, and enough is
+-- lent
 pub record Accepted (job : List ℕ) (cells : List ℤ) (out : List ℕ) (j : Job) : Type 0 where
   pub read : readJob job ≡ accepted j
   pub space : spaceNeeded (j .rounds) ≤ length cells

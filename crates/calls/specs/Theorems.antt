@@ -1,4 +1,4 @@
--- All that is proved of the calls and of the rules, with its quantifiers and hypotheses. proofs/Theorems.antt proves it: `theorems : Theorems`.
+-- All that is proved of the calls and of the rules, with its quantifiers and hypotheses: `theorems : Theorems` in proofs/Theorems.antt.
 -- That the code computes the definitions is said by the contracts of crates/siting/src/lib.rt.
 -- Assumes nothing.
 use Prim.Native.Nat.{ℕ}

@@ -1,4 +1,5 @@
--- Each public contract of this crate leaves one answer: it is had back from the reading that it stands for, so that two answers that meet the contract are the same.
+-- Each public contract of this crate leaves one answer: it is had back from the reading that it stands for, so that two answers that meet the contract are the
+-- same.
 -- Assumes nothing.
 use mathlib.Core.Path.{_≡_, refl, sym, ap, _∙_}
 use mathlib.Core.List.{List}

@@ -16,7 +16,8 @@ span axis r = axis .a * dist (r .xlo) (r .xhi) + axis .b * dist (r .ylo) (r .yhi
 -- the larger of the two sums of the costs of opposite corners
 unfoldable pub cornerSum : Deck → Rect → ℕ
 unfolding cost
-cornerSum deck r = max (cost deck (record { x = r .xlo; y = r .ylo }) + cost deck (record { x = r .xhi; y = r .yhi })) (cost deck (record { x = r .xlo; y = r .yhi }) + cost deck (record { x = r .xhi; y = r .ylo }))
+cornerSum deck r = max (cost deck (record { x = r .xlo; y = r .ylo }) + cost deck (record { x = r .xhi; y = r .yhi }))
+    (cost deck (record { x = r .xlo; y = r .yhi }) + cost deck (record { x = r .xhi; y = r .ylo }))
 
 -- 01 "bound", 000 the data-dependent lower bound of Theorem 4: add the costs of opposite corners, take the larger of the two sums,
 -- subtract (width + height) × load(cell), halve towards plus infinity

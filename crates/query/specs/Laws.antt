@@ -65,7 +65,8 @@ pub record GapsLaw (deck : Deck) (axis : Axis) : Type 0 where
   pub at-least-one : 1 ≤ gaps deck axis
   pub inside-and-one : NonEmpty (deck .area) → gaps deck axis ≡ length (inside (grid deck) axis (deck .area)) + 1
 
--- q is a crossing of lines in the area that is as good as p: cheaper, or as cheap and not later (Theorem 2 of 000, with the order "earlier")
+-- q is a crossing of lines in the area that is as good as p: cheaper, or as cheap and not later (Theorem 2 of 000, with the order
+-- "earlier")
 pub record AsGood (deck : Deck) (p q : Place) : Type 0 where
   pub in-area : In (deck .area) q
   pub on-lines : (axis : Axis) → List·Memᴰ (coordinate axis q) (lines deck axis)

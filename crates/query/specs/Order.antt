@@ -1,4 +1,5 @@
--- Document 01, "Lines, cells and bounds": figures of priced places and cells, compared first by the figure and then by which place is earlier.
+-- Document 01, "Lines, cells and bounds": figures of priced places and cells, compared first by the figure and then by which place is
+-- earlier.
 -- Assumes nothing.
 use Prim.Native.Nat.{ℕ}
 use mathlib.Core.Bool.{Bool, not, _&&_, _||_}

@@ -1,4 +1,5 @@
--- Document 01, "Job and report": a number has 1 to 9 digits, a leading `-` if negative, no `+`, no leading zero save in `0` itself, no `-0`.
+-- Document 01, "Job and report": a number has 1 to 9 digits, a leading `-` if negative, no `+`, no leading zero save in `0` itself, no
+-- `-0`.
 -- Assumes nothing.
 use Prim.Native.Nat.{ℕ, _+_, _-_, _*_}
 use mathlib.Core.Bool.{Bool, cond, not, _&&_, _||_}
