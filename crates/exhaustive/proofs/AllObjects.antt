@@ -6,58 +6,113 @@ use Prim.Native.Nat.{ℕ, _+_, _*_, _≤_, _<_, min}
 use native.Mathlib.Omega.{arith}
 use lib.IntN.{ℤ, pos, natAbs}
 use lib.ListN.{getD}
-use mir.Syntax.{w32, w64}
-use mir.Val.{SFits, toZ, ofZ}
+use mir.Syntax.{w64}
+use mir.Val.{SFits}
 use Rattle.numbers.proofs.Words.{word-fits}
+use Rattle.numbers.proofs.WordTests.{back}
 use Rattle.query.specs.Place.{Place}
-use Rattle.pricing.specs.ObjectFigures.{costOf, beforeOf}
-use Rattle.pricing.specs.Columns.{objectRows, ObjectInRange, ColumnsInRange}
+use Rattle.deck.specs.ObjectColumns.{objectAt, pricingIn}
 use Rattle.deck.proofs.WordLaws.{coordinate}
 use Rattle.deck.proofs.TravelLaws.{far, travel-plain}
+use Rattle.pricing.specs.ObjectFigures.{costOf, beforeOf}
+use Rattle.pricing.specs.Columns.{Priceable, ObjectInRange}
+use Rattle.pricing.proofs.NarrowLaws.{word, natural, visits-word, near-word}
 use Rattle.pricing.proofs.ObjectLaws.{paidBy, paidNow, costOf-sum, beforeOf-sum}
-use Rattle.pricing.proofs.ColumnLaws.{objectAt, sum-none, sum-more, has-row, row-range}
-use Rattle.numbers.proofs.WordTests.{back}
+use Rattle.pricing.proofs.ColumnLaws.{sum-none, sum-more}
+use Rattle.pricing.proofs.TurnLaws.{row}
 use Rattle.exhaustive.specs.Ramps.{prefixSum, ObjectSums, ObjectAdded, ObjectsAdded}
 use Rattle.exhaustive.proofs.Prefixes.{prefix-most}
 use Rattle.exhaustive.proofs.ObjectRamps.{sums-more, small-back}
 
--- a coordinate of a column, widened
+-- a coordinate of a column, widened, and a natural number of a column
 abbrev pub widened : ℤ → ℤ
-widened z = back (toZ w32 (ofZ w32 z))
+widened z = back (word z)
+
+abbrev pub counted : ℤ → ℕ
+counted z = natAbs (word z)
 
 module _ (z : ℤ) (h : natAbs z ≤ 180000) where
-  pub wide-fits : SFits w64 (toZ w32 (ofZ w32 z))
+  wide-fits : SFits w64 (word z)
   wide-fits = rw (coordinate z h) (word-fits w64 z (omega arith))
 
-  pub wide-is : widened z ≡ z
+  wide-is : widened z ≡ z
   wide-is = rw (coordinate z h) (small-back z (omega arith))
 
 -- ---- no object
 empty : (xs : List ℕ) (m n : ℕ) → ((k : ℕ) → getD xs k 0 ≤ 0 * m) → prefixSum xs n ≡ 0
 empty xs m n each = omega (arith, prefix-most xs 0 (λ k. omega (arith, each k)) n)
 
-module _ (xs ys : List ℤ) (vs ns : List ℕ) where
-  pub objects-none : (ls : List ℤ) (n : ℕ) (v : ℤ) (up us down ds : List ℕ) → ObjectSums up us down ds 0 → ObjectsAdded (objectRows xs ys vs ns 0) 0 ls n v up us down ds
-  objects-none ls n v up us down ds sums = record {
+module _ (columns : List ℤ) where
+  pub objects-none : (ls : List ℤ) (v : ℤ) (up us down ds : List ℕ) → ObjectSums up us down ds 0 → ObjectsAdded (pricingIn columns 0) 0 ls v up us down ds
+  objects-none ls v up us down ds sums = record {
     sums = sums;
-    cost = λ j h. let p : Place = record { x = v; y = getD ls j (pos 0) } in rw (costOf-sum (objectRows xs ys vs ns 0) p, beforeOf-sum (objectRows xs ys vs ns 0), sum-none (paidBy p) xs ys vs ns, sum-none paidNow xs ys vs ns, empty up 131070 (j + 1) (sums .up-sums .weights-most), empty us 262140000000 (j + 1) (sums .up-sums .starts-most), empty down 131070 (j + 1) (sums .down-sums .weights-most), empty ds 262140000000 (j + 1) (sums .down-sums .starts-most)) (omega arith);
+    cost = λ j h.
+        let p : Place = record { x = v; y = getD ls j (pos 0) } in
+        rw (
+          costOf-sum (pricingIn columns 0) p,
+          beforeOf-sum (pricingIn columns 0),
+          sum-none (paidBy (pricingIn columns 0) p) columns,
+          sum-none paidNow columns,
+          empty up 131070 (j + 1) (sums .up-sums .weights-most),
+          empty us 262140000000 (j + 1) (sums .up-sums .starts-most),
+          empty down 131070 (j + 1) (sums .down-sums .weights-most),
+          empty ds 262140000000 (j + 1) (sums .down-sums .starts-most),
+        )
+        (omega arith);
   }
 
-  module _ (range : ColumnsInRange xs ys vs ns) (i : ℕ) (h : i < 512) where
-    pub object-range : ObjectInRange (widened (getD xs i (pos 0))) (widened (getD ys i (pos 0))) (getD vs i 0) (getD ns i 0)
-    object-range = rw (wide-is (getD xs i (pos 0)) (range .x-range i), wide-is (getD ys i (pos 0)) (range .y-range i)) (row-range xs ys vs ns range i)
+  -- ---- the object in row i
+  module _ (i : ℕ) where
+    abbrev x : ℤ
+    x = getD columns i (pos 0)
 
-    cost-more : (p : Place) → costOf (objectRows xs ys vs ns (i + 1)) p ≡ costOf (objectRows xs ys vs ns i) p + getD vs i 0 * min (getD ns i 0) (far (getD xs i (pos 0)) (getD ys i (pos 0)) (p .x) (p .y))
-    cost-more p = rw (costOf-sum (objectRows xs ys vs ns (i + 1)) p, costOf-sum (objectRows xs ys vs ns i) p) (sum-more (paidBy p) xs ys vs ns i (has-row xs ys vs ns range i h) ∙ rw (travel-plain (objectAt xs ys vs ns i .at) p))
+    abbrev y : ℤ
+    y = getD columns (512 + i) (pos 0)
 
-    before-more : beforeOf (objectRows xs ys vs ns (i + 1)) ≡ beforeOf (objectRows xs ys vs ns i) + getD vs i 0 * getD ns i 0
-    before-more = rw (beforeOf-sum (objectRows xs ys vs ns (i + 1)), beforeOf-sum (objectRows xs ys vs ns i)) (sum-more paidNow xs ys vs ns i (has-row xs ys vs ns range i h))
+    abbrev visits : ℤ
+    visits = getD columns (1024 + i) (pos 0)
 
-    pub objects-more : (ls : List ℤ) (n : ℕ) (v : ℤ) (up us down ds up′ us′ down′ ds′ : List ℕ) → ObjectsAdded (objectRows xs ys vs ns i) i ls n v up us down ds → ObjectAdded ls n v (widened (getD xs i (pos 0))) (widened (getD ys i (pos 0))) (getD vs i 0) (getD ns i 0) up us down ds up′ us′ down′ ds′ → ObjectsAdded (objectRows xs ys vs ns (i + 1)) (i + 1) ls n v up′ us′ down′ ds′
-    objects-more ls n v up us down ds up′ us′ down′ ds′ so-far one = record {
-      sums = one .sums i (so-far .sums);
-      cost = λ j k. let p : Place = record { x = v; y = getD ls j (pos 0) } in omega (arith, cost-more p, before-more, so-far .cost j k, (rw (wide-is (getD xs i (pos 0)) (range .x-range i), wide-is (getD ys i (pos 0)) (range .y-range i)) at one) .added j k);
-    }
+    abbrev near : ℤ
+    near = getD columns (1536 + i) (pos 0)
+
+    cost-more : (p : Place) → costOf (pricingIn columns (i + 1)) p ≡ costOf (pricingIn columns i) p + natAbs visits * min (natAbs near) (far x y (p .x) (p .y))
+    cost-more p =
+        rw (costOf-sum (pricingIn columns (i + 1)) p, costOf-sum (pricingIn columns i) p)
+        (sum-more (paidBy (pricingIn columns i) p) columns i ∙ rw (travel-plain (objectAt columns i .at) p))
+
+    before-more : beforeOf (pricingIn columns (i + 1)) ≡ beforeOf (pricingIn columns i) + natAbs visits * natAbs near
+    before-more = rw (beforeOf-sum (pricingIn columns (i + 1)), beforeOf-sum (pricingIn columns i)) (sum-more paidNow columns i)
+
+-- ---- row i, as the code reads it
+module _ {columns : List ℤ} {n i : ℕ} (priceable : Priceable columns n) (h : i < n) where
+  pub x-fits : SFits w64 (word (x columns i))
+  x-fits = wide-fits (x columns i) (row priceable h .place .x-range)
+
+  pub y-fits : SFits w64 (word (y columns i))
+  y-fits = wide-fits (y columns i) (row priceable h .place .y-range)
+
+  x-is : widened (x columns i) ≡ x columns i
+  x-is = wide-is (x columns i) (row priceable h .place .x-range)
+
+  y-is : widened (y columns i) ≡ y columns i
+  y-is = wide-is (y columns i) (row priceable h .place .y-range)
+
+  pub object-range : ObjectInRange (widened (x columns i)) (widened (y columns i)) (pos (counted (visits columns i))) (pos (counted (near columns i)))
+  object-range =
+      let r = row priceable h in
+      rw (x-is, y-is, visits-word r, near-word r, ← natural (visits columns i) (r .visits-some), ← natural (near columns i) (r .near-some)) r
+
+  pub objects-more : (ls : List ℤ) (v : ℤ) (up us down ds up′ us′ down′ ds′ : List ℕ) → ObjectsAdded (pricingIn columns i) i ls v up us down ds
+      → ObjectAdded ls v (widened (x columns i)) (widened (y columns i)) (counted (visits columns i)) (counted (near columns i))
+      up us down ds up′ us′ down′ ds′
+      → ObjectsAdded (pricingIn columns (i + 1)) (i + 1) ls v up′ us′ down′ ds′
+  objects-more ls v up us down ds up′ us′ down′ ds′ so-far one = record {
+    sums = one .sums i (so-far .sums);
+    cost = λ j k.
+        let p : Place = record { x = v; y = getD ls j (pos 0) } in
+        let read = rw (x-is, y-is, visits-word (row priceable h), near-word (row priceable h)) at one in
+        omega (arith, cost-more columns i p, before-more columns i, so-far .cost j k, read .added j k);
+  }
 
 -- at most 600 objects
 pub sums-few : {up us down ds : List ℕ} (m : ℕ) → ObjectSums up us down ds m → m ≤ 600 → ObjectSums up us down ds 600

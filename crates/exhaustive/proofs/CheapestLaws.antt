@@ -8,7 +8,7 @@ use lib.Dec.{T, ltb}
 use lib.Signed.{mag}
 use Rattle.numbers.proofs.Truth.{holds, fails}
 use Rattle.query.specs.Place.{Place}
-use Rattle.deck.specs.Objects.{Object}
+use Rattle.deck.specs.Objects.{Pricing}
 use Rattle.problem.specs.declared.Spot.{Spot}
 use Rattle.problem.specs.ObjectProblem.{spotOf}
 use Rattle.numbers.proofs.WordTests.{back, fitting}
@@ -29,15 +29,15 @@ pub spot-same : (s : Spot) → mag (s .x) < 2 ^ 63 → mag (s .y) < 2 ^ 63 → r
 spot-same s h k = rw (fitting (s .x) h, fitting (s .y) k)
 
 -- ---- of some places
-module _ (objects : List Object) where
-  pub cheapest-none : (first : Spot) → firstCheapest objects first [] ≡ first
+module _ (P : Pricing) where
+  pub cheapest-none : (first : Spot) → firstCheapest P first [] ≡ first
   unfolding firstCheapest
   cheapest-none first = refl
 
-  pub cheapest-more : (first : Spot) (p : Place) (ps : List Place) → firstCheapest objects first (p ∷ ps) ≡ firstCheapest objects (cheaperOf first (spotOf objects p)) ps
+  pub cheapest-more : (first : Spot) (p : Place) (ps : List Place) → firstCheapest P first (p ∷ ps) ≡ firstCheapest P (cheaperOf first (spotOf P p)) ps
   unfolding firstCheapest
   cheapest-more first p ps = refl
 
-  pub cheapest-append : (first : Spot) (ps qs : List Place) → firstCheapest objects first (ps ++ qs) ≡ firstCheapest objects (firstCheapest objects first ps) qs
+  pub cheapest-append : (first : Spot) (ps qs : List Place) → firstCheapest P first (ps ++ qs) ≡ firstCheapest P (firstCheapest P first ps) qs
   unfolding firstCheapest
-  cheapest-append first ps qs = foldl-append (λ (b : Spot) (p : Place). cheaperOf b (spotOf objects p)) first ps qs
+  cheapest-append first ps qs = foldl-append (λ (b : Spot) (p : Place). cheaperOf b (spotOf P p)) first ps qs

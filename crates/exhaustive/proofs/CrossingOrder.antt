@@ -20,7 +20,7 @@ use Rattle.query.specs.Search.{bestOf}
 use Rattle.query.specs.Exhaustive.{crossings, exhaustive}
 use Rattle.query.proofs.Best.{bestOf-nil, bestOf-cons}
 use Rattle.query.proofs.KeyOrder.{not-earlier}
-use Rattle.deck.specs.Objects.{Object}
+use Rattle.deck.specs.Objects.{Pricing}
 use Rattle.pricing.specs.ObjectFigures.{costOf}
 use Rattle.problem.specs.declared.Spot.{Spot}
 use Rattle.problem.specs.ObjectProblem.{objectRules, objectProblem, pricedOf, spotOf}
@@ -74,9 +74,9 @@ better-cheaper : (p best : Priced) → T (not (earlier (p .at) (best .at))) → 
 unfolding better precedes
 better-cheaper p best t = without (ltb (p .cost) (best .cost)) (eqZ (pos (p .cost)) (pos (best .cost))) (earlier (p .at) (best .at)) t
 
-module _ (objects : List Object) (G : Grid) where
+module _ (P : Pricing) (G : Grid) where
   abbrev R : Rules
-  R = objectRules objects G
+  R = objectRules P G
 
   cheaper-is : (best p : Spot) → T (not (earlier (pricedOf p .at) (pricedOf best .at))) → pricedOf (cheaperOf best p) ≡ cond (better (pricedOf p) (pricedOf best)) (pricedOf p) (pricedOf best)
   unfolding cheaperOf
@@ -86,18 +86,18 @@ module _ (objects : List Object) (G : Grid) where
       go true = refl
       go false = refl
 
-  later : (first : Spot) (p q : Place) → T (not (earlier q p)) → T (not (earlier q (pricedOf first .at))) → T (not (earlier q (pricedOf (cheaperOf first (spotOf objects p)) .at)))
+  later : (first : Spot) (p q : Place) → T (not (earlier q p)) → T (not (earlier q (pricedOf first .at))) → T (not (earlier q (pricedOf (cheaperOf first (spotOf P p)) .at)))
   unfolding cheaperOf
-  later first p q a b = cond-ind (λ (s : Spot). T (not (earlier q (pricedOf s .at)))) (ltb (costOf objects p) (first .cost)) (λ u. a) (λ u. b)
+  later first p q a b = cond-ind (λ (s : Spot). T (not (earlier q (pricedOf s .at)))) (ltb (costOf P p) (first .cost)) (λ u. a) (λ u. b)
 
-  cheapest-best : (first : Spot) (ps : List Place) → InTurn ps → ((q : Place) → List·Memᴰ q ps → T (not (earlier q (pricedOf first .at)))) → pricedOf (firstCheapest objects first ps) ≡ bestOf R (pricedOf first) ps
-  cheapest-best first [] none h = ap pricedOf (cheapest-none objects first) ∙ sym (bestOf-nil R (pricedOf first))
+  cheapest-best : (first : Spot) (ps : List Place) → InTurn ps → ((q : Place) → List·Memᴰ q ps → T (not (earlier q (pricedOf first .at)))) → pricedOf (firstCheapest P first ps) ≡ bestOf R (pricedOf first) ps
+  cheapest-best first [] none h = ap pricedOf (cheapest-none P first) ∙ sym (bestOf-nil R (pricedOf first))
   cheapest-best first (p ∷ ps) (then f t) h =
-      ap pricedOf (cheapest-more objects first p ps)
-      ∙ cheapest-best (cheaperOf first (spotOf objects p)) ps t (λ q m. later first p q (f q m) (h q (List·Memᴰ·tail m)))
-      ∙ ap (λ (b : Priced). bestOf R b ps) (cheaper-is first (spotOf objects p) (h p (List·Memᴰ·head refl)))
+      ap pricedOf (cheapest-more P first p ps)
+      ∙ cheapest-best (cheaperOf first (spotOf P p)) ps t (λ q m. later first p q (f q m) (h q (List·Memᴰ·tail m)))
+      ∙ ap (λ (b : Priced). bestOf R b ps) (cheaper-is first (spotOf P p) (h p (List·Memᴰ·head refl)))
       ∙ sym (bestOf-cons R (pricedOf first) p ps)
 
-  pub cheapest-is : (area : Rect) → InTurn (flatMap (along (G .horizontal)) (G .vertical)) → ((q : Place) → List·Memᴰ q (flatMap (along (G .horizontal)) (G .vertical)) → T (not (earlier q (corner area)))) → pricedOf (firstCheapest objects (spotOf objects (corner area)) (flatMap (along (G .horizontal)) (G .vertical))) ≡ exhaustive (objectProblem objects G area)
+  pub cheapest-is : (area : Rect) → InTurn (flatMap (along (G .horizontal)) (G .vertical)) → ((q : Place) → List·Memᴰ q (flatMap (along (G .horizontal)) (G .vertical)) → T (not (earlier q (corner area)))) → pricedOf (firstCheapest P (spotOf P (corner area)) (flatMap (along (G .horizontal)) (G .vertical))) ≡ exhaustive (objectProblem P G area)
   unfolding exhaustive crossings
-  cheapest-is area t h = cheapest-best (spotOf objects (corner area)) (flatMap (along (G .horizontal)) (G .vertical)) t h
+  cheapest-is area t h = cheapest-best (spotOf P (corner area)) (flatMap (along (G .horizontal)) (G .vertical)) t h

@@ -1,41 +1,36 @@
--- The exhaustive search of a deck as the code prepares it: its lines in range, and its crossings in turn.
+-- The exhaustive search of a problem as the code prepares it: its lines in range, and its crossings in turn.
 -- Assumes nothing.
-use mathlib.Core.Path.{_≡_, sym, ap, subst, _∙_}
+use mathlib.Core.Path.{_≡_, ap, _∙_}
 use mathlib.Core.Bool.{not}
 use mathlib.Core.List.{List, flatMap, List·Memᴰ, Memᴰ·of-map}
-use Prim.Native.Nat.{ℕ, _≤_, _<_}
+use Prim.Native.Nat.{ℕ, _≤_}
 use native.Mathlib.Omega.{arith}
 use lib.Dec.{T}
 use lib.IntN.{ℤ, pos, natAbs}
 use lib.ListN.{length, getD, take}
-use lib.Seq.{getD-take}
 use lib.Signed.{_≤ℤ_}
 use Rattle.numbers.proofs.Integer.{order, abs-range}
 use Rattle.numbers.proofs.Members.{flatMap-from}
-use Rattle.query.specs.Place.{Place, Rect, NonEmpty, Axis, x-axis, y-axis, low-edge, high-edge, corner, earlier}
+use Rattle.numbers.proofs.WordTests.{back}
+use Rattle.query.specs.Place.{Place, NonEmpty, Axis, x-axis, y-axis, low-edge, high-edge, corner, earlier}
 use Rattle.query.specs.Deck as Query
 use Rattle.query.specs.Lines.{lines}
-use Rattle.query.specs.Problem.{problem}
 use Rattle.query.specs.Exhaustive.{exhaustive}
-use Rattle.query.specs.Range.{PlaceInRange, InRange, costLimit}
+use Rattle.query.specs.Range.{PlaceInRange, InRange}
 use Rattle.query.proofs.KeyOrder.{not-earlier}
-use Rattle.query.proofs.LineLaws.{lines-law, lines-range}
-use Rattle.deck.specs.declared.Deck.{Deck}
-use Rattle.deck.specs.DeckOf.{deckOf}
-use Rattle.pricing.specs.ObjectFigures.{beforeOf, flagsOf}
-use Rattle.pricing.specs.Columns.{PaidInRange, Figure, BeforeIs, rowsOf, InColumns}
-use Rattle.lines.specs.LineRecord.{linesRecord, gridOf}
-use Rattle.deck.specs.declared.Objects.{Objects}
-use Rattle.lines.specs.declared.Lines.{Lines}
+use Rattle.query.proofs.LineLaws.{lines-range}
+use Rattle.deck.specs.Rectangle.{rectOf}
+use Rattle.deck.specs.Objects.{Pricing}
+use Rattle.deck.specs.ObjectColumns.{pricingIn}
+use Rattle.lines.specs.LineRecord.{gridOf}
 use Rattle.lines.proofs.Indexed.{member-at}
-use Rattle.lines.proofs.DeckLines.{deck-front, lines-in-order}
-use Rattle.pricing.proofs.RecordLaws.{paid-range}
-use Rattle.slots.specs.declared.Cell.{Cell}
+use Rattle.lines.proofs.DeckLines.{lines-in-order}
+use Rattle.problem.specs.declared.Problem.{Problem}
 use Rattle.problem.specs.declared.Spot.{Spot}
-use Rattle.problem.specs.ObjectProblem.{Prepared, Priceable, pricedOf, spotOf, rectIn, Ranged, Reaching}
-use Rattle.numbers.proofs.WordTests.{back}
+use Rattle.problem.specs.ObjectProblem.{pricedOf, spotOf}
+use Rattle.problem.specs.Prepared.{problemIn, problemRecord, Prepared}
 use Rattle.problem.proofs.Coordinates.{near-places, spot-back}
-use Rattle.problem.proofs.DeckProblem.{columns-range, objects-count, deck-priceable, area-ranged, reaching, coded-is}
+use Rattle.problem.proofs.DeckProblem.{record-area, vertical-front, horizontal-front, prepared-ranged}
 use Rattle.exhaustive.specs.Ramps.{LinesInRange}
 use Rattle.exhaustive.specs.Cheapest.{firstCheapest, along}
 use Rattle.exhaustive.proofs.CrossingOrder.{InTurn, crossing-turn, cheapest-is}
@@ -49,62 +44,64 @@ module _ (deck : Query.Deck) (range : InRange deck) (full : NonEmpty (deck .area
   edge-range x-axis = (range .area .low-corner .x-range, range .area .high-corner .x-range)
   edge-range y-axis = (range .area .low-corner .y-range, range .area .high-corner .y-range)
 
-  module _ (axis : Axis) (l : Lines) (e : l ≡ linesRecord (lines deck axis)) where
-    counted : l .count ≡ length (lines deck axis)
-    unfolding linesRecord
-    counted = ap (λ (r : Lines). r .count) e
+  pub deck-lines : (axis : Axis) → LinesInRange (lines deck axis)
+  deck-lines axis = record {
+    in-order = lines-in-order deck axis (range .most-stops);
+    range = λ j h.
+        let m = lines-range deck axis full (getD (lines deck axis) j (pos 0)) (member-at (pos 0) (lines deck axis) j h) in
+        edges-abs (low-edge axis (deck .area)) _ (high-edge axis (deck .area)) 20000 (edge-range axis .0) (edge-range axis .1) (m .0) (m .1);
+  }
 
-    line-is : (j : ℕ) → j < l .count → getD (l .at) j (pos 0) ≡ getD (lines deck axis) j (pos 0)
-    line-is j h = sym (getD-take (l .count) (l .at) j (pos 0) h) ∙ rw (deck-front deck axis l e)
-
-    pub deck-lines : LinesInRange (l .at) (l .count)
-    deck-lines = record {
-      in-order = rw e (lines-in-order deck axis (range .most-stops));
-      range = λ j h. rw (line-is j h) (let m = lines-range deck axis full (getD (lines deck axis) j (pos 0)) (member-at (pos 0) (lines deck axis) j (omega (arith, counted))) in edges-abs (low-edge axis (deck .area)) _ (high-edge axis (deck .area)) 20000 (edge-range axis .0) (edge-range axis .1) (m .0) (m .1));
-    }
-
-  -- its crossings, in turn and none earlier than the area's corner
-  pub deck-turn : InTurn (flatMap (along (lines deck y-axis)) (lines deck x-axis))
-  deck-turn = crossing-turn (lines deck y-axis) (lines deck x-axis) (lines-law deck y-axis .increasing) (lines-law deck x-axis .increasing)
-
-  pub deck-corner : (q : Place) → List·Memᴰ q (flatMap (along (lines deck y-axis)) (lines deck x-axis)) → T (not (earlier q (corner (deck .area))))
+  -- no crossing is earlier than the area's corner
+  deck-corner : (q : Place) → List·Memᴰ q (flatMap (along (lines deck y-axis)) (lines deck x-axis)) → T (not (earlier q (corner (deck .area))))
   deck-corner q m =
       let (v, on-v, n) = flatMap-from (along (lines deck y-axis)) (lines deck x-axis) m in
       let (h, on-h, e) = Memᴰ·of-map (λ (h : ℤ). record { x = v; y = h }) (lines deck y-axis) n in
       rw (← e) (not-earlier (record { x = v; y = h }) (corner (deck .area)) (lines-range deck x-axis full v on-v .0) (lines-range deck y-axis full h on-h .0))
 
--- ---- a deck and its objects
-module _ (deck : Deck) (objects : Objects) (ready : Prepared deck objects) where
-  pub columns : InColumns objects
-  columns = columns-range deck objects ready
+-- ---- a prepared problem
+module _ (p : Problem) (prepared : Prepared p) where
+  abbrev P : Pricing
+  P = pricingIn (p .columns) (p .count)
 
-  pub count : objects .count ≤ 512
-  count = objects-count deck objects ready
+  abbrev vertical : List ℤ
+  vertical = take (p .nv) (p .v)
 
-  pub priceable : Priceable (objects .x) (objects .y) (objects .visits) (objects .near) (objects .count)
-  priceable = deck-priceable deck objects ready
+  abbrev horizontal : List ℤ
+  horizontal = take (p .nh) (p .h)
 
-  pub paid : PaidInRange (objects .visits) (objects .near)
-  paid = paid-range columns
+  abbrev deck : Query.Deck
+  deck = prepared .deck
 
-  pub before-is : (b : ℕ) → BeforeIs (objects .visits) (objects .near) (objects .count) b → Figure (beforeOf (rowsOf objects)) costLimit b
-  before-is b h = record { is = h .is (objects .x) (objects .y) (columns .x-long) (columns .y-long); within = h .within }
+  pub vertical-count : p .nv ≡ length vertical
+  unfolding problemRecord
+  vertical-count = rw (prepared .is, vertical-front deck)
 
-  module _ (area : Cell) (area-is : rectIn area ≡ deckOf deck .area) where
-    pub ranged : Ranged (rectIn area)
-    ranged = area-ranged deck objects ready area area-is
+  pub horizontal-count : p .nh ≡ length horizontal
+  unfolding problemRecord
+  horizontal-count = rw (prepared .is, horizontal-front deck)
 
-    pub reaches : (flags : List ℕ) → flags ≡ flagsOf (rowsOf objects) (rectIn area) → Reaching deck area flags
-    reaches = reaching deck objects ready area area-is
+  pub vertical-lines : LinesInRange vertical
+  vertical-lines = rw (prepared .is, vertical-front deck) (deck-lines deck (prepared .range) (prepared .full) x-axis)
 
-    pub corner-near : PlaceInRange (record { x = (back (area .xlo)); y = (back (area .ylo)) })
-    corner-near = near-places (area .xlo) (area .ylo) (ranged .range .low-corner .x-range) (ranged .range .low-corner .y-range)
+  pub horizontal-lines : LinesInRange horizontal
+  horizontal-lines = rw (prepared .is, horizontal-front deck) (deck-lines deck (prepared .range) (prepared .full) y-axis)
 
-    pub answers : (v h : Lines) → v ≡ linesRecord (lines (deckOf deck) x-axis) → h ≡ linesRecord (lines (deckOf deck) y-axis) → (first r : Spot) → first ≡ spotOf (rowsOf objects) (record { x = back (area .xlo); y = back (area .ylo) }) → r ≡ firstCheapest (rowsOf objects) first (flatMap (along (take (h .count) (h .at))) (take (v .count) (v .at))) → pricedOf r ≡ exhaustive (problem (deckOf deck))
-    answers v h ve he first r e b =
-        let corner-first : first ≡ spotOf (rowsOf objects) (corner (rectIn area)) = spot-back (rowsOf objects) (area .xlo) (area .ylo) first (ranged .range .low-corner .x-range) (ranged .range .low-corner .y-range) e in
-        let vs = deck-front (deckOf deck) x-axis v ve in
-        let hs = deck-front (deckOf deck) y-axis h he in
-        ap pricedOf (b ∙ ap (λ (s : Spot). firstCheapest (rowsOf objects) s (flatMap (along (take (h .count) (h .at))) (take (v .count) (v .at)))) corner-first)
-        ∙ cheapest-is (rowsOf objects) (gridOf (v .at) (v .count) (h .at) (h .count)) (rectIn area) (rw (vs, hs) (deck-turn (deckOf deck) (ready .range) (ready .full))) (λ q m. subst (λ (r : Rect). T (not (earlier q (corner r)))) (sym area-is) (deck-corner (deckOf deck) (ready .range) (ready .full) q (rw (vs, hs) at m)))
-        ∙ ap exhaustive (coded-is deck objects ready area area-is v h ve he)
+  -- its crossings, in turn and none earlier than the area's corner
+  turn : InTurn (flatMap (along horizontal) vertical)
+  turn = crossing-turn horizontal vertical (horizontal-lines .in-order .increasing) (vertical-lines .in-order .increasing)
+
+  none-earlier : (q : Place) → List·Memᴰ q (flatMap (along horizontal) vertical) → T (not (earlier q (corner (rectOf (p .area)))))
+  none-earlier =
+      rw (prepared .is, vertical-front deck, horizontal-front deck, record-area deck) (deck-corner deck (prepared .range) (prepared .full))
+
+  pub corner-near : PlaceInRange (record { x = back (p .area .xlo); y = back (p .area .ylo) })
+  corner-near = let low = prepared-ranged p prepared .range .low-corner in near-places (p .area .xlo) (p .area .ylo) (low .x-range) (low .y-range)
+
+  pub answers : (first r : Spot) → first ≡ spotOf P (record { x = back (p .area .xlo); y = back (p .area .ylo) })
+      → r ≡ firstCheapest P first (flatMap (along horizontal) vertical) → pricedOf r ≡ exhaustive (problemIn p)
+  answers first r e b =
+      let low = prepared-ranged p prepared .range .low-corner in
+      let corner-first : first ≡ spotOf P (corner (rectOf (p .area))) = spot-back P (p .area .xlo) (p .area .ylo) first (low .x-range) (low .y-range) e in
+      ap pricedOf (b ∙ ap (λ (s : Spot). firstCheapest P s (flatMap (along horizontal) vertical)) corner-first)
+      ∙ cheapest-is P (gridOf vertical horizontal) (rectOf (p .area)) turn none-earlier

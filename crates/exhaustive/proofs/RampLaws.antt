@@ -8,7 +8,7 @@ use native.Mathlib.Nat.{mul-le-mul}
 use native.Mathlib.Omega.{arith}
 use lib.Dec.{ltb, ltb→lt, nltb→le}
 use lib.IntN.{ℤ, pos, natAbs}
-use lib.ListN.{getD, set, length-set}
+use lib.ListN.{length, getD, set, length-set}
 use Rattle.numbers.proofs.Truth.{test}
 use Rattle.lines.specs.LineRecord.{FirstAtLeast}
 use Rattle.exhaustive.specs.Ramps.{heightOf, LinesInRange, weightsAt, startsAt, RampSums, RampInRange, RampAdded}
@@ -19,14 +19,14 @@ use Rattle.exhaustive.proofs.Prefixes.{prefix-before, prefix-behind, se
 abbrev pub raisedBy : List ℕ → ℕ → ℕ → List ℕ
 raisedBy xs k w = set xs k (getD xs k 0 + w)
 
-module _ (ls : List ℤ) (n : ℕ) (start : ℤ) (w k : ℕ) (ws us : List ℕ) (lines : LinesInRange ls n) (range : RampInRange start w) (first : FirstAtLeast ls n start k) (sums : RampSums ws us 2000) where
+module _ (ls : List ℤ) (start : ℤ) (w k : ℕ) (ws us : List ℕ) (lines : LinesInRange ls) (range : RampInRange start w) (first : FirstAtLeast ls start k) (sums : RampSums ws us 2000) where
   pub ramp-weight : w * heightOf start ≤ 262140000000
   ramp-weight = omega (arith, mul-le-mul (range .weight-range) (height-most start 900000 (range .start-range) (omega arith)))
 
-  line-range : (j : ℕ) → j < n → natAbs (getD ls j (pos 0)) ≤ 1000000
+  line-range : (j : ℕ) → j < length ls → natAbs (getD ls j (pos 0)) ≤ 1000000
   line-range j h = omega (arith, lines .range j h)
 
-  added : (j : ℕ) → j < n → weightsAt ls (raisedBy ws k w) j + startsAt us j ≡ weightsAt ls ws j + startsAt (raisedBy us k (w * heightOf start)) j + w * (heightOf (getD ls j (pos 0)) - heightOf start)
+  added : (j : ℕ) → j < length ls → weightsAt ls (raisedBy ws k w) j + startsAt us j ≡ weightsAt ls ws j + startsAt (raisedBy us k (w * heightOf start)) j + w * (heightOf (getD ls j (pos 0)) - heightOf start)
   added j h = ⊎-elim (λ t. before (ltb→lt j k t)) (λ t. behind (nltb→le j k t)) (test (ltb j k))
     where
       flat : (a b t d : ℕ) → d ≡ 0 → a * t + b ≡ a * t + b + w * d
@@ -42,10 +42,10 @@ module _ (ls : List ℤ) (n : ℕ) (start : ℤ) (w k : ℕ) (ws us : List ℕ) 
 
       behind : k ≤ j → weightsAt ls (raisedBy ws k w) j + startsAt us j ≡ weightsAt ls ws j + startsAt (raisedBy us k (w * heightOf start)) j + w * (heightOf (getD ls j (pos 0)) - heightOf start)
       behind l =
-          rw (prefix-behind ws k (getD ws k 0 + w) w (omega (arith, sums .weights-long, lines .in-order .within)) refl (j + 1) (omega arith), prefix-behind us k (getD us k 0 + w * heightOf start) (w * heightOf start) (omega (arith, sums .starts-long, lines .in-order .within)) refl (j + 1) (omega arith))
+          rw (prefix-behind ws k (getD ws k 0 + w) w (omega (arith, sums .weights-long, lines .in-order .few)) refl (j + 1) (omega arith), prefix-behind us k (getD us k 0 + w * heightOf start) (w * heightOf start) (omega (arith, sums .starts-long, lines .in-order .few)) refl (j + 1) (omega arith))
           (steep _ _ _ _ _ (omega (arith, height-le start (getD ls j (pos 0)) (omega (arith, range .start-range)) (line-range j h) (first .after j l h))))
 
-  pub ramp-added : RampAdded ls n start w ws us (raisedBy ws k w) (raisedBy us k (w * heightOf start))
+  pub ramp-added : RampAdded ls start w ws us (raisedBy ws k w) (raisedBy us k (w * heightOf start))
   ramp-added = record {
     sums = λ m old. record {
       weights-long = length-set ws k _ ∙ old .weights-long;

@@ -6,15 +6,15 @@ use Prim.Native.Nat.{ℕ, _+_, _*_, _^_, _≤_, _<_}
 use native.Mathlib.Omega.{arith}
 use lib.IntN.{ℤ, pos, natAbs}
 use lib.ListN.{length, getD, set, length-set}
-use Rattle.deck.specs.Objects.{Object}
+use Rattle.deck.specs.Objects.{Pricing}
 use Rattle.pricing.specs.ObjectFigures.{costOf, beforeOf}
 use Rattle.numbers.proofs.WordTests.{back}
 use Rattle.exhaustive.specs.Ramps.{heightOf, prefixSum, LinesInRange, RampSums, ObjectsAdded, Payable, Sweepable}
-use Rattle.exhaustive.specs.Cheapest.{costsAlong, Swept}
+use Rattle.exhaustive.specs.Cheapest.{Swept}
 use Rattle.exhaustive.proofs.Heights.{height-most}
 use Rattle.exhaustive.proofs.Prefixes.{prefix-none, prefix-more, prefix-most}
 use Rattle.exhaustive.proofs.ObjectRamps.{sums-more, small-back}
-use Rattle.exhaustive.proofs.CostsAlong.{costs-none, costs-more}
+use Rattle.exhaustive.proofs.CostsAlong.{costsTo, costs-none, costs-more, costs-all}
 
 -- ---- the sums stay small
 module _ {ws us : List ℕ} (sums : RampSums ws us 1200) (n : ℕ) (h : n ≤ 515) where
@@ -25,17 +25,17 @@ module _ {ws us : List ℕ} (sums : RampSums ws us 1200) (n : ℕ) (h : n ≤ 51
   starts-cap = omega (arith, prefix-most us 314568000000000 (λ k. sums .starts-most k) n)
 
 -- ---- the loop
-pub record Sweeping (ls : List ℤ) (n : ℕ) (up us down ds : List ℕ) (before : ℕ) (old costs : List ℕ) (a b c d j : ℕ) : Type 0 where
-  pub count : j ≤ n
+pub record Sweeping (ls : List ℤ) (up us down ds : List ℕ) (before : ℕ) (old costs : List ℕ) (a b c d j : ℕ) : Type 0 where
+  pub count : j ≤ length ls
   pub long : length costs ≡ length old
   pub ups : a ≡ prefixSum up j
   pub up-starts : b ≡ prefixSum us j
   pub downs : c ≡ prefixSum down j
   pub down-starts : d ≡ prefixSum ds j
-  pub written : (objects : List Object) (m : ℕ) (v : ℤ) → ObjectsAdded objects m ls n v up us down ds → before ≡ beforeOf objects → costs ≡ costsAlong objects ls j v old
+  pub written : (P : Pricing) (m : ℕ) (v : ℤ) → ObjectsAdded P m ls v up us down ds → before ≡ beforeOf P → costs ≡ costsTo P ls v old j
 
-module _ (ls : List ℤ) (n : ℕ) (up us down ds : List ℕ) (before : ℕ) (old : List ℕ) where
-  pub sweep-none : Sweeping ls n up us down ds before old old 0 0 0 0 0
+module _ (ls : List ℤ) (up us down ds : List ℕ) (before : ℕ) (old : List ℕ) where
+  pub sweep-none : Sweeping ls up us down ds before old old 0 0 0 0 0
   sweep-none = record {
     count = omega arith;
     long = refl;
@@ -43,18 +43,18 @@ module _ (ls : List ℤ) (n : ℕ) (up us down ds : List ℕ) (before : ℕ) (ol
     up-starts = sym (prefix-none us);
     downs = sym (prefix-none down);
     down-starts = sym (prefix-none ds);
-    written = λ objects m v s e. sym (costs-none objects ls v old);
+    written = λ P m v s e. sym (costs-none P ls v old);
   }
 
-  pub sweep-all : {costs : List ℕ} {a b c d j : ℕ} → Sweeping ls n up us down ds before old costs a b c d j → n ≤ j → Swept ls n up us down ds before old costs
-  sweep-all {j = j} s h = let e : j ≡ n = omega (arith, s .count) in record { is = λ objects m v added f. rw e at (s .written objects m v added f) }
+  pub sweep-all : {costs : List ℕ} {a b c d j : ℕ} → Sweeping ls up us down ds before old costs a b c d j → length ls ≤ j → Swept ls up us down ds before old costs
+  sweep-all {j = j} s h = record { is = λ P m v added f. s .written P m v added f ∙ costs-all P ls v old j (omega (arith, s .count)) }
 
-  module _ (lines : LinesInRange ls n) (ok : Sweepable ls n up us down ds before) {costs : List ℕ} {a b c d j : ℕ} (s : Sweeping ls n up us down ds before old costs a b c d j) (h : j < n) where
+  module _ (lines : LinesInRange ls) (ok : Sweepable ls up us down ds before) {costs : List ℕ} {a b c d j : ℕ} (s : Sweeping ls up us down ds before old costs a b c d j) (h : j < length ls) where
     abbrev y : ℤ
     y = getD ls j (pos 0)
 
     few : j + 1 ≤ 515
-    few = omega (arith, lines .in-order .within)
+    few = omega (arith, lines .in-order .few)
 
     pub ups-next : a + getD up j 0 ≡ prefixSum up (j + 1)
     ups-next = omega (arith, prefix-more up j, s .ups)
@@ -105,10 +105,10 @@ module _ (ls : List ℤ) (n : ℕ) (up us down ds : List ℕ) (before : ℕ) (ol
         balance : cost + (prefixSum down (j + 1) * heightOf y + prefixSum us (j + 1)) ≡ before + (prefixSum up (j + 1) * heightOf y + prefixSum ds (j + 1))
         balance = rw (t-is, ups-next, up-starts-next, downs-next, down-starts-next) at q
 
-        cost-is : (objects : List Object) (m : ℕ) (v : ℤ) → ObjectsAdded objects m ls n v up us down ds → before ≡ beforeOf objects → cost ≡ costOf objects (record { x = v; y = y })
-        cost-is objects m v added f = omega (arith, balance, added .cost j h, f)
+        cost-is : (P : Pricing) (m : ℕ) (v : ℤ) → ObjectsAdded P m ls v up us down ds → before ≡ beforeOf P → cost ≡ costOf P (record { x = v; y = y })
+        cost-is P m v added f = omega (arith, balance, added .cost j h, f)
 
-        pub sweep-more : length old ≡ 514 → (new : ℕ) → new ≡ cost → Sweeping ls n up us down ds before old (set costs j new) (a + getD up j 0) (b + getD us j 0) (c + getD down j 0) (d + getD ds j 0) (j + 1)
+        pub sweep-more : length old ≡ 514 → (new : ℕ) → new ≡ cost → Sweeping ls up us down ds before old (set costs j new) (a + getD up j 0) (b + getD us j 0) (c + getD down j 0) (d + getD ds j 0) (j + 1)
         sweep-more l new i = record {
           count = omega arith;
           long = simp length-set (s .long);
@@ -116,5 +116,5 @@ module _ (ls : List ℤ) (n : ℕ) (up us down ds : List ℕ) (before : ℕ) (ol
           up-starts = up-starts-next;
           downs = downs-next;
           down-starts = down-starts-next;
-          written = λ objects m v added f. costs-more objects ls v old j new (omega (arith, lines .in-order .within, lines .in-order .full)) (omega (arith, lines .in-order .within)) (s .written objects m v added f) (i ∙ cost-is objects m v added f);
+          written = λ P m v added f. costs-more P ls v old j new h (omega (arith, lines .in-order .few)) (s .written P m v added f) (i ∙ cost-is P m v added f);
         }

@@ -35,31 +35,31 @@ module _ (xs : List ℕ) (from j : ℕ) where
 
 -- ---- lines
 -- the slots before `from` are those of the heights up to the last of j lines
-pub record Numbering (ls : List ℤ) (n j from : ℕ) (table : List ℕ) : Type 0 where
-  pub count : j ≤ n
+pub record Numbering (ls : List ℤ) (j from : ℕ) (table : List ℕ) : Type 0 where
+  pub count : j ≤ length ls
   pub long : length table ≡ 40001
   pub passed : (k : ℕ) → k < j → heightOf (getD ls k (pos 0)) < from + 980000
-  pub parted : (t : ℕ) → t < from → Parted ls n (t + 980000) (getD table t 0)
+  pub parted : (t : ℕ) → t < from → Parted ls (t + 980000) (getD table t 0)
 
-module _ (ls : List ℤ) (n : ℕ) (lines : LinesInRange ls n) where
-  wide : (k : ℕ) → k < n → natAbs (getD ls k (pos 0)) ≤ 1000000
+module _ (ls : List ℤ) (lines : LinesInRange ls) where
+  wide : (k : ℕ) → k < length ls → natAbs (getD ls k (pos 0)) ≤ 1000000
   wide k h = omega (arith, lines .range k h)
 
-  rising : (k l : ℕ) → k ≤ l → l < n → heightOf (getD ls k (pos 0)) ≤ heightOf (getD ls l (pos 0))
-  rising k l h g = height-le (getD ls k (pos 0)) (getD ls l (pos 0)) (wide k (omega arith)) (wide l g) (front-le ls n (omega (arith, lines .in-order .full, lines .in-order .within)) (lines .in-order .increasing) k l h g)
+  rising : (k l : ℕ) → k ≤ l → l < length ls → heightOf (getD ls k (pos 0)) ≤ heightOf (getD ls l (pos 0))
+  rising k l h g = height-le (getD ls k (pos 0)) (getD ls l (pos 0)) (wide k (omega arith)) (wide l g) (front-le ls (lines .in-order .increasing) k l h g)
 
-  pub numbering-none : (table : List ℕ) → length table ≡ 40001 → Numbering ls n 0 0 table
+  pub numbering-none : (table : List ℕ) → length table ≡ 40001 → Numbering ls 0 0 table
   numbering-none table e = record { count = omega arith; long = e; passed = λ k h. absurd (omega arith); parted = λ t h. absurd (omega arith) }
 
-  module _ {j from : ℕ} {table : List ℕ} (s : Numbering ls n j from table) where
+  module _ {j from : ℕ} {table : List ℕ} (s : Numbering ls j from table) where
     -- the slots from `from` on
-    parted-from : (r to : ℕ) (table′ : List ℕ) → SlotsFilled table from to r table′ → ((t : ℕ) → from ≤ t → t < to → Parted ls n (t + 980000) r) → (t : ℕ) → t < to → Parted ls n (t + 980000) (getD table′ t 0)
+    parted-from : (r to : ℕ) (table′ : List ℕ) → SlotsFilled table from to r table′ → ((t : ℕ) → from ≤ t → t < to → Parted ls (t + 980000) r) → (t : ℕ) → t < to → Parted ls (t + 980000) (getD table′ t 0)
     parted-from r to table′ f each t h =
-        ⊎-elim (λ u. subst (Parted ls n (t + 980000)) (sym (f .outside t (ltb→lt t from u))) (s .parted t (ltb→lt t from u)))
-        (λ u. subst (Parted ls n (t + 980000)) (sym (f .inside t (nltb→le t from u) h)) (each t (nltb→le t from u) h))
+        ⊎-elim (λ u. subst (Parted ls (t + 980000)) (sym (f .outside t (ltb→lt t from u))) (s .parted t (ltb→lt t from u)))
+        (λ u. subst (Parted ls (t + 980000)) (sym (f .inside t (nltb→le t from u) h)) (each t (nltb→le t from u) h))
         (test (ltb t from))
 
-    pub numbering-more : j < n → (to : ℕ) (table′ : List ℕ) → to + 979999 ≡ heightOf (getD ls j (pos 0)) → SlotsFilled table from to j table′ → Numbering ls n (j + 1) to table′
+    pub numbering-more : j < length ls → (to : ℕ) (table′ : List ℕ) → to + 979999 ≡ heightOf (getD ls j (pos 0)) → SlotsFilled table from to j table′ → Numbering ls (j + 1) to table′
     numbering-more h to table′ e f = record {
       count = omega arith;
       long = f .long ∙ s .long;
@@ -67,20 +67,20 @@ module _ (ls : List ℤ) (n : ℕ) (lines : LinesInRange ls n) where
       parted = parted-from j to table′ f (λ t g l. record { within = omega arith; before = λ k q. omega (arith, s .passed k q); after = λ k q p. omega (arith, rising j k q p, e) });
     }
 
-    pub numbering-all : n ≤ j → (table′ : List ℕ) → SlotsFilled table from 40001 n table′ → LineTable ls n table′
+    pub numbering-all : length ls ≤ j → (table′ : List ℕ) → SlotsFilled table from 40001 (length ls) table′ → LineTable ls table′
     numbering-all h table′ f = record {
       long = f .long ∙ s .long;
-      parted = λ t g. parted-from n 40001 table′ f (λ t g l. record { within = omega arith; before = λ k q. omega (arith, s .passed k (omega arith)); after = λ k q p. absurd (omega arith) }) t (omega arith);
+      parted = λ t g. parted-from (length ls) 40001 table′ f (λ t g l. record { within = omega arith; before = λ k q. omega (arith, s .passed k (omega arith)); after = λ k q p. absurd (omega arith) }) t (omega arith);
     }
 
-  pub slot-most : (k : ℕ) → k < n → heightOf (getD ls k (pos 0)) ≤ 1020000
+  pub slot-most : (k : ℕ) → k < length ls → heightOf (getD ls k (pos 0)) ≤ 1020000
   slot-most k h = height-most (getD ls k (pos 0)) 20000 (lines .range k h) (omega arith)
 
-  pub slot-least : (k : ℕ) → k < n → 980000 ≤ heightOf (getD ls k (pos 0))
+  pub slot-least : (k : ℕ) → k < length ls → 980000 ≤ heightOf (getD ls k (pos 0))
   slot-least k h = omega (arith, height-least (getD ls k (pos 0)) 20000 (lines .range k h) (omega arith))
 
   -- as the code computes it
-  module _ (j : ℕ) (h : j < n) where
+  module _ (j : ℕ) (h : j < length ls) where
     line-back : back (getD ls j (pos 0)) ≡ getD ls j (pos 0)
     line-back = small-back (getD ls j (pos 0)) (omega (arith, lines .range j h))
 
@@ -102,7 +102,7 @@ module _ (ls : List ℤ) (n : ℕ) (lines : LinesInRange ls n) where
 
   -- ---- what is read
   module _ (start : ℤ) (g : natAbs start ≤ 900000) where
-    first-of : {r : ℕ} → Parted ls n (heightOf start) r → FirstAtLeast ls n start r
+    first-of : {r : ℕ} → Parted ls (heightOf start) r → FirstAtLeast ls start r
     first-of p = record {
       within = p .within;
       before = λ k h. omega (arith, order, p .before k h, height-nat (getD ls k (pos 0)) (wide k (omega (arith, p .within))), height-nat start (omega arith));
@@ -110,21 +110,21 @@ module _ (ls : List ℤ) (n : ℕ) (lines : LinesInRange ls n) where
     }
 
     module _ (t : ℕ) (e : t ≡ heightOf start) where
-      pub from-below : t < 980000 → FirstAtLeast ls n start 0
+      pub from-below : t < 980000 → FirstAtLeast ls start 0
       from-below h = first-of (record { within = omega arith; before = λ k l. absurd (omega arith); after = λ k l m. omega (arith, e, slot-least k m) })
 
-      pub from-above : 1020000 < t → FirstAtLeast ls n start n
+      pub from-above : 1020000 < t → FirstAtLeast ls start (length ls)
       from-above h = first-of (record { within = omega arith; before = λ k l. omega (arith, e, slot-most k l); after = λ k l m. absurd (omega arith) })
 
-      pub table-small : (table : List ℕ) → LineTable ls n table → t ≤ 1020000 → getD table (t - 980000) 0 ≤ 514
-      table-small table s h = omega (arith, s .parted (t - 980000) (omega arith) .within, lines .in-order .within)
+      pub table-small : (table : List ℕ) → LineTable ls table → t ≤ 1020000 → getD table (t - 980000) 0 ≤ 514
+      table-small table s h = omega (arith, s .parted (t - 980000) (omega arith) .within, lines .in-order .few)
 
-      pub from-table : (table : List ℕ) → LineTable ls n table → 980000 ≤ t → t ≤ 1020000 → FirstAtLeast ls n start (getD table (t - 980000) 0)
-      from-table table s h l = let q : (t - 980000) + 980000 ≡ heightOf start = omega (arith, e) in first-of (subst (λ (u : ℕ). Parted ls n u (getD table (t - 980000) 0)) q (s .parted (t - 980000) (omega arith)))
+      pub from-table : (table : List ℕ) → LineTable ls table → 980000 ≤ t → t ≤ 1020000 → FirstAtLeast ls start (getD table (t - 980000) 0)
+      from-table table s h l = let q : (t - 980000) + 980000 ≡ heightOf start = omega (arith, e) in first-of (subst (λ (u : ℕ). Parted ls u (getD table (t - 980000) 0)) q (s .parted (t - 980000) (omega arith)))
 
 -- ---- two tables of the same lines are the same
-parted-one : {ls : List ℤ} {n t r r′ : ℕ} → Parted ls n t r → Parted ls n t r′ → r ≤ r′
+parted-one : {ls : List ℤ} {t r r′ : ℕ} → Parted ls t r → Parted ls t r′ → r ≤ r′
 parted-one {r = r} {r′} p q = ⊎-elim (λ u. let l : r′ < r = ltb→lt r′ r u in absurd (omega (arith, p .before r′ l, q .after r′ (omega arith) (omega (arith, p .within))))) (λ u. nltb→le r′ r u) (test (ltb r′ r))
 
-pub numbered-one : {ls : List ℤ} {n : ℕ} {table table′ : List ℕ} → LineTable ls n table → LineTable ls n table′ → table ≡ table′
+pub numbered-one : {ls : List ℤ} {table table′ : List ℕ} → LineTable ls table → LineTable ls table′ → table ≡ table′
 numbered-one {table = table} {table′} p q = ext-getD 0 table table′ (omega (arith, p .long, q .long)) (λ t h. let a = p .parted t (omega (arith, p .long)) in let b = q .parted t (omega (arith, p .long)) in omega (arith, parted-one a b, parted-one b a))

@@ -353,11 +353,11 @@ pub fn cheapest(p: Problem) -> Spot
     let nv = p.nv;
     let nh = p.nh;
     let area = p.area;
+    let before = pricing::before(&p.columns, n);
+    let first = problem::priced(&p.columns, n, area.xlo, area.ylo);
     let v: &[i64] = &p.v;
     let h: &[i64] = &p.h;
     let mut table = [0u16; 40001];
     number_lines(&h[..nh], &mut table);
-    let before = pricing::before(&p.columns, n);
-    let first = problem::priced(&p.columns, n, area.xlo, area.ylo);
     cheapest_of(&p.columns, n, &v[..nv], &h[..nh], &table, before, first)
 }

@@ -3,26 +3,25 @@
 use Prim.Native.Nat.{_-_, _≤_}
 use mathlib.Core.Path.{_≡_}
 use native.Mathlib.Omega.{arith}
-use lib.IntN.{pos}
-use lib.ListN.{getD}
 use mir.Syntax.{w64}
 use mir.Val.{toZ}
-use denote.Ref.{now}
-use Rattle.pricing.specs.Columns.{objectRows}
+use Rattle.deck.specs.ObjectColumns.{pricingIn}
+use Rattle.pricing.proofs.NarrowLaws.{visits-cast, visits-wide, near-cast, near-wide}
+use Rattle.pricing.proofs.TurnLaws.{row}
 use Rattle.exhaustive.specs.Ramps.{ObjectsAdded}
 use Rattle.exhaustive.proofs.ObjectRamps.{small-back}
-use Rattle.exhaustive.proofs.AllObjects.{wide-fits, objects-none, object-range, objects-more, sums-few}
+use Rattle.exhaustive.proofs.AllObjects.{x-fits, y-fits, objects-none, object-range, objects-more, sums-few}
 use Rattle.exhaustive.proofs.add_objects.Statement.{statement}
 use Rattle.exhaustive.proofs.add_objects.Tie as tie
 
 abbrev Inv-loop : tie.InvT-loop
-Inv-loop xs ys visits near n h nh table v up₀ up-at₀ down₀ down-at₀ i₀ up up-at down down-at i = (i ≤ n) × ObjectsAdded (objectRows xs ys visits near i) i h nh (toZ w64 v) up up-at down down-at
+Inv-loop columns n h table v up₀ up-at₀ down₀ down-at₀ i₀ up up-at down down-at i = (i ≤ n) × ObjectsAdded (pricingIn columns i) i h (toZ w64 v) up up-at down down-at
 
 abbrev μ-loop : tie.MeasureT-loop
-μ-loop xs ys visits near n h nh table v up₀ up-at₀ down₀ down-at₀ i₀ up up-at down down-at i = n - i
+μ-loop columns n h table v up₀ up-at₀ down₀ down-at₀ i₀ up up-at down down-at i = n - i
 
 loop-holds : tie.Need-loop-holds Inv-loop μ-loop
-loop-holds c = (omega arith, objects-none _ _ _ _ _ _ _ _ _ _ _ (c .pre .3))
+loop-holds c = (omega arith, objects-none _ _ _ _ _ _ _ (c .pre .3))
 
 mul-sx : tie.Need-mul-sx Inv-loop μ-loop
 mul-sx c = omega arith
@@ -31,7 +30,10 @@ element-copy-out-sx : tie.Need-element-copy-out-sx Inv-loop μ-loop
 element-copy-out-sx c = omega arith
 
 cast-sx : tie.Need-cast-sx Inv-loop μ-loop
-cast-sx c = let s = c .before .before .before in wide-fits (getD (now (s .args .xs)) (c .before .before .loop .i) (pos 0)) (s .pre .0 .range .x-range (c .before .before .loop .i))
+cast-sx c = let turn = c .before in x-fits (turn .before .before .pre .0) (turn .loop-test .taken)
+
+add-sy : tie.Need-add-sy Inv-loop μ-loop
+add-sy c = omega arith
 
 mul-sy : tie.Need-mul-sy Inv-loop μ-loop
 mul-sy c = omega arith
@@ -40,44 +42,63 @@ element-copy-out-sy : tie.Need-element-copy-out-sy Inv-loop μ-loop
 element-copy-out-sy c = omega arith
 
 cast-sy : tie.Need-cast-sy Inv-loop μ-loop
-cast-sy c = let s = c .before .before .before .before in wide-fits (getD (now (s .args .ys)) (c .before .before .before .loop .i) (pos 0)) (s .pre .0 .range .y-range (c .before .before .before .loop .i))
+cast-sy c = let turn = c .before .before in y-fits (turn .before .before .pre .0) (turn .loop-test .taken)
 
-mul-add-object : tie.Need-mul-add-object Inv-loop μ-loop
-mul-add-object c = omega arith
+add-visits : tie.Need-add-visits Inv-loop μ-loop
+add-visits c = omega arith
 
-element-copy-out-add-object : tie.Need-element-copy-out-add-object Inv-loop μ-loop
-element-copy-out-add-object c = omega arith
+mul-visits : tie.Need-mul-visits Inv-loop μ-loop
+mul-visits c = omega arith
+
+element-copy-out-visits : tie.Need-element-copy-out-visits Inv-loop μ-loop
+element-copy-out-visits c = omega arith
+
+cast-visits : tie.Need-cast-visits Inv-loop μ-loop
+cast-visits c = let turn = c .before .before .before in visits-cast (row (turn .before .before .pre .0) (turn .loop-test .taken))
+
+add-near : tie.Need-add-near Inv-loop μ-loop
+add-near c = omega arith
+
+mul-near : tie.Need-mul-near Inv-loop μ-loop
+mul-near c = omega arith
+
+element-copy-out-near : tie.Need-element-copy-out-near Inv-loop μ-loop
+element-copy-out-near c = omega arith
+
+cast-near : tie.Need-cast-near Inv-loop μ-loop
+cast-near c = let turn = c .before .before .before .before in near-cast (row (turn .before .before .pre .0) (turn .loop-test .taken))
 
 cast-add-object : tie.Need-cast-add-object Inv-loop μ-loop
-cast-add-object c = let at = c .before .before .before .before .before .before .before .before in omega (arith, at .before .pre .0 .range .visits-range (at .loop .i))
-
-mul-add-object-2 : tie.Need-mul-add-object-2 Inv-loop μ-loop
-mul-add-object-2 c = omega arith
-
-element-copy-out-add-object-2 : tie.Need-element-copy-out-add-object-2 Inv-loop μ-loop
-element-copy-out-add-object-2 c = omega arith
+cast-add-object c = let turn = c .before .before .before .before .before .before .before .before in visits-wide (row (turn .before .before .pre .0) (turn .loop-test .taken))
 
 cast-add-object-2 : tie.Need-cast-add-object-2 Inv-loop μ-loop
-cast-add-object-2 c = let at = c .before .before .before .before .before .before .before .before .before in omega (arith, at .before .pre .0 .range .near-range (at .loop .i))
+cast-add-object-2 c = let turn = c .before .before .before .before .before .before .before .before in near-wide (row (turn .before .before .pre .0) (turn .loop-test .taken))
 
 add-object-requires : tie.Need-add-object-requires Inv-loop μ-loop
 add-object-requires c κs =
-    let at = c .before .before .before .before .before .before .before .before .before in
-    let s = at .before in
-    (s .pre .1, rw (small-back (s .args .v) (omega (arith, s .pre .2))) (s .pre .2), sums-few (at .loop .i) (at .loop .inv .1 .sums) (omega (arith, at .loop .inv .0, s .pre .0 .count)), object-range _ _ _ _ (s .pre .0 .range) (at .loop .i) (omega (arith, c .before .before .before .before .before .before .before .before .loop-test .taken, s .pre .0 .count)), s .pre .4)
+    let turn = c .before .before .before .before .before .before .before .before in
+    let at = turn .before in
+    let pre = at .before .pre in
+    (
+      pre .1,
+      rw (small-back (at .before .args .v) (omega (arith, pre .2))) (pre .2),
+      sums-few (at .loop .i) (at .loop .inv .1 .sums) (omega (arith, at .loop .inv .0, pre .0 .count)),
+      object-range (pre .0) (turn .loop-test .taken),
+      pre .4,
+    )
 
 add-i : tie.Need-add-i Inv-loop μ-loop
 add-i c = omega arith
 
 loop-less : tie.Need-loop-less Inv-loop μ-loop
-loop-less c = omega (arith, c .before .before .before .before .before .before .before .before .before .loop-test .taken)
+loop-less c = omega arith
 
 loop-again : tie.Need-loop-again Inv-loop μ-loop
 loop-again c =
-    let at = c .before .before .before .before .before .before .before .before .before .before in
-    let s = at .before in
-    let t = c .before .before .before .before .before .before .before .before .before .loop-test .taken in
-    (omega (arith, t), objects-more _ _ _ _ (s .pre .0 .range) (at .loop .i) (omega (arith, t, s .pre .0 .count)) _ _ _ _ _ _ _ _ _ _ _ (at .loop .inv .1) (c .add-object .ensures))
+    let turn = c .before .before .before .before .before .before .before .before .before in
+    let at = turn .before in
+    let taken = turn .loop-test .taken in
+    (omega (arith, taken), objects-more (at .before .pre .0) taken _ _ _ _ _ _ _ _ _ _ (at .loop .inv .1) (c .add-object .ensures))
 
 returns : tie.Need-returns Inv-loop μ-loop
 returns c =
@@ -95,14 +116,19 @@ add-objects-spec =
     mul-sx
     element-copy-out-sx
     cast-sx
+    add-sy
     mul-sy
     element-copy-out-sy
     cast-sy
-    mul-add-object
-    element-copy-out-add-object
+    add-visits
+    mul-visits
+    element-copy-out-visits
+    cast-visits
+    add-near
+    mul-near
+    element-copy-out-near
+    cast-near
     cast-add-object
-    mul-add-object-2
-    element-copy-out-add-object-2
     cast-add-object-2
     add-object-requires
     add-i

@@ -12,7 +12,7 @@ use Rattle.exhaustive.proofs.RampLaws.{ramp-weight, ramp-added}
 use Rattle.exhaustive.proofs.add_ramp.Statement.{statement}
 use Rattle.exhaustive.proofs.add_ramp.Tie as tie
 
-found : (c : tie.After-line-from) → let a = c .before .args in FirstAtLeast (now (a .h)) (a .nh) (a .start) (c .line-from .result)
+found : (c : tie.After-line-from) → let a = c .before .args in FirstAtLeast (now (a .h)) (a .start) (c .line-from .result)
 found c = rw (toZ-ofZ w64 (c .before .args .start) (c .before .fits .start)) at (c .line-from .ensures)
 
 risen : (c : tie.After-height) → c .height .result ≡ heightOf (c .before .before .before .before .args .start)
@@ -46,10 +46,10 @@ height-requires : tie.Need-height-requires
 height-requires c κs = search needs
 
 mul-starts-2 : tie.Need-mul-starts-2
-mul-starts-2 c = let s = c .before .before .before .before in rw (risen c) (omega (arith, ramp-weight _ _ (s .args .start) (s .args .w) _ _ _ (s .pre .0) (s .pre .2) (found (c .before .before .before)) (s .pre .1)))
+mul-starts-2 c = let s = c .before .before .before .before in rw (risen c) (omega (arith, ramp-weight _ (s .args .start) (s .args .w) _ _ _ (s .pre .0) (s .pre .2) (found (c .before .before .before)) (s .pre .1)))
 
 add-starts : tie.Need-add-starts
-add-starts c = let s = c .before .before .before .before in rw (risen c) (omega (arith, s .pre .1 .starts-most (c .before .before .before .line-from .result), ramp-weight _ _ (s .args .start) (s .args .w) _ _ _ (s .pre .0) (s .pre .2) (found (c .before .before .before)) (s .pre .1)))
+add-starts c = let s = c .before .before .before .before in rw (risen c) (omega (arith, s .pre .1 .starts-most (c .before .before .before .line-from .result), ramp-weight _ (s .args .start) (s .args .w) _ _ _ (s .pre .0) (s .pre .2) (found (c .before .before .before)) (s .pre .1)))
 
 mul-starts-3 : tie.Need-mul-starts-3
 mul-starts-3 c = search needs
@@ -58,7 +58,7 @@ element-write-starts : tie.Need-element-write-starts
 element-write-starts c = search needs
 
 returns : tie.Need-returns
-returns c = let s = c .before .before .before .before in rw (risen c) (ramp-added _ _ _ _ _ _ _ (s .pre .0) (s .pre .2) (found (c .before .before .before)) (s .pre .1))
+returns c = let s = c .before .before .before .before in rw (risen c) (ramp-added _ _ _ _ _ _ (s .pre .0) (s .pre .2) (found (c .before .before .before)) (s .pre .1))
 
 pub add-ramp-spec : {M : Type 1} → statement M
 add-ramp-spec =

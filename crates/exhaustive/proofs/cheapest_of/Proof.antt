@@ -4,9 +4,9 @@ use Prim.Native.Nat.{ℕ, _-_}
 use mathlib.Core.Path.{_≡_, _∙_}
 use native.Mathlib.Omega.{arith}
 use lib.IntN.{pos}
-use lib.ListN.{length, getD, take, length-replicate}
+use lib.ListN.{length, getD, length-replicate}
 use denote.Ref.{now}
-use Rattle.pricing.specs.Columns.{objectRows}
+use Rattle.deck.specs.ObjectColumns.{pricingIn}
 use Rattle.exhaustive.proofs.ObjectRamps.{small-back}
 use Rattle.exhaustive.proofs.CostsAlong.{costs-length}
 use Rattle.exhaustive.proofs.CheapestOfLines.{Compared, compared-none, compared-more, compared-all}
@@ -14,19 +14,19 @@ use Rattle.exhaustive.proofs.cheapest_of.Statement.{statement}
 use Rattle.exhaustive.proofs.cheapest_of.Tie as tie
 
 abbrev Inv-loop : tie.InvT-loop
-Inv-loop xs ys visits near n v nv h nh table before costs₀ found₀ i₀ costs found i = (length costs ≡ 514) × Compared (objectRows xs ys visits near n) (take nh h) v nv found₀ found i
+Inv-loop columns n v h table before costs₀ found₀ i₀ costs found i = (length costs ≡ 514) × Compared (pricingIn columns n) h v found₀ found i
 
 abbrev μ-loop : tie.MeasureT-loop
-μ-loop xs ys visits near n v nv h nh table before costs₀ found₀ i₀ costs found i = nv - i
+μ-loop columns n v h table before costs₀ found₀ i₀ costs found i = length v - i
 
 loop-holds : tie.Need-loop-holds Inv-loop μ-loop
-loop-holds c = (length-replicate {A = ℕ} 514 0, compared-none _ _ _ _ _)
+loop-holds c = (length-replicate {A = ℕ} 514 0, compared-none _ _ _ _)
 
 mul-cheapest-on : tie.Need-mul-cheapest-on Inv-loop μ-loop
 mul-cheapest-on c = omega arith
 
-element-copy-out-cheapest-on : tie.Need-element-copy-out-cheapest-on Inv-loop μ-loop
-element-copy-out-cheapest-on c = omega arith
+shared-slice-copy-out-cheapest-on : tie.Need-shared-slice-copy-out-cheapest-on Inv-loop μ-loop
+shared-slice-copy-out-cheapest-on c = omega arith
 
 cheapest-on-requires : tie.Need-cheapest-on-requires Inv-loop μ-loop
 cheapest-on-requires c κs =
@@ -45,10 +45,10 @@ loop-again : tie.Need-loop-again Inv-loop μ-loop
 loop-again c =
     let at = c .before .before .before .before in
     let lines = at .before .pre .2 .in-order in
-    (rw (c .cheapest-on .ensures .1) (costs-length _ _ _ _ _ (omega (arith, lines .within, lines .full)) (omega (arith, lines .within, at .loop .inv .0)) ∙ at .loop .inv .0), compared-more _ _ _ _ _ (at .before .pre .1) (at .loop .inv .1) (c .before .before .before .loop-test .taken) _ (c .cheapest-on .ensures .0))
+    (rw (c .cheapest-on .ensures .1) (costs-length _ _ _ _ (omega (arith, lines .few, at .loop .inv .0)) ∙ at .loop .inv .0), compared-more _ _ _ _ (at .before .pre .1) (at .loop .inv .1) (c .before .before .before .loop-test .taken) _ (c .cheapest-on .ensures .0))
 
 returns : tie.Need-returns Inv-loop μ-loop
-returns c = compared-all _ _ _ _ _ (c .before .loop .inv .1) (c .loop-test .left)
+returns c = compared-all _ _ _ _ (c .before .loop .inv .1) (c .loop-test .left)
 
 pub cheapest-of-spec : {M : Type 1} → statement M
 cheapest-of-spec =
@@ -58,7 +58,7 @@ cheapest-of-spec =
     μ-loop
     loop-holds
     mul-cheapest-on
-    element-copy-out-cheapest-on
+    shared-slice-copy-out-cheapest-on
     cheapest-on-requires
     add-i
     loop-less

@@ -2,6 +2,7 @@
 -- Assumes nothing.
 use Prim.Native.Nat.{_-_}
 use native.Mathlib.Omega.{arith}
+use lib.ListN.{length}
 use mir.Syntax.{w64}
 use mir.Val.{toZ}
 use Rattle.numbers.proofs.WordTests.{back-is}
@@ -10,19 +11,19 @@ use Rattle.exhaustive.proofs.choose.Statement.{statement}
 use Rattle.exhaustive.proofs.choose.Tie as tie
 
 abbrev Inv-loop : tie.InvT-loop
-Inv-loop h nh v costs found₀ j₀ found j = Choosing h nh (toZ w64 v) costs found₀ found j
+Inv-loop h v costs found₀ j₀ found j = Choosing h (toZ w64 v) costs found₀ found j
 
 abbrev μ-loop : tie.MeasureT-loop
-μ-loop h nh v costs found₀ j₀ found j = nh - j
+μ-loop h v costs found₀ j₀ found j = length h - j
 
 loop-holds : tie.Need-loop-holds Inv-loop μ-loop
-loop-holds c = choose-none _ _ _ _ _
+loop-holds c = choose-none _ _ _ _
 
 mul-y : tie.Need-mul-y Inv-loop μ-loop
 mul-y c = omega arith
 
-element-copy-out-y : tie.Need-element-copy-out-y Inv-loop μ-loop
-element-copy-out-y c = omega arith
+shared-slice-copy-out-y : tie.Need-shared-slice-copy-out-y Inv-loop μ-loop
+shared-slice-copy-out-y c = omega arith
 
 mul-cost : tie.Need-mul-cost Inv-loop μ-loop
 mul-cost c = omega arith
@@ -45,10 +46,10 @@ loop-less c = omega (arith, c .before .before .before .before .loop-test .taken)
 loop-again : tie.Need-loop-again Inv-loop μ-loop
 loop-again c =
     let at = c .before .before .before .before .before in
-    choose-more _ _ _ _ _ (at .before .pre) (at .loop .inv) (c .before .before .before .before .loop-test .taken) _ _ (c .before .place .ensures) (c .cheaper .ensures)
+    choose-more _ _ _ _ (at .before .pre) (at .loop .inv) (c .before .before .before .before .loop-test .taken) _ _ (c .before .place .ensures) (c .cheaper .ensures)
 
 returns : tie.Need-returns Inv-loop μ-loop
-returns c = let s = c .before .before in rw (back-is (s .fits .v)) at (choose-all _ _ _ _ _ (c .before .loop .inv) (c .loop-test .left))
+returns c = let s = c .before .before in rw (back-is (s .fits .v)) at (choose-all _ _ _ _ (c .before .loop .inv) (c .loop-test .left))
 
 pub choose-spec : {M : Type 1} → statement M
 choose-spec =
@@ -58,7 +59,7 @@ choose-spec =
     μ-loop
     loop-holds
     mul-y
-    element-copy-out-y
+    shared-slice-copy-out-y
     mul-cost
     element-copy-out-cost
     place-requires

@@ -17,10 +17,10 @@ height-requires : tie.Need-height-requires
 height-requires c κs = rw (toZ-ofZ w64 (c .args .start) (c .fits .start)) (c .pre .2)
 
 returns : tie.Need-returns
-returns c = let s = c .before .before in from-below _ _ (s .pre .0) (s .args .start) (s .pre .2) _ (risen (c .before)) (c .if1 .taken)
+returns c = let s = c .before .before in from-below _ (s .pre .0) (s .args .start) (s .pre .2) _ (risen (c .before)) (c .if1 .taken)
 
 returns-2 : tie.Need-returns-2
-returns-2 c = let s = c .before .before .before in from-above _ _ (s .pre .0) (s .args .start) (s .pre .2) _ (risen (c .before .before)) (c .if2 .taken)
+returns-2 c = let s = c .before .before .before in from-above _ (s .pre .0) (s .args .start) (s .pre .2) _ (risen (c .before .before)) (c .if2 .taken)
 
 mul-result : tie.Need-mul-result
 mul-result c = search needs
@@ -31,12 +31,12 @@ element-copy-out-result c = let s = c .before .before .before in omega (arith, s
 cast-result : tie.Need-cast-result
 cast-result c =
     let s = c .before .before .before .before in
-    omega (arith, table-small _ _ (s .pre .0) (s .args .start) (s .pre .2) _ (risen (c .before .before .before)) _ (s .pre .1) (omega (arith, c .before .if2 .left)))
+    omega (arith, table-small _ (s .pre .0) (s .args .start) (s .pre .2) _ (risen (c .before .before .before)) _ (s .pre .1) (omega (arith, c .before .if2 .left)))
 
 returns-3 : tie.Need-returns-3
 returns-3 c =
     let s = c .before .before .before .before in
-    from-table _ _ (s .pre .0) (s .args .start) (s .pre .2) _ (risen (c .before .before .before)) _ (s .pre .1) (c .before .before .if1 .left) (c .before .if2 .left)
+    from-table _ (s .pre .0) (s .args .start) (s .pre .2) _ (risen (c .before .before .before)) _ (s .pre .1) (c .before .before .if1 .left) (c .before .if2 .left)
 
 pub line-from-spec : {M : Type 1} → statement M
 line-from-spec =
