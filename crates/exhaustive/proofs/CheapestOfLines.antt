@@ -37,7 +37,8 @@ pub zero-sums : ObjectSums (replicate 515 0) (replicate 515 0) (replicate 515 0)
 zero-sums = record { up-sums = zero-ramps; down-sums = zero-ramps }
 
 -- ---- the columns of objects
-module _ (P : Pricing) (m : ℕ) (ls : List ℤ) (v : ℤ) (up us down ds : List ℕ) (before : ℕ) (few : m ≤ 512) (now : Figure (beforeOf P) costLimit before) (added : ObjectsAdded P m ls v up us down ds) where
+module _ (P : Pricing) (m : ℕ) (ls : List ℤ) (v : ℤ) (up us down ds : List ℕ) (before : ℕ) (few : m ≤ 512) (now : Figure (beforeOf P) costLimit before)
+    (added : ObjectsAdded P m ls v up us down ds) where
   pub sweepable : Sweepable ls up us down ds before
   sweepable = record {
     before-most = now .within;
@@ -61,7 +62,8 @@ module _ (P : Pricing) (hs vs : List ℤ) (first : Spot) where
   unfolding flatMap
   compared-all {found} {i} w h = sym (w .left ∙ rw (drop-of-length-le vs {i = i} h) (cheapest-none P found))
 
-  pub compared-more : {found : Spot} {i : ℕ} → LinesInRange vs → Compared P hs vs first found i → i < length vs → (found′ : Spot) → found′ ≡ firstCheapest P found (along hs (back (getD vs i (pos 0)))) → Compared P hs vs first found′ (i + 1)
+  pub compared-more : {found : Spot} {i : ℕ} → LinesInRange vs → Compared P hs vs first found i → i < length vs → (found′ : Spot) →
+      found′ ≡ firstCheapest P found (along hs (back (getD vs i (pos 0)))) → Compared P hs vs first found′ (i + 1)
   unfolding flatMap
   compared-more {found} {i} lines w h found′ b =
       let v = getD vs i (pos 0) in

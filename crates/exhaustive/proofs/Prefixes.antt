@@ -29,14 +29,16 @@ module _ (xs : List ℕ) (k v : ℕ) where
   pub prefix-before : (n : ℕ) → n ≤ k → prefixSum (set xs k v) n ≡ prefixSum xs n
   unfolding prefixSum
   prefix-before zero h = refl
-  prefix-before (suc n) h = let e : getD (set xs k v) n 0 ≡ getD xs n 0 = getD-set-other xs k n v 0 (λ q. omega arith) in omega (arith, e, prefix-before n (omega arith))
+  prefix-before (suc n) h = let e : getD (set xs k v) n 0 ≡ getD xs n 0 = getD-set-other xs k n v 0 (λ q. omega arith) in
+      omega (arith, e, prefix-before n (omega arith))
 
   module _ (w : ℕ) (h : k < length xs) (e : v ≡ getD xs k 0 + w) where
     pub prefix-behind : (n : ℕ) → k < n → prefixSum (set xs k v) n ≡ prefixSum xs n + w
     unfolding prefixSum
     prefix-behind zero l = absurd (omega arith)
     prefix-behind (suc n) l =
-        ⊎-elim (λ t. let q : getD (set xs k v) n 0 ≡ getD xs n 0 = getD-set-other xs k n v 0 (λ r. omega (arith, ltb→lt)) in omega (arith, q, prefix-behind n (ltb→lt k n t)))
+        ⊎-elim (λ t. let q : getD (set xs k v) n 0 ≡ getD xs n 0 = getD-set-other xs k n v 0 (λ r. omega (arith, ltb→lt)) in
+        omega (arith, q, prefix-behind n (ltb→lt k n t)))
         (λ t. let q : k ≡ n = omega (arith, nltb→le) in rw (← q) (omega (arith, getD-set-same xs k v 0 h, prefix-before k (omega arith))))
         (test (ltb k n))
 

@@ -26,7 +26,8 @@ module _ (xs : List ℕ) (from j : ℕ) where
   pub fill-more : (xs′ : List ℕ) (i : ℕ) → SlotsFilled xs from i j xs′ → from ≤ i → i < length xs → SlotsFilled xs from (i + 1) j (set xs′ i j)
   fill-more xs′ i f g l = record {
     long = length-set xs′ i j ∙ f .long;
-    inside = λ t h k. ⊎-elim (λ u. getD-set-other xs′ i t j 0 (λ q. omega (arith, ltb→lt)) ∙ f .inside t h (ltb→lt t i u)) (λ u. let e : i ≡ t = omega (arith, nltb→le) in rw (← e) (getD-set-same xs′ i j 0 (omega (arith, f .long)))) (test (ltb t i));
+    inside = λ t h k. ⊎-elim (λ u. getD-set-other xs′ i t j 0 (λ q. omega (arith, ltb→lt)) ∙ f .inside t h (ltb→lt t i u)) (λ u. let e : i ≡ t =
+        omega (arith, nltb→le) in rw (← e) (getD-set-same xs′ i j 0 (omega (arith, f .long)))) (test (ltb t i));
     outside = λ t h. getD-set-other xs′ i t j 0 (λ q. omega arith) ∙ f .outside t h;
   }
 
@@ -53,24 +54,36 @@ module _ (ls : List ℤ) (lines : LinesInRange ls) where
 
   module _ {j from : ℕ} {table : List ℕ} (s : Numbering ls j from table) where
     -- the slots from `from` on
-    parted-from : (r to : ℕ) (table′ : List ℕ) → SlotsFilled table from to r table′ → ((t : ℕ) → from ≤ t → t < to → Parted ls (t + 980000) r) → (t : ℕ) → t < to → Parted ls (t + 980000) (getD table′ t 0)
+    parted-from : (r to : ℕ) (table′ : List ℕ) → SlotsFilled table from to r table′ → ((t : ℕ) → from ≤ t → t < to → Parted ls (t + 980000) r) → (t : ℕ) →
+        t < to → Parted ls (t + 980000) (getD table′ t 0)
     parted-from r to table′ f each t h =
         ⊎-elim (λ u. subst (Parted ls (t + 980000)) (sym (f .outside t (ltb→lt t from u))) (s .parted t (ltb→lt t from u)))
         (λ u. subst (Parted ls (t + 980000)) (sym (f .inside t (nltb→le t from u) h)) (each t (nltb→le t from u) h))
         (test (ltb t from))
 
-    pub numbering-more : j < length ls → (to : ℕ) (table′ : List ℕ) → to + 979999 ≡ heightOf (getD ls j (pos 0)) → SlotsFilled table from to j table′ → Numbering ls (j + 1) to table′
+    pub numbering-more : j < length ls → (to : ℕ) (table′ : List ℕ) → to + 979999 ≡ heightOf (getD ls j (pos 0)) → SlotsFilled table from to j table′ →
+        Numbering ls (j + 1) to table′
     numbering-more h to table′ e f = record {
       count = omega arith;
       long = f .long ∙ s .long;
       passed = λ k g. omega (arith, rising k j (omega arith) h, e);
-      parted = parted-from j to table′ f (λ t g l. record { within = omega arith; before = λ k q. omega (arith, s .passed k q); after = λ k q p. omega (arith, rising j k q p, e) });
+      parted = parted-from j to table′ f (λ t g l. record {
+        within = omega arith;
+        before = λ k q. omega (arith, s .passed k q);
+        after =
+            λ k q p. omega (arith, rising j k q p, e);
+      });
     }
 
     pub numbering-all : length ls ≤ j → (table′ : List ℕ) → SlotsFilled table from 40001 (length ls) table′ → LineTable ls table′
     numbering-all h table′ f = record {
       long = f .long ∙ s .long;
-      parted = λ t g. parted-from (length ls) 40001 table′ f (λ t g l. record { within = omega arith; before = λ k q. omega (arith, s .passed k (omega arith)); after = λ k q p. absurd (omega arith) }) t (omega arith);
+      parted = λ t g. parted-from (length ls) 40001 table′ f (λ t g l. record {
+        within = omega arith;
+        before =
+            λ k q. omega (arith, s .passed k (omega arith));
+        after = λ k q p. absurd (omega arith);
+      }) t (omega arith);
     }
 
   pub slot-most : (k : ℕ) → k < length ls → heightOf (getD ls k (pos 0)) ≤ 1020000
@@ -120,11 +133,14 @@ module _ (ls : List ℤ) (lines : LinesInRange ls) where
       table-small table s h = omega (arith, s .parted (t - 980000) (omega arith) .within, lines .in-order .few)
 
       pub from-table : (table : List ℕ) → LineTable ls table → 980000 ≤ t → t ≤ 1020000 → FirstAtLeast ls start (getD table (t - 980000) 0)
-      from-table table s h l = let q : (t - 980000) + 980000 ≡ heightOf start = omega (arith, e) in first-of (subst (λ (u : ℕ). Parted ls u (getD table (t - 980000) 0)) q (s .parted (t - 980000) (omega arith)))
+      from-table table s h l = let q : (t - 980000) + 980000 ≡ heightOf start = omega (arith, e) in
+          first-of (subst (λ (u : ℕ). Parted ls u (getD table (t - 980000) 0)) q (s .parted (t - 980000) (omega arith)))
 
 -- ---- two tables of the same lines are the same
 parted-one : {ls : List ℤ} {t r r′ : ℕ} → Parted ls t r → Parted ls t r′ → r ≤ r′
-parted-one {r = r} {r′} p q = ⊎-elim (λ u. let l : r′ < r = ltb→lt r′ r u in absurd (omega (arith, p .before r′ l, q .after r′ (omega arith) (omega (arith, p .within))))) (λ u. nltb→le r′ r u) (test (ltb r′ r))
+parted-one {r = r} {r′} p q = ⊎-elim (λ u. let l : r′ < r = ltb→lt r′ r u in
+    absurd (omega (arith, p .before r′ l, q .after r′ (omega arith) (omega (arith, p .within))))) (λ u. nltb→le r′ r u) (test (ltb r′ r))
 
 pub numbered-one : {ls : List ℤ} {table table′ : List ℕ} → LineTable ls table → LineTable ls table′ → table ≡ table′
-numbered-one {table = table} {table′} p q = ext-getD 0 table table′ (omega (arith, p .long, q .long)) (λ t h. let a = p .parted t (omega (arith, p .long)) in let b = q .parted t (omega (arith, p .long)) in omega (arith, parted-one a b, parted-one b a))
+numbered-one {table = table} {table′} p q = ext-getD 0 table table′ (omega (arith, p .long, q .long)) (λ t h. let a = p .parted t (omega (arith, p .long)) in
+    let b = q .parted t (omega (arith, p .long)) in omega (arith, parted-one a b, parted-one b a))

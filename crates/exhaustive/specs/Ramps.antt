@@ -44,8 +44,8 @@ pub record LineTable (ls : List ℤ) (table : List ℕ) : Type 0 where
   pub long : length table ≡ 40001
   pub parted : (t : ℕ) → t ≤ 40000 → Parted ls (t + 980000) (getD table t 0)
 
--- ramps are held by line, at the first line that is not below the start, in two columns: the sum of their weights, and that of weight × height
--- of the start. Up to line j the weights times the height of that line, and the starts
+-- ramps are held by line, at the first line that is not below the start, in two columns: the sum of their weights, and that of weight ×
+-- height of the start. Up to line j the weights times the height of that line, and the starts
 abbrev pub weightsAt : List ℤ → List ℕ → ℕ → ℕ
 weightsAt ls weights j = prefixSum weights (j + 1) * heightOf (getD ls j (pos 0))
 

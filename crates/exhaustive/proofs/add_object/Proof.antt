@@ -7,10 +7,14 @@ use Rattle.exhaustive.proofs.add_object.Statement.{statement}
 use Rattle.exhaustive.proofs.add_object.Tie as tie
 
 abs-diff-requires : tie.Need-abs-diff-requires
-abs-diff-requires c κs = rw (small-back (c .args .sx) (omega (arith, c .pre .3 .place .x-range)), small-back (c .args .v) (omega (arith, c .pre .1))) (omega (arith, c .pre .3 .place .x-range), omega (arith, c .pre .1))
+abs-diff-requires c κs = rw (
+  small-back (c .args .sx) (omega (arith, c .pre .3 .place .x-range)),
+  small-back (c .args .v) (omega (arith, c .pre .1)),
+) (omega (arith, c .pre .3 .place .x-range), omega (arith, c .pre .1))
 
 returns : tie.Need-returns
-returns c = let s = c .before .before in object-none (s .args .v) (s .args .sx) (s .args .sy) (s .args .visits) (s .args .near) _ (s .pre .1) (s .pre .3) (c .before .abs-diff .ensures) _ (s .pre .0) _ _ _ _ (c .if1 .taken)
+returns c = let s = c .before .before in object-none (s .args .v) (s .args .sx) (s .args .sy) (s .args .visits) (s .args .near) _ (s .pre .1) (s .pre .3)
+    (c .before .abs-diff .ensures) _ (s .pre .0) _ _ _ _ (c .if1 .taken)
 
 sub-r : tie.Need-sub-r
 sub-r c = search needs
@@ -19,33 +23,54 @@ cast-r : tie.Need-cast-r
 cast-r c = search needs
 
 sub-add-ramp : tie.Need-sub-add-ramp
-sub-add-ramp c = let s = c .before .before .before .before in low-fits (s .args .v) (s .args .sx) (s .args .sy) (s .args .visits) (s .args .near) _ (s .pre .1) (s .pre .3) (c .before .before .before .abs-diff .ensures)
+sub-add-ramp c = let s = c .before .before .before .before in
+    low-fits (s .args .v) (s .args .sx) (s .args .sy) (s .args .visits) (s .args .near) _ (s .pre .1) (s .pre .3) (c .before .before .before .abs-diff .ensures)
 
 add-ramp-requires : tie.Need-add-ramp-requires
 add-ramp-requires c κs =
-    let s = c .before .before .before .before in
-    (s .pre .0, sums-more 1200 2000 (s .pre .2 .down-sums) (omega arith), low-range (s .args .v) (s .args .sx) (s .args .sy) (s .args .visits) (s .args .near) _ (s .pre .1) (s .pre .3) (c .before .before .before .abs-diff .ensures), s .pre .4)
+    let s = c .before .before .before .before in (
+      s .pre .0,
+      sums-more 1200 2000 (s .pre .2 .down-sums) (omega arith),
+      low-range (s .args .v) (s .args .sx) (s .args .sy) (s .args .visits) (s .args .near) _ (s .pre .1) (s .pre .3)
+          (c .before .before .before .abs-diff .ensures),
+      s .pre .4,
+    )
 
 mul-add-ramp : tie.Need-mul-add-ramp
 mul-add-ramp c = search needs
 
 add-ramp-requires-2 : tie.Need-add-ramp-requires-2
 add-ramp-requires-2 c κs =
-    let s = c .before .before .before .before .before .before .before in
-    (s .pre .0, sums-more 600 2000 (s .pre .2 .up-sums) (omega arith), middle-range (s .args .v) (s .args .sx) (s .args .sy) (s .args .visits) (s .args .near) _ (s .pre .1) (s .pre .3) (c .before .before .before .before .before .before .abs-diff .ensures), s .pre .4)
+    let s = c .before .before .before .before .before .before .before in (
+      s .pre .0,
+      sums-more 600 2000 (s .pre .2 .up-sums) (omega arith),
+      middle-range (s .args .v) (s .args .sx) (s .args .sy) (s .args .visits) (s .args .near) _ (s .pre .1) (s .pre .3)
+          (c .before .before .before .before .before .before .abs-diff .ensures),
+      s .pre .4,
+    )
 
 add-add-ramp : tie.Need-add-add-ramp
-add-add-ramp c = let s = c .before .before .before .before .before .before .before .before .before .before in high-fits (s .args .v) (s .args .sx) (s .args .sy) (s .args .visits) (s .args .near) _ (s .pre .1) (s .pre .3) (c .before .before .before .before .before .before .before .before .before .abs-diff .ensures)
+add-add-ramp c = let s = c .before .before .before .before .before .before .before .before .before .before in
+    high-fits (s .args .v) (s .args .sx) (s .args .sy) (s .args .visits) (s .args .near) _ (s .pre .1) (s .pre .3)
+    (c .before .before .before .before .before .before .before .before .before .abs-diff .ensures)
 
 add-ramp-requires-3 : tie.Need-add-ramp-requires-3
 add-ramp-requires-3 c κs =
-    let s = c .before .before .before .before .before .before .before .before .before .before in
-    (s .pre .0, sums-more 1201 2000 (c .before .before .before .before .before .add-ramp .ensures .sums 1200 (s .pre .2 .down-sums)) (omega arith), high-range (s .args .v) (s .args .sx) (s .args .sy) (s .args .visits) (s .args .near) _ (s .pre .1) (s .pre .3) (c .before .before .before .before .before .before .before .before .before .abs-diff .ensures), s .pre .4)
+    let s = c .before .before .before .before .before .before .before .before .before .before in (
+      s .pre .0,
+      sums-more 1201 2000 (c .before .before .before .before .before .add-ramp .ensures .sums 1200 (s .pre .2 .down-sums)) (omega arith),
+      high-range (s .args .v) (s .args .sx) (s .args .sy) (s .args .visits) (s .args .near) _ (s .pre .1) (s .pre .3)
+          (c .before .before .before .before .before .before .before .before .before .abs-diff .ensures),
+      s .pre .4,
+    )
 
 returns-2 : tie.Need-returns-2
 returns-2 c =
     let s = c .before .before .before .before .before .before .before .before .before .before .before in
-    object-added (s .args .v) (s .args .sx) (s .args .sy) (s .args .visits) (s .args .near) _ (s .pre .1) (s .pre .3) (c .before .before .before .before .before .before .before .before .before .before .abs-diff .ensures) _ (s .pre .0) _ _ _ _ _ _ _ _ _ _ (c .before .before .before .before .before .before .before .before .before .if1 .left) (c .before .before .before .before .before .before .add-ramp .ensures) (c .before .before .before .add-ramp2 .ensures) (c .add-ramp3 .ensures)
+    object-added (s .args .v) (s .args .sx) (s .args .sy) (s .args .visits) (s .args .near) _ (s .pre .1) (s .pre .3)
+    (c .before .before .before .before .before .before .before .before .before .before .abs-diff .ensures) _ (s .pre .0) _ _ _ _ _ _ _ _ _ _
+    (c .before .before .before .before .before .before .before .before .before .if1 .left)
+    (c .before .before .before .before .before .before .add-ramp .ensures) (c .before .before .before .add-ramp2 .ensures) (c .add-ramp3 .ensures)
 
 pub add-object-spec : {M : Type 1} → statement M
 add-object-spec =
