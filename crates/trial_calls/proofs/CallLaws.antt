@@ -41,7 +41,7 @@ use Rattle.calls.proofs.Demands.{job-limits, read-exactly, accepted-one, figure
 use Rattle.calls.proofs.ExhaustiveCall.{exhaustive-call-law}
 use Rattle.trial.specs.Trial.{least, refusalNumbers}
 use Rattle.trial.proofs.NumberLaws.{number-at}
-use Rattle.trial_calls.specs.Calls.{called, reportNumbers, answerNumbers, SpotInRange, spotNumbers, cheapestNumbers}
+use Rattle.trial_calls.specs.Calls.{called, reportNumbers, answerNumbers, spotNumbers, cheapestNumbers}
 
 -- ---- the line of a refusal
 line-few : (why : Refusal) (job : List ℕ) (cells : List ℤ) (out : List ℕ) → Applies job cells out why → lineOf why ≤ 16385
@@ -122,20 +122,20 @@ module _ (r : Report) (h : FiguresInRange 1000 (reportFigures r)) (which : ℕ) 
 -- ---- the call `exhaustive`
 module _ (job : List ℕ) (answer : Cheapest) (e : cheapestAnswer answer ≡ exhaustiveCall job) where
   -- the cheapest crossing is a place of the area, and its cost that of a place
-  pub spot-limits : (s : Spot) → answer ≡ Cheapest.At s → SpotInRange s
+  pub spot-limits : (s : Spot) → answer ≡ Cheapest.At s → PlaceInRange (pricedOf s .at) × (s .cost ≤ costLimit)
   spot-limits s a = go (readJob job) refl
     where
       found : exhaustiveCall job ≡ gives (pricedOf s)
       found = sym e ∙ ap cheapestAnswer a
 
-      go : (r : Result) → readJob job ≡ r → SpotInRange s
+      go : (r : Result) → readJob job ≡ r → PlaceInRange (pricedOf s .at) × (s .cost ≤ costLimit)
       go (refused why) g = absurd (not-refused (pricedOf s) (numberOf why) (lineOf why) (sym found ∙ exhaustive-call-law job .refused-exactly why .1 (refused-law job why .exactly .0 g)))
       go (accepted j) g =
           let range = allowed-in-range j (read-exactly job j .0 g .1) in
           let law = exhaustive-call-law job .law j g in
           let same : Query.exhaustive (problem (j .deck)) ≡ pricedOf s = same-given _ _ (sym (exhaustive-call-law job .given j g) ∙ found) in
           let place = point-in-range (j .deck .area) (record { x = s .x; y = s .y }) (range .area) (subst (λ (p : Priced). In (j .deck .area) (p .at)) same (law .in-area)) in
-          record { x-range = place .x-range; y-range = place .y-range; cost-limit = omega (arith, figure-limits (j .deck) range .cost-limit (Query.exhaustive (problem (j .deck)) .at), law .costs, ap (λ (p : Priced). p .cost) same) }
+          (place, omega (arith, figure-limits (j .deck) range .cost-limit (Query.exhaustive (problem (j .deck)) .at), law .costs, ap (λ (p : Priced). p .cost) same))
 
   pub exhaustive-line : (why : Refusal) → answer ≡ Cheapest.Refused why → lineOf why ≤ 16385
   exhaustive-line why a = condition-line job why (exhaustive-call-law job .refused-exactly why .0 (sym e ∙ ap cheapestAnswer a))
@@ -152,15 +152,15 @@ pub no-spot-figure : (s : Priced) (which : ℕ) → 5 ≤ which → least ≡ ge
 no-spot-figure s which h = number-at (spotNumbers s) which (suc (suc (suc (suc (suc (which - 5)))))) least (omega arith) refl
 
 -- as the code holds them
-module _ (s : Spot) (h : SpotInRange s) (which : ℕ) where
+module _ (s : Spot) (h : PlaceInRange (pricedOf s .at) × (s .cost ≤ costLimit)) (which : ℕ) where
   pub spot-x : which ≡ 0 → toZ w64 (ofZ w64 (s .x)) ≡ getD (spotNumbers (pricedOf s)) which least
-  spot-x e = number-at (spotNumbers (pricedOf s)) which 0 _ e (near-back (s .x) (h .x-range))
+  spot-x e = number-at (spotNumbers (pricedOf s)) which 0 _ e (near-back (s .x) (h .0 .x-range))
 
   pub spot-y : which ≡ 1 → toZ w64 (ofZ w64 (s .y)) ≡ getD (spotNumbers (pricedOf s)) which least
-  spot-y e = number-at (spotNumbers (pricedOf s)) which 1 _ e (near-back (s .y) (h .y-range))
+  spot-y e = number-at (spotNumbers (pricedOf s)) which 1 _ e (near-back (s .y) (h .0 .y-range))
 
   pub spot-cost : which ≡ 2 → toZ w64 (s .cost) ≡ getD (spotNumbers (pricedOf s)) which least
-  spot-cost e = number-at (spotNumbers (pricedOf s)) which 2 _ e (toZ-pos w64 (s .cost) (omega (arith, h .cost-limit)))
+  spot-cost e = number-at (spotNumbers (pricedOf s)) which 2 _ e (toZ-pos w64 (s .cost) (omega (arith, h .1)))
 
 -- ---- the numbers of a refused exhaustive call
 no-spot : (why : Refusal) (which : ℕ) → which < 3 → least ≡ getD (cheapestNumbers (refusal why)) which least

@@ -1,14 +1,12 @@
 -- What the functions over the calls `report` and `exhaustive` answer: a figure of the answer, and what `report` leaves of the memory that
 -- it is lent.
 -- Assumes nothing.
-use Prim.Native.Nat.{ℕ, _≤_}
+use Prim.Native.Nat.{ℕ}
 use mathlib.Core.List.{List, [], _∷_}
-use lib.IntN.{ℤ, pos, natAbs}
+use lib.IntN.{ℤ, pos}
 use lib.ListN.{getD}
 use Rattle.query.specs.Order.{Priced}
 use Rattle.query.specs.Figures.{Figures, State, done, stopped}
-use Rattle.query.specs.Range.{costLimit, coordinateLimit}
-use Rattle.problem.specs.declared.Spot.{Spot}
 use Rattle.calls.specs.Answers.{AnswerOf, gives, refuses}
 use Rattle.calls.specs.Call.{Left}
 use Rattle.trial.specs.Trial.{least}
@@ -41,11 +39,6 @@ abbrev pub figureFor : ℕ → AnswerOf Figures → ℤ
 figureFor which answer = getD (answerNumbers answer) which least
 
 -- ---- the call `exhaustive`
-pub record SpotInRange (s : Spot) : Type 0 where
-  pub x-range : natAbs (s .x) ≤ coordinateLimit
-  pub y-range : natAbs (s .y) ≤ coordinateLimit
-  pub cost-limit : s .cost ≤ costLimit
-
 -- x, y and cost of the cheapest crossing, and 0 for the number and the line of a refusal
 abbrev pub spotNumbers : Priced → List ℤ
 spotNumbers p = p .at .x ∷ p .at .y ∷ pos (p .cost) ∷ pos 0 ∷ pos 0 ∷ []

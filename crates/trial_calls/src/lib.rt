@@ -6,14 +6,15 @@ use problem::Spot;
 use report::Report;
 use report::State;
 ghost use mathlib.Core.Path.{_≡_};
+ghost use Prim.Native.Nat.{_≤_};
 ghost use lib.ListN.{getD};
 ghost use Rattle.report.specs.Report.{reportState, reportFigures};
 ghost use Rattle.problem.specs.ObjectProblem.{pricedOf};
-ghost use Rattle.query.specs.Range.{FiguresInRange};
+ghost use Rattle.query.specs.Range.{PlaceInRange, FiguresInRange, costLimit};
 ghost use Rattle.calls.specs.Call.{reportCall};
 ghost use Rattle.calls.specs.CheapestCall.{exhaustiveCall};
 ghost use Rattle.trial.specs.Trial.{least};
-ghost use Rattle.trial_calls.specs.Calls.{called, stateNumber, reportNumbers, figureFor, SpotInRange, spotNumbers, cheapestFigure};
+ghost use Rattle.trial_calls.specs.Calls.{called, stateNumber, reportNumbers, figureFor, spotNumbers, cheapestFigure};
 
 fn state_number(state: State) -> i64
     ensures { λ r. ⌜ r ≡ stateNumber (reportState state) ⌝ }
@@ -78,7 +79,7 @@ pub extern "C" fn trial_report(job: &[u8], cells: &mut [i64], out: &mut [u8], wh
 
 // A number that goes with the cheapest crossing: x, y, cost; then 0 twice, for no refusal. The least number behind them.
 fn spot_figure(s: Spot, which: u64) -> i64
-    requires { ⌜ SpotInRange s ⌝ }
+    requires { ⌜ PlaceInRange (pricedOf s .at) × (s .cost ≤ costLimit) ⌝ }
     ensures { λ v. ⌜ v ≡ getD (spotNumbers (pricedOf s)) which least ⌝ }
 {
     if which == 0 {
