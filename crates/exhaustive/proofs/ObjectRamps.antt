@@ -83,7 +83,15 @@ module _ (v sx sy : ℤ) (visits near d : ℕ) (g : natAbs v ≤ 20000) (object 
   middle-range = rw sy-back (record { start-range = omega (arith, object .place .y-range); weight-range = omega (arith, object .visits-range) })
 
   low-height : heightOf (sy -ℤ pos r) ≡ heightOf sy - r
-  low-height = omega (arith, height-nat (sy -ℤ pos r) (omega (arith, low-abs)), height-nat sy (omega (arith, object .place .y-range)), sub-nat sy (pos r), height-least sy 180000 (object .place .y-range) (omega arith), object .near-range)
+  low-height =
+      omega (
+        arith,
+        height-nat (sy -ℤ pos r) (omega (arith, low-abs)),
+        height-nat sy (omega (arith, object .place .y-range)),
+        sub-nat sy (pos r),
+        height-least sy 180000 (object .place .y-range) (omega arith),
+        object .near-range,
+      )
 
   high-height : heightOf (sy +ℤ pos r) ≡ heightOf sy + r
   high-height = omega (arith, height-nat (sy +ℤ pos r) (omega (arith, high-abs)), height-nat sy (omega (arith, object .place .y-range)), add-nat sy (pos r))
@@ -91,7 +99,10 @@ module _ (v sx sy : ℤ) (visits near d : ℕ) (g : natAbs v ≤ 20000) (object 
   -- what the object pays at a line
   module _ (y : ℤ) (h : natAbs y ≤ 20000) (l : d < near) where
     paid-ramps : min near (dist sx v + dist sy y) + (heightOf y - heightOf (sy -ℤ pos r)) + (heightOf y - heightOf (sy +ℤ pos r)) ≡ near + 2 * (heightOf y - heightOf sy)
-    paid-ramps = rw (low-height, high-height, height-dist sy y (omega (arith, object .place .y-range)) (omega arith)) (ramp-sum near (dist sx v) r (heightOf sy) (heightOf y) (omega (arith, d-is)) (omega (arith, height-least sy 180000 (object .place .y-range) (omega arith), object .near-range)))
+    paid-ramps =
+        rw (low-height, high-height, height-dist sy y (omega (arith, object .place .y-range)) (omega arith))
+        (ramp-sum near (dist sx v) r (heightOf sy) (heightOf y) (omega (arith, d-is))
+        (omega (arith, height-least sy 180000 (object .place .y-range) (omega arith), object .near-range)))
 
     times : (m a b k : ℕ) → m + a + b ≡ near + 2 * k → visits * m + visits * a + visits * b ≡ visits * near + (2 * visits) * k
     times m a b k q = omega (arith, ap (λ (z : ℕ). visits * z) q)
@@ -109,7 +120,9 @@ module _ (v sx sy : ℤ) (visits near d : ℕ) (g : natAbs v ≤ 20000) (object 
         same : (m a b : ℕ) → m ≡ near → visits * m + a + b ≡ visits * near + b + a
         same m a b q = rw q (omega arith)
 
-    pub object-added : (up us down ds up′ us′ down₁ ds₁ down′ ds′ : List ℕ) → d < near → RampAdded ls (back (back sy -ℤ toZ w64 r)) visits down ds down₁ ds₁ → RampAdded ls (back sy) (2 * visits) up us up′ us′ → RampAdded ls (back (back sy +ℤ toZ w64 r)) visits down₁ ds₁ down′ ds′ → ObjectAdded ls v sx sy visits near up us down ds up′ us′ down′ ds′
+    pub object-added : (up us down ds up′ us′ down₁ ds₁ down′ ds′ : List ℕ) → d < near
+        → RampAdded ls (back (back sy -ℤ toZ w64 r)) visits down ds down₁ ds₁ → RampAdded ls (back sy) (2 * visits) up us up′ us′
+        → RampAdded ls (back (back sy +ℤ toZ w64 r)) visits down₁ ds₁ down′ ds′ → ObjectAdded ls v sx sy visits near up us down ds up′ us′ down′ ds′
     object-added up us down ds up′ us′ down₁ ds₁ down′ ds′ h low middle high = record {
       sums = λ m s. record { up-sums = middle .sums m (s .up-sums); down-sums = sums-more (2 * m + 1 + 1) (2 * (m + 1)) (high .sums (2 * m + 1) (low .sums (2 * m) (s .down-sums))) (omega arith) };
       added = λ j k. omega (arith, (rw low-start at low) .added j k, (rw sy-back at middle) .added j k, (rw high-start at high) .added j k, paid-times (getD ls j (pos 0)) (lines .range j k) h);

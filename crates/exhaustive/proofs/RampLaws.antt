@@ -26,7 +26,9 @@ module _ (ls : List ℤ) (start : ℤ) (w k : ℕ) (ws us : List ℕ) (lines : L
   line-range : (j : ℕ) → j < length ls → natAbs (getD ls j (pos 0)) ≤ 1000000
   line-range j h = omega (arith, lines .range j h)
 
-  added : (j : ℕ) → j < length ls → weightsAt ls (raisedBy ws k w) j + startsAt us j ≡ weightsAt ls ws j + startsAt (raisedBy us k (w * heightOf start)) j + w * (heightOf (getD ls j (pos 0)) - heightOf start)
+  added : (j : ℕ) → j < length ls
+      → weightsAt ls (raisedBy ws k w) j + startsAt us j
+      ≡ weightsAt ls ws j + startsAt (raisedBy us k (w * heightOf start)) j + w * (heightOf (getD ls j (pos 0)) - heightOf start)
   added j h = ⊎-elim (λ t. before (ltb→lt j k t)) (λ t. behind (nltb→le j k t)) (test (ltb j k))
     where
       flat : (a b t d : ℕ) → d ≡ 0 → a * t + b ≡ a * t + b + w * d
@@ -42,7 +44,11 @@ module _ (ls : List ℤ) (start : ℤ) (w k : ℕ) (ws us : List ℕ) (lines : L
 
       behind : k ≤ j → weightsAt ls (raisedBy ws k w) j + startsAt us j ≡ weightsAt ls ws j + startsAt (raisedBy us k (w * heightOf start)) j + w * (heightOf (getD ls j (pos 0)) - heightOf start)
       behind l =
-          rw (prefix-behind ws k (getD ws k 0 + w) w (omega (arith, sums .weights-long, lines .in-order .few)) refl (j + 1) (omega arith), prefix-behind us k (getD us k 0 + w * heightOf start) (w * heightOf start) (omega (arith, sums .starts-long, lines .in-order .few)) refl (j + 1) (omega arith))
+          rw (
+            prefix-behind ws k (getD ws k 0 + w) w (omega (arith, sums .weights-long, lines .in-order .few)) refl (j + 1) (omega arith),
+            prefix-behind us k (getD us k 0 + w * heightOf start) (w * heightOf start) (omega (arith, sums .starts-long, lines .in-order .few)) refl (j + 1)
+                (omega arith),
+          )
           (steep _ _ _ _ _ (omega (arith, height-le start (getD ls j (pos 0)) (omega (arith, range .start-range)) (line-range j h) (first .after j l h))))
 
   pub ramp-added : RampAdded ls start w ws us (raisedBy ws k w) (raisedBy us k (w * heightOf start))

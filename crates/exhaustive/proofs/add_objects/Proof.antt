@@ -15,7 +15,8 @@ use Rattle.exhaustive.proofs.add_objects.Statement.{statement}
 use Rattle.exhaustive.proofs.add_objects.Tie as tie
 
 abbrev Inv-loop : tie.InvT-loop
-Inv-loop columns n h table v up₀ up-at₀ down₀ down-at₀ i₀ up up-at down down-at i = (i ≤ n) × ObjectsAdded (pricingIn columns i) i h (toZ w64 v) up up-at down down-at
+Inv-loop columns n h table v up₀ up-at₀ down₀ down-at₀ i₀ up up-at down down-at i =
+    (i ≤ n) × ObjectsAdded (pricingIn columns i) i h (toZ w64 v) up up-at down down-at
 
 abbrev μ-loop : tie.MeasureT-loop
 μ-loop columns n h table v up₀ up-at₀ down₀ down-at₀ i₀ up up-at down down-at i = n - i
@@ -69,17 +70,20 @@ cast-near : tie.Need-cast-near Inv-loop μ-loop
 cast-near c = let turn = c .before .before .before .before in near-cast (row (turn .before .before .pre .0) (turn .loop-test .taken))
 
 cast-add-object : tie.Need-cast-add-object Inv-loop μ-loop
-cast-add-object c = let turn = c .before .before .before .before .before .before .before .before in visits-wide (row (turn .before .before .pre .0) (turn .loop-test .taken))
+cast-add-object c =
+    let turn = c .before .before .before .before .before .before .before .before in
+    visits-wide (row (turn .before .before .pre .0) (turn .loop-test .taken))
 
 cast-add-object-2 : tie.Need-cast-add-object-2 Inv-loop μ-loop
-cast-add-object-2 c = let turn = c .before .before .before .before .before .before .before .before in near-wide (row (turn .before .before .pre .0) (turn .loop-test .taken))
+cast-add-object-2 c =
+    let turn = c .before .before .before .before .before .before .before .before in
+    near-wide (row (turn .before .before .pre .0) (turn .loop-test .taken))
 
 add-object-requires : tie.Need-add-object-requires Inv-loop μ-loop
 add-object-requires c κs =
     let turn = c .before .before .before .before .before .before .before .before in
     let at = turn .before in
-    let pre = at .before .pre in
-    (
+    let pre = at .before .pre in (
       pre .1,
       rw (small-back (at .before .args .v) (omega (arith, pre .2))) (pre .2),
       sums-few (at .loop .i) (at .loop .inv .1 .sums) (omega (arith, at .loop .inv .0, pre .0 .count)),

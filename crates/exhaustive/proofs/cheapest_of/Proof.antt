@@ -44,8 +44,10 @@ loop-less c = omega (arith, c .before .before .before .loop-test .taken)
 loop-again : tie.Need-loop-again Inv-loop μ-loop
 loop-again c =
     let at = c .before .before .before .before in
-    let lines = at .before .pre .2 .in-order in
-    (rw (c .cheapest-on .ensures .1) (costs-length _ _ _ _ (omega (arith, lines .few, at .loop .inv .0)) ∙ at .loop .inv .0), compared-more _ _ _ _ (at .before .pre .1) (at .loop .inv .1) (c .before .before .before .loop-test .taken) _ (c .cheapest-on .ensures .0))
+    let lines = at .before .pre .2 .in-order in (
+      rw (c .cheapest-on .ensures .1) (costs-length _ _ _ _ (omega (arith, lines .few, at .loop .inv .0)) ∙ at .loop .inv .0),
+      compared-more _ _ _ _ (at .before .pre .1) (at .loop .inv .1) (c .before .before .before .loop-test .taken) _ (c .cheapest-on .ensures .0),
+    )
 
 returns : tie.Need-returns Inv-loop μ-loop
 returns c = compared-all _ _ _ _ (c .before .loop .inv .1) (c .loop-test .left)

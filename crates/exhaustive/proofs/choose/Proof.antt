@@ -46,7 +46,8 @@ loop-less c = omega (arith, c .before .before .before .before .loop-test .taken)
 loop-again : tie.Need-loop-again Inv-loop μ-loop
 loop-again c =
     let at = c .before .before .before .before .before in
-    choose-more _ _ _ _ (at .before .pre) (at .loop .inv) (c .before .before .before .before .loop-test .taken) _ _ (c .before .place .ensures) (c .cheaper .ensures)
+    choose-more _ _ _ _ (at .before .pre) (at .loop .inv) (c .before .before .before .before .loop-test .taken) _ _ (c .before .place .ensures)
+    (c .cheaper .ensures)
 
 returns : tie.Need-returns Inv-loop μ-loop
 returns c = let s = c .before .before in rw (back-is (s .fits .v)) at (choose-all _ _ _ _ (c .before .loop .inv) (c .loop-test .left))

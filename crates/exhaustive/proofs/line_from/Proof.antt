@@ -31,12 +31,14 @@ element-copy-out-result c = let s = c .before .before .before in omega (arith, s
 cast-result : tie.Need-cast-result
 cast-result c =
     let s = c .before .before .before .before in
-    omega (arith, table-small _ (s .pre .0) (s .args .start) (s .pre .2) _ (risen (c .before .before .before)) _ (s .pre .1) (omega (arith, c .before .if2 .left)))
+    omega
+    (arith, table-small _ (s .pre .0) (s .args .start) (s .pre .2) _ (risen (c .before .before .before)) _ (s .pre .1) (omega (arith, c .before .if2 .left)))
 
 returns-3 : tie.Need-returns-3
 returns-3 c =
     let s = c .before .before .before .before in
-    from-table _ (s .pre .0) (s .args .start) (s .pre .2) _ (risen (c .before .before .before)) _ (s .pre .1) (c .before .before .if1 .left) (c .before .if2 .left)
+    from-table _ (s .pre .0) (s .args .start) (s .pre .2) _ (risen (c .before .before .before)) _ (s .pre .1) (c .before .before .if1 .left)
+    (c .before .if2 .left)
 
 pub line-from-spec : {M : Type 1} → statement M
 line-from-spec =

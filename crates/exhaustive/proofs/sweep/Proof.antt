@@ -8,7 +8,8 @@ use Rattle.exhaustive.proofs.sweep.Statement.{statement}
 use Rattle.exhaustive.proofs.sweep.Tie as tie
 
 abbrev Inv-loop : tie.InvT-loop
-Inv-loop h up up-at down down-at before costs₀ ups₀ up-from₀ downs₀ down-from₀ k₀ costs ups up-from downs down-from k = Sweeping h up up-at down down-at before costs₀ costs ups up-from downs down-from k
+Inv-loop h up up-at down down-at before costs₀ ups₀ up-from₀ downs₀ down-from₀ k₀ costs ups up-from downs down-from k =
+    Sweeping h up up-at down down-at before costs₀ costs ups up-from downs down-from k
 
 abbrev μ-loop : tie.MeasureT-loop
 μ-loop h up up-at down down-at before costs₀ ups₀ up-from₀ downs₀ down-from₀ k₀ costs ups up-from downs down-from k = length h - k
@@ -23,7 +24,10 @@ element-copy-out-ups : tie.Need-element-copy-out-ups Inv-loop μ-loop
 element-copy-out-ups c = omega arith
 
 add-ups : tie.Need-add-ups Inv-loop μ-loop
-add-ups c = let at = c .before .before in let s = at .before in omega (arith, ups-cap _ _ _ _ _ _ _ (s .pre .0) (s .pre .1) (at .loop .inv) (c .before .loop-test .taken))
+add-ups c =
+    let at = c .before .before in
+    let s = at .before in
+    omega (arith, ups-cap _ _ _ _ _ _ _ (s .pre .0) (s .pre .1) (at .loop .inv) (c .before .loop-test .taken))
 
 mul-up-from : tie.Need-mul-up-from Inv-loop μ-loop
 mul-up-from c = omega arith
@@ -32,7 +36,10 @@ element-copy-out-up-from : tie.Need-element-copy-out-up-from Inv-loop μ-loop
 element-copy-out-up-from c = omega arith
 
 add-up-from : tie.Need-add-up-from Inv-loop μ-loop
-add-up-from c = let at = c .before .before .before in let s = at .before in omega (arith, up-starts-cap _ _ _ _ _ _ _ (s .pre .0) (s .pre .1) (at .loop .inv) (c .before .before .loop-test .taken))
+add-up-from c =
+    let at = c .before .before .before in
+    let s = at .before in
+    omega (arith, up-starts-cap _ _ _ _ _ _ _ (s .pre .0) (s .pre .1) (at .loop .inv) (c .before .before .loop-test .taken))
 
 mul-downs : tie.Need-mul-downs Inv-loop μ-loop
 mul-downs c = omega arith
@@ -41,7 +48,10 @@ element-copy-out-downs : tie.Need-element-copy-out-downs Inv-loop μ-loop
 element-copy-out-downs c = omega arith
 
 add-downs : tie.Need-add-downs Inv-loop μ-loop
-add-downs c = let at = c .before .before .before .before in let s = at .before in omega (arith, downs-cap _ _ _ _ _ _ _ (s .pre .0) (s .pre .1) (at .loop .inv) (c .before .before .before .loop-test .taken))
+add-downs c =
+    let at = c .before .before .before .before in
+    let s = at .before in
+    omega (arith, downs-cap _ _ _ _ _ _ _ (s .pre .0) (s .pre .1) (at .loop .inv) (c .before .before .before .loop-test .taken))
 
 mul-down-from : tie.Need-mul-down-from Inv-loop μ-loop
 mul-down-from c = omega arith
@@ -50,7 +60,10 @@ element-copy-out-down-from : tie.Need-element-copy-out-down-from Inv-loop μ-loo
 element-copy-out-down-from c = omega arith
 
 add-down-from : tie.Need-add-down-from Inv-loop μ-loop
-add-down-from c = let at = c .before .before .before .before .before in let s = at .before in omega (arith, down-starts-cap _ _ _ _ _ _ _ (s .pre .0) (s .pre .1) (at .loop .inv) (c .before .before .before .before .loop-test .taken))
+add-down-from c =
+    let at = c .before .before .before .before .before in
+    let s = at .before in
+    omega (arith, down-starts-cap _ _ _ _ _ _ _ (s .pre .0) (s .pre .1) (at .loop .inv) (c .before .before .before .before .loop-test .taken))
 
 mul-y : tie.Need-mul-y Inv-loop μ-loop
 mul-y c = omega arith
@@ -59,10 +72,16 @@ shared-slice-copy-out-y : tie.Need-shared-slice-copy-out-y Inv-loop μ-loop
 shared-slice-copy-out-y c = omega arith
 
 height-requires : tie.Need-height-requires Inv-loop μ-loop
-height-requires c κs = let at = c .before .before .before .before .before .before in let s = at .before in y-range _ _ _ _ _ _ _ (s .pre .0) (s .pre .1) (at .loop .inv) (c .before .before .before .before .before .loop-test .taken)
+height-requires c κs =
+    let at = c .before .before .before .before .before .before in
+    let s = at .before in
+    y-range _ _ _ _ _ _ _ (s .pre .0) (s .pre .1) (at .loop .inv) (c .before .before .before .before .before .loop-test .taken)
 
 cost-at-requires : tie.Need-cost-at-requires Inv-loop μ-loop
-cost-at-requires c κs = let at = c .before .before .before .before .before .before .before in let s = at .before in payable _ _ _ _ _ _ _ (s .pre .0) (s .pre .1) (at .loop .inv) (c .before .before .before .before .before .before .loop-test .taken) _ (c .height .ensures)
+cost-at-requires c κs =
+    let at = c .before .before .before .before .before .before .before in
+    let s = at .before in
+    payable _ _ _ _ _ _ _ (s .pre .0) (s .pre .1) (at .loop .inv) (c .before .before .before .before .before .before .loop-test .taken) _ (c .height .ensures)
 
 mul-costs : tie.Need-mul-costs Inv-loop μ-loop
 mul-costs c = omega arith
@@ -80,7 +99,8 @@ loop-again : tie.Need-loop-again Inv-loop μ-loop
 loop-again c =
     let at = c .before .before .before .before .before .before .before .before in
     let s = at .before in
-    sweep-more _ _ _ _ _ _ _ (s .pre .0) (s .pre .1) (at .loop .inv) (c .before .before .before .before .before .before .before .loop-test .taken) _ (c .before .height .ensures) _ (c .cost-at .ensures) (s .pre .2) _ (omega arith)
+    sweep-more _ _ _ _ _ _ _ (s .pre .0) (s .pre .1) (at .loop .inv) (c .before .before .before .before .before .before .before .loop-test .taken) _
+    (c .before .height .ensures) _ (c .cost-at .ensures) (s .pre .2) _ (omega arith)
 
 returns : tie.Need-returns Inv-loop μ-loop
 returns c = sweep-all _ _ _ _ _ _ _ (c .before .loop .inv) (c .loop-test .left)
