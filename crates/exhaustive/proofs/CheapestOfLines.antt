@@ -62,8 +62,8 @@ module _ (P : Pricing) (hs vs : List ℤ) (first : Spot) where
   unfolding flatMap
   compared-all {found} {i} w h = sym (w .left ∙ rw (drop-of-length-le vs {i = i} h) (cheapest-none P found))
 
-  pub compared-more : {found : Spot} {i : ℕ} → LinesInRange vs → Compared P hs vs first found i → i < length vs → (found′ : Spot) →
-      found′ ≡ firstCheapest P found (along hs (back (getD vs i (pos 0)))) → Compared P hs vs first found′ (i + 1)
+  pub compared-more : {found : Spot} {i : ℕ} → LinesInRange vs → Compared P hs vs first found i → i < length vs → (found′ : Spot)
+      → found′ ≡ firstCheapest P found (along hs (back (getD vs i (pos 0)))) → Compared P hs vs first found′ (i + 1)
   unfolding flatMap
   compared-more {found} {i} lines w h found′ b =
       let v = getD vs i (pos 0) in

@@ -39,13 +39,14 @@ module _ (ls : List ℤ) (v : ℤ) (costs : List ℕ) (first : Spot) where
     abbrev y : ℤ
     y = getD ls j (pos 0)
 
-    spot-is : (p : Spot) → p ≡ spotAt v (back y) (getD costs j 0) → (P : Pricing) (old : List ℕ) → costs ≡ costsAlong P ls v old →
-        p ≡ spotOf P (record { x = v; y = y })
+    spot-is : (p : Spot) → p ≡ spotAt v (back y) (getD costs j 0) → (P : Pricing) (old : List ℕ) → costs ≡ costsAlong P ls v old
+        → p ≡ spotOf P (record { x = v; y = y })
     spot-is p f P old e = f ∙ rw (small-back y (omega (arith, lines .range j h)), e, costs-at P ls v old j h)
 
     pub choose-more : (p found′ : Spot) → p ≡ spotAt v (back y) (getD costs j 0) → found′ ≡ cheaperOf found p → Choosing ls v costs first found′ (j + 1)
     choose-more p found′ f g = record {
       count = omega arith;
-      left = λ P old e. s .left P old e ∙ rw (next-line ls j h) (cheapest-more P found (record { x = v; y = y }) (along (drop (j + 1) ls) v))
+      left =
+          λ P old e. s .left P old e ∙ rw (next-line ls j h) (cheapest-more P found (record { x = v; y = y }) (along (drop (j + 1) ls) v))
           ∙ ap (λ (q : Spot). firstCheapest P q (along (drop (j + 1) ls) v)) (sym (g ∙ ap (cheaperOf found) (spot-is p f P old e)));
     }

@@ -88,13 +88,13 @@ module _ (P : Pricing) (G : Grid) where
       go true = refl
       go false = refl
 
-  later : (first : Spot) (p q : Place) → T (not (earlier q p)) → T (not (earlier q (pricedOf first .at))) →
-      T (not (earlier q (pricedOf (cheaperOf first (spotOf P p)) .at)))
+  later : (first : Spot) (p q : Place) → T (not (earlier q p)) → T (not (earlier q (pricedOf first .at)))
+      → T (not (earlier q (pricedOf (cheaperOf first (spotOf P p)) .at)))
   unfolding cheaperOf
   later first p q a b = cond-ind (λ (s : Spot). T (not (earlier q (pricedOf s .at)))) (ltb (costOf P p) (first .cost)) (λ u. a) (λ u. b)
 
-  cheapest-best : (first : Spot) (ps : List Place) → InTurn ps → ((q : Place) → List·Memᴰ q ps → T (not (earlier q (pricedOf first .at)))) →
-      pricedOf (firstCheapest P first ps) ≡ bestOf R (pricedOf first) ps
+  cheapest-best : (first : Spot) (ps : List Place) → InTurn ps → ((q : Place) → List·Memᴰ q ps → T (not (earlier q (pricedOf first .at))))
+      → pricedOf (firstCheapest P first ps) ≡ bestOf R (pricedOf first) ps
   cheapest-best first [] none h = ap pricedOf (cheapest-none P first) ∙ sym (bestOf-nil R (pricedOf first))
   cheapest-best first (p ∷ ps) (then f t) h =
       ap pricedOf (cheapest-more P first p ps)
@@ -102,8 +102,8 @@ module _ (P : Pricing) (G : Grid) where
       ∙ ap (λ (b : Priced). bestOf R b ps) (cheaper-is first (spotOf P p) (h p (List·Memᴰ·head refl)))
       ∙ sym (bestOf-cons R (pricedOf first) p ps)
 
-  pub cheapest-is : (area : Rect) → InTurn (flatMap (along (G .horizontal)) (G .vertical)) →
-      ((q : Place) → List·Memᴰ q (flatMap (along (G .horizontal)) (G .vertical)) → T (not (earlier q (corner area)))) →
-      pricedOf (firstCheapest P (spotOf P (corner area)) (flatMap (along (G .horizontal)) (G .vertical))) ≡ exhaustive (objectProblem P G area)
+  pub cheapest-is : (area : Rect) → InTurn (flatMap (along (G .horizontal)) (G .vertical))
+      → ((q : Place) → List·Memᴰ q (flatMap (along (G .horizontal)) (G .vertical)) → T (not (earlier q (corner area))))
+      → pricedOf (firstCheapest P (spotOf P (corner area)) (flatMap (along (G .horizontal)) (G .vertical))) ≡ exhaustive (objectProblem P G area)
   unfolding exhaustive crossings
   cheapest-is area t h = cheapest-best (spotOf P (corner area)) (flatMap (along (G .horizontal)) (G .vertical)) t h

@@ -83,14 +83,15 @@ module _ (v sx sy : ℤ) (visits near d : ℕ) (g : natAbs v ≤ 20000) (object 
   middle-range = rw sy-back (record { start-range = omega (arith, object .place .y-range); weight-range = omega (arith, object .visits-range) })
 
   low-height : heightOf (sy -ℤ pos r) ≡ heightOf sy - r
-  low-height = omega (
-    arith,
-    height-nat (sy -ℤ pos r) (omega (arith, low-abs)),
-    height-nat sy (omega (arith, object .place .y-range)),
-    sub-nat sy (pos r),
-    height-least sy 180000 (object .place .y-range) (omega arith),
-    object .near-range,
-  )
+  low-height =
+      omega (
+        arith,
+        height-nat (sy -ℤ pos r) (omega (arith, low-abs)),
+        height-nat sy (omega (arith, object .place .y-range)),
+        sub-nat sy (pos r),
+        height-least sy 180000 (object .place .y-range) (omega arith),
+        object .near-range,
+      )
 
   high-height : heightOf (sy +ℤ pos r) ≡ heightOf sy + r
   high-height = omega (arith, height-nat (sy +ℤ pos r) (omega (arith, high-abs)), height-nat sy (omega (arith, object .place .y-range)), add-nat sy (pos r))
@@ -99,7 +100,8 @@ module _ (v sx sy : ℤ) (visits near d : ℕ) (g : natAbs v ≤ 20000) (object 
   module _ (y : ℤ) (h : natAbs y ≤ 20000) (l : d < near) where
     paid-ramps : min near (dist sx v + dist sy y) + (heightOf y - heightOf (sy -ℤ pos r)) + (heightOf y - heightOf (sy +ℤ pos r)) ≡ near + 2 *
         (heightOf y - heightOf sy)
-    paid-ramps = rw (low-height, high-height, height-dist sy y (omega (arith, object .place .y-range)) (omega arith))
+    paid-ramps =
+        rw (low-height, high-height, height-dist sy y (omega (arith, object .place .y-range)) (omega arith))
         (ramp-sum near (dist sx v) r (heightOf sy) (heightOf y) (omega (arith, d-is))
         (omega (arith, height-least sy 180000 (object .place .y-range) (omega arith), object .near-range)))
 
@@ -124,9 +126,9 @@ module _ (v sx sy : ℤ) (visits near d : ℕ) (g : natAbs v ≤ 20000) (object 
         same : (m a b : ℕ) → m ≡ near → visits * m + a + b ≡ visits * near + b + a
         same m a b q = rw q (omega arith)
 
-    pub object-added : (up us down ds up′ us′ down₁ ds₁ down′ ds′ : List ℕ) → d < near → RampAdded ls (back (back sy -ℤ toZ w64 r)) visits down ds down₁ ds₁ →
-        RampAdded ls (back sy) (2 * visits) up us up′ us′ → RampAdded ls (back (back sy +ℤ toZ w64 r)) visits down₁ ds₁ down′ ds′ →
-        ObjectAdded ls v sx sy visits near up us down ds up′ us′ down′ ds′
+    pub object-added : (up us down ds up′ us′ down₁ ds₁ down′ ds′ : List ℕ) → d < near
+        → RampAdded ls (back (back sy -ℤ toZ w64 r)) visits down ds down₁ ds₁ → RampAdded ls (back sy) (2 * visits) up us up′ us′
+        → RampAdded ls (back (back sy +ℤ toZ w64 r)) visits down₁ ds₁ down′ ds′ → ObjectAdded ls v sx sy visits near up us down ds up′ us′ down′ ds′
     object-added up us down ds up′ us′ down₁ ds₁ down′ ds′ h low middle high = record {
       sums = λ m s. record {
         up-sums = middle .sums m (s .up-sums);

@@ -27,8 +27,9 @@ module _ (ls : List ℤ) (start : ℤ) (w k : ℕ) (ws us : List ℕ) (lines : L
   line-range : (j : ℕ) → j < length ls → natAbs (getD ls j (pos 0)) ≤ 1000000
   line-range j h = omega (arith, lines .range j h)
 
-  added : (j : ℕ) → j < length ls → weightsAt ls (raisedBy ws k w) j + startsAt us j ≡ weightsAt ls ws j + startsAt (raisedBy us k (w * heightOf start)) j + w *
-      (heightOf (getD ls j (pos 0)) - heightOf start)
+  added : (j : ℕ) → j < length ls
+      → weightsAt ls (raisedBy ws k w) j + startsAt us j
+      ≡ weightsAt ls ws j + startsAt (raisedBy us k (w * heightOf start)) j + w * (heightOf (getD ls j (pos 0)) - heightOf start)
   added j h = ⊎-elim (λ t. before (ltb→lt j k t)) (λ t. behind (nltb→le j k t)) (test (ltb j k))
     where
       flat : (a b t d : ℕ) → d ≡ 0 → a * t + b ≡ a * t + b + w * d

@@ -46,8 +46,8 @@ module _ (ls : List ℤ) (up us down ds : List ℕ) (before : ℕ) (old : List �
     written = λ P m v s e. sym (costs-none P ls v old);
   }
 
-  pub sweep-all : {costs : List ℕ} {a b c d j : ℕ} → Sweeping ls up us down ds before old costs a b c d j → length ls ≤ j →
-      Swept ls up us down ds before old costs
+  pub sweep-all : {costs : List ℕ} {a b c d j : ℕ} → Sweeping ls up us down ds before old costs a b c d j → length ls ≤ j
+      → Swept ls up us down ds before old costs
   sweep-all {j = j} s h = record { is = λ P m v added f. s .written P m v added f ∙ costs-all P ls v old j (omega (arith, s .count)) }
 
   module _ (lines : LinesInRange ls) (ok : Sweepable ls up us down ds before) {costs : List ℕ} {a b c d j : ℕ}
@@ -110,8 +110,8 @@ module _ (ls : List ℤ) (up us down ds : List ℕ) (before : ℕ) (old : List �
         cost-is : (P : Pricing) (m : ℕ) (v : ℤ) → ObjectsAdded P m ls v up us down ds → before ≡ beforeOf P → cost ≡ costOf P (record { x = v; y = y })
         cost-is P m v added f = omega (arith, balance, added .cost j h, f)
 
-        pub sweep-more : length old ≡ 514 → (new : ℕ) → new ≡ cost →
-            Sweeping ls up us down ds before old (set costs j new) (a + getD up j 0) (b + getD us j 0) (c + getD down j 0) (d + getD ds j 0) (j + 1)
+        pub sweep-more : length old ≡ 514 → (new : ℕ) → new ≡ cost
+            → Sweeping ls up us down ds before old (set costs j new) (a + getD up j 0) (b + getD us j 0) (c + getD down j 0) (d + getD ds j 0) (j + 1)
         sweep-more l new i = record {
           count = omega arith;
           long = simp length-set (s .long);

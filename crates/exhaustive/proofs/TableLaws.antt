@@ -54,15 +54,15 @@ module _ (ls : List ℤ) (lines : LinesInRange ls) where
 
   module _ {j from : ℕ} {table : List ℕ} (s : Numbering ls j from table) where
     -- the slots from `from` on
-    parted-from : (r to : ℕ) (table′ : List ℕ) → SlotsFilled table from to r table′ → ((t : ℕ) → from ≤ t → t < to → Parted ls (t + 980000) r) → (t : ℕ) →
-        t < to → Parted ls (t + 980000) (getD table′ t 0)
+    parted-from : (r to : ℕ) (table′ : List ℕ) → SlotsFilled table from to r table′ → ((t : ℕ) → from ≤ t → t < to → Parted ls (t + 980000) r)
+        → (t : ℕ) → t < to → Parted ls (t + 980000) (getD table′ t 0)
     parted-from r to table′ f each t h =
         ⊎-elim (λ u. subst (Parted ls (t + 980000)) (sym (f .outside t (ltb→lt t from u))) (s .parted t (ltb→lt t from u)))
         (λ u. subst (Parted ls (t + 980000)) (sym (f .inside t (nltb→le t from u) h)) (each t (nltb→le t from u) h))
         (test (ltb t from))
 
-    pub numbering-more : j < length ls → (to : ℕ) (table′ : List ℕ) → to + 979999 ≡ heightOf (getD ls j (pos 0)) → SlotsFilled table from to j table′ →
-        Numbering ls (j + 1) to table′
+    pub numbering-more : j < length ls → (to : ℕ) (table′ : List ℕ) → to + 979999 ≡ heightOf (getD ls j (pos 0)) → SlotsFilled table from to j table′
+        → Numbering ls (j + 1) to table′
     numbering-more h to table′ e f = record {
       count = omega arith;
       long = f .long ∙ s .long;
@@ -78,12 +78,10 @@ module _ (ls : List ℤ) (lines : LinesInRange ls) where
     pub numbering-all : length ls ≤ j → (table′ : List ℕ) → SlotsFilled table from 40001 (length ls) table′ → LineTable ls table′
     numbering-all h table′ f = record {
       long = f .long ∙ s .long;
-      parted = λ t g. parted-from (length ls) 40001 table′ f (λ t g l. record {
-        within = omega arith;
-        before =
-            λ k q. omega (arith, s .passed k (omega arith));
-        after = λ k q p. absurd (omega arith);
-      }) t (omega arith);
+      parted =
+          let all : (t : ℕ) → from ≤ t → t < 40001 → Parted ls (t + 980000) (length ls) = λ t g l.
+          record { within = omega arith; before = λ k q. omega (arith, s .passed k (omega arith)); after = λ k q p. absurd (omega arith) } in
+          λ t g. parted-from (length ls) 40001 table′ f all t (omega arith);
     }
 
   pub slot-most : (k : ℕ) → k < length ls → heightOf (getD ls k (pos 0)) ≤ 1020000
@@ -133,7 +131,8 @@ module _ (ls : List ℤ) (lines : LinesInRange ls) where
       table-small table s h = omega (arith, s .parted (t - 980000) (omega arith) .within, lines .in-order .few)
 
       pub from-table : (table : List ℕ) → LineTable ls table → 980000 ≤ t → t ≤ 1020000 → FirstAtLeast ls start (getD table (t - 980000) 0)
-      from-table table s h l = let q : (t - 980000) + 980000 ≡ heightOf start = omega (arith, e) in
+      from-table table s h l =
+          let q : (t - 980000) + 980000 ≡ heightOf start = omega (arith, e) in
           first-of (subst (λ (u : ℕ). Parted ls u (getD table (t - 980000) 0)) q (s .parted (t - 980000) (omega arith)))
 
 -- ---- two tables of the same lines are the same

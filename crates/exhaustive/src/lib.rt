@@ -73,9 +73,9 @@ pub fn number_lines(h: &[i64], table: &mut [u16; 40001])
 }
 
 // The number of the first line that is not below `start`, or that of all lines. Only this reads the table, and only lines have to lie
-// where the table reaches: below it the answer is 0, above it the number of lines. The height of a start that `add_ramp` multiplies with is
-// not looked up. So if heights get scaled by some b and lines do not, the lookup stays as it is and is asked for another y: for a ramp that
-// starts at s the least y with s ≤ b × y.
+// where the table reaches: below it the answer is 0, above it the number of lines. The height of a start that `add_ramp` multiplies with
+// is not looked up. So if heights get scaled by some b and lines do not, the lookup stays as it is and is asked for another y: for a
+// ramp that starts at s the least y with s ≤ b × y.
 fn line_from(h: &[i64], table: &[u16; 40001], start: i64) -> usize
     requires { ⌜ LinesInRange (now h) × LineTable (now h) (now table) × (natAbs start ≤ 900000) ⌝ }
     ensures { λ r. ⌜ FirstAtLeast (now (h .entry)) start r ⌝ }

@@ -23,7 +23,7 @@ use Rattle.refusal.specs.declared.Refusal.{Refusal}
 use Rattle.job.proofs.Meaning.{refused-law, allowed-in-range}
 use Rattle.job.proofs.RefusalLaws.{condition-line}
 use Rattle.report.specs.Report.{reportFigures}
-use Rattle.query.specs.Range.{FiguresInRange}
+use Rattle.query.specs.Range.{PlaceInRange, FiguresInRange, costLimit}
 use Rattle.report.specs.declared.Report.{Report}
 use Rattle.problem.specs.ObjectProblem.{pricedOf}
 use Rattle.problem.specs.declared.Spot.{Spot}

@@ -7,14 +7,15 @@ use Rattle.exhaustive.proofs.add_object.Statement.{statement}
 use Rattle.exhaustive.proofs.add_object.Tie as tie
 
 abs-diff-requires : tie.Need-abs-diff-requires
-abs-diff-requires c κs = rw (
-  small-back (c .args .sx) (omega (arith, c .pre .3 .place .x-range)),
-  small-back (c .args .v) (omega (arith, c .pre .1)),
-) (omega (arith, c .pre .3 .place .x-range), omega (arith, c .pre .1))
+abs-diff-requires c κs =
+    rw (small-back (c .args .sx) (omega (arith, c .pre .3 .place .x-range)), small-back (c .args .v) (omega (arith, c .pre .1)))
+    (omega (arith, c .pre .3 .place .x-range), omega (arith, c .pre .1))
 
 returns : tie.Need-returns
-returns c = let s = c .before .before in object-none (s .args .v) (s .args .sx) (s .args .sy) (s .args .visits) (s .args .near) _ (s .pre .1) (s .pre .3)
-    (c .before .abs-diff .ensures) _ (s .pre .0) _ _ _ _ (c .if1 .taken)
+returns c =
+    let s = c .before .before in
+    object-none (s .args .v) (s .args .sx) (s .args .sy) (s .args .visits) (s .args .near) _ (s .pre .1) (s .pre .3) (c .before .abs-diff .ensures) _
+    (s .pre .0) _ _ _ _ (c .if1 .taken)
 
 sub-r : tie.Need-sub-r
 sub-r c = search needs

@@ -70,11 +70,13 @@ cast-near : tie.Need-cast-near Inv-loop μ-loop
 cast-near c = let turn = c .before .before .before .before in near-cast (row (turn .before .before .pre .0) (turn .loop-test .taken))
 
 cast-add-object : tie.Need-cast-add-object Inv-loop μ-loop
-cast-add-object c = let turn = c .before .before .before .before .before .before .before .before in
+cast-add-object c =
+    let turn = c .before .before .before .before .before .before .before .before in
     visits-wide (row (turn .before .before .pre .0) (turn .loop-test .taken))
 
 cast-add-object-2 : tie.Need-cast-add-object-2 Inv-loop μ-loop
-cast-add-object-2 c = let turn = c .before .before .before .before .before .before .before .before in
+cast-add-object-2 c =
+    let turn = c .before .before .before .before .before .before .before .before in
     near-wide (row (turn .before .before .pre .0) (turn .loop-test .taken))
 
 add-object-requires : tie.Need-add-object-requires Inv-loop μ-loop

@@ -46,12 +46,15 @@ height-requires : tie.Need-height-requires
 height-requires c κs = search needs
 
 mul-starts-2 : tie.Need-mul-starts-2
-mul-starts-2 c = let s = c .before .before .before .before in
+mul-starts-2 c =
+    let s = c .before .before .before .before in
     rw (risen c) (omega (arith, ramp-weight _ (s .args .start) (s .args .w) _ _ _ (s .pre .0) (s .pre .2) (found (c .before .before .before)) (s .pre .1)))
 
 add-starts : tie.Need-add-starts
-add-starts c = let s = c .before .before .before .before in
-    rw (risen c) (omega (
+add-starts c =
+    let s = c .before .before .before .before in
+    rw (risen c)
+    (omega (
       arith,
       s .pre .1 .starts-most (c .before .before .before .line-from .result),
       ramp-weight _ (s .args .start) (s .args .w) _ _ _ (s .pre .0) (s .pre .2) (found (c .before .before .before)) (s .pre .1),
@@ -64,7 +67,8 @@ element-write-starts : tie.Need-element-write-starts
 element-write-starts c = search needs
 
 returns : tie.Need-returns
-returns c = let s = c .before .before .before .before in
+returns c =
+    let s = c .before .before .before .before in
     rw (risen c) (ramp-added _ _ _ _ _ _ (s .pre .0) (s .pre .2) (found (c .before .before .before)) (s .pre .1))
 
 pub add-ramp-spec : {M : Type 1} → statement M

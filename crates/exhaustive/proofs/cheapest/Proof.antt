@@ -14,23 +14,24 @@ priced-requires : tie.Need-priced-requires
 priced-requires c κs = let pre = c .before .before .before .before .before .before .before .before .pre in (prepared-priceable _ pre, corner-near _ pre)
 
 slice-aggregate-number-lines : tie.Need-slice-aggregate-number-lines
-slice-aggregate-number-lines c = horizontal-count _ (c .before .before .before .before .before .before .before .before .before .before .before .before .before
-    .before .before .pre)
+slice-aggregate-number-lines c =
+    let priced = c .before .before .before .before .before .before in
+    horizontal-count _ (priced .before .before .before .before .before .before .before .before .before .pre)
 
 number-lines-requires : tie.Need-number-lines-requires
-number-lines-requires c κs = (
-  horizontal-lines _ (c .before .before .before .before .before .before .before .before .before .before .before .before .before
-      .before .before .before .pre),
-  length-replicate {A = ℕ} 40001 0,
-)
+number-lines-requires c κs =
+    let priced = c .before .before .before .before .before .before .before in
+    (horizontal-lines _ (priced .before .before .before .before .before .before .before .before .before .pre), length-replicate {A = ℕ} 40001 0)
 
 slice-aggregate-cheapest-of : tie.Need-slice-aggregate-cheapest-of
-slice-aggregate-cheapest-of c = vertical-count _ (c .before .before .before .before .before .before .before .before .before .before .before .before .before
-    .before .before .before .before .before .before .pre)
+slice-aggregate-cheapest-of c =
+    let priced = c .before .before .before .before .before .before .before .before .before .before in
+    vertical-count _ (priced .before .before .before .before .before .before .before .before .before .pre)
 
 slice-aggregate-cheapest-of-2 : tie.Need-slice-aggregate-cheapest-of-2
-slice-aggregate-cheapest-of-2 c = horizontal-count _ (c .before .before .before .before .before .before .before .before .before .before .before .before .before
-    .before .before .before .before .before .before .before .pre)
+slice-aggregate-cheapest-of-2 c =
+    let priced = c .before .before .before .before .before .before .before .before .before .before .before in
+    horizontal-count _ (priced .before .before .before .before .before .before .before .before .before .pre)
 
 cheapest-of-requires : tie.Need-cheapest-of-requires
 cheapest-of-requires c κs =
@@ -40,7 +41,8 @@ cheapest-of-requires c κs =
     (prepared-priceable _ pre, vertical-lines _ pre, horizontal-lines _ pre, summed .before2 .ensures, numbered .number-lines .ensures)
 
 returns : tie.Need-returns
-returns c = let priced = c .before .before .before .before .before .before .before .before .before .before .before .before .before in
+returns c =
+    let priced = c .before .before .before .before .before .before .before .before .before .before .before .before .before in
     answers _ (priced .before .before .before .before .before .before .before .before .before .pre) _ _ (priced .priced .ensures) (c .cheapest-of .ensures)
 
 pub cheapest-spec : {M : Type 1} → statement M

@@ -16,8 +16,8 @@ sweep-requires c κs =
 returns : tie.Need-returns
 returns c =
     let s = c .before .before .before .before .before .before .before .before .before .before .before in
-    rw (back-is (s .fits .v)) at (swept-line _ _ _ _ _ _ _ _ _ (s .pre .0 .count) (s .pre .3)
-    (c .before .before .before .before .before .before .add-objects .ensures) _ _ (c .sweep .ensures))
+    let added = c .before .before .before .before .before .before .add-objects .ensures in
+    rw (back-is (s .fits .v)) at (swept-line _ _ _ _ _ _ _ _ _ (s .pre .0 .count) (s .pre .3) added _ _ (c .sweep .ensures))
 
 pub costs-along-spec : {M : Type 1} → statement M
 costs-along-spec = tie.close (tie.spec add-objects-requires sweep-requires returns)

@@ -31,11 +31,8 @@ element-copy-out-result c = let s = c .before .before .before in omega (arith, s
 cast-result : tie.Need-cast-result
 cast-result c =
     let s = c .before .before .before .before in
-    omega (
-      arith,
-      table-small _ (s .pre .0) (s .args .start) (s .pre .2) _ (risen (c .before .before .before)) _ (s .pre .1)
-          (omega (arith, c .before .if2 .left)),
-    )
+    omega
+    (arith, table-small _ (s .pre .0) (s .args .start) (s .pre .2) _ (risen (c .before .before .before)) _ (s .pre .1) (omega (arith, c .before .if2 .left)))
 
 returns-3 : tie.Need-returns-3
 returns-3 c =

@@ -24,7 +24,9 @@ element-copy-out-ups : tie.Need-element-copy-out-ups Inv-loop μ-loop
 element-copy-out-ups c = omega arith
 
 add-ups : tie.Need-add-ups Inv-loop μ-loop
-add-ups c = let at = c .before .before in let s = at .before in
+add-ups c =
+    let at = c .before .before in
+    let s = at .before in
     omega (arith, ups-cap _ _ _ _ _ _ _ (s .pre .0) (s .pre .1) (at .loop .inv) (c .before .loop-test .taken))
 
 mul-up-from : tie.Need-mul-up-from Inv-loop μ-loop
@@ -34,7 +36,9 @@ element-copy-out-up-from : tie.Need-element-copy-out-up-from Inv-loop μ-loop
 element-copy-out-up-from c = omega arith
 
 add-up-from : tie.Need-add-up-from Inv-loop μ-loop
-add-up-from c = let at = c .before .before .before in let s = at .before in
+add-up-from c =
+    let at = c .before .before .before in
+    let s = at .before in
     omega (arith, up-starts-cap _ _ _ _ _ _ _ (s .pre .0) (s .pre .1) (at .loop .inv) (c .before .before .loop-test .taken))
 
 mul-downs : tie.Need-mul-downs Inv-loop μ-loop
@@ -44,7 +48,9 @@ element-copy-out-downs : tie.Need-element-copy-out-downs Inv-loop μ-loop
 element-copy-out-downs c = omega arith
 
 add-downs : tie.Need-add-downs Inv-loop μ-loop
-add-downs c = let at = c .before .before .before .before in let s = at .before in
+add-downs c =
+    let at = c .before .before .before .before in
+    let s = at .before in
     omega (arith, downs-cap _ _ _ _ _ _ _ (s .pre .0) (s .pre .1) (at .loop .inv) (c .before .before .before .loop-test .taken))
 
 mul-down-from : tie.Need-mul-down-from Inv-loop μ-loop
@@ -54,7 +60,9 @@ element-copy-out-down-from : tie.Need-element-copy-out-down-from Inv-loop μ-loo
 element-copy-out-down-from c = omega arith
 
 add-down-from : tie.Need-add-down-from Inv-loop μ-loop
-add-down-from c = let at = c .before .before .before .before .before in let s = at .before in
+add-down-from c =
+    let at = c .before .before .before .before .before in
+    let s = at .before in
     omega (arith, down-starts-cap _ _ _ _ _ _ _ (s .pre .0) (s .pre .1) (at .loop .inv) (c .before .before .before .before .loop-test .taken))
 
 mul-y : tie.Need-mul-y Inv-loop μ-loop
@@ -64,11 +72,15 @@ shared-slice-copy-out-y : tie.Need-shared-slice-copy-out-y Inv-loop μ-loop
 shared-slice-copy-out-y c = omega arith
 
 height-requires : tie.Need-height-requires Inv-loop μ-loop
-height-requires c κs = let at = c .before .before .before .before .before .before in let s = at .before in
+height-requires c κs =
+    let at = c .before .before .before .before .before .before in
+    let s = at .before in
     y-range _ _ _ _ _ _ _ (s .pre .0) (s .pre .1) (at .loop .inv) (c .before .before .before .before .before .loop-test .taken)
 
 cost-at-requires : tie.Need-cost-at-requires Inv-loop μ-loop
-cost-at-requires c κs = let at = c .before .before .before .before .before .before .before in let s = at .before in
+cost-at-requires c κs =
+    let at = c .before .before .before .before .before .before .before in
+    let s = at .before in
     payable _ _ _ _ _ _ _ (s .pre .0) (s .pre .1) (at .loop .inv) (c .before .before .before .before .before .before .loop-test .taken) _ (c .height .ensures)
 
 mul-costs : tie.Need-mul-costs Inv-loop μ-loop
