@@ -83,7 +83,8 @@ abbrev pub loweredAt : List ℤ → List ℕ → List ℕ → ℕ → ℕ
 loweredAt ls down up-at j = weightsAt ls down j + startsAt up-at j
 
 -- one object more, along the line at v
-pub record ObjectAdded (ls : List ℤ) (v sx sy : ℤ) (visits near : ℕ) (up up-at down down-at up′ up-at′ down′ down-at′ : List ℕ) : Type 0 where
+pub record ObjectAdded (ls : List ℤ) (v sx sy : ℤ) (visits near : ℕ)
+    (up up-at down down-at up′ up-at′ down′ down-at′ : List ℕ) : Type 0 where
   pub sums : (m : ℕ) → ObjectSums up up-at down down-at m → ObjectSums up′ up-at′ down′ down-at′ (m + 1)
   pub added : (j : ℕ) → j < length ls →
       visits * min near (dist sx v + dist sy (getD ls j (pos 0))) + loweredAt ls down′ up-at′ j + raisedAt ls up down-at j
