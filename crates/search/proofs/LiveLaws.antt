@@ -19,7 +19,7 @@ use Rattle.query.specs.Order.{Priced, precedes, pricedKey, cellKey, better, cel
 use Rattle.query.specs.Search.{isLive, bestOf, otherCorners, startBest}
 use Rattle.query.proofs.Best.{bestOf-nil, bestOf-cons}
 use Rattle.query.proofs.KeyOrder.{cellBefore-strict}
-use Rattle.deck.specs.Objects.{Object}
+use Rattle.deck.specs.Objects.{Pricing}
 use Rattle.problem.specs.declared.Spot.{Spot}
 use Rattle.slots.specs.Slot.{Entry, entryCell}
 use Rattle.cells.specs.Entries.{entries, entryBefore}
@@ -126,21 +126,21 @@ improved-is best p = go (better (pricedOf p) (pricedOf best))
     go true = refl
     go false = refl
 
-module _ (objects : List Object) (G : Grid) where
-  best-more : (best : Spot) (p : Place) (ps : List Place) → bestOf (objectRules objects G) (pricedOf best) (p ∷ ps) ≡ bestOf (objectRules objects G) (pricedOf (improved best (spotOf objects p))) ps
-  best-more best p ps = rw (bestOf-cons (objectRules objects G) (pricedOf best) p ps, improved-is best (spotOf objects p))
+module _ (P : Pricing) (G : Grid) where
+  best-more : (best : Spot) (p : Place) (ps : List Place) → bestOf (objectRules P G) (pricedOf best) (p ∷ ps) ≡ bestOf (objectRules P G) (pricedOf (improved best (spotOf P p))) ps
+  best-more best p ps = rw (bestOf-cons (objectRules P G) (pricedOf best) p ps, improved-is best (spotOf P p))
 
-  pub best-two : (best : Spot) (p q : Place) → bestOf (objectRules objects G) (pricedOf best) (p ∷ q ∷ []) ≡ pricedOf (improved (improved best (spotOf objects p)) (spotOf objects q))
-  best-two best p q = best-more best p (q ∷ []) ∙ best-more (improved best (spotOf objects p)) q [] ∙ bestOf-nil (objectRules objects G) (pricedOf (improved (improved best (spotOf objects p)) (spotOf objects q)))
+  pub best-two : (best : Spot) (p q : Place) → bestOf (objectRules P G) (pricedOf best) (p ∷ q ∷ []) ≡ pricedOf (improved (improved best (spotOf P p)) (spotOf P q))
+  best-two best p q = best-more best p (q ∷ []) ∙ best-more (improved best (spotOf P p)) q [] ∙ bestOf-nil (objectRules P G) (pricedOf (improved (improved best (spotOf P p)) (spotOf P q)))
 
-  pub start-best : (area : Rect) → pricedOf (bestCorner area (cornerCosts objects area)) ≡ startBest (objectProblem objects G area)
+  pub start-best : (area : Rect) → pricedOf (bestCorner area (cornerCosts P area)) ≡ startBest (objectProblem P G area)
   unfolding startBest otherCorners bestCorner
   start-best area =
-      let c₁ = spotOf objects (corner area) in
-      let c₂ = improved c₁ (spotOf objects (record { x = area .xlo; y = area .yhi })) in
-      let c₃ = improved c₂ (spotOf objects (record { x = area .xhi; y = area .ylo })) in
-      let c₄ = improved c₃ (spotOf objects (record { x = area .xhi; y = area .yhi })) in
+      let c₁ = spotOf P (corner area) in
+      let c₂ = improved c₁ (spotOf P (record { x = area .xlo; y = area .yhi })) in
+      let c₃ = improved c₂ (spotOf P (record { x = area .xhi; y = area .ylo })) in
+      let c₄ = improved c₃ (spotOf P (record { x = area .xhi; y = area .yhi })) in
       sym (best-more c₁ (record { x = area .xlo; y = area .yhi }) (record { x = area .xhi; y = area .ylo } ∷ record { x = area .xhi; y = area .yhi } ∷ [])
       ∙ best-more c₂ (record { x = area .xhi; y = area .ylo }) (record { x = area .xhi; y = area .yhi } ∷ [])
       ∙ best-more c₃ (record { x = area .xhi; y = area .yhi }) []
-      ∙ bestOf-nil (objectRules objects G) (pricedOf c₄))
+      ∙ bestOf-nil (objectRules P G) (pricedOf c₄))

@@ -24,7 +24,7 @@ use Rattle.query.specs.Search.{Search, isLive, start, roundOn, round, run}
 use Rattle.query.specs.Figures as Figures
 use Rattle.query.proofs.SearchLaws.{run-in-order, partition-law}
 use Rattle.query.proofs.Counts.{cuts-most, live-count}
-use Rattle.deck.specs.Objects.{Object}
+use Rattle.deck.specs.Objects.{Pricing}
 use Rattle.slots.specs.declared.Cell.{Cell}
 use Rattle.search.specs.declared.run.Running.{Running}
 use Rattle.search.specs.declared.run.Found.{Found}
@@ -52,27 +52,27 @@ pub rounds-more : (R : Rules) (n : ℕ) (s : Search) → roundsFrom R (n + 1) s 
 unfolding roundsFrom
 rounds-more R n s = ap (λ (m : ℕ). roundsFrom R m s) (add-one n)
 
-pub rounds-run : (P : Problem) (n : ℕ) → roundsFrom (P .rules) n (start P) ≡ run P n
+pub rounds-run : (Q : Problem) (n : ℕ) → roundsFrom (Q .rules) n (start Q) ≡ run Q n
 unfolding roundsFrom run
-rounds-run P zero = refl
-rounds-run P (suc n) = ap (round (P .rules)) (rounds-run P n)
+rounds-run Q zero = refl
+rounds-run Q (suc n) = ap (round (Q .rules)) (rounds-run Q n)
 
 -- ---- the loop
-module _ (objects : List Object) (R : Rules) where
-  pub holds-first : (x : Search) (s : List ℤ) (t : List ℕ) (st : Running) → Holds objects x 1000 s t st → Holds objects (roundsFrom R 0 (searchOf s t st)) (1000 - 0) s t st
+module _ (P : Pricing) (R : Rules) where
+  pub holds-first : (x : Search) (s : List ℤ) (t : List ℕ) (st : Running) → Holds P x 1000 s t st → Holds P (roundsFrom R 0 (searchOf s t st)) (1000 - 0) s t st
   holds-first x s t st h = record { is = sym (rounds-none R (searchOf s t st)); costed = h .costed; low-head = h .low-head; in-turn = h .in-turn; ends = h .ends }
 
-  pub holds-more : (k : ℕ) (x : Search) (s s′ : List ℤ) (t t′ : List ℕ) (st st′ : Running) → Holds objects (roundsFrom R k x) (1000 - k) s t st → Holds objects (round R (searchOf s t st)) (st .head - 1) s′ t′ st′ → Holds objects (roundsFrom R (k + 1) x) (1000 - (k + 1)) s′ t′ st′
+  pub holds-more : (k : ℕ) (x : Search) (s s′ : List ℤ) (t t′ : List ℕ) (st st′ : Running) → Holds P (roundsFrom R k x) (1000 - k) s t st → Holds P (round R (searchOf s t st)) (st .head - 1) s′ t′ st′ → Holds P (roundsFrom R (k + 1) x) (1000 - (k + 1)) s′ t′ st′
   holds-more k x s s′ t t′ st st′ h g = record { is = g .is ∙ ap (round R) (h .is) ∙ sym (rounds-more R k x); costed = g .costed; low-head = omega (arith, h .low-head, g .low-head); in-turn = g .in-turn; ends = g .ends }
 
-pub holds-run : (objects : List Object) (P : Problem) (k lowest : ℕ) (x : Search) (s : List ℤ) (t : List ℕ) (st : Running) → x ≡ start P → Holds objects (roundsFrom (P .rules) k x) lowest s t st → Holds objects (run P k) lowest s t st
-holds-run objects P k lowest x s t st e h = record { is = h .is ∙ ap (roundsFrom (P .rules) k) e ∙ rounds-run P k; costed = h .costed; low-head = h .low-head; in-turn = h .in-turn; ends = h .ends }
+pub holds-run : (P : Pricing) (Q : Problem) (k lowest : ℕ) (x : Search) (s : List ℤ) (t : List ℕ) (st : Running) → x ≡ start Q → Holds P (roundsFrom (Q .rules) k x) lowest s t st → Holds P (run Q k) lowest s t st
+holds-run P Q k lowest x s t st e h = record { is = h .is ∙ ap (roundsFrom (Q .rules) k) e ∙ rounds-run Q k; costed = h .costed; low-head = h .low-head; in-turn = h .in-turn; ends = h .ends }
 
 -- ---- once no cell is live, rounds change nothing
-pub stays : (P : Problem) (k m : ℕ) → k ≤ m → run P k .live ≡ [] → run P m ≡ run P k
+pub stays : (Q : Problem) (k m : ℕ) → k ≤ m → run Q k .live ≡ [] → run Q m ≡ run Q k
 unfolding run round roundOn
-stays P k zero h e = ap (run P) (let z : zero ≡ k = omega arith in z)
-stays P k (suc m) h e = ⊎-elim (λ (q : k ≡ suc m). ap (run P) (sym q)) (λ (l : k < suc m). ap (round (P .rules)) (stays P k m (omega arith) e) ∙ ap (roundOn (P .rules) (run P k)) e) (eq-or-lt-of-le h)
+stays Q k zero h e = ap (run Q) (let z : zero ≡ k = omega arith in z)
+stays Q k (suc m) h e = ⊎-elim (λ (q : k ≡ suc m). ap (run Q) (sym q)) (λ (l : k < suc m). ap (round (Q .rules)) (stays Q k m (omega arith) e) ∙ ap (roundOn (Q .rules) (run Q k)) e) (eq-or-lt-of-le h)
 
 -- ---- what the slots hold does not depend on the costs
 pub cells-any : (s : List ℤ) (t u : List ℕ) (a n : ℕ) → map entryCell (entries s t a n) ≡ map entryCell (entries s u a n)
@@ -87,51 +87,51 @@ pub no-entries : (s : List ℤ) (t : List ℕ) (head tail : ℕ) → tail ≤ he
 no-entries s t head tail h = let z : tail - head ≡ 0 = omega arith in rw z (entries-none s t head)
 
 -- ---- a state that holds a run
-module _ (P : Problem) (objects : List Object) (n lowest : ℕ) (s : List ℤ) (t : List ℕ) (st : Running) (h : Holds objects (run P n) lowest s t st) where
-  pub cells-are : map entryCell (entries s t (st .head) (st .tail - st .head)) ≡ run P n .live
+module _ (Q : Problem) (P : Pricing) (n lowest : ℕ) (s : List ℤ) (t : List ℕ) (st : Running) (h : Holds P (run Q n) lowest s t st) where
+  pub cells-are : map entryCell (entries s t (st .head) (st .tail - st .head)) ≡ run Q n .live
   cells-are = ap (λ (x : Search). x .live) (sym (search-is s t st) ∙ h .is)
 
-  cuts-are : st .cuts ≡ run P n .cuts
+  cuts-are : st .cuts ≡ run Q n .cuts
   cuts-are = ap (λ (x : Search). x .cuts) (sym (search-is s t st) ∙ h .is)
 
-  best-cost : st .best .cost ≡ run P n .best .cost
+  best-cost : st .best .cost ≡ run Q n .best .cost
   best-cost = ap (λ (x : Search). x .best .cost) (sym (search-is s t st) ∙ h .is)
 
-  member : (e : Entry) → List·Memᴰ e (entries s t (st .head) (st .tail - st .head)) → List·Memᴰ (entryCell e) (run P n .live)
+  member : (e : Entry) → List·Memᴰ e (entries s t (st .head) (st .tail - st .head)) → List·Memᴰ (entryCell e) (run Q n .live)
   member e m = subst (List·Memᴰ (entryCell e)) cells-are (Memᴰ·map entryCell m)
 
-  pub no-cells : st .tail ≤ st .head → run P n .live ≡ []
+  pub no-cells : st .tail ≤ st .head → run Q n .live ≡ []
   no-cells g = sym cells-are ∙ ap (map entryCell) (no-entries s t (st .head) (st .tail) g)
 
-  pub ended : (m : ℕ) → n ≤ m → st .tail ≤ st .head → Holds objects (run P m) 0 s t st
-  ended m k g = record { is = h .is ∙ sym (stays P n m k (no-cells g)); costed = h .costed; low-head = omega arith; in-turn = h .in-turn; ends = h .ends }
+  pub ended : (m : ℕ) → n ≤ m → st .tail ≤ st .head → Holds P (run Q m) 0 s t st
+  ended m k g = record { is = h .is ∙ sym (stays Q n m k (no-cells g)); costed = h .costed; low-head = omega arith; in-turn = h .in-turn; ends = h .ends }
 
-  pub finished : (m : ℕ) → n ≡ m → Holds objects (run P m) 0 s t st
-  finished m e = record { is = h .is ∙ ap (run P) e; costed = h .costed; low-head = omega arith; in-turn = h .in-turn; ends = h .ends }
+  pub finished : (m : ℕ) → n ≡ m → Holds P (run Q m) 0 s t st
+  finished m e = record { is = h .is ∙ ap (run Q) e; costed = h .costed; low-head = omega arith; in-turn = h .in-turn; ends = h .ends }
 
   pub cell-count : st .tail - st .head ≤ n + 1
-  cell-count = omega (arith, live-count P n, ap length (sym cells-are), length-map (entries s t (st .head) (st .tail - st .head)) entryCell, entries-length s t (st .head) (st .tail - st .head))
+  cell-count = omega (arith, live-count Q n, ap length (sym cells-are), length-map (entries s t (st .head) (st .tail - st .head)) entryCell, entries-length s t (st .head) (st .tail - st .head))
 
   ordered : (u : List ℕ) → EntriesInOrder (entries s u (st .head) (st .tail - st .head))
-  ordered u = cells-in-order (entries s u (st .head) (st .tail - st .head)) .0 (subst (Pairwise (λ c d. T (not (cellBefore d c)))) (sym cells-are ∙ cells-any s t u (st .head) (st .tail - st .head)) (run-in-order P n))
+  ordered u = cells-in-order (entries s u (st .head) (st .tail - st .head)) .0 (subst (Pairwise (λ c d. T (not (cellBefore d c)))) (sym cells-are ∙ cells-any s t u (st .head) (st .tail - st .head)) (run-in-order Q n))
 
-  pub answerable : Steady P → Answerable s st
+  pub answerable : Steady Q → Answerable s st
   answerable steady = record { in-turn = h .in-turn; ends = h .ends; cost-limit = omega (arith, best-cost, steady .cost-limit n); in-order = ordered [] }
 
-  pub holds-any : searchOf s [] st ≡ run P n
+  pub holds-any : searchOf s [] st ≡ run Q n
   holds-any = search-any s [] t st ∙ h .is
 
   -- what a round asks
-  pub takeable : Steady P → n < 1000 → 1 ≤ lowest → st .head < st .tail → Takeable objects (P .rules .grid) s t st
+  pub takeable : Steady Q → n < 1000 → 1 ≤ lowest → st .head < st .tail → Takeable P (Q .rules .grid) s t st
   unfolding isLive
   takeable steady few low some = record {
     some = some;
     room = omega (arith, h .low-head);
     ends = h .ends;
-    few = omega (arith, cuts-are, cuts-most P n);
+    few = omega (arith, cuts-are, cuts-most Q n);
     cost-limit = omega (arith, best-cost, steady .cost-limit n);
     ranged = steady .ranged n (queryCell (cellAt s (st .head))) (member (entryAt s t (st .head)) (rw (entries-first s t (st .head) (st .tail) some) (List·Memᴰ·head refl)));
-    can-cut = λ e m. let c = entryCell e in and-left (canCut (P .rules .grid) (c .rect)) (precedes (cellKey c) (pricedKey (run P n .best))) (partition-law P n .live-are-live c (member e m));
+    can-cut = λ e m. let c = entryCell e in and-left (canCut (Q .rules .grid) (c .rect)) (precedes (cellKey c) (pricedKey (run Q n .best))) (partition-law Q n .live-are-live c (member e m));
     costed = h .costed;
     in-order = ordered t;
   }
