@@ -109,4 +109,11 @@ pub halves-are : (P : Pricing) (r : Rect) (cut : Cut) (low high : Spot) (first s
     → second ≡ cellFor P (cutAfter (axisOf (cut .across)) (cut .at) r) → sk ≡ cornerCosts P (cutAfter (axisOf (cut .across)) (cut .at) r)
     → _≡_ {A = Halves} (record { low = low; high = high; first = first; «first_costs» = fk; second = second; «second_costs» = sk }) (halvesOf P cut r)
 unfolding halvesOf
-halves-are P r cut low high first second fk sk a b c d e f = λ i. record { low = a i; high = b i; first = c i; «first_costs» = d i; second = e i; «second_costs» = f i }
+halves-are P r cut low high first second fk sk a b c d e f = λ i. record {
+  low = a i;
+  high = b i;
+  first = c i;
+  «first_costs» = d i;
+  second = e i;
+  «second_costs» = f i;
+}

@@ -83,16 +83,20 @@ cell-back P r b f e = λ i. record { rect = r; bound = (fitting b f ∙ e) i }
 
 -- ---- the new corners
 module _ (P : Pricing) (q : Rect) (cut : Cut) (r : Spot) (h : CutInRange q cut) where
-  pub low-across : cut .across ≡ true → r ≡ spotOf P (record { x = back (cut .at); y = back (q .ylo) }) → r ≡ spotOf P (lowCorner (axisOf (cut .across)) (cut .at) q)
+  pub low-across : cut .across ≡ true → r ≡ spotOf P (record { x = back (cut .at); y = back (q .ylo) })
+      → r ≡ spotOf P (lowCorner (axisOf (cut .across)) (cut .at) q)
   low-across t e = rw t (spot-back P (cut .at) (q .ylo) r (h .at-range) (h .ranged .low-corner .y-range) e)
 
-  pub low-deep : cut .across ≡ false → r ≡ spotOf P (record { x = back (q .xlo); y = back (cut .at) }) → r ≡ spotOf P (lowCorner (axisOf (cut .across)) (cut .at) q)
+  pub low-deep : cut .across ≡ false → r ≡ spotOf P (record { x = back (q .xlo); y = back (cut .at) })
+      → r ≡ spotOf P (lowCorner (axisOf (cut .across)) (cut .at) q)
   low-deep t e = rw t (spot-back P (q .xlo) (cut .at) r (h .ranged .low-corner .x-range) (h .at-range) e)
 
-  pub high-across : cut .across ≡ true → r ≡ spotOf P (record { x = back (cut .at); y = back (q .yhi) }) → r ≡ spotOf P (highCorner (axisOf (cut .across)) (cut .at) q)
+  pub high-across : cut .across ≡ true → r ≡ spotOf P (record { x = back (cut .at); y = back (q .yhi) })
+      → r ≡ spotOf P (highCorner (axisOf (cut .across)) (cut .at) q)
   high-across t e = rw t (spot-back P (cut .at) (q .yhi) r (h .at-range) (h .ranged .high-corner .y-range) e)
 
-  pub high-deep : cut .across ≡ false → r ≡ spotOf P (record { x = back (q .xhi); y = back (cut .at) }) → r ≡ spotOf P (highCorner (axisOf (cut .across)) (cut .at) q)
+  pub high-deep : cut .across ≡ false → r ≡ spotOf P (record { x = back (q .xhi); y = back (cut .at) })
+      → r ≡ spotOf P (highCorner (axisOf (cut .across)) (cut .at) q)
   high-deep t e = rw t (spot-back P (q .xhi) (cut .at) r (h .ranged .high-corner .x-range) (h .at-range) e)
 
 -- ---- the corners of a cell

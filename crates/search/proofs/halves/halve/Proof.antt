@@ -96,8 +96,8 @@ returns c =
     let d = parts .before in
     let first = c .before .before .bounded .ensures ∙ ap (λ r. cellFor (pricing d) (rectOf r)) (parts .rect-before .ensures) in
     let second = c .bounded2 .ensures ∙ ap (λ r. cellFor (pricing d) (rectOf r)) (c .before .rect-behind .ensures) in
-    halves-are (pricing d) _ (cut d) _ _ _ _ _ _ (d .before .before .before .low-corner .ensures) (d .before .before .high-corner .ensures) first (first-costs d) second
-    (second-costs d)
+    halves-are (pricing d) _ (cut d) _ _ _ _ _ _ (d .before .before .before .low-corner .ensures) (d .before .before .high-corner .ensures) first
+    (first-costs d) second (second-costs d)
     ∙ ap (λ (x : Cut). halvesOf (pricing d) x (rectOf (start d .args .rect))) (cutter d .find-cut .ensures)
 
 pub halve-spec : {M : Type 1} → statement M

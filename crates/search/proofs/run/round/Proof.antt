@@ -40,11 +40,14 @@ limits c = halves-limit (start (c .before) .pre .0) _ _ _ (c .halve .ensures)
 ranges : (c : tie.After-halve) → RectInRange (rectIn (c .halve .result .first)) × RectInRange (rectIn (c .halve .result .second))
 ranges c = let w = whole (c .before) in halves-ranged _ _ _ _ (w .can-cut) (w .ranged) (c .halve .ensures)
 
+-- the limits by omega, whichever corner is taken: that it is the right one is shown in `returns`
 first-limit : (c : tie.After-improve) → c .improve .result .cost ≤ costLimit
-first-limit c = limit-of _ _ _ (c .improve .ensures) (start (c .before .before) .pre .2 .cost-limit) (limits (c .before) .0)
+first-limit c = let known = start (c .before .before) .pre .2 .cost-limit in limit-of _ _ _ (c .improve .ensures) known (omega (arith, known, limits (c .before)))
 
 second-limit : (c : tie.After-improve2) → c .improve2 .result .cost ≤ costLimit
-second-limit c = limit-of _ _ _ (c .improve2 .ensures) (first-limit (c .before)) (limits (c .before .before) .1)
+second-limit c =
+    let known = start (c .before .before .before) .pre .2 .cost-limit in
+    limit-of _ _ _ (c .improve2 .ensures) (first-limit (c .before)) (omega (arith, known, limits (c .before .before)))
 
 cell-at-requires : tie.Need-cell-at-requires
 cell-at-requires c κs = let s = c .before .before in (s .pre .3, omega (arith, s .pre .2 .some, s .pre .2 .ends))
@@ -56,10 +59,10 @@ halve-requires : tie.Need-halve-requires
 halve-requires c κs = (start c .pre .0, start c .pre .1, whole c)
 
 improve-requires : tie.Need-improve-requires
-improve-requires c κs = (start (c .before) .pre .2 .cost-limit, limits c .0)
+improve-requires c κs = let known = start (c .before) .pre .2 .cost-limit in (known, omega (arith, known, limits c))
 
 improve-requires-2 : tie.Need-improve-requires-2
-improve-requires-2 c κs = (first-limit c, limits (c .before) .1)
+improve-requires-2 c κs = (first-limit c, omega (arith, start (c .before .before) .pre .2 .cost-limit, limits (c .before)))
 
 add-trim : tie.Need-add-trim
 add-trim c = let s = origin (c .before .before .before .before .before .before) in omega (arith, s .pre .2 .some, s .pre .2 .ends)
