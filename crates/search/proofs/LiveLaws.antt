@@ -19,7 +19,7 @@ use Rattle.query.specs.Order.{Priced, precedes, pricedKey, cellKey, better, cel
 use Rattle.query.specs.Search.{isLive, bestOf, otherCorners, startBest}
 use Rattle.query.proofs.Best.{bestOf-nil, bestOf-cons}
 use Rattle.query.proofs.KeyOrder.{cellBefore-strict}
-use Rattle.deck.specs.Objects.{Object}
+use Rattle.deck.specs.Objects.{Pricing}
 use Rattle.problem.specs.declared.Spot.{Spot}
 use Rattle.slots.specs.Slot.{Entry, entryCell}
 use Rattle.cells.specs.Entries.{entries, entryBefore}
@@ -35,7 +35,9 @@ module _ (G : Grid) (best : Priced) (e : Entry) (head tail : ℕ) (s : List ℤ)
   unfolding withLive
   added-none r f g = let dead : isLive G best (entryCell e) ≡ false = sym f ∙ g in record { down = omega arith; by-one = omega arith; entries-are = rw dead }
 
-  pub added-one : (s′ : List ℤ) (t′ : List ℕ) (r : Bool) → r ≡ isLive G best (entryCell e) → r ≡ true → 1 ≤ head → head ≤ tail → entries s′ t′ (head - 1) (tail - head + 1) ≡ insertBy entryBefore e (entries s t head (tail - head)) → Added G best e head tail s t s′ t′ (head - 1)
+  pub added-one : (s′ : List ℤ) (t′ : List ℕ) (r : Bool) → r ≡ isLive G best (entryCell e) → r ≡ true → 1 ≤ head → head ≤ tail
+      → entries s′ t′ (head - 1) (tail - head + 1) ≡ insertBy entryBefore e (entries s t head (tail - head))
+      → Added G best e head tail s t s′ t′ (head - 1)
   unfolding withLive
   added-one s′ t′ r f g h k q =
       let live : isLive G best (entryCell e) ≡ true = sym f ∙ g in
@@ -73,14 +75,16 @@ abbrev pub Ordered : List Query.Cell → Type 0
 Ordered cells = Pairwise (λ c d. T (not (cellBefore d c))) cells
 
 module _ (G : Grid) (best : Priced) where
-  keep-one : (x : Query.Cell) (cs : List Query.Cell) → Ordered cs → keep (isLive G best) (insertBy cellBefore x cs) ≡ withCell G best x (keep (isLive G best) cs)
+  keep-one : (x : Query.Cell) (cs : List Query.Cell) → Ordered cs
+      → keep (isLive G best) (insertBy cellBefore x cs) ≡ withCell G best x (keep (isLive G best) cs)
   unfolding withCell
   keep-one x cs s =
       ⊎-elim (λ (u : T (isLive G best x)). rw (holds (isLive G best x) u) (keep-insert-in cellBefore (isLive G best) x cellBefore-strict cs s u))
       (λ (u : T (not (isLive G best x))). rw (fails (isLive G best x) u) (keep-insert-out cellBefore (isLive G best) x cs u))
       (test (isLive G best x))
 
-  pub keep-two : (x y : Query.Cell) (cs : List Query.Cell) → Ordered cs → keep (isLive G best) (insertBy cellBefore x (insertBy cellBefore y cs)) ≡ withCell G best x (withCell G best y (keep (isLive G best) cs))
+  pub keep-two : (x y : Query.Cell) (cs : List Query.Cell) → Ordered cs
+      → keep (isLive G best) (insertBy cellBefore x (insertBy cellBefore y cs)) ≡ withCell G best x (withCell G best y (keep (isLive G best) cs))
   keep-two x y cs s = keep-one x (insertBy cellBefore y cs) (insertBy-sorted cellBefore cellBefore-strict y cs s) ∙ ap (withCell G best x) (keep-one y cs s)
 
   pub map-with : (e : Entry) (es : List Entry) → map entryCell (withLive G best e es) ≡ withCell G best (entryCell e) (map entryCell es)
@@ -90,8 +94,11 @@ module _ (G : Grid) (best : Priced) where
       (λ (u : T (not (isLive G best (entryCell e)))). rw (fails (isLive G best (entryCell e)) u)) (test (isLive G best (entryCell e)))
 
   -- where all can be cut, those that come before the best are the live ones
-  pub keep-live : (cs : List Query.Cell) → ((c : Query.Cell) → List·Memᴰ c cs → T (canCut G (c .rect))) → keep (λ c. precedes (cellKey c) (pricedKey best)) cs ≡ keep (isLive G best) cs
-  keep-live cs h = keep-agree (λ c. precedes (cellKey c) (pricedKey best)) (isLive G best) cs (λ c m. live-precedes G best c (holds (canCut G (c .rect)) (h c m)) (precedes (cellKey c) (pricedKey best)) refl)
+  pub keep-live : (cs : List Query.Cell) → ((c : Query.Cell) → List·Memᴰ c cs → T (canCut G (c .rect)))
+      → keep (λ c. precedes (cellKey c) (pricedKey best)) cs ≡ keep (isLive G best) cs
+  keep-live cs h =
+      keep-agree (λ c. precedes (cellKey c) (pricedKey best)) (isLive G best) cs
+      (λ c m. live-precedes G best c (holds (canCut G (c .rect)) (h c m)) (precedes (cellKey c) (pricedKey best)) refl)
 
   with-in-order : (e : Entry) (es : List Entry) → EntriesInOrder es → EntriesInOrder (withLive G best e es)
   unfolding withLive
@@ -110,7 +117,8 @@ module _ (G : Grid) (best : Priced) where
       go false m = inr m
 
 -- entries in order are so with one more
-pub added-in-order : (G : Grid) (best : Priced) (e : Entry) (head tail : ℕ) (s s′ : List ℤ) (t t′ : List ℕ) (r : ℕ) → Added G best e head tail s t s′ t′ r → EntriesInOrder (entries s t head (tail - head)) → EntriesInOrder (entries s′ t′ r (tail - r))
+pub added-in-order : (G : Grid) (best : Priced) (e : Entry) (head tail : ℕ) (s s′ : List ℤ) (t t′ : List ℕ) (r : ℕ)
+    → Added G best e head tail s t s′ t′ r → EntriesInOrder (entries s t head (tail - head)) → EntriesInOrder (entries s′ t′ r (tail - r))
 added-in-order G best e head tail s s′ t t′ r added order = rw (added .entries-are) (with-in-order G best e (entries s t head (tail - head)) order)
 
 pub single : (G : Grid) (best : Priced) (x : Query.Cell) → withCell G best x [] ≡ keep (isLive G best) (x ∷ [])
@@ -126,21 +134,26 @@ improved-is best p = go (better (pricedOf p) (pricedOf best))
     go true = refl
     go false = refl
 
-module _ (objects : List Object) (G : Grid) where
-  best-more : (best : Spot) (p : Place) (ps : List Place) → bestOf (objectRules objects G) (pricedOf best) (p ∷ ps) ≡ bestOf (objectRules objects G) (pricedOf (improved best (spotOf objects p))) ps
-  best-more best p ps = rw (bestOf-cons (objectRules objects G) (pricedOf best) p ps, improved-is best (spotOf objects p))
+module _ (P : Pricing) (G : Grid) where
+  best-more : (best : Spot) (p : Place) (ps : List Place)
+      → bestOf (objectRules P G) (pricedOf best) (p ∷ ps) ≡ bestOf (objectRules P G) (pricedOf (improved best (spotOf P p))) ps
+  best-more best p ps = rw (bestOf-cons (objectRules P G) (pricedOf best) p ps, improved-is best (spotOf P p))
 
-  pub best-two : (best : Spot) (p q : Place) → bestOf (objectRules objects G) (pricedOf best) (p ∷ q ∷ []) ≡ pricedOf (improved (improved best (spotOf objects p)) (spotOf objects q))
-  best-two best p q = best-more best p (q ∷ []) ∙ best-more (improved best (spotOf objects p)) q [] ∙ bestOf-nil (objectRules objects G) (pricedOf (improved (improved best (spotOf objects p)) (spotOf objects q)))
+  pub best-two : (best : Spot) (p q : Place)
+      → bestOf (objectRules P G) (pricedOf best) (p ∷ q ∷ []) ≡ pricedOf (improved (improved best (spotOf P p)) (spotOf P q))
+  best-two best p q =
+      best-more best p (q ∷ [])
+      ∙ best-more (improved best (spotOf P p)) q []
+      ∙ bestOf-nil (objectRules P G) (pricedOf (improved (improved best (spotOf P p)) (spotOf P q)))
 
-  pub start-best : (area : Rect) → pricedOf (bestCorner area (cornerCosts objects area)) ≡ startBest (objectProblem objects G area)
+  pub start-best : (area : Rect) → pricedOf (bestCorner area (cornerCosts P area)) ≡ startBest (objectProblem P G area)
   unfolding startBest otherCorners bestCorner
   start-best area =
-      let c₁ = spotOf objects (corner area) in
-      let c₂ = improved c₁ (spotOf objects (record { x = area .xlo; y = area .yhi })) in
-      let c₃ = improved c₂ (spotOf objects (record { x = area .xhi; y = area .ylo })) in
-      let c₄ = improved c₃ (spotOf objects (record { x = area .xhi; y = area .yhi })) in
+      let c₁ = spotOf P (corner area) in
+      let c₂ = improved c₁ (spotOf P (record { x = area .xlo; y = area .yhi })) in
+      let c₃ = improved c₂ (spotOf P (record { x = area .xhi; y = area .ylo })) in
+      let c₄ = improved c₃ (spotOf P (record { x = area .xhi; y = area .yhi })) in
       sym (best-more c₁ (record { x = area .xlo; y = area .yhi }) (record { x = area .xhi; y = area .ylo } ∷ record { x = area .xhi; y = area .yhi } ∷ [])
       ∙ best-more c₂ (record { x = area .xhi; y = area .ylo }) (record { x = area .xhi; y = area .yhi } ∷ [])
       ∙ best-more c₃ (record { x = area .xhi; y = area .yhi }) []
-      ∙ bestOf-nil (objectRules objects G) (pricedOf c₄))
+      ∙ bestOf-nil (objectRules P G) (pricedOf c₄))

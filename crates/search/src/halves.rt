@@ -115,26 +115,26 @@ fn costs_behind(across: bool, k: Costs, low: u64, high: u64) -> Costs
 fn rect_before(rect: Rect, cut: Cut) -> Rect
     ensures { λ r. ⌜ r ≡ rectRecord (cutBefore (axisOf (cut .across)) (cut .at) (rectOf rect)) ⌝ }
 {
-    let across = cut.across;
-    Rect {
-        xlo: rect.xlo,
-        ylo: rect.ylo,
-        xhi: if across { cut.at } else { rect.xhi },
-        yhi: if across { rect.yhi } else { cut.at },
+    let mut part = rect;
+    if cut.across {
+        part.xhi = cut.at;
+    } else {
+        part.yhi = cut.at;
     }
+    part
 }
 
 // The part behind it.
 fn rect_behind(rect: Rect, cut: Cut) -> Rect
     ensures { λ r. ⌜ r ≡ rectRecord (cutAfter (axisOf (cut .across)) (cut .at) (rectOf rect)) ⌝ }
 {
-    let across = cut.across;
-    Rect {
-        xlo: if across { cut.at } else { rect.xlo },
-        ylo: if across { rect.ylo } else { cut.at },
-        xhi: rect.xhi,
-        yhi: rect.yhi,
+    let mut part = rect;
+    if cut.across {
+        part.xlo = cut.at;
+    } else {
+        part.ylo = cut.at;
     }
+    part
 }
 
 // What the cut of a cell makes of it.

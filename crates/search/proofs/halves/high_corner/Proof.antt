@@ -6,13 +6,17 @@ use Rattle.search.proofs.halves.high_corner.Statement.{statement}
 use Rattle.search.proofs.halves.high_corner.Tie as tie
 
 priced-requires : tie.Need-priced-requires
-priced-requires c κs = let s = c .before .before .before in (s .pre .0, near-places (s .args .cut .at) (s .args .c .yhi) (s .pre .1 .at-range) (s .pre .1 .ranged .high-corner .y-range))
+priced-requires c κs =
+    let s = c .before .before .before in
+    (s .pre .0, near-places (s .args .cut .at) (s .args .rect .yhi) (s .pre .1 .at-range) (s .pre .1 .ranged .high-corner .y-range))
 
 returns : tie.Need-returns
 returns c = high-across _ _ _ _ (c .before .before .before .before .pre .1) (c .before .before .before .if1 .taken) (c .priced .ensures)
 
 priced-requires-2 : tie.Need-priced-requires-2
-priced-requires-2 c κs = let s = c .before .before .before in (s .pre .0, near-places (s .args .c .xhi) (s .args .cut .at) (s .pre .1 .ranged .high-corner .x-range) (s .pre .1 .at-range))
+priced-requires-2 c κs =
+    let s = c .before .before .before in
+    (s .pre .0, near-places (s .args .rect .xhi) (s .args .cut .at) (s .pre .1 .ranged .high-corner .x-range) (s .pre .1 .at-range))
 
 returns-2 : tie.Need-returns-2
 returns-2 c = high-deep _ _ _ _ (c .before .before .before .before .pre .1) (c .before .before .before .if1 .left) (c .priced2 .ensures)

@@ -8,12 +8,15 @@ use Rattle.search.proofs.StepLaws.{spot-better, improve-taken, improve-
 use Rattle.search.proofs.halves.improve.Statement.{statement}
 use Rattle.search.proofs.halves.improve.Tie as tie
 
-told : (c : tie.After-precedes) → c .precedes .result ≡ better (pricedOf (c .before .before .before .before .before .before .before .args .p)) (pricedOf (c .before .before .before .before .before .before .before .args .best))
+told : (c : tie.After-precedes) →
+    let a = c .before .before .before .before .before .before .before .args in
+    c .precedes .result ≡ better (pricedOf (a .p)) (pricedOf (a .best))
 told c =
     let s = c .before .before .before .before .before .before .before in
     let p = c .before .before .before .before .struct-told .given in
     let q = c .before .before .struct-told3 .given in
-    spot-better (s .args .p) (s .args .best) _ (record { figure-fits = omega arith; x-fits = p .0 .1; y-fits = p .1 .0 .1 }) (record { figure-fits = omega arith; x-fits = q .0 .1; y-fits = q .1 .0 .1 }) (c .precedes .ensures)
+    spot-better (s .args .p) (s .args .best) _ (record { figure-fits = omega arith; x-fits = p .0 .1; y-fits = p .1 .0 .1 })
+    (record { figure-fits = omega arith; x-fits = q .0 .1; y-fits = q .1 .0 .1 }) (c .precedes .ensures)
 
 cast-precedes : tie.Need-cast-precedes
 cast-precedes c = omega arith

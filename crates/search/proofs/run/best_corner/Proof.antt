@@ -3,16 +3,43 @@
 use Prim.Native.Nat.{_≤_}
 use borrow.Author.Needs.{needs}
 use Rattle.query.specs.Range.{costLimit}
+use Rattle.deck.specs.Rectangle.{rectOf}
 use Rattle.search.proofs.RoundLaws.{limit-of}
 use Rattle.search.proofs.StepLaws.{best-corner-is, cost-of}
 use Rattle.search.proofs.run.best_corner.Statement.{statement}
 use Rattle.search.proofs.run.best_corner.Tie as tie
 
-first-limit : (c : tie.After-improve) → c .improve .result .cost ≤ costLimit
-first-limit c = limit-of _ _ _ (c .improve .ensures) (cost-of _ _ _ (c .before .before .before .before .before .before .before .before .before .before .place .ensures) (c .before .before .before .before .before .before .before .before .before .before .before .before .before .pre .corner-00)) (cost-of _ _ _ (c .before .before .before .before .before .before .before .place2 .ensures) (c .before .before .before .before .before .before .before .before .before .before .before .before .before .pre .corner-01))
+-- the corners' places, and the limits of their costs
+module _ (c : tie.After-place4) where
+  abbrev third : tie.After-place3
+  third = c .before .before .before
 
-second-limit : (c : tie.After-improve2) → c .improve2 .result .cost ≤ costLimit
-second-limit c = limit-of _ _ _ (c .improve2 .ensures) (first-limit (c .before)) (cost-of _ _ _ (c .before .before .before .before .before .place3 .ensures) (c .before .before .before .before .before .before .before .before .before .before .before .before .before .before .pre .corner-10))
+  abbrev second : tie.After-place2
+  second = third .before .before .before
+
+  abbrev first : tie.After-place
+  first = second .before .before .before
+
+  abbrev start : tie.Start
+  start = first .before .before .before
+
+  first-limit : first .place .result .cost ≤ costLimit
+  first-limit = cost-of _ _ _ (first .place .ensures) (start .pre .corner-00)
+
+  second-limit : second .place2 .result .cost ≤ costLimit
+  second-limit = cost-of _ _ _ (second .place2 .ensures) (start .pre .corner-01)
+
+  third-limit : third .place3 .result .cost ≤ costLimit
+  third-limit = cost-of _ _ _ (third .place3 .ensures) (start .pre .corner-10)
+
+  fourth-limit : c .place4 .result .cost ≤ costLimit
+  fourth-limit = cost-of _ _ _ (c .place4 .ensures) (start .pre .corner-11)
+
+better-limit : (c : tie.After-improve) → c .improve .result .cost ≤ costLimit
+better-limit c = limit-of _ _ _ (c .improve .ensures) (first-limit (c .before)) (second-limit (c .before))
+
+best-limit : (c : tie.After-improve2) → c .improve2 .result .cost ≤ costLimit
+best-limit c = limit-of _ _ _ (c .improve2 .ensures) (better-limit (c .before)) (third-limit (c .before .before))
 
 place-requires : tie.Need-place-requires
 place-requires c κs = search needs
@@ -27,19 +54,22 @@ place-requires-4 : tie.Need-place-requires-4
 place-requires-4 c κs = search needs
 
 improve-requires : tie.Need-improve-requires
-improve-requires c κs = let p = c .before .before .before .before .before .before .before .before .before .before .before .before .pre in (cost-of _ _ _ (c .before .before .before .before .before .before .before .before .before .place .ensures) (p .corner-00), cost-of _ _ _ (c .before .before .before .before .before .before .place2 .ensures) (p .corner-01))
+improve-requires c κs = (first-limit c, second-limit c)
 
 improve-requires-2 : tie.Need-improve-requires-2
-improve-requires-2 c κs = let p = c .before .before .before .before .before .before .before .before .before .before .before .before .before .pre in (first-limit c, cost-of _ _ _ (c .before .before .before .before .place3 .ensures) (p .corner-10))
+improve-requires-2 c κs = (better-limit c, third-limit (c .before))
 
 improve-requires-3 : tie.Need-improve-requires-3
-improve-requires-3 c κs = let p = c .before .before .before .before .before .before .before .before .before .before .before .before .before .before .pre in (second-limit c, cost-of _ _ _ (c .before .before .place4 .ensures) (p .corner-11))
+improve-requires-3 c κs = (best-limit c, fourth-limit (c .before .before))
 
 returns : tie.Need-returns
 returns c =
-    let s = c .before .before .before .before .before .before .before .before .before .before .before .before .before .before .before in
-    let told = c .before .before .before .before .before .before .before .before .before .before .before .before .before .before .struct-told .given in
-    best-corner-is (s .args .c) (s .args .k) (told .0 .1) (told .1 .0 .1) (told .1 .1 .0 .1) (told .1 .1 .1 .0 .1) _ _ _ _ _ _ _ (c .before .before .before .before .before .before .before .before .before .before .before .before .place .ensures) (c .before .before .before .before .before .before .before .before .before .place2 .ensures) (c .before .before .before .before .before .before .place3 .ensures) (c .before .before .before .place4 .ensures) (c .before .before .improve .ensures) (c .before .improve2 .ensures) (c .improve3 .ensures)
+    let d = c .before .before .before in
+    let s = start d in
+    let told = first d .before .before .struct-told .given in
+    best-corner-is (rectOf (s .args .rect)) (s .args .k) (told .0 .1) (told .1 .0 .1) (told .1 .1 .0 .1) (told .1 .1 .1 .0 .1) _ _ _ _ _ _ _
+    (first d .place .ensures) (second d .place2 .ensures) (third d .place3 .ensures) (d .place4 .ensures) (c .before .before .improve .ensures)
+    (c .before .improve2 .ensures) (c .improve3 .ensures)
 
 pub best-corner-spec : {M : Type 1} → statement M
 best-corner-spec =
