@@ -1,6 +1,6 @@
 -- Cells with the costs of their corners, and the better of two places, as the code has them.
 -- Assumes nothing.
-use Prim.Native.Nat.{_-_, _≤_}
+use Prim.Native.Nat.{_≤_}
 use mathlib.Core.Bool.{cond}
 use Rattle.query.specs.Place.{Rect}
 use Rattle.query.specs.Order.{better}

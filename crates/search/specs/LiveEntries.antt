@@ -34,7 +34,8 @@ pub record Addable (s : List ℤ) (t : List ℕ) (head tail : ℕ) (c : Cell) (b
   pub cost-limit : best .cost ≤ costLimit
 
 -- the entries from r on are those from head on and e, if it is live
-pub record Added (G : Grid) (best : Priced) (e : Entry) (head tail : ℕ) (s : List ℤ) (t : List ℕ) (s′ : List ℤ) (t′ : List ℕ) (r : ℕ) : Type 0 where
+pub record Added (G : Grid) (best : Priced) (e : Entry) (head tail : ℕ) (s : List ℤ) (t : List ℕ)
+    (s′ : List ℤ) (t′ : List ℕ) (r : ℕ) : Type 0 where
   pub down : r ≤ head
   pub by-one : head ≤ r + 1
   pub entries-are : entries s′ t′ r (tail - r) ≡ withLive G best e (entries s t head (tail - head))

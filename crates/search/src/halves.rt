@@ -149,7 +149,8 @@ pub(crate) fn halve<'a>(
     requires { ⌜ Priceable (now columns) n × Lined (now v) (now h)
         × Cutting (pricingIn (now columns) n) (gridOf (now v) (now h)) (rectOf rect) k ⌝ }
     ensures { λ r. ⌜ r
-        ≡ halvesOf (pricingIn (now (columns .entry)) n) (cutRecord (gridOf (now (v .entry)) (now (h .entry))) (rectOf rect)) (rectOf rect) ⌝ }
+        ≡ halvesOf (pricingIn (now (columns .entry)) n) (cutRecord (gridOf (now (v .entry)) (now (h .entry))) (rectOf rect))
+        (rectOf rect) ⌝ }
 {
     let cut = cuts::find_cut(v, h, rect);
     let low = low_corner(columns, n, rect, cut);
