@@ -11,14 +11,15 @@ of-deck-requires c κs = search needs
 
 before-requires : tie.Need-before-requires
 before-requires c κs =
-    let s = c .before .before .before .before in
-    prepared-priceable _ (solvable-prepared _ (s .pre .0) _ (c .before .before .before .of-deck .ensures))
+    let made = c .before .before in
+    prepared-priceable _ (solvable-prepared _ (made .before .pre .0) _ (made .of-deck .ensures))
 
 search-requires : tie.Need-search-requires
 search-requires c κs =
-    let s = c .before .before .before .before .before in
+    let made = c .before .before .before .before in
+    let s = made .before in
     record {
-      prepared = solvable-prepared _ (s .pre .0) _ (c .before .before .before .before .of-deck .ensures);
+      prepared = solvable-prepared _ (s .pre .0) _ (made .of-deck .ensures);
       rounds-limit = s .pre .1 .rounds-limit;
       room = s .pre .1 .room;
     }
@@ -32,7 +33,7 @@ same-length c = search needs
 returns : tie.Need-returns
 returns c =
     let b = c .before .before .before .before .before in
-    let made = b .before .before .before .before in
+    let made = b .before .before .before in
     solved _ _ (made .before .pre .0) _ (made .of-deck .ensures) _ _ _ _ _ (b .before2 .ensures .is) (c .before .before .before .search .ensures) (c .before .state-of .ensures)
 
 pub solve-spec : {M : Type 1} → statement M
