@@ -1,6 +1,6 @@
 -- Sums over turns, and the places and rectangles of the turns.
 -- Assumes nothing.
-use mathlib.Core.Path.{_≡_, refl, sym, ap, subst, _∙_}
+use mathlib.Core.Path.{_≡_, refl, sym, ap, _∙_}
 use mathlib.Core.Bool.{Bool, false, cond}
 use mathlib.Core.List.{List}
 use Prim.Native.Nat.{ℕ, zero, suc, _+_, _*_, _%_, _≤_, _<_}
@@ -8,8 +8,8 @@ use native.Mathlib.Nat.{mul-le-mul}
 use native.Mathlib.Numerals.{add-one}
 use native.Mathlib.Omega.{arith}
 use borrow.Author.Tests.{lt-ltb, le-ltb}
-use lib.Dec.{T, ltb}
-use lib.ListN.{getD}
+use lib.Dec.{ltb}
+use lib.ListN.{take}
 use lib.IntN.{ℤ, pos, natAbs, _-ℤ_}
 use lib.Signed.{_≤ℤ_}
 use mir.Syntax.{w64}
@@ -17,35 +17,44 @@ use mir.Val.{SFits, toZ, ofZ}
 use mir.ValLaws.{toZ-ofZ, toZ-pos}
 use Rattle.numbers.proofs.WordTests.{back}
 use Rattle.numbers.proofs.Integer.{order, abs-range, sub-nat}
-use Rattle.query.specs.Place.{Place, Rect, x-axis, y-axis}
-use Rattle.query.specs.Lines.{lines}
-use Rattle.query.specs.Deck.{Deck}
-use Rattle.query.specs.Range.{RectInRange, costLimit}
-use Rattle.job.specs.Format.{Result, readJob}
-use Rattle.deck.specs.declared.Deck as Held
-use Rattle.pricing.specs.Columns.{Figure, rowsOf}
-use Rattle.lines.specs.LineRecord.{linesRecord, gridOf}
-use Rattle.cuts.specs.CutRecord.{rectOf, cutRecord}
-use Rattle.cuts.specs.declared.Cut.{Cut}
 use Rattle.numbers.proofs.Words.{difference, difference-fits}
-use Rattle.deck.specs.DeckOf.{deckOf}
-use Rattle.deck.specs.ObjectColumns.{objectsRecord}
-use Rattle.deck.specs.Objects.{objectsOf}
-use Rattle.deck.specs.declared.Objects.{Objects}
-use Rattle.pricing.specs.ObjectFigures.{costOf, loadOf}
+use Rattle.query.specs.Place.{Place, Rect}
+use Rattle.query.specs.Deck.{Deck}
+use Rattle.query.specs.Grid.{Grid}
+use Rattle.query.specs.Range.{PlaceInRange, costLimit}
+use Rattle.job.specs.Format.{Result, readJob}
 use Rattle.job.proofs.ReadDeck.{Spelt}
-use Rattle.pricing.proofs.RecordLaws.{made-cost, made-load}
-use Rattle.lines.specs.declared.Lines.{Lines}
-use Rattle.problem.specs.ObjectProblem.{boundOf, Ranged, Prepared}
-use Rattle.problem.proofs.Coordinates.{rect-back}
-use Rattle.problem.proofs.DeckProblem.{plain-axis, made-bound}
-use Rattle.trial.specs.Opened.{openedRecord, rectAllowed}
+use Rattle.deck.specs.DeckOf.{deckOf}
+use Rattle.deck.specs.Objects.{Pricing, pricingOf}
+use Rattle.deck.specs.ObjectColumns.{pricingIn}
+use Rattle.pricing.specs.ObjectFigures.{costOf, loadOf}
+use Rattle.pricing.specs.Columns.{Figure, Ranged}
+use Rattle.pricing.proofs.ObjectLaws.{cost-law, load-law}
+use Rattle.lines.specs.LineRecord.{gridOf}
+use Rattle.cuts.specs.CutRecord.{cutRecord}
+use Rattle.problem.specs.ObjectProblem.{boundOf}
+use Rattle.problem.proofs.Coordinates.{near-back, near-places, rect-back}
+use Rattle.problem.proofs.DeckProblem.{bound-law, prepared-pricing, prepared-grid}
+use Rattle.trial.specs.Opened.{Whole, openedRecord}
 use Rattle.trial.specs.Trial.{onJob, minusOne, least}
 use Rattle.trial.specs.declared.opened.Opened.{Opened}
-use Rattle.trial.proofs.OpenLaws.{open-refused, on-job}
-use Rattle.trial.proofs.RectLaws.{rect-range}
-use Rattle.trial.proofs.CutLaws.{found-cut}
-use Rattle.kernels.specs.Sums.{sumTo, side, Spread, placeAt, rectAt, positive, costTurn, loadTurn, boundTurn, cutTurn, turn, kernelSum}
+use Rattle.trial.proofs.OpenLaws.{prepared, open-refused, on-job}
+use Rattle.kernels.specs.Sums.{
+  sumTo,
+  side,
+  Spread,
+  TurnRect,
+  placeAt,
+  rectAt,
+  positive,
+  costTurn,
+  loadTurn,
+  boundTurn,
+  cutTurn,
+  nearTurn,
+  turn,
+  kernelSum,
+}
 
 -- ---- sums
 pub record Summed (f : ℕ → ℕ) (limit k sum t : ℕ) : Type 0 where
@@ -80,24 +89,42 @@ sumTo-same f g e (suc k) = rw (e k, sumTo-same f g e k)
 pub same-sum : {f : ℕ → ℕ} (g : ℕ → ℕ) (k : ℕ) {limit n : ℕ} → ((t : ℕ) → f t ≡ g t) → Figure (sumTo f k) limit n → Figure (sumTo g k) limit n
 same-sum {f} g k e fig = record { is = fig .is ∙ sumTo-same f g e k; within = fig .within }
 
--- ---- the sums of a deck and its objects, by the kernel's number
-abbrev SumIs : Held.Deck → ℕ → ℕ → ℕ → Type 0
-SumIs deck which k n = Figure (sumTo (turn (deckOf deck) which) k) (100000 * costLimit) n
+-- ---- the sums of a job's deck, by the kernel's number
+abbrev deckIn : Opened → Deck
+deckIn o = deckOf (o .deck)
 
-module _ (deck : Held.Deck) (objects : Objects) (h : Prepared deck objects) (which k : ℕ) {n : ℕ} where
-  pub cost-sum : which ≡ 0 → Figure (sumTo (λ t. costOf (rowsOf objects) (placeAt t)) k) (100000 * costLimit) n → SumIs deck which k n
-  cost-sum e fig = rw e (same-sum (costTurn (deckOf deck)) k (λ t. made-cost (deckOf deck) (h .range) objects (h .objects-are) (plain-axis deck) (placeAt t)) fig)
+abbrev pricing : Opened → Pricing
+pricing o = pricingIn (o .problem .columns) (o .problem .count)
 
-  pub load-sum : which ≡ 1 → Figure (sumTo (λ t. loadOf (rowsOf objects) (rectAt t)) k) (100000 * costLimit) n → SumIs deck which k n
-  load-sum e fig = rw e (same-sum (loadTurn (deckOf deck)) k (λ t. made-load (deckOf deck) (h .range) objects (h .objects-are) (plain-axis deck) (rectAt t)) fig)
+abbrev lineGrid : Opened → Grid
+lineGrid o = gridOf (take (o .problem .nv) (o .problem .v)) (take (o .problem .nh) (o .problem .h))
 
-  pub bound-sum : which ≡ 2 → Figure (sumTo (λ t. positive (boundOf (rowsOf objects) (rectAt t))) k) (100000 * costLimit) n → SumIs deck which k n
-  bound-sum e fig = rw e (same-sum (boundTurn (deckOf deck)) k (λ t. ap positive (made-bound (deckOf deck) (plain-axis deck) (h .range) objects (h .objects-are) (rectAt t))) fig)
+abbrev SumIs : (ℕ → ℕ) → ℕ → ℕ → Type 0
+SumIs f k n = Figure (sumTo f k) (100000 * costLimit) n
 
-  pub cut-sum : which ≡ 3 → (v u : Lines) → v ≡ linesRecord (lines (deckOf deck) x-axis) → u ≡ linesRecord (lines (deckOf deck) y-axis) → Figure (sumTo (λ t. positive (cutRecord (gridOf (v .at) (v .count) (u .at) (u .count)) (rectAt t) .at)) k) (100000 * costLimit) n → SumIs deck which k n
-  cut-sum e v u a b fig = rw e (same-sum (cutTurn (deckOf deck)) k (λ t. ap (λ (c : Cut). positive (c .at)) (found-cut deck v u (rectAt t) a b)) fig)
+pricing-is : {o : Opened} → Whole o → pricing o ≡ pricingOf (deckIn o)
+pricing-is {o} whole = prepared-pricing (o .problem) (prepared whole)
 
-  pub near-sum : which ≡ 4 → Figure (sumTo (λ t. getD (objectsRecord (objectsOf (deckOf deck)) .near) (t % 512) 0) k) (100000 * costLimit) n → SumIs deck which k n
+module _ {o : Opened} (whole : Whole o) (which k : ℕ) {n : ℕ} where
+  pub cost-sum : which ≡ 0 → SumIs (λ t. costOf (pricing o) (placeAt t)) k n → SumIs (turn (deckIn o) which) k n
+  cost-sum e fig =
+      rw e (same-sum (costTurn (deckIn o)) k (λ t. ap (λ (P : Pricing). costOf P (placeAt t)) (pricing-is whole) ∙ cost-law (deckIn o) (placeAt t)) fig)
+
+  pub load-sum : which ≡ 1 → SumIs (λ t. loadOf (pricing o) (rectAt t)) k n → SumIs (turn (deckIn o) which) k n
+  load-sum e fig =
+      rw e (same-sum (loadTurn (deckIn o)) k (λ t. ap (λ (P : Pricing). loadOf P (rectAt t)) (pricing-is whole) ∙ load-law (deckIn o) (rectAt t)) fig)
+
+  pub bound-sum : which ≡ 2 → SumIs (λ t. positive (boundOf (pricing o) (rectAt t))) k n → SumIs (turn (deckIn o) which) k n
+  bound-sum e fig =
+      rw e (same-sum (boundTurn (deckIn o)) k
+      (λ t. ap positive (ap (λ (P : Pricing). boundOf P (rectAt t)) (pricing-is whole) ∙ bound-law (deckIn o) (rectAt t))) fig)
+
+  pub cut-sum : which ≡ 3 → SumIs (λ t. positive (cutRecord (lineGrid o) (rectAt t) .at)) k n → SumIs (turn (deckIn o) which) k n
+  cut-sum e fig =
+      rw e (same-sum (cutTurn (deckIn o)) k
+      (λ t. ap (λ (G : Grid). positive (cutRecord G (rectAt t) .at)) (prepared-grid (o .problem) (prepared whole))) fig)
+
+  pub near-sum : which ≡ 4 → SumIs (nearTurn (deckIn o)) k n → SumIs (turn (deckIn o) which) k n
   near-sum e fig = rw e fig
 
 -- ---- what `kernel_sum` answers
@@ -150,25 +177,35 @@ spread-is t factor less h =
     record { is = e; range = rw e (less-range (side t factor) less (side-most t factor) h) }
 
 -- ---- the place and the rectangle of a turn
-pub place-turn : {t : ℕ} {x y : ℤ} → Spread t 7919 10000 x → Spread t 6007 10000 y → _≡_ {A = Place} (record { x = x; y = y }) (placeAt t)
-place-turn a b = rw (a .is, b .is)
+module _ {t : ℕ} {x y : ℤ} (a : Spread t 7919 10000 x) (b : Spread t 6007 10000 y) where
+  pub place-turn : _≡_ {A = Place} (record { x = back x; y = back y }) (placeAt t)
+  place-turn = rw (near-back x (a .range), near-back y (b .range), a .is, b .is)
+
+  pub place-ranged : PlaceInRange (record { x = back x; y = back y })
+  place-ranged = near-places x y (a .range) (b .range)
 
 -- a low edge is not above a high one
 low-high : (m s : ℕ) → m ≤ 20000 → (pos m -ℤ pos 20000) ≤ℤ (pos s -ℤ pos 0)
 low-high m s h = omega (arith, order, sub-nat (pos m) (pos 20000), sub-nat (pos s) (pos 0))
 
 module _ {t : ℕ} {xlo ylo xhi yhi : ℤ} (a : Spread t 7919 20000 xlo) (b : Spread t 6007 20000 ylo) (c : Spread t 4409 0 xhi) (d : Spread t 3001 0 yhi) where
-  turn-is : rectOf xlo ylo xhi yhi ≡ rectAt t
-  turn-is = rw (a .is, b .is, c .is, d .is)
-
-  pub turn-range : RectInRange (rectOf xlo ylo xhi yhi)
-  turn-range = record { low-corner = record { x-range = a .range; y-range = b .range }; high-corner = record { x-range = c .range; y-range = d .range } }
-
-  pub rect-turn : rectOf (back xlo) (back ylo) (back xhi) (back yhi) ≡ rectAt t
-  rect-turn = rect-back (rectOf xlo ylo xhi yhi) turn-range ∙ turn-is
+  turn-is : _≡_ {A = Rect} (record { xlo = back xlo; ylo = back ylo; xhi = back xhi; yhi = back yhi }) (rectAt t)
+  turn-is =
+      rect-back (record { xlo = xlo; ylo = ylo; xhi = xhi; yhi = yhi })
+      (record { low-corner = record { x-range = a .range; y-range = b .range }; high-corner = record { x-range = c .range; y-range = d .range } })
+      ∙ rw (a .is, b .is, c .is, d .is)
 
   turn-ranged : Ranged (rectAt t)
-  turn-ranged = record { range = subst RectInRange turn-is turn-range; full = record { across = low-high (side t 7919) (side t 4409) (side-most t 7919); deep = low-high (side t 6007) (side t 3001) (side-most t 6007) } }
+  turn-ranged = record {
+    range = record {
+      low-corner = record { x-range = rw (a .is) at (a .range); y-range = rw (b .is) at (b .range) };
+      high-corner = record { x-range = rw (c .is) at (c .range); y-range = rw (d .is) at (d .range) };
+    };
+    full = record {
+      across = low-high (side t 7919) (side t 4409) (side-most t 7919);
+      deep = low-high (side t 6007) (side t 3001) (side-most t 6007);
+    };
+  }
 
-  pub rect-ok : T (rectAllowed (rectOf (back xlo) (back ylo) (back xhi) (back yhi)))
-  rect-ok = subst (λ (r : Rect). T (rectAllowed r)) (sym rect-turn) (rect-range (rectAt t) .1 turn-ranged)
+  pub rect-turn : TurnRect t (record { xlo = back xlo; ylo = back ylo; xhi = back xhi; yhi = back yhi })
+  rect-turn = record { is = turn-is; ranged = rw turn-is turn-ranged }

@@ -1,6 +1,6 @@
 -- The cut that is found for an opened job is that of its deck, and so are the lines that are written out.
 -- Assumes nothing.
-use mathlib.Core.Path.{_≡_, refl, sym, ap, subst, _∙_}
+use mathlib.Core.Path.{_≡_, refl, sym, ap, _∙_}
 use mathlib.Core.Bool.{Bool, true, false, cond}
 use mathlib.Core.List.{List, _++_}
 use Prim.Native.Nat.{ℕ, _≤_, _<_}
@@ -13,47 +13,32 @@ use mir.Val.{toZ}
 use mir.ValLaws.{toZ-pos}
 use borrow.Author.Tests.{lt-ltb, le-ltb}
 use Rattle.query.specs.Place.{Rect, Axis, x-axis, y-axis}
-use Rattle.query.specs.Range.{InRange}
 use Rattle.query.specs.Lines.{lines}
-use Rattle.query.specs.Grid.{Grid, grid}
+use Rattle.query.specs.Grid.{grid}
 use Rattle.query.specs.Cut.{canCut, cutLine}
 use Rattle.job.specs.Format.{Result, refused, accepted, readJob}
-use Rattle.deck.specs.declared.Deck.{Deck}
-use Rattle.numbers.proofs.WordTests.{back}
 use Rattle.deck.specs.DeckOf.{deckOf}
-use Rattle.lines.specs.LineRecord.{linesRecord, gridOf, LinesInOrder}
-use Rattle.cuts.specs.CutRecord.{rectOf, cutAt, isX, cutRecord}
-use Rattle.lines.specs.declared.Lines.{Lines}
+use Rattle.numbers.proofs.Padded.{padded-front}
+use Rattle.lines.proofs.DeckLines.{lines-in-order}
+use Rattle.problem.specs.declared.Problem.{Problem}
+use Rattle.problem.specs.Prepared.{problemRecord}
+use Rattle.cuts.specs.CutRecord.{cutAt, isX, cutRecord}
 use Rattle.cuts.specs.declared.Cut.{Cut}
-use Rattle.lines.proofs.DeckLines.{deck-grid, lines-in-order}
-use Rattle.lines.proofs.LineRecordLaws.{record-front}
 use Rattle.cuts.proofs.CutRecordLaws.{cutRecord-found, cutRecord-cut}
 use Rattle.trial.specs.Opened.{openedRecord, rectAllowed}
 use Rattle.trial.specs.Trial.{minusOne, least, axisOf, axisNumber, cutAxisFigure, cutLineFigure, linesWritten}
 use Rattle.trial.specs.declared.opened.Opened.{Opened}
-use Rattle.job.proofs.ReadDeck.{Spelt}
-use Rattle.trial.proofs.OpenLaws.{open-deck, on-job, inside}
-use Rattle.trial.proofs.RectLaws.{Fits4, rect-held}
-
--- ---- lines that were found: what `find_cut` asks of them, and what it answers
-module _ (deck : Deck) where
-  pub found-in-order : InRange (deckOf deck) → (axis : Axis) (r : Lines) → r ≡ linesRecord (lines (deckOf deck) axis) → LinesInOrder (r .at) (r .count)
-  found-in-order h axis r e = subst (λ (k : Lines). LinesInOrder (k .at) (k .count)) (sym e) (lines-in-order (deckOf deck) axis (h .most-stops))
-
-  pub found-cut : (v u : Lines) (r : Rect) → v ≡ linesRecord (lines (deckOf deck) x-axis) → u ≡ linesRecord (lines (deckOf deck) y-axis) → cutRecord (gridOf (v .at) (v .count) (u .at) (u .count)) r ≡ cutRecord (grid (deckOf deck)) r
-  found-cut v u r e f = ap (λ (G : Grid). cutRecord G r) (deck-grid (deckOf deck) v u e f)
+use Rattle.job.proofs.ReadDeck.{Spelt, spelt-range}
+use Rattle.trial.proofs.OpenLaws.{open-deck, open-problem, on-job, inside}
 
 -- ---- the answers
 axis-number : (axis : Axis) → axisNumber axis ≡ cond (isX axis) (pos 1) (pos 2)
 axis-number x-axis = refl
 axis-number y-axis = refl
 
-module _ {bytes : List ℕ} {o : Opened} (e : o ≡ openedRecord (readJob bytes)) (s : Spelt bytes) {xlo ylo xhi yhi : ℤ} (fits : Fits4 xlo ylo xhi yhi) (on : rectAllowed (rectOf xlo ylo xhi yhi) ≡ true) {cut : Cut} (found : cut ≡ cutRecord (grid (deckOf (o .deck))) (rectOf (back xlo) (back ylo) (back xhi) (back yhi))) where
-  abbrev rect : Rect
-  rect = rectOf xlo ylo xhi yhi
-
+module _ {bytes : List ℕ} {o : Opened} (e : o ≡ openedRecord (readJob bytes)) (s : Spelt bytes) (rect : Rect) (on : rectAllowed rect ≡ true) {cut : Cut} (found : cut ≡ cutRecord (grid (deckOf (o .deck))) rect) where
   cut-is : cut ≡ cutRecord (grid (s .job .deck)) rect
-  cut-is = found ∙ rw (rect-held fits, open-deck bytes o e s)
+  cut-is = found ∙ rw (open-deck bytes o e s)
 
   can-cut : {t : Bool} → cut .found ≡ t → canCut (grid (s .job .deck)) rect ≡ t
   can-cut g = sym (ap (λ (c : Cut). c .found) cut-is ∙ cutRecord-found (grid (s .job .deck)) rect) ∙ g
@@ -86,26 +71,40 @@ pub line-outside : (rect : Rect) (r : Result) → rectAllowed rect ≡ false →
 line-outside rect (refused why) e = refl
 line-outside rect (accepted job) e = rw e
 
--- lines that were written out
-module _ {bytes : List ℕ} {o : Opened} (e : o ≡ openedRecord (readJob bytes)) (s : Spelt bytes) (across : Bool) {r : Lines} (found : r ≡ linesRecord (lines (deckOf (o .deck)) (axisOf across))) (out : List ℤ) where
+-- ---- the lines of the problem along an axis
+module _ {bytes : List ℕ} (s : Spelt bytes) (across : Bool) where
   abbrev ls : List ℤ
   ls = lines (s .job .deck) (axisOf across)
 
-  found-is : r ≡ linesRecord ls
-  found-is = found ∙ rw (open-deck bytes o e s)
+  pub few-lines : length ls ≤ 514
+  few-lines = lines-in-order (s .job .deck) (axisOf across) (spelt-range s .most-stops) .few
 
-  count-is : r .count ≡ length ls
-  unfolding linesRecord
-  count-is = ap (λ (k : Lines). k .count) found-is
+  module _ {o : Opened} (e : o ≡ openedRecord (readJob bytes)) where
+    pub vertical-number : across ≡ true → o .problem .nv ≡ length ls
+    unfolding problemRecord
+    vertical-number on = ap (λ (p : Problem). p .nv) (open-problem bytes o e s) ∙ rw on
 
-  front-is : take (r .count) (r .at) ≡ ls
-  front-is = ap (λ (k : Lines). take (k .count) (k .at)) found-is ∙ record-front ls
+    pub horizontal-number : across ≡ false → o .problem .nh ≡ length ls
+    unfolding problemRecord
+    horizontal-number off = ap (λ (p : Problem). p .nh) (open-problem bytes o e s) ∙ rw off
 
-  written : cond (ltb (length out) (length ls)) (record { result = minusOne; out = out }) (record { result = pos (length ls); out = ls ++ drop (length ls) out }) ≡ linesWritten across out (readJob bytes)
-  written = on-job (record { result = minusOne; out = out }) (λ job. cond (ltb (length out) (length (lines (job .deck) (axisOf across)))) (record { result = minusOne; out = out }) (record { result = pos (length (lines (job .deck) (axisOf across))); out = lines (job .deck) (axisOf across) ++ drop (length (lines (job .deck) (axisOf across))) out })) s
+    pub vertical-lines : {n : ℕ} → across ≡ true → n ≡ length ls → take n (o .problem .v) ≡ ls
+    unfolding problemRecord
+    vertical-lines {n} on k = ap (λ (p : Problem). take n (p .v)) (open-problem bytes o e s) ∙ rw (k, on) (padded-front 514 (pos 0) (lines (s .job .deck) x-axis))
 
-  pub written-none : length out < r .count → record { result = minusOne; out = out } ≡ linesWritten across out (readJob bytes)
-  written-none h = rw (lt-ltb (length out) (length ls) (omega (arith, count-is))) at written
+    pub horizontal-lines : {n : ℕ} → across ≡ false → n ≡ length ls → take n (o .problem .h) ≡ ls
+    unfolding problemRecord
+    horizontal-lines {n} off k = ap (λ (p : Problem). take n (p .h)) (open-problem bytes o e s) ∙ rw (k, off) (padded-front 514 (pos 0) (lines (s .job .deck) y-axis))
 
-  pub written-lines : {after : List ℤ} → r .count ≤ 514 → r .count ≤ length out → after ≡ take (r .count) (r .at) ++ drop (r .count) out → record { result = toZ w64 (r .count); out = after } ≡ linesWritten across out (readJob bytes)
-  written-lines few h f = rw (f, front-is, toZ-pos w64 (r .count) (omega arith), count-is) (rw (le-ltb (length out) (length ls) (omega (arith, count-is))) at written)
+  -- n of them, written out
+  module _ {n : ℕ} (count : n ≡ length ls) (out : List ℤ) where
+    written : cond (ltb (length out) (length ls)) (record { result = minusOne; out = out }) (record { result = pos (length ls); out = ls ++ drop (length ls) out }) ≡ linesWritten across out (readJob bytes)
+    written = on-job (record { result = minusOne; out = out }) (λ job. cond (ltb (length out) (length (lines (job .deck) (axisOf across)))) (record { result = minusOne; out = out }) (record { result = pos (length (lines (job .deck) (axisOf across))); out = lines (job .deck) (axisOf across) ++ drop (length (lines (job .deck) (axisOf across))) out })) s
+
+    pub written-none : length out < n → record { result = minusOne; out = out } ≡ linesWritten across out (readJob bytes)
+    written-none h = rw (lt-ltb (length out) (length ls) (omega (arith, count))) at written
+
+    pub written-lines : {after : List ℤ} → n ≤ length out → after ≡ ls ++ drop (length ls) out →
+        record { result = toZ w64 n; out = after } ≡ linesWritten across out (readJob bytes)
+    written-lines h g =
+        rw (g, toZ-pos w64 n (omega (arith, count, few-lines)), count) (rw (le-ltb (length out) (length ls) (omega (arith, count))) at written)

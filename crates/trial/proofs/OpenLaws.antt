@@ -2,12 +2,11 @@
 -- Assumes nothing.
 use mathlib.Core.Path.{_≡_, refl, sym, ap, subst, _∙_}
 use mathlib.Core.Bool.{Bool, true, false, cond}
-use mathlib.Core.List.{List, []}
+use mathlib.Core.List.{List}
 use Prim.Native.Nat.{ℕ, _≤_}
 use native.Mathlib.Omega.{arith}
-use Rattle.query.specs.Place.{NonEmpty}
-use Rattle.query.specs.Deck as Query
-use Rattle.query.specs.Range.{InRange}
+use lib.ListN.{length, take}
+use Rattle.query.specs.Deck.{plain}
 use Rattle.job.specs.Format.{Job, Result, refused, accepted, readJob}
 use Rattle.job.specs.JobRecord.{jobRecord}
 use Rattle.job.specs.declared.Job as Held
@@ -17,12 +16,11 @@ use Rattle.job.specs.declared.Outcome.the-variants.{Accepted}
 use Rattle.job.proofs.JobLaws.{most-rounds}
 use Rattle.job.proofs.Meaning.{accepted-law}
 use Rattle.deck.specs.DeckOf.{deckOf}
-use Rattle.deck.specs.Objects.{objectsOf}
-use Rattle.deck.specs.ObjectColumns.{objectsRecord}
-use Rattle.deck.specs.declared.Objects.{Objects}
-use Rattle.job.proofs.ReadDeck.{differ, Spelt, read-accepted, read-deck, read-rounds, read-deckOf, read-full, objects-ask}
-use Rattle.problem.specs.ObjectProblem.{Prepared}
-use Rattle.trial.specs.Opened.{openedDeck, openedRecord}
+use Rattle.job.proofs.ReadDeck.{differ, Spelt, spelt-range, read-accepted, read-deck, read-rounds, read-deckOf, read-full, objects-ask}
+use Rattle.problem.specs.declared.Problem.{Problem}
+use Rattle.problem.specs.Prepared.{Solvable, Prepared, problemRecord}
+use Rattle.problem.proofs.DeckProblem.{vertical-front, horizontal-front}
+use Rattle.trial.specs.Opened.{Whole, noProblem, openedDeck, openedRecord}
 use Rattle.trial.specs.Trial.{onJob}
 use Rattle.trial.specs.declared.opened.Opened.{Opened}
 
@@ -34,13 +32,43 @@ rounds-read bytes j e rounds f =
     (omega (arith, g, most-rounds (s .allowed .writable)), g)
 
 module _ {bytes : List ℕ} (s : Spelt bytes) (j : Held.Job) (e : j ≡ jobRecord (readJob bytes)) where
-  pub opened-accepted : (objects : Objects) → objects ≡ objectsRecord (objectsOf (deckOf (j .deck))) → record { accepted = true; deck = j .deck; objects = objects } ≡ openedRecord (readJob bytes)
-  unfolding openedRecord openedDeck
-  opened-accepted objects f = rw (s .read, f, read-deckOf s j e, read-deck bytes j e s)
+  -- the deck that was read is in range
+  pub read-solvable : Solvable (j .deck)
+  read-solvable = let (range, posts, stops) = objects-ask s j e in record { range = range; full = read-full s j e; posts = posts; stops = stops }
 
-pub opened-refused : (bytes : List ℕ) (j : Held.Job) (why : Refusal) → j ≡ jobRecord (readJob bytes) → readJob bytes ≡ refused why → record { accepted = false; deck = j .deck; objects = objectsRecord [] } ≡ openedRecord (readJob bytes)
+  pub opened-accepted : (p : Problem) → p ≡ problemRecord (deckOf (j .deck)) →
+      record { accepted = true; deck = j .deck; problem = p } ≡ openedRecord (readJob bytes)
+  unfolding openedRecord openedDeck
+  opened-accepted p f = rw (s .read, f, read-deckOf s j e, read-deck bytes j e s)
+
+pub opened-refused : (bytes : List ℕ) (j : Held.Job) (why : Refusal) → j ≡ jobRecord (readJob bytes) → readJob bytes ≡ refused why →
+    record { accepted = false; deck = j .deck; problem = noProblem } ≡ openedRecord (readJob bytes)
 unfolding openedRecord jobRecord
 opened-refused bytes j why e f = rw (e, f)
+
+-- ---- a deck in range with its problem
+pub plainly : (deck : Deck) → deckOf deck .axis ≡ plain
+unfolding deckOf
+plainly deck = refl
+
+-- the problem is prepared, and its deck is the one held
+abbrev pub prepared : {o : Opened} → Whole o → Prepared (o .problem)
+prepared {o} w =
+    record { deck = deckOf (o .deck); is = w .problem-is; axis = plainly (o .deck); range = w .solvable .range; full = w .solvable .full }
+
+-- as many lines are taken as stand in front
+module _ {o : Opened} (w : Whole o) where
+  pub vertical-taken : o .problem .nv ≡ length (take (o .problem .nv) (o .problem .v))
+  unfolding problemRecord
+  vertical-taken =
+      ap (λ (p : Problem). p .nv) (w .problem-is)
+      ∙ sym (ap length (ap (λ (p : Problem). take (p .nv) (p .v)) (w .problem-is) ∙ vertical-front (deckOf (o .deck))))
+
+  pub horizontal-taken : o .problem .nh ≡ length (take (o .problem .nh) (o .problem .h))
+  unfolding problemRecord
+  horizontal-taken =
+      ap (λ (p : Problem). p .nh) (w .problem-is)
+      ∙ sym (ap length (ap (λ (p : Problem). take (p .nh) (p .h)) (w .problem-is) ∙ horizontal-front (deckOf (o .deck))))
 
 -- ---- what `open_job` answers
 module _ (bytes : List ℕ) (o : Opened) (e : o ≡ openedRecord (readJob bytes)) where
@@ -52,32 +80,27 @@ module _ (bytes : List ℕ) (o : Opened) (e : o ≡ openedRecord (readJob bytes)
       go (refused why) p q = differ (sym f ∙ ap (λ (k : Opened). k .accepted) q)
       go (accepted job) p q = record { job = job; read = p; allowed = accepted-law bytes job .exactly .0 p .2 }
 
-  open-record : (s : Spelt bytes) → o ≡ openedDeck (s .job .deck)
-  unfolding openedRecord
-  open-record s = e ∙ ap openedRecord (s .read)
-
-  pub open-objects : (s : Spelt bytes) → o .objects ≡ objectsRecord (objectsOf (s .job .deck))
-  unfolding openedDeck
-  open-objects s = ap (λ (k : Opened). k .objects) (open-record s)
-
   module _ (s : Spelt bytes) where
+    open-record : o ≡ openedDeck (s .job .deck)
+    unfolding openedRecord
+    open-record = e ∙ ap openedRecord (s .read)
+
     deck-read : o .deck ≡ jobRecord (readJob bytes) .deck
     unfolding openedDeck
-    deck-read = ap (λ (k : Opened). k .deck) (open-record s) ∙ sym (read-deck bytes (jobRecord (readJob bytes)) refl s)
+    deck-read = ap (λ (k : Opened). k .deck) open-record ∙ sym (read-deck bytes (jobRecord (readJob bytes)) refl s)
 
     pub open-deck : deckOf (o .deck) ≡ s .job .deck
     open-deck = ap deckOf deck-read ∙ read-deckOf s (jobRecord (readJob bytes)) refl
 
-    pub open-prepared : Prepared (o .deck) (o .objects)
-    open-prepared =
-        let (range, posts, stops) = objects-ask s (jobRecord (readJob bytes)) refl in
-        record {
-          objects-are = open-objects s ∙ ap (λ (deck : Query.Deck). objectsRecord (objectsOf deck)) (sym open-deck);
-          range = subst (λ (d : Deck). InRange (deckOf d)) (sym deck-read) range;
-          full = subst (λ (d : Deck). NonEmpty (deckOf d .area)) (sym deck-read) (read-full s (jobRecord (readJob bytes)) refl);
-          posts = subst (λ (d : Deck). d .posts ≤ 64) (sym deck-read) posts;
-          stops = subst (λ (d : Deck). d .stops ≤ 512) (sym deck-read) stops;
-        }
+    pub open-problem : o .problem ≡ problemRecord (s .job .deck)
+    unfolding openedDeck
+    open-problem = ap (λ (k : Opened). k .problem) open-record
+
+    pub open-whole : Whole o
+    open-whole = record {
+      solvable = subst Solvable (sym deck-read) (read-solvable s (jobRecord (readJob bytes)) refl);
+      problem-is = open-problem ∙ ap problemRecord (sym open-deck);
+    }
 
   pub open-refused : {A : Type 0} (none : A) (f : Job → A) → o .accepted ≡ false → none ≡ onJob none f (readJob bytes)
   unfolding openedRecord openedDeck

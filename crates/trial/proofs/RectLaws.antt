@@ -14,8 +14,7 @@ use Rattle.query.specs.Range.{PlaceInRange}
 use Rattle.job_line.specs.Lines.{coordinates, inRange}
 use Rattle.job.proofs.RangeLaws.{coordinate-range}
 use Rattle.numbers.proofs.WordTests.{back, back-is}
-use Rattle.cuts.specs.CutRecord.{rectOf}
-use Rattle.problem.specs.ObjectProblem.{Ranged}
+use Rattle.pricing.specs.Columns.{Ranged}
 use Rattle.trial.specs.Opened.{placeInRange, rectAllowed}
 
 -- the test holds of the places that are in range, and of no others
@@ -51,44 +50,37 @@ rect-range r =
     )
 
 -- ---- the test of a rectangle, part by part
-module _ (xlo ylo xhi yhi : ℤ) where
+module _ (r : Rect) where
   abbrev low-test : Bool
-  low-test = placeInRange (record { x = xlo; y = ylo })
+  low-test = placeInRange (corner r)
 
   abbrev high-test : Bool
-  high-test = placeInRange (record { x = xhi; y = yhi })
+  high-test = placeInRange (record { x = r .xhi; y = r .yhi })
 
-  pub low-off : low-test ≡ false → false ≡ rectAllowed (rectOf xlo ylo xhi yhi)
+  pub low-off : low-test ≡ false → false ≡ rectAllowed r
   unfolding rectAllowed
   low-off a = rw a
 
-  pub high-off : low-test ≡ true → high-test ≡ false → false ≡ rectAllowed (rectOf xlo ylo xhi yhi)
+  pub high-off : low-test ≡ true → high-test ≡ false → false ≡ rectAllowed r
   unfolding rectAllowed
   high-off a b = rw (a, b)
 
-  pub across-off : low-test ≡ true → high-test ≡ true → leZ xlo xhi ≡ false → false ≡ rectAllowed (rectOf xlo ylo xhi yhi)
+  pub across-off : low-test ≡ true → high-test ≡ true → leZ (r .xlo) (r .xhi) ≡ false → false ≡ rectAllowed r
   unfolding rectAllowed
   across-off a b c = rw (a, b, c)
 
-  pub deep-on : low-test ≡ true → high-test ≡ true → leZ xlo xhi ≡ true → leZ ylo yhi ≡ rectAllowed (rectOf xlo ylo xhi yhi)
+  pub deep-on : low-test ≡ true → high-test ≡ true → leZ (r .xlo) (r .xhi) ≡ true → leZ (r .ylo) (r .yhi) ≡ rectAllowed r
   unfolding rectAllowed
   deep-on a b c = rw (a, b, c)
 
 -- ---- numbers as 64 bits hold them
-pub record Fits4 (xlo ylo xhi yhi : ℤ) : Type 0 where
-  pub left : SFits w64 xlo
-  pub front : SFits w64 ylo
-  pub right : SFits w64 xhi
-  pub back : SFits w64 yhi
-
 pub place-held : {x y : ℤ} → SFits w64 x → SFits w64 y → _≡_ {A = Place} (record { x = back x; y = back y }) (record { x = x; y = y })
 place-held f g = rw (back-is f, back-is g)
 
-pub rect-held : {xlo ylo xhi yhi : ℤ} → Fits4 xlo ylo xhi yhi → rectOf (back xlo) (back ylo) (back xhi) (back yhi) ≡ rectOf xlo ylo xhi yhi
-rect-held f = rw (back-is (f .left), back-is (f .front), back-is (f .right), back-is (f .back))
+pub rect-held : {xlo ylo xhi yhi : ℤ} → SFits w64 xlo → SFits w64 ylo → SFits w64 xhi → SFits w64 yhi →
+    _≡_ {A = Rect} (record { xlo = back xlo; ylo = back ylo; xhi = back xhi; yhi = back yhi }) (record { xlo = xlo; ylo = ylo; xhi = xhi; yhi = yhi })
+rect-held f g h k = rw (back-is f, back-is g, back-is h, back-is k)
 
-pub tested-place : {x y : ℤ} {r t : Bool} → SFits w64 x → SFits w64 y → r ≡ placeInRange (record { x = back x; y = back y }) → r ≡ t → placeInRange (record { x = x; y = y }) ≡ t
+pub tested-place : {x y : ℤ} {r t : Bool} → SFits w64 x → SFits w64 y → r ≡ placeInRange (record { x = back x; y = back y }) → r ≡ t →
+    placeInRange (record { x = x; y = y }) ≡ t
 tested-place f g e t = sym (e ∙ ap placeInRange (place-held f g)) ∙ t
-
-pub tested-rect : {xlo ylo xhi yhi : ℤ} {r t : Bool} → Fits4 xlo ylo xhi yhi → r ≡ rectAllowed (rectOf (back xlo) (back ylo) (back xhi) (back yhi)) → r ≡ t → rectAllowed (rectOf xlo ylo xhi yhi) ≡ t
-tested-rect f e t = sym (e ∙ ap rectAllowed (rect-held f)) ∙ t

@@ -5,7 +5,7 @@ use denote.Ref.{now}
 use native.Mathlib.Omega.{arith}
 use Rattle.job.specs.Format.{readJob}
 use Rattle.job.proofs.ReadDeck.{Spelt}
-use Rattle.trial.proofs.OpenLaws.{open-accepted, open-prepared, open-deck}
+use Rattle.trial.proofs.OpenLaws.{open-accepted, open-whole, open-deck}
 use Rattle.kernels.proofs.SumLaws.{kernel-none, kernel-refused, too-many, kernel-answer}
 use borrow.Author.Needs.{needs}
 use Rattle.kernels.proofs.kernel_sum.Statement.{statement}
@@ -28,7 +28,7 @@ returns-3 : tie.Need-returns-3
 returns-3 c = let s = c .before .before .before .before .before .before in too-many (s .args .which) (s .args .k) (c .before .before .before .before .if1 .left) (spelt (c .before)) (omega (arith, c .if3 .taken))
 
 sum-of-requires : tie.Need-sum-of-requires
-sum-of-requires c κs = (open-prepared _ _ (c .before .before .before .open-job .ensures) (spelt (c .before)), c .before .before .before .before .if1 .left, c .if3 .left)
+sum-of-requires c κs = (open-whole _ _ (c .before .before .before .open-job .ensures) (spelt (c .before)), c .before .before .before .before .if1 .left, c .if3 .left)
 
 cast-result : tie.Need-cast-result
 cast-result c = omega (arith, c .sum-of .ensures .within)

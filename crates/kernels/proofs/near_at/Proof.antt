@@ -1,34 +1,61 @@
--- `kernels::near_at` meets its contract.
+-- `kernels::near_at` meets its contract: the near of a row is a natural number in range.
 -- Assumes nothing.
-use mathlib.Core.Path.{ap}
-use Prim.Native.Nat.{_%_}
+use mathlib.Core.Path.{_≡_, ap, _∙_}
+use mathlib.Core.List.{List}
+use Prim.Native.Nat.{ℕ, _+_, _%_}
+use native.Mathlib.Omega.{arith}
+use lib.IntN.{ℤ, pos, natAbs}
 use lib.ListN.{getD}
-use Rattle.deck.specs.declared.Objects.{Objects}
-use Rattle.pricing.proofs.RecordLaws.{made-range}
+use Rattle.pricing.specs.Columns.{ObjectInRange}
+use Rattle.pricing.proofs.NarrowLaws.{near-word, near-cast, near-wide}
+use Rattle.pricing.proofs.RecordLaws.{made-priceable}
 use borrow.Author.Needs.{needs}
 use Rattle.kernels.proofs.near_at.Statement.{statement}
 use Rattle.kernels.proofs.near_at.Tie as tie
 
-of-deck-requires : tie.Need-of-deck-requires
-of-deck-requires c κs = search needs
+abbrev number : tie.After-columns-of → ℕ → ℤ
+number c i = getD (c .columns-of .result) i (pos 0)
+
+abbrev at : tie.After-columns-of → ℕ
+at c = c .before .args .t % 512
+
+row : (c : tie.After-columns-of) → ObjectInRange (number c (at c)) (number c (512 + at c)) (number c (1024 + at c)) (number c (1536 + at c))
+row c = rw (c .columns-of .ensures) (made-priceable _ (c .before .pre .range) .row (at c) (omega arith))
+
+columns-of-requires : tie.Need-columns-of-requires
+columns-of-requires c κs = search needs
+
+add-result : tie.Need-add-result
+add-result c = search needs
 
 mul-result : tie.Need-mul-result
 mul-result c = search needs
 
-array-read-result : tie.Need-array-read-result
-array-read-result c = search needs
+array-copy-out-result : tie.Need-array-copy-out-result
+array-copy-out-result c = search needs
 
 cast-result : tie.Need-cast-result
-cast-result c = search needs
+cast-result c = near-cast (row (c .before))
+
+cast-result-2 : tie.Need-cast-result-2
+cast-result-2 c = near-wide (row (c .before))
 
 returns : tie.Need-returns
 returns c =
-    let s = c .before .before in
-    let at = s .args .t % 512 in
+    let word = near-word (row (c .before)) in
     record {
-      is = ap (λ (k : Objects). getD (k .near) at 0) (c .before .of-deck .ensures);
-      within = made-range _ (s .pre .0) _ (c .before .of-deck .ensures) .near-range at;
+      is = ap natAbs word ∙ ap (λ (columns : List ℤ). natAbs (getD columns (1536 + at (c .before)) (pos 0))) (c .before .columns-of .ensures);
+      within = rw word (row (c .before) .near-range);
     }
 
 pub near-at-spec : {M : Type 1} → statement M
-near-at-spec = tie.close (tie.spec of-deck-requires mul-result array-read-result cast-result returns)
+near-at-spec =
+    tie.close
+    (tie.spec
+    columns-of-requires
+    add-result
+    mul-result
+    array-copy-out-result
+    cast-result
+    cast-result-2
+    returns)

@@ -1,17 +1,15 @@
 -- `kernels::nears` meets its contract: after t turns the sum is that of the first t turns.
 -- Assumes nothing.
-use Prim.Native.Nat.{_-_, _%_}
-use lib.ListN.{getD}
+use Prim.Native.Nat.{_-_}
 use Rattle.deck.specs.DeckOf.{deckOf}
-use Rattle.deck.specs.ObjectColumns.{objectsRecord}
-use Rattle.deck.specs.Objects.{objectsOf}
+use Rattle.kernels.specs.Sums.{nearTurn}
 use Rattle.kernels.proofs.SumLaws.{Summed, summed-none, summed-more, summed-all}
 use native.Mathlib.Omega.{arith}
 use Rattle.kernels.proofs.nears.Statement.{statement}
 use Rattle.kernels.proofs.nears.Tie as tie
 
 abbrev Inv-loop : tie.InvT-loop
-Inv-loop deck k sum₀ t₀ sum t = Summed (λ t. getD (objectsRecord (objectsOf (deckOf deck)) .near) (t % 512) 0) 720000 k sum t
+Inv-loop deck k sum₀ t₀ sum t = Summed (nearTurn (deckOf deck)) 720000 k sum t
 
 abbrev μ-loop : tie.MeasureT-loop
 μ-loop deck k sum₀ t₀ sum t = k - t
@@ -23,7 +21,7 @@ near-at-requires : tie.Need-near-at-requires Inv-loop μ-loop
 near-at-requires c κs = c .before .before .pre .0
 
 loop-again : tie.Need-loop-again Inv-loop μ-loop
-loop-again c = let l = c .before .before in summed-more _ (l .loop .inv) (c .before .loop-test .taken) (c .near-at .ensures .is) (c .near-at .ensures .within)
+loop-again c = summed-more _ (c .before .before .loop .inv) (c .before .loop-test .taken) (c .near-at .ensures .is) (c .near-at .ensures .within)
 
 add-sum : tie.Need-add-sum Inv-loop μ-loop
 add-sum c = let next = loop-again c in omega (arith, next .most, next .within, c .before .before .before .pre .1)

@@ -1,50 +1,59 @@
 -- `kernels::sum_of` meets its contract: each sum is found by the kernel's number.
 -- Assumes nothing.
 use native.Mathlib.Omega.{arith}
-use Rattle.query.specs.Place.{x-axis, y-axis}
-use Rattle.problem.proofs.DeckProblem.{deck-priceable}
-use Rattle.trial.proofs.CutLaws.{found-in-order}
+use borrow.Author.Needs.{needs}
+use Rattle.pricing.specs.Columns.{Priceable}
+use Rattle.problem.proofs.DeckProblem.{prepared-priceable, prepared-lined}
+use Rattle.trial.proofs.OpenLaws.{prepared, vertical-taken, horizontal-taken}
 use Rattle.kernels.proofs.SumLaws.{cost-sum, load-sum, bound-sum, cut-sum, near-sum}
 use Rattle.kernels.proofs.sum_of.Statement.{statement}
 use Rattle.kernels.proofs.sum_of.Tie as tie
 
+priceable : (s : tie.Start) → Priceable (s .args .o .problem .columns) (s .args .o .problem .count)
+priceable s = prepared-priceable _ (prepared (s .pre .0))
+
 costs-requires : tie.Need-costs-requires
-costs-requires c κs = let h = c .before .before .before .before .before .before .before .pre in (deck-priceable _ _ (h .0), h .2)
+costs-requires c κs = let s = c .before .before .before .before in (priceable s, s .pre .2)
 
 returns : tie.Need-returns
-returns c = cost-sum _ _ (c .before .before .before .before .before .before .before .before .pre .0) _ _ (c .before .before .before .before .before .before .if1 .taken) (c .costs .ensures)
+returns c = cost-sum (c .before .before .before .before .before .pre .0) _ _ (c .before .before .before .if1 .taken) (c .costs .ensures)
 
 loads-requires : tie.Need-loads-requires
-loads-requires c κs = let h = c .before .before .before .before .before .before .before .before .pre in (deck-priceable _ _ (h .0), h .2)
+loads-requires c κs = let s = c .before .before .before .before .before in (priceable s, s .pre .2)
 
 returns-2 : tie.Need-returns-2
-returns-2 c = load-sum _ _ (c .before .before .before .before .before .before .before .before .before .pre .0) _ _ (c .before .before .before .before .before .before .if2 .taken) (c .loads .ensures)
+returns-2 c = load-sum (c .before .before .before .before .before .before .pre .0) _ _ (c .before .before .before .if2 .taken) (c .loads .ensures)
 
 bounds-requires : tie.Need-bounds-requires
-bounds-requires c κs = let h = c .before .before .before .before .before .before .before .before .before .pre in (deck-priceable _ _ (h .0), h .2)
+bounds-requires c κs = let s = c .before .before .before .before .before .before in (priceable s, s .pre .2)
 
 returns-3 : tie.Need-returns-3
-returns-3 c = bound-sum _ _ (c .before .before .before .before .before .before .before .before .before .before .pre .0) _ _ (c .before .before .before .before .before .before .if3 .taken) (c .bounds .ensures)
+returns-3 c = bound-sum (c .before .before .before .before .before .before .before .pre .0) _ _ (c .before .before .before .if3 .taken) (c .bounds .ensures)
 
-lines-of-requires : tie.Need-lines-of-requires
-lines-of-requires c κs = c .before .before .before .before .before .pre .0
+slice-aggregate-cuts : tie.Need-slice-aggregate-cuts
+slice-aggregate-cuts c = vertical-taken (c .before .before .before .before .before .before .before .before .before .before .before .pre .0)
 
-lines-of-requires-2 : tie.Need-lines-of-requires-2
-lines-of-requires-2 c κs = c .before .before .before .before .before .before .pre .0
+slice-aggregate-cuts-2 : tie.Need-slice-aggregate-cuts-2
+slice-aggregate-cuts-2 c = horizontal-taken (c .before .before .before .before .before .before .before .before .before .before .before .before .pre .0)
 
 cuts-requires : tie.Need-cuts-requires
-cuts-requires c κs = let h = c .before .before .before .before .before .before .before .before .before .before .before .pre in (found-in-order _ (h .0 .range) x-axis _ (c .before .before .before .before .before .lines-of .ensures), found-in-order _ (h .0 .range) y-axis _ (c .before .before .before .before .lines-of2 .ensures), h .2)
+cuts-requires c κs = let h = c .before .before .before .before .before .before .before .before .before .before .before .before .pre in (prepared-lined _ (prepared (h .0)), h .2)
 
 returns-4 : tie.Need-returns-4
-returns-4 c = cut-sum _ _ (c .before .before .before .before .before .before .before .before .before .before .before .before .pre .0) _ _ (c .before .before .before .before .before .before .before .if4 .taken) _ _ (c .before .before .before .before .before .before .lines-of .ensures) (c .before .before .before .before .before .lines-of2 .ensures) (c .cuts .ensures)
+returns-4 c = cut-sum (c .before .before .before .before .before .before .before .before .before .before .before .before .before .pre .0) _ _ (c .before .before .before .before .before .before .before .before .if4 .taken) (c .cuts .ensures)
 
 nears-requires : tie.Need-nears-requires
-nears-requires c κs = let h = c .before .before .before .before .before .before .pre in ((h .0 .range, h .0 .posts, h .0 .stops), h .2)
+nears-requires c κs = search needs
 
 returns-5 : tie.Need-returns-5
 returns-5 c =
-    let s = c .before .before .before .before .before .before .before in
-    near-sum _ _ (s .pre .0) (s .args .which) _ (omega (arith, s .pre .1, c .before .before .before .before .before .if1 .left, c .before .before .before .before .if2 .left, c .before .before .before .if3 .left, c .before .before .if4 .left)) (c .nears .ensures)
+    let fourth = c .before .before in
+    let third = fourth .before in
+    let second = third .before in
+    let first = second .before in
+    let s = first .before .before in
+    near-sum (s .pre .0) (s .args .which) _ (omega (arith, s .pre .1, first .if1 .left, second .if2 .left, third .if3 .left, fourth .if4 .left))
+    (c .nears .ensures)
 
 pub sum-of-spec : {M : Type 1} → statement M
 sum-of-spec =
@@ -56,8 +65,8 @@ sum-of-spec =
     returns-2
     bounds-requires
     returns-3
-    lines-of-requires
-    lines-of-requires-2
+    slice-aggregate-cuts
+    slice-aggregate-cuts-2
     cuts-requires
     returns-4
     nears-requires

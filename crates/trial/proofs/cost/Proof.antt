@@ -5,36 +5,30 @@ use mathlib.Core.Bool.{true}
 use borrow.Author.Tests.{not-true, not-false}
 use denote.Ref.{now}
 use Rattle.numbers.proofs.Words.{is-true}
-use Rattle.query.specs.Range.{PlaceInRange, costLimit}
+use Rattle.query.specs.Place.{Place}
+use Rattle.query.specs.Range.{costLimit}
 use Rattle.job.specs.Format.{readJob}
-use Rattle.problem.specs.ObjectProblem.{Prepared}
-use Rattle.pricing.specs.Columns.{Figure, rowsOf}
-use Rattle.pricing.specs.ObjectFigures.{costOf}
+use Rattle.pricing.specs.Columns.{Figure}
 use Rattle.job.proofs.ReadDeck.{Spelt}
 use Rattle.trial.specs.Opened.{placeInRange}
-use Rattle.trial.proofs.OpenLaws.{open-accepted, open-prepared, open-refused, outside}
-use Rattle.trial.proofs.RectLaws.{place-range, tested-place}
-use Rattle.problem.proofs.Coordinates.{near-places}
-use Rattle.problem.proofs.DeckProblem.{deck-priceable}
-use Rattle.trial.proofs.FigureLaws.{priced-figure, cost-answer}
+use Rattle.trial.proofs.OpenLaws.{open-accepted, open-refused, outside}
+use Rattle.trial.proofs.RectLaws.{place-range, place-held, tested-place}
+use Rattle.trial.proofs.FigureLaws.{open-priceable, cost-answer}
 use borrow.Author.Needs.{needs}
 use native.Mathlib.Omega.{arith}
 use Rattle.trial.proofs.cost.Statement.{statement}
 use Rattle.trial.proofs.cost.Tie as tie
 
+abbrev place : tie.Start → Place
+place s = record { x = s .args .x; y = s .args .y }
+
 -- the job is accepted
 spelt : (c : tie.Else1) → Spelt (now (c .before .before .before .before .args .job))
 spelt c = open-accepted _ _ (c .before .before .open-job .ensures) (not-false _ (c .if1 .left))
 
-ready : (c : tie.Else1) → Prepared (c .before .before .open-job .result .deck) (c .before .before .open-job .result .objects)
-ready c = open-prepared _ _ (c .before .before .open-job .ensures) (spelt c)
-
 -- the place is in range
-on : (c : tie.Else2) → placeInRange (record { x = c .before .before .before .before .before .before .args .x; y = c .before .before .before .before .before .before .args .y }) ≡ true
+on : (c : tie.Else2) → placeInRange (place (c .before .before .before .before .before .before)) ≡ true
 on c = let s = c .before .before .before .before .before .before in tested-place (s .fits .x) (s .fits .y) (c .before .place-in-range .ensures) (not-false _ (c .if2 .left))
-
-range : (c : tie.Else2) → PlaceInRange (record { x = c .before .before .before .before .before .before .args .x; y = c .before .before .before .before .before .before .args .y })
-range c = place-range _ .0 (is-true _ (on c))
 
 open-job-requires : tie.Need-open-job-requires
 open-job-requires c κs = search needs
@@ -46,19 +40,27 @@ place-in-range-requires : tie.Need-place-in-range-requires
 place-in-range-requires c κs = search needs
 
 returns-2 : tie.Need-returns-2
-returns-2 c = let s = c .before .before .before .before .before .before in outside _ _ _ (readJob (now (s .args .job))) (tested-place (s .fits .x) (s .fits .y) (c .before .place-in-range .ensures) (not-true _ (c .if2 .taken)))
+returns-2 c =
+    let s = c .before .before .before .before .before .before in
+    outside _ _ _ (readJob (now (s .args .job)))
+    (tested-place (s .fits .x) (s .fits .y) (c .before .place-in-range .ensures) (not-true _ (c .if2 .taken)))
 
-priced-requires : tie.Need-priced-requires
-priced-requires c κs = let d = c .before .before .before .before .before .before in let s = d .before .before .before .before .before .before in (deck-priceable _ _ (ready (d .before .before)), near-places (s .args .x) (s .args .y) (range d .x-range) (range d .y-range))
-
-figure : (c : tie.After-priced) → Figure (costOf (rowsOf (c .before .before .before .before .before .before .before .before .before .before .before .open-job .result .objects)) (record { x = c .before .before .before .before .before .before .before .before .before .before .before .before .before .args .x; y = c .before .before .before .before .before .before .before .before .before .before .before .before .before .args .y })) costLimit (c .priced .result .cost)
-figure c = let d = c .before .before .before .before .before .before .before in let s = d .before .before .before .before .before .before in priced-figure (deck-priceable _ _ (ready (d .before .before))) (s .args .x) (s .args .y) (range d .x-range) (range d .y-range) (c .priced .ensures)
+cost-requires : tie.Need-cost-requires
+cost-requires c κs =
+    let d = c .before .before .before in
+    let s = d .before .before .before .before .before .before in
+    (open-priceable (d .before .before .before .before .open-job .ensures) (spelt (d .before .before)),
+      rw (place-held (s .fits .x) (s .fits .y)) (place-range (place s) .0 (is-true _ (on d))))
 
 cast-result : tie.Need-cast-result
-cast-result c = omega (arith, figure (c .before) .within)
+cast-result c = omega (arith, c .cost .ensures .within)
 
 returns-3 : tie.Need-returns-3
-returns-3 c = let d = c .before .before .before .before .before .before .before .before in cost-answer (d .before .before .before .before .open-job .ensures) (spelt (d .before .before)) _ (on d) (figure (c .before))
+returns-3 c =
+    let d = c .before .before .before .before in
+    let s = d .before .before .before .before .before .before in
+    cost-answer (d .before .before .before .before .open-job .ensures) (spelt (d .before .before)) (place s) (on d)
+    (rw (place-held (s .fits .x) (s .fits .y)) at (c .cost .ensures))
 
 pub cost-spec : {M : Type 1} → statement M
-cost-spec = tie.close (tie.spec open-job-requires returns place-in-range-requires returns-2 priced-requires cast-result returns-3)
+cost-spec = tie.close (tie.spec open-job-requires returns place-in-range-requires returns-2 cost-requires cast-result returns-3)

@@ -1,6 +1,6 @@
 -- `trial::trial_figure` meets its contract: each figure is found by its place.
 -- Assumes nothing.
-use mathlib.Core.Path.{ap, _∙_}
+use mathlib.Core.Path.{_≡_, ap, _∙_}
 use native.Mathlib.Omega.{arith}
 use lib.IntN.{ℤ}
 use Prim.Native.Nat.{_≤_}
@@ -8,24 +8,27 @@ use mathlib.Core.List.{List}
 use mir.Syntax.{w64}
 use mir.ValLaws.{toZ-ofZ}
 use denote.Ref.{now}
+use Rattle.numbers.proofs.WordTests.{back}
 use Rattle.query.specs.Place.{Place, Rect}
 use Rattle.job.specs.Format.{Result, readJob}
-use Rattle.cuts.specs.CutRecord.{rectOf}
 use Rattle.trial.specs.Trial.{costFigure, loadFigure, boundFigure, cutAxisFigure, cutLineFigure, deckFigures}
-use Rattle.trial.proofs.RectLaws.{Fits4, place-held, rect-held}
+use Rattle.trial.proofs.RectLaws.{place-held, rect-held}
 use Rattle.trial.proofs.NumberLaws.{number-at, no-deck-figure, near-negative, near-cast, near-natural}
 use borrow.Author.Needs.{needs}
 use Rattle.trial.proofs.trial_figure.Statement.{statement}
 use Rattle.trial.proofs.trial_figure.Tie as tie
 
-fits : (c : tie.Start) → Fits4 (c .args .xlo) (c .args .ylo) (c .args .xhi) (c .args .yhi)
-fits c = record { left = c .fits .xlo; front = c .fits .ylo; right = c .fits .xhi; back = c .fits .yhi }
+abbrev rect : tie.Start → Rect
+rect c = record { xlo = c .args .xlo; ylo = c .args .ylo; xhi = c .args .xhi; yhi = c .args .yhi }
+
+held : (c : tie.Start) → record { xlo = back (rect c .xlo); ylo = back (rect c .ylo); xhi = back (rect c .xhi); yhi = back (rect c .yhi) } ≡ rect c
+held c = rect-held (c .fits .xlo) (c .fits .ylo) (c .fits .xhi) (c .fits .yhi)
 
 abbrev result : tie.Start → Result
 result c = readJob (now (c .args .job))
 
 abbrev figures : tie.Start → List ℤ
-figures c = deckFigures (rectOf (c .args .xlo) (c .args .ylo) (c .args .xhi) (c .args .yhi)) (result c)
+figures c = deckFigures (rect c) (result c)
 
 before-requires : tie.Need-before-requires
 before-requires c κs = search needs
@@ -55,31 +58,31 @@ load-requires : tie.Need-load-requires
 load-requires c κs = search needs
 
 returns-5 : tie.Need-returns-5
-returns-5 c = let s = c .before .before .before .before .before .before in number-at (figures s) _ 3 _ (c .before .if5 .taken) (toZ-ofZ w64 _ (record { sfits = c .load .ok }) ∙ c .load .ensures ∙ ap (λ (r : Rect). loadFigure r (result s)) (rect-held (fits s)))
+returns-5 c = let s = c .before .before .before .before .before .before in number-at (figures s) _ 3 _ (c .before .if5 .taken) (toZ-ofZ w64 _ (record { sfits = c .load .ok }) ∙ c .load .ensures ∙ ap (λ (r : Rect). loadFigure r (result s)) (held s))
 
 bound-requires : tie.Need-bound-requires
 bound-requires c κs = search needs
 
 returns-6 : tie.Need-returns-6
-returns-6 c = let s = c .before .before .before .before .before .before .before in number-at (figures s) _ 4 _ (c .before .if6 .taken) (toZ-ofZ w64 _ (record { sfits = c .bound .ok }) ∙ c .bound .ensures ∙ ap (λ (r : Rect). boundFigure r (result s)) (rect-held (fits s)))
+returns-6 c = let s = c .before .before .before .before .before .before .before in number-at (figures s) _ 4 _ (c .before .if6 .taken) (toZ-ofZ w64 _ (record { sfits = c .bound .ok }) ∙ c .bound .ensures ∙ ap (λ (r : Rect). boundFigure r (result s)) (held s))
 
 cut-axis-requires : tie.Need-cut-axis-requires
 cut-axis-requires c κs = search needs
 
 returns-7 : tie.Need-returns-7
-returns-7 c = let s = c .before .before .before .before .before .before .before .before in number-at (figures s) _ 5 _ (c .before .if7 .taken) (toZ-ofZ w64 _ (record { sfits = c .cut-axis .ok }) ∙ c .cut-axis .ensures ∙ ap (λ (r : Rect). cutAxisFigure r (result s)) (rect-held (fits s)))
+returns-7 c = let s = c .before .before .before .before .before .before .before .before in number-at (figures s) _ 5 _ (c .before .if7 .taken) (toZ-ofZ w64 _ (record { sfits = c .cut-axis .ok }) ∙ c .cut-axis .ensures ∙ ap (λ (r : Rect). cutAxisFigure r (result s)) (held s))
 
 cut-line-requires : tie.Need-cut-line-requires
 cut-line-requires c κs = search needs
 
 returns-8 : tie.Need-returns-8
-returns-8 c = let s = c .before .before .before .before .before .before .before .before .before in number-at (figures s) _ 6 _ (c .before .if8 .taken) (toZ-ofZ w64 _ (record { sfits = c .cut-line .ok }) ∙ c .cut-line .ensures ∙ ap (λ (r : Rect). cutLineFigure r (result s)) (rect-held (fits s)))
+returns-8 c = let s = c .before .before .before .before .before .before .before .before .before in number-at (figures s) _ 6 _ (c .before .if8 .taken) (toZ-ofZ w64 _ (record { sfits = c .cut-line .ok }) ∙ c .cut-line .ensures ∙ ap (λ (r : Rect). cutLineFigure r (result s)) (held s))
 
 returns-9 : tie.Need-returns-9
 returns-9 c =
     let s = c .before .before .before .before .before .before .before .before in
     let four : 4 ≤ s .args .which = omega (arith, c .before .before .before .before .before .before .if1 .left, c .before .before .before .before .before .if2 .left, c .before .before .before .before .if4 .left, c .before .before .before .if5 .left) in
-    no-deck-figure (rectOf (s .args .xlo) (s .args .ylo) (s .args .xhi) (s .args .yhi)) (result s) (s .args .which) (omega (arith, four, c .before .before .if6 .left, c .before .if7 .left, c .if8 .left))
+    no-deck-figure (rect s) (result s) (s .args .which) (omega (arith, four, c .before .before .if6 .left, c .before .if7 .left, c .if8 .left))
 
 pub trial-figure-spec : {M : Type 1} → statement M
 trial-figure-spec =

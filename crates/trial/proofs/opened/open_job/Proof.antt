@@ -1,9 +1,8 @@
--- `trial::opened::open_job` meets its contract: the deck that was read is in range, so that its objects can be found.
+-- `trial::opened::open_job` meets its contract: the deck that was read is in range, so that its problem can be made.
 -- Assumes nothing.
 use borrow.Author.Needs.{needs}
-use Rattle.job.proofs.ReadDeck.{read-accepted, read-refused, objects-ask}
-use Rattle.trial.proofs.OpenLaws.{opened-accepted, opened-refused}
-use Rattle.deck.specs.ObjectColumns.{objectsRecord}
+use Rattle.job.proofs.ReadDeck.{read-accepted, read-refused}
+use Rattle.trial.proofs.OpenLaws.{read-solvable, opened-accepted, opened-refused}
 use Rattle.trial.proofs.opened.open_job.Statement.{statement}
 use Rattle.trial.proofs.opened.open_job.Tie as tie
 
@@ -14,17 +13,22 @@ enum-told : tie.Need-enum-told
 enum-told c = search needs
 
 of-deck-requires : tie.Need-of-deck-requires
-of-deck-requires c κs = objects-ask (read-accepted _ _ (c .before .before .before .read .ensures) _ (c .enum-told .given .1)) _ (c .before .before .before .read .ensures)
+of-deck-requires c κs =
+    let e = c .before .before .before .read .ensures in
+    read-solvable (read-accepted _ _ e _ (c .enum-told .given .1)) _ e
 
 enum-told-2 : tie.Need-enum-told-2
 enum-told-2 c = search needs
 
 returns : tie.Need-returns
-returns c = opened-accepted (read-accepted _ _ (c .before .before .before .before .read .ensures) _ (c .before .enum-told .given .1)) _ (c .before .before .before .before .read .ensures) _ (c .of-deck .ensures)
+returns c =
+    let e = c .before .before .before .before .read .ensures in
+    opened-accepted (read-accepted _ _ e _ (c .before .enum-told .given .1)) _ e _ (c .of-deck .ensures)
 
 returns-2 : tie.Need-returns-2
-unfolding objectsRecord
-returns-2 c = opened-refused _ _ _ (c .before .before .before .read .ensures) (read-refused _ _ (c .before .before .before .read .ensures) _ (c .enum-told2 .given .1))
+returns-2 c =
+    let e = c .before .before .before .read .ensures in
+    opened-refused _ _ _ e (read-refused _ _ e _ (c .enum-told2 .given .1))
 
 pub open-job-spec : {M : Type 1} → statement M
 open-job-spec =
