@@ -71,7 +71,12 @@ unfolding sumTo
 sum-more f t = rw add-one
 
 pub summed-more : {f : ℕ → ℕ} {limit k sum t : ℕ} (v : ℕ) → Summed f limit k sum t → t < k → v ≡ f t → v ≤ limit → Summed f limit k (sum + v) (t + 1)
-summed-more {f} {limit} {k} {sum} {t} v s h e l = record { within = omega arith; is = ap (λ (n : ℕ). n + v) (s .is) ∙ ap (λ (n : ℕ). sumTo f t + n) e ∙ sym (sum-more f t); most = omega (arith, s .most) }
+summed-more {f} {limit} {k} {sum} {t} v s h e l = record {
+  within = omega arith;
+  is =
+      ap (λ (n : ℕ). n + v) (s .is) ∙ ap (λ (n : ℕ). sumTo f t + n) e ∙ sym (sum-more f t);
+  most = omega (arith, s .most);
+}
 
 pub summed-all : {f : ℕ → ℕ} {limit k sum t : ℕ} → Summed f limit k sum t → k ≤ t → k ≤ 100000 → limit ≤ costLimit → Figure (sumTo f k) (100000 * costLimit) sum
 summed-all {f} {limit} {k} {sum} {t} s h few small =
@@ -148,8 +153,10 @@ module _ (which k : ℕ) (w : which ≤ 4) where
     pub too-many : 100000 < k → minusOne ≡ kernelSum which k (readJob bytes)
     too-many h = sym (ap (λ (b : Bool). cond b minusOne (pos (sumTo (turn (s .job .deck) which) k))) (lt-ltb 100000 k h)) ∙ sum-is
 
-    pub kernel-answer : {deck : Deck} {n : ℕ} → deck ≡ s .job .deck → k ≤ 100000 → Figure (sumTo (turn deck which) k) (100000 * costLimit) n → toZ w64 n ≡ kernelSum which k (readJob bytes)
-    kernel-answer {deck} {n} e h fig = toZ-pos w64 n (omega (arith, fig .within)) ∙ ap pos (fig .is ∙ ap (λ (d : Deck). sumTo (turn d which) k) e) ∙ sym (ap (λ (b : Bool). cond b minusOne (pos (sumTo (turn (s .job .deck) which) k))) (le-ltb 100000 k h)) ∙ sum-is
+    pub kernel-answer : {deck : Deck} {n : ℕ} → deck ≡ s .job .deck → k ≤ 100000 → Figure (sumTo (turn deck which) k) (100000 * costLimit) n →
+        toZ w64 n ≡ kernelSum which k (readJob bytes)
+    kernel-answer {deck} {n} e h fig = toZ-pos w64 n (omega (arith, fig .within)) ∙ ap pos (fig .is ∙ ap (λ (d : Deck). sumTo (turn d which) k) e)
+        ∙ sym (ap (λ (b : Bool). cond b minusOne (pos (sumTo (turn (s .job .deck) which) k))) (le-ltb 100000 k h)) ∙ sum-is
 
 -- ---- numbers of a turn
 pub product-fits : (t factor : ℕ) → factor ≤ 65536 → (t % 65536) * factor ≤ 65536 * 65536

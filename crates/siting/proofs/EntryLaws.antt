@@ -51,11 +51,14 @@ module _ (job out : List ℕ) (cells : List ℤ) (out′ : List ℕ) (r : Respon
 
   pub entry-report : (x : Report) → r .answer ≡ Answered.Report x → record { result = toZ w64 (r .bytes); out = out′ } ≡ entry job out
   unfolding resultOf
-  entry-report x e = ap (λ (z : ℤ). record { result = z; out = out′ }) (toZ-pos w64 (r .bytes) (omega (arith, s .few)) ∙ ap pos (s .filled .number ∙ ap (λ (a : Answer). length (textWritten a)) e) ∙ ap (λ (a : Answer). resultOf (reportAnswer a)) (sym e)) ∙ entry-is
+  entry-report x e = ap (λ (z : ℤ). record { result = z; out = out′ }) (toZ-pos w64 (r .bytes) (omega (arith, s .few))
+      ∙ ap pos (s .filled .number ∙ ap (λ (a : Answer). length (textWritten a)) e) ∙ ap (λ (a : Answer). resultOf (reportAnswer a)) (sym e)) ∙ entry-is
 
-  pub entry-refused : (why : Refusal) → r .answer ≡ Answered.Refused why → (n : ℕ) → n ≡ numberOf why → record { result = toZ w64 (ofZ w64 (toZ w64 0 -ℤ toZ w64 n)); out = out′ } ≡ entry job out
+  pub entry-refused : (why : Refusal) → r .answer ≡ Answered.Refused why → (n : ℕ) → n ≡ numberOf why →
+      record { result = toZ w64 (ofZ w64 (toZ w64 0 -ℤ toZ w64 n)); out = out′ } ≡ entry job out
   unfolding resultOf
-  entry-refused why e n f = ap (λ (z : ℤ). record { result = z; out = out′ }) (rw f (minus-number why) ∙ ap (λ (a : Answer). resultOf (reportAnswer a)) (sym e)) ∙ entry-is
+  entry-refused why e n f = ap (λ (z : ℤ). record { result = z; out = out′ }) (rw f (minus-number why) ∙ ap (λ (a : Answer). resultOf (reportAnswer a)) (sym e))
+      ∙ entry-is
 
 -- ---- the program's text
 padded-is : (text : List ℕ) → length text ≤ 128 → overwritten text (replicate 128 0) ≡ padded 128 0 text
@@ -67,7 +70,8 @@ unfolding overwritten
 nothing-over out = refl
 
 -- a text written over zeros
-held : {out : List ℕ} {n : ℕ} (text : List ℕ) → Overwrote (replicate 128 0) text out n → length text ≤ 128 → record { length = n; bytes = out } ≡ textRecord text
+held : {out : List ℕ} {n : ℕ} (text : List ℕ) → Overwrote (replicate 128 0) text out n → length text ≤ 128 →
+    record { length = n; bytes = out } ≡ textRecord text
 unfolding textRecord
 held text f h = rw (f .number, f .content) (ap (λ (l : List ℕ). record { length = length text; bytes = l }) (padded-is text h))
 
@@ -80,11 +84,16 @@ module _ (job : List ℕ) (cells : List ℤ) (out : List ℕ) (r : Response) (s 
   unfolding textRecord textOf
   text-report x e =
       let text = reportText (reportFigures x) in
-      let f : Overwrote (replicate 128 0) text out (r .bytes) = subst (λ (a : Answer). Overwrote (replicate 128 0) (textWritten a) out (r .bytes)) e (s .filled) in
+      let f : Overwrote (replicate 128 0) text out (r .bytes) =
+      subst (λ (a : Answer). Overwrote (replicate 128 0) (textWritten a) out (r .bytes)) e (s .filled) in
       held text f (omega (arith, s .few, f .number)) ∙ sym (ap textRecord (text-is ∙ ap (λ (a : Answer). textOf (reportAnswer a)) e))
 
-  pub text-refused : (why : Refusal) → r .answer ≡ Answered.Refused why → (out′ : List ℕ) (n : ℕ) → Overwrote out (refusalText (numberOf why) (lineOf why)) out′ n → record { length = n; bytes = out′ } ≡ textRecord (answerText job)
+  pub text-refused : (why : Refusal) → r .answer ≡ Answered.Refused why → (out′ : List ℕ) (n : ℕ) →
+      Overwrote out (refusalText (numberOf why) (lineOf why)) out′ n → record { length = n; bytes = out′ } ≡ textRecord (answerText job)
   unfolding textOf
   text-refused why e out′ n f =
-      let g : Overwrote (replicate 128 0) [] out (r .bytes) = subst (λ (a : Answer). Overwrote (replicate 128 0) (textWritten a) out (r .bytes)) e (s .filled) in
-      held (refusalText (numberOf why) (lineOf why)) (subst (λ (o : List ℕ). Overwrote o (refusalText (numberOf why) (lineOf why)) out′ n) (g .content ∙ nothing-over (replicate 128 0)) f) (omega (arith, report-fits .refusal-longest why)) ∙ sym (ap textRecord (text-is ∙ ap (λ (a : Answer). textOf (reportAnswer a)) e))
+      let g : Overwrote (replicate 128 0) [] out (r .bytes) =
+      subst (λ (a : Answer). Overwrote (replicate 128 0) (textWritten a) out (r .bytes)) e (s .filled) in
+      held (refusalText (numberOf why) (lineOf why)) (subst (λ (o : List ℕ). Overwrote o (refusalText (numberOf why) (lineOf why)) out′ n) (g .content
+      ∙ nothing-over (replicate 128 0)) f) (omega (arith, report-fits .refusal-longest why))
+      ∙ sym (ap textRecord (text-is ∙ ap (λ (a : Answer). textOf (reportAnswer a)) e))

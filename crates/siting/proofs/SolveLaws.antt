@@ -57,7 +57,9 @@ state-is : (cells : List Query.Cell) → reportState (stateFor (isDone cells)) �
 state-is [] = refl
 state-is (c ∷ cs) = refl
 
-found-report : (deck : Deck) (n : ℕ) (f : Found) (state : State) (b : ℕ) → f ≡ foundOf (run (problem (deckOf deck)) n) → state ≡ stateFor (f .done) → b ≡ before (deckOf deck) → reportFigures (record { state = state; x = f .x; y = f .y; high = f .high; low = f .low; before = b; rounds = f .cuts }) ≡ figures (deckOf deck) n
+found-report : (deck : Deck) (n : ℕ) (f : Found) (state : State) (b : ℕ) → f ≡ foundOf (run (problem (deckOf deck)) n) → state ≡ stateFor (f .done) →
+    b ≡ before (deckOf deck) → reportFigures (record { state = state; x = f .x; y = f .y; high = f .high; low = f .low; before = b; rounds = f .cuts }) ≡
+    figures (deckOf deck) n
 unfolding figures Figures.figuresOf foundOf
 found-report deck n f state b e s h = rw (s, e, h, state-is (run (problem (deckOf deck)) n .live))
 
@@ -105,11 +107,19 @@ module _ (deck : Deck) (n : ℕ) (h : Solvable deck) (p : Problem) (e : p ≡ pr
       }
 
 -- ---- respond
-pub respond-refused : (job : List ℕ) (cells : List ℤ) (out : List ℕ) (why : Refusal) → reportCall job cells out ≡ turnedDown why cells out → (r : Response) → r ≡ refusedResponse why → Responded job cells out cells out r
+pub respond-refused : (job : List ℕ) (cells : List ℤ) (out : List ℕ) (why : Refusal) → reportCall job cells out ≡ turnedDown why cells out → (r : Response) →
+    r ≡ refusedResponse why → Responded job cells out cells out r
 unfolding overwritten
-respond-refused job cells out why e r f = subst (Responded job cells out cells out) (sym f) (record { left = sym e; filled = record { number = refl; content = refl }; few = omega arith })
+respond-refused job cells out why e r f = subst (Responded job cells out cells out) (sym f) (record {
+  left = sym e;
+  filled =
+      record { number = refl; content = refl };
+  few = omega arith;
+})
 
-reported-is : (job : Job) (cells cells′ : List ℤ) (out out′ : List ℕ) (r : Report) (text : List ℕ) → reportFigures r ≡ figures (job .deck) (job .rounds) → cells′ ≡ space (job .deck) (job .rounds) (length cells) → text ≡ reportText (figures (job .deck) (job .rounds)) → out′ ≡ overwritten text out → record { answer = gives (reportFigures r); cells = cells′; out = out′ } ≡ reported job cells out
+reported-is : (job : Job) (cells cells′ : List ℤ) (out out′ : List ℕ) (r : Report) (text : List ℕ) → reportFigures r ≡ figures (job .deck) (job .rounds) →
+    cells′ ≡ space (job .deck) (job .rounds) (length cells) → text ≡ reportText (figures (job .deck) (job .rounds)) → out′ ≡ overwritten text out →
+    record { answer = gives (reportFigures r); cells = cells′; out = out′ } ≡ reported job cells out
 unfolding reported
 reported-is job cells cells′ out out′ r text e f g h = rw (h, g, f, e)
 
@@ -129,18 +139,22 @@ module _ (job : List ℕ) (j : Held.Job) (e : j ≡ jobRecord (readJob job)) (ro
 
   module _ (cells cells′ : List ℤ) (r : Report) (s : Solved (j .deck) rounds cells cells′ r) where
     solved-figures : reportFigures r ≡ figures (spelt .job .deck) (spelt .job .rounds)
-    solved-figures = s .report ∙ ap (λ (deck : Deck.Deck). figures deck rounds) (read-deckOf spelt j e) ∙ ap (λ (n : ℕ). figures (spelt .job .deck) n) rounds-same
+    solved-figures = s .report ∙ ap (λ (deck : Deck.Deck). figures deck rounds) (read-deckOf spelt j e)
+        ∙ ap (λ (n : ℕ). figures (spelt .job .deck) n) rounds-same
 
     solved-cells : cells′ ≡ space (spelt .job .deck) (spelt .job .rounds) (length cells)
-    solved-cells = s .cells ∙ ap (λ (deck : Deck.Deck). space deck rounds (length cells)) (read-deckOf spelt j e) ∙ ap (λ (n : ℕ). space (spelt .job .deck) n (length cells)) rounds-same
+    solved-cells = s .cells ∙ ap (λ (deck : Deck.Deck). space deck rounds (length cells)) (read-deckOf spelt j e)
+        ∙ ap (λ (n : ℕ). space (spelt .job .deck) n (length cells)) rounds-same
 
     pub report-limits : FiguresInRange 1000 (reportFigures r)
     report-limits = subst (FiguresInRange 1000) (sym solved-figures) (job-limits (spelt .job) (spelt .allowed))
 
-    pub respond-reported : (out out′ : List ℕ) (n : ℕ) → 5 * (rounds + 1) ≤ length cells → 128 ≤ length out → Overwrote out (reportText (reportFigures r)) out′ n → Responded job cells out cells′ out′ (record { answer = Answered.Report r; bytes = n })
+    pub respond-reported : (out out′ : List ℕ) (n : ℕ) → 5 * (rounds + 1) ≤ length cells → 128 ≤ length out →
+        Overwrote out (reportText (reportFigures r)) out′ n → Responded job cells out cells′ out′ (record { answer = Answered.Report r; bytes = n })
     respond-reported out out′ n h k f = record {
       left =
-          reported-is (spelt .job) cells cells′ out out′ r (reportText (reportFigures r)) solved-figures solved-cells (ap reportText solved-figures) (f .content)
+          reported-is (spelt .job) cells cells′ out out′ r (reportText (reportFigures r)) solved-figures solved-cells (ap reportText solved-figures)
+          (f .content)
           ∙ sym (call-accepted job cells out (spelt .job) (record { read = spelt .read; space = omega (arith, rounds-same, h); output = k }));
       filled = f;
       few = omega (arith, f .number, report-fits .report-fits (reportFigures r) report-limits);

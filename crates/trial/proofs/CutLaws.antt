@@ -36,7 +36,8 @@ axis-number : (axis : Axis) → axisNumber axis ≡ cond (isX axis) (pos 1) (pos
 axis-number x-axis = refl
 axis-number y-axis = refl
 
-module _ {bytes : List ℕ} {o : Opened} (e : o ≡ openedRecord (readJob bytes)) (s : Spelt bytes) (rect : Rect) (on : rectAllowed rect ≡ true) {cut : Cut} (found : cut ≡ cutRecord (grid (deckOf (o .deck))) rect) where
+module _ {bytes : List ℕ} {o : Opened} (e : o ≡ openedRecord (readJob bytes)) (s : Spelt bytes) (rect : Rect) (on : rectAllowed rect ≡ true) {cut : Cut}
+    (found : cut ≡ cutRecord (grid (deckOf (o .deck))) rect) where
   cut-is : cut ≡ cutRecord (grid (s .job .deck)) rect
   cut-is = found ∙ rw (open-deck bytes o e s)
 
@@ -50,7 +51,8 @@ module _ {bytes : List ℕ} {o : Opened} (e : o ≡ openedRecord (readJob bytes)
   cut-at g = cut-is ∙ cutRecord-cut (grid (s .job .deck)) rect (can-cut g)
 
   axis-inside : cond (canCut (grid (s .job .deck)) rect) (axisNumber axis) (pos 0) ≡ cutAxisFigure rect (readJob bytes)
-  axis-inside = inside minusOne (rectAllowed rect) (λ job. cond (canCut (grid (job .deck)) rect) (axisNumber (cutLine (grid (job .deck)) rect .axis)) (pos 0)) s on
+  axis-inside = inside minusOne (rectAllowed rect) (λ job. cond (canCut (grid (job .deck)) rect) (axisNumber (cutLine (grid (job .deck)) rect .axis)) (pos 0)) s
+      on
 
   pub axis-none : cut .found ≡ false → pos 0 ≡ cutAxisFigure rect (readJob bytes)
   axis-none g = rw (can-cut g) at axis-inside
@@ -90,16 +92,27 @@ module _ {bytes : List ℕ} (s : Spelt bytes) (across : Bool) where
 
     pub vertical-lines : {n : ℕ} → across ≡ true → n ≡ length ls → take n (o .problem .v) ≡ ls
     unfolding problemRecord
-    vertical-lines {n} on k = ap (λ (p : Problem). take n (p .v)) (open-problem bytes o e s) ∙ rw (k, on) (padded-front 514 (pos 0) (lines (s .job .deck) x-axis))
+    vertical-lines {n} on k = ap (λ (p : Problem). take n (p .v)) (open-problem bytes o e s)
+        ∙ rw (k, on) (padded-front 514 (pos 0) (lines (s .job .deck) x-axis))
 
     pub horizontal-lines : {n : ℕ} → across ≡ false → n ≡ length ls → take n (o .problem .h) ≡ ls
     unfolding problemRecord
-    horizontal-lines {n} off k = ap (λ (p : Problem). take n (p .h)) (open-problem bytes o e s) ∙ rw (k, off) (padded-front 514 (pos 0) (lines (s .job .deck) y-axis))
+    horizontal-lines {n} off k = ap (λ (p : Problem). take n (p .h)) (open-problem bytes o e s)
+        ∙ rw (k, off) (padded-front 514 (pos 0) (lines (s .job .deck) y-axis))
 
   -- n of them, written out
   module _ {n : ℕ} (count : n ≡ length ls) (out : List ℤ) where
-    written : cond (ltb (length out) (length ls)) (record { result = minusOne; out = out }) (record { result = pos (length ls); out = ls ++ drop (length ls) out }) ≡ linesWritten across out (readJob bytes)
-    written = on-job (record { result = minusOne; out = out }) (λ job. cond (ltb (length out) (length (lines (job .deck) (axisOf across)))) (record { result = minusOne; out = out }) (record { result = pos (length (lines (job .deck) (axisOf across))); out = lines (job .deck) (axisOf across) ++ drop (length (lines (job .deck) (axisOf across))) out })) s
+    written : cond (ltb (length out) (length ls)) (record { result = minusOne; out = out }) (record {
+      result = pos (length ls);
+      out =
+          ls ++ drop (length ls) out;
+    }) ≡ linesWritten across out (readJob bytes)
+    written = on-job (record { result = minusOne; out = out })
+        (λ job. cond (ltb (length out) (length (lines (job .deck) (axisOf across)))) (record { result = minusOne; out = out }) (record {
+          result =
+              pos (length (lines (job .deck) (axisOf across)));
+          out = lines (job .deck) (axisOf across) ++ drop (length (lines (job .deck) (axisOf across))) out;
+        })) s
 
     pub written-none : length out < n → record { result = minusOne; out = out } ≡ linesWritten across out (readJob bytes)
     written-none h = rw (lt-ltb (length out) (length ls) (omega (arith, count))) at written

@@ -98,9 +98,11 @@ module _ {bytes : List ℕ} {o : Opened} (e : o ≡ openedRecord (readJob bytes)
   near-answer i h =
       let few : i < length (s .job .deck .stops) = omega (arith, count-is) in
       back-is (near-fits i h) ∙ near-natural i h ∙ ap pos (near-at i few)
-      ∙ rw (lt-ltb i (length (s .job .deck .stops)) few) at (on-job minusOne (λ job. cond (ltb i (length (job .deck .stops))) (pos (getD (map (near (job .deck)) (job .deck .stops)) i 0)) minusOne) s)
+      ∙ rw (lt-ltb i (length (s .job .deck .stops)) few) at (on-job minusOne
+      (λ job. cond (ltb i (length (job .deck .stops))) (pos (getD (map (near (job .deck)) (job .deck .stops)) i 0)) minusOne) s)
 
   pub near-none : (i : ℕ) → o .problem .count ≤ i → minusOne ≡ nearFigure i (readJob bytes)
   near-none i h =
       let many : length (s .job .deck .stops) ≤ i = omega (arith, count-is) in
-      rw (le-ltb i (length (s .job .deck .stops)) many) at (on-job minusOne (λ job. cond (ltb i (length (job .deck .stops))) (pos (getD (map (near (job .deck)) (job .deck .stops)) i 0)) minusOne) s)
+      rw (le-ltb i (length (s .job .deck .stops)) many) at (on-job minusOne
+      (λ job. cond (ltb i (length (job .deck .stops))) (pos (getD (map (near (job .deck)) (job .deck .stops)) i 0)) minusOne) s)

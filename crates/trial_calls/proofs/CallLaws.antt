@@ -50,9 +50,15 @@ line-few _ job cells out (small-space j e h) = omega arith
 line-few _ job cells out (short-output j e h k) = omega arith
 
 -- ---- the answer of the call, by its case
-module _ (job : List ℕ) (cells : List ℤ) (out : List ℕ) (answer : Answer) (cells′ : List ℤ) (out′ : List ℕ) (e : record { answer = reportAnswer answer; cells = cells′; out = out′ } ≡ reportCall job cells out) where
+module _ (job : List ℕ) (cells : List ℤ) (out : List ℕ) (answer : Answer) (cells′ : List ℤ) (out′ : List ℕ) (e : record {
+  answer = reportAnswer answer;
+  cells =
+      cells′;
+  out = out′;
+} ≡ reportCall job cells out) where
   -- a result that is a figure of the answer
-  pub called-is : (f : AnswerOf Figures → ℤ) (z : ℤ) → z ≡ f (reportAnswer answer) → record { result = z; cells = cells′; out = out′ } ≡ called f (reportCall job cells out)
+  pub called-is : (f : AnswerOf Figures → ℤ) (z : ℤ) → z ≡ f (reportAnswer answer) →
+      record { result = z; cells = cells′; out = out′ } ≡ called f (reportCall job cells out)
   called-is f z g = ap (λ (v : ℤ). record { result = v; cells = cells′; out = out′ }) g ∙ ap (called f) e
 
   answer-is : reportCall job cells out .answer ≡ reportAnswer answer
@@ -76,7 +82,8 @@ zero-at r (suc zero) h = refl
 zero-at r (suc (suc k)) h = absurd (omega arith)
 
 pub not-refused-figure : (r : Figures) (which : ℕ) → 7 ≤ which → which < 9 → pos 0 ≡ getD (reportNumbers r) which least
-not-refused-figure r which h l = number-at (reportNumbers r) which (suc (suc (suc (suc (suc (suc (suc (which - 7)))))))) (pos 0) (omega arith) (zero-at r (which - 7) (omega arith))
+not-refused-figure r which h l = number-at (reportNumbers r) which (suc (suc (suc (suc (suc (suc (suc (which - 7)))))))) (pos 0) (omega arith)
+    (zero-at r (which - 7) (omega arith))
 
 pub no-figure : (r : Figures) (which : ℕ) → 9 ≤ which → least ≡ getD (reportNumbers r) which least
 no-figure r which h = number-at (reportNumbers r) which (suc (suc (suc (suc (suc (suc (suc (suc (suc (which - 9)))))))))) least (omega arith) refl
@@ -129,13 +136,22 @@ module _ (job : List ℕ) (answer : Cheapest) (e : cheapestAnswer answer ≡ exh
       found = sym e ∙ ap cheapestAnswer a
 
       go : (r : Result) → readJob job ≡ r → PlaceInRange (pricedOf s .at) × (s .cost ≤ costLimit)
-      go (refused why) g = absurd (not-refused (pricedOf s) (numberOf why) (lineOf why) (sym found ∙ exhaustive-call-law job .refused-exactly why .1 (refused-law job why .exactly .0 g)))
+      go (refused why) g = absurd (not-refused (pricedOf s) (numberOf why) (lineOf why) (sym found
+          ∙ exhaustive-call-law job .refused-exactly why .1 (refused-law job why .exactly .0 g)))
       go (accepted j) g =
           let range = allowed-in-range j (read-exactly job j .0 g .1) in
           let law = exhaustive-call-law job .law j g in
           let same : Query.exhaustive (problem (j .deck)) ≡ pricedOf s = same-given _ _ (sym (exhaustive-call-law job .given j g) ∙ found) in
-          let place = point-in-range (j .deck .area) (record { x = s .x; y = s .y }) (range .area) (subst (λ (p : Priced). In (j .deck .area) (p .at)) same (law .in-area)) in
-          (place, omega (arith, figure-limits (j .deck) range .cost-limit (Query.exhaustive (problem (j .deck)) .at), law .costs, ap (λ (p : Priced). p .cost) same))
+          let place = point-in-range (j .deck .area) (record { x = s .x; y = s .y }) (range .area)
+          (subst (λ (p : Priced). In (j .deck .area) (p .at)) same (law .in-area)) in (
+            place,
+            omega (
+              arith,
+              figure-limits (j .deck) range .cost-limit (Query.exhaustive (problem (j .deck)) .at),
+              law .costs,
+              ap (λ (p : Priced). p .cost) same,
+            ),
+          )
 
   pub exhaustive-line : (why : Refusal) → answer ≡ Cheapest.Refused why → lineOf why ≤ 16385
   exhaustive-line why a = condition-line job why (exhaustive-call-law job .refused-exactly why .0 (sym e ∙ ap cheapestAnswer a))

@@ -29,10 +29,17 @@ write-refusal-requires : tie.Need-write-refusal-requires
 write-refusal-requires c κs = search needs
 
 returns : tie.Need-returns
-returns c = (text-report _ _ _ _ (c .before .before .before .before .respond .ensures) _ (c .enum-told .given .1), c .before .before .before .before .respond .ensures .few)
+returns c = (
+  text-report _ _ _ _ (c .before .before .before .before .respond .ensures) _ (c .enum-told .given .1),
+  c .before .before .before .before .respond .ensures .few,
+)
 
 returns-2 : tie.Need-returns-2
-returns-2 c = (text-refused _ _ _ _ (c .before .before .before .before .before .before .before .before .respond .ensures) _ (c .before .before .before .before .answer .given .1) _ _ (c .before .write-refusal .ensures), omega (arith, c .before .write-refusal .ensures .number, report-fits .refusal-longest (c .before .before .before .before .answer .given .0 .0)))
+returns-2 c = (
+  text-refused _ _ _ _ (c .before .before .before .before .before .before .before .before .respond .ensures) _
+      (c .before .before .before .before .answer .given .1) _ _ (c .before .write-refusal .ensures),
+  omega (arith, c .before .write-refusal .ensures .number, report-fits .refusal-longest (c .before .before .before .before .answer .given .0 .0)),
+)
 
 pub answer-text-spec : {M : Type 1} → statement M
 answer-text-spec =

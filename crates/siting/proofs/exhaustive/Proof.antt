@@ -24,7 +24,8 @@ enum-known-outcome : tie.Need-enum-known-outcome
 enum-known-outcome c = search needs
 
 returns : tie.Need-returns
-returns c = exhaustive-found _ _ (c .before .before .before .before .before .read .ensures) _ (c .before .before .enum-told .given .1) _ (c .before .of-deck .ensures) _ (c .cheapest .ensures)
+returns c = exhaustive-found _ _ (c .before .before .before .before .before .read .ensures) _ (c .before .before .enum-told .given .1) _
+    (c .before .of-deck .ensures) _ (c .cheapest .ensures)
 
 returns-2 : tie.Need-returns-2
 returns-2 c = exhaustive-refused _ _ (c .before .before .before .before .read .ensures) _ (c .before .outcome .given .1)

@@ -21,7 +21,8 @@ refuse-requires : tie.Need-refuse-requires
 refuse-requires c κs = search needs
 
 returns : tie.Need-returns
-returns c = let m = c .before .before in respond-refused _ _ _ _ (refused-call _ _ _ _ (read-refused _ _ (m .before .before .before .read .ensures) _ (m .outcome2 .given .1))) _ (c .refuse .ensures)
+returns c = let m = c .before .before in respond-refused _ _ _ _
+    (refused-call _ _ _ _ (read-refused _ _ (m .before .before .before .read .ensures) _ (m .outcome2 .given .1))) _ (c .refuse .ensures)
 
 add-if1 : tie.Need-add-if1
 add-if1 c = let m = c .before in omega (arith, rounds-limit _ _ (m .before .before .before .read .ensures) _ (m .outcome .given .1))
@@ -33,13 +34,18 @@ refuse-requires-2 : tie.Need-refuse-requires-2
 refuse-requires-2 c κs = search needs
 
 returns-2 : tie.Need-returns-2
-returns-2 c = let m = c .before .before .before in let s = spelt _ _ (m .before .before .before .read .ensures) _ (m .outcome .given .1) in respond-refused _ _ _ _ (space-call _ _ _ (s .job) (s .read) (omega (arith, rounds-same _ _ (m .before .before .before .read .ensures) _ (m .outcome .given .1), c .before .if1 .taken))) _ (c .refuse2 .ensures)
+returns-2 c = let m = c .before .before .before in let s = spelt _ _ (m .before .before .before .read .ensures) _ (m .outcome .given .1) in
+    respond-refused _ _ _ _ (space-call _ _ _ (s .job) (s .read)
+    (omega (arith, rounds-same _ _ (m .before .before .before .read .ensures) _ (m .outcome .given .1), c .before .if1 .taken))) _ (c .refuse2 .ensures)
 
 refuse-requires-3 : tie.Need-refuse-requires-3
 refuse-requires-3 c κs = search needs
 
 returns-3 : tie.Need-returns-3
-returns-3 c = let m = c .before .before .before .before in let s = spelt _ _ (m .before .before .before .read .ensures) _ (m .outcome .given .1) in respond-refused _ _ _ _ (output-call _ _ _ (s .job) (s .read) (omega (arith, rounds-same _ _ (m .before .before .before .read .ensures) _ (m .outcome .given .1), c .before .before .if1 .left)) (omega (arith, c .before .if2 .taken))) _ (c .refuse3 .ensures)
+returns-3 c = let m = c .before .before .before .before in let s = spelt _ _ (m .before .before .before .read .ensures) _ (m .outcome .given .1) in
+    respond-refused _ _ _ _ (output-call _ _ _ (s .job) (s .read)
+    (omega (arith, rounds-same _ _ (m .before .before .before .read .ensures) _ (m .outcome .given .1), c .before .before .if1 .left))
+    (omega (arith, c .before .if2 .taken))) _ (c .refuse3 .ensures)
 
 solve-requires : tie.Need-solve-requires
 solve-requires c κs =
@@ -50,7 +56,10 @@ solve-requires c κs =
     )
 
 write-report-requires : tie.Need-write-report-requires
-write-report-requires c κs = let m = c .before .before .before .before .before .before .before in (omega (arith, c .before .before .before .before .if2 .left), report-limits _ _ (m .before .before .before .read .ensures) _ (m .outcome .given .1) _ _ _ (c .before .before .solve .ensures))
+write-report-requires c κs = let m = c .before .before .before .before .before .before .before in (
+  omega (arith, c .before .before .before .before .if2 .left),
+  report-limits _ _ (m .before .before .before .read .ensures) _ (m .outcome .given .1) _ _ _ (c .before .before .solve .ensures),
+)
 
 same-length : tie.Need-same-length
 same-length c = search needs
@@ -59,7 +68,10 @@ same-length-2 : tie.Need-same-length-2
 same-length-2 c = search needs
 
 returns-4 : tie.Need-returns-4
-returns-4 c = let m = c .before .before .before .before .before .before .before .before .before .before in respond-reported _ _ (m .before .before .before .read .ensures) _ (m .outcome .given .1) _ _ _ (c .before .before .before .before .before .solve .ensures) _ _ _ (omega (arith, c .before .before .before .before .before .before .before .before .if1 .left)) (omega (arith, c .before .before .before .before .before .before .before .if2 .left)) (c .before .before .write-report .ensures)
+returns-4 c = let m = c .before .before .before .before .before .before .before .before .before .before in
+    respond-reported _ _ (m .before .before .before .read .ensures) _ (m .outcome .given .1) _ _ _ (c .before .before .before .before .before .solve .ensures) _
+    _ _ (omega (arith, c .before .before .before .before .before .before .before .before .if1 .left))
+    (omega (arith, c .before .before .before .before .before .before .before .if2 .left)) (c .before .before .write-report .ensures)
 
 pub respond-spec : {M : Type 1} → statement M
 respond-spec =

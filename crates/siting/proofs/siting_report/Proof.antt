@@ -41,7 +41,8 @@ same-length-2 : tie.Need-same-length-2
 same-length-2 c = search needs
 
 returns-2 : tie.Need-returns-2
-returns-2 c = entry-refused _ _ _ _ _ (c .before .before .before .before .before .before .before .respond .ensures) _ (c .before .before .answer .given .1) _ (c .number-of .ensures)
+returns-2 c = entry-refused _ _ _ _ _ (c .before .before .before .before .before .before .before .respond .ensures) _ (c .before .before .answer .given .1) _
+    (c .number-of .ensures)
 
 pub siting-report-spec : {M : Type 1} → statement M
 siting-report-spec =

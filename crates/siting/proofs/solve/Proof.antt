@@ -34,7 +34,8 @@ returns : tie.Need-returns
 returns c =
     let b = c .before .before .before .before .before in
     let made = b .before .before .before in
-    solved _ _ (made .before .pre .0) _ (made .of-deck .ensures) _ _ _ _ _ (b .before2 .ensures .is) (c .before .before .before .search .ensures) (c .before .state-of .ensures)
+    solved _ _ (made .before .pre .0) _ (made .of-deck .ensures) _ _ _ _ _ (b .before2 .ensures .is) (c .before .before .before .search .ensures)
+    (c .before .state-of .ensures)
 
 pub solve-spec : {M : Type 1} → statement M
 solve-spec =

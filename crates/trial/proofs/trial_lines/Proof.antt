@@ -68,7 +68,8 @@ slice-aggregate-put-lines : tie.Need-slice-aggregate-put-lines
 slice-aggregate-put-lines c =
     let j = c .before .before .before .before .before .before .before in
     let d = j .before .before in
-    sym (length-take-le (j .if2 .n) (d .before .before .open-job .result .problem .v) (omega (arith, counted j, few-lines (spelt d) (d .before .before .before .before .args .across))))
+    sym (length-take-le (j .if2 .n) (d .before .before .open-job .result .problem .v)
+    (omega (arith, counted j, few-lines (spelt d) (d .before .before .before .before .args .across))))
 
 put-lines-requires : tie.Need-put-lines-requires
 put-lines-requires c κs = omega (arith, slice-aggregate-put-lines c, c .before .before .before .before .before .before .if3 .left)
@@ -77,7 +78,8 @@ slice-aggregate-put-lines-2 : tie.Need-slice-aggregate-put-lines-2
 slice-aggregate-put-lines-2 c =
     let j = c .before .before .before .before .before .before .before in
     let d = j .before .before in
-    sym (length-take-le (j .if2 .n) (d .before .before .open-job .result .problem .h) (omega (arith, counted j, few-lines (spelt d) (d .before .before .before .before .args .across))))
+    sym (length-take-le (j .if2 .n) (d .before .before .open-job .result .problem .h)
+    (omega (arith, counted j, few-lines (spelt d) (d .before .before .before .before .args .across))))
 
 put-lines-requires-2 : tie.Need-put-lines-requires-2
 put-lines-requires-2 c κs = omega (arith, slice-aggregate-put-lines-2 c, c .before .before .before .before .before .before .if3 .left)

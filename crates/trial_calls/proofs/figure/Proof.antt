@@ -17,7 +17,8 @@ state-number-requires : tie.Need-state-number-requires
 state-number-requires c κs = search needs
 
 returns : tie.Need-returns
-returns c = number-at (reportNumbers (reportFigures (c .before .before .args .r))) _ 0 _ (c .before .if1 .taken) (toZ-ofZ w64 _ (record { sfits = c .state-number .ok }) ∙ c .state-number .ensures)
+returns c = number-at (reportNumbers (reportFigures (c .before .before .args .r))) _ 0 _ (c .before .if1 .taken)
+    (toZ-ofZ w64 _ (record { sfits = c .state-number .ok }) ∙ c .state-number .ensures)
 
 returns-2 : tie.Need-returns-2
 returns-2 c = let s = c .before .before .before in x-figure (s .args .r) (s .pre) _ (c .before .if2 .taken)
@@ -50,11 +51,18 @@ returns-7 c = let s = c .before .before .before .before .before .before .before 
 seven : (c : tie.Else7) → 7 ≤ c .before .before .before .before .before .before .before .args .which
 seven c =
     let s = c .before .before .before .before .before .before .before in
-    let four : 4 ≤ s .args .which = omega (arith, c .before .before .before .before .before .before .if1 .left, c .before .before .before .before .before .if2 .left, c .before .before .before .before .if3 .left, c .before .before .before .if4 .left) in
+    let four : 4 ≤ s .args .which = omega (
+      arith,
+      c .before .before .before .before .before .before .if1 .left,
+      c .before .before .before .before .before .if2 .left,
+      c .before .before .before .before .if3 .left,
+      c .before .before .before .if4 .left,
+    ) in
     omega (arith, four, c .before .before .if5 .left, c .before .if6 .left, c .if7 .left)
 
 returns-8 : tie.Need-returns-8
-returns-8 c = not-refused-figure (reportFigures (c .before .before .before .before .before .before .before .before .args .r)) _ (seven (c .before)) (c .if8 .taken)
+returns-8 c = not-refused-figure (reportFigures (c .before .before .before .before .before .before .before .before .args .r)) _ (seven (c .before))
+    (c .if8 .taken)
 
 returns-9 : tie.Need-returns-9
 returns-9 c = no-figure (reportFigures (c .before .before .before .before .before .before .before .before .args .r)) _ (c .if8 .left)

@@ -22,7 +22,8 @@ returns-3 c = let s = c .before .before .before .before in spot-cost (s .args .s
 returns-4 : tie.Need-returns-4
 returns-4 c =
     let s = c .before .before .before .before in
-    not-refused-spot (pricedOf (s .args .s)) (s .args .which) (omega (arith, c .before .before .before .if1 .left, c .before .before .if2 .left, c .before .if3 .left)) (c .if4 .taken)
+    not-refused-spot (pricedOf (s .args .s)) (s .args .which)
+    (omega (arith, c .before .before .before .if1 .left, c .before .before .if2 .left, c .before .if3 .left)) (c .if4 .taken)
 
 returns-5 : tie.Need-returns-5
 returns-5 c = no-spot-figure (pricedOf (c .before .before .before .before .args .s)) _ (c .if4 .left)

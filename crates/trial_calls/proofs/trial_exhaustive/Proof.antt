@@ -26,16 +26,21 @@ enum-known-answer-2 : tie.Need-enum-known-answer-2
 enum-known-answer-2 c = search needs
 
 returns : tie.Need-returns
-returns c = no-cheapest-number _ (c .before .before .answer2 .given .1) (c .before .before .before .before .before .before .args .which) (omega (arith, c .if1 .taken)) ∙ ap (cheapestFigure _) (c .before .before .before .before .exhaustive .ensures)
+returns c = no-cheapest-number _ (c .before .before .answer2 .given .1) (c .before .before .before .before .before .before .args .which)
+    (omega (arith, c .if1 .taken)) ∙ ap (cheapestFigure _) (c .before .before .before .before .exhaustive .ensures)
 
 refusal-figure-requires : tie.Need-refusal-figure-requires
 refusal-figure-requires c κs = exhaustive-line _ _ (c .before .before .before .before .exhaustive .ensures) _ (c .before .before .answer2 .given .1)
 
 returns-2 : tie.Need-returns-2
-returns-2 c = toZ-ofZ w64 _ (record { sfits = c .spot-figure .ok }) ∙ c .spot-figure .ensures ∙ sym (ap (λ (a : Cheapest). cheapestFigure (c .before .before .before .before .before .before .args .which) (cheapestAnswer a)) (c .before .before .answer .given .1)) ∙ ap (cheapestFigure _) (c .before .before .before .before .exhaustive .ensures)
+returns-2 c = toZ-ofZ w64 _ (record { sfits = c .spot-figure .ok }) ∙ c .spot-figure .ensures
+    ∙ sym (ap (λ (a : Cheapest). cheapestFigure (c .before .before .before .before .before .before .args .which) (cheapestAnswer a))
+    (c .before .before .answer .given .1)) ∙ ap (cheapestFigure _) (c .before .before .before .before .exhaustive .ensures)
 
 returns-3 : tie.Need-returns-3
-returns-3 c = toZ-ofZ w64 _ (record { sfits = c .refusal-figure .ok }) ∙ c .refusal-figure .ensures ∙ refusal-cheapest _ (c .before .before .before .answer2 .given .1) (c .before .before .before .before .before .before .before .args .which) (c .before .if1 .left) ∙ ap (cheapestFigure _) (c .before .before .before .before .before .exhaustive .ensures)
+returns-3 c = toZ-ofZ w64 _ (record { sfits = c .refusal-figure .ok }) ∙ c .refusal-figure .ensures
+    ∙ refusal-cheapest _ (c .before .before .before .answer2 .given .1) (c .before .before .before .before .before .before .before .args .which)
+    (c .before .if1 .left) ∙ ap (cheapestFigure _) (c .before .before .before .before .before .exhaustive .ensures)
 
 pub trial-exhaustive-spec : {M : Type 1} → statement M
 trial-exhaustive-spec =

@@ -31,10 +31,14 @@ same-length-2 : tie.Need-same-length-2
 same-length-2 c = search needs
 
 returns : tie.Need-returns
-returns c = called-is _ _ _ (c .before .before .before .before .before .before .before .report .result) _ _ (c .before .before .before .before .before .before .before .report .ensures) (figureFor _) _ (no-answer-number _ (c .before .before .answer2 .given .1) (c .before .before .before .before .before .before .before .before .before .before .before .before .args .which) (c .if1 .taken))
+returns c = called-is _ _ _ (c .before .before .before .before .before .before .before .report .result) _ _
+    (c .before .before .before .before .before .before .before .report .ensures) (figureFor _) _
+    (no-answer-number _ (c .before .before .answer2 .given .1)
+    (c .before .before .before .before .before .before .before .before .before .before .before .before .args .which) (c .if1 .taken))
 
 refusal-figure-requires : tie.Need-refusal-figure-requires
-refusal-figure-requires c κs = report-line _ _ _ _ _ _ (c .before .before .before .before .before .before .before .report .ensures) _ (c .before .before .answer2 .given .1)
+refusal-figure-requires c κs = report-line _ _ _ _ _ _ (c .before .before .before .before .before .before .before .report .ensures) _
+    (c .before .before .answer2 .given .1)
 
 same-length-3 : tie.Need-same-length-3
 same-length-3 c = search needs
@@ -43,7 +47,11 @@ same-length-4 : tie.Need-same-length-4
 same-length-4 c = search needs
 
 returns-2 : tie.Need-returns-2
-returns-2 c = called-is _ _ _ (c .before .before .before .before .before .before .before .report .result) _ _ (c .before .before .before .before .before .before .before .report .ensures) (figureFor _) _ (toZ-ofZ w64 _ (record { sfits = c .figure .ok }) ∙ c .figure .ensures ∙ sym (ap (λ (a : Answer). figureFor (c .before .before .before .before .before .before .before .before .before .before .before .before .args .which) (reportAnswer a)) (c .before .before .answer .given .1)))
+returns-2 c = called-is _ _ _ (c .before .before .before .before .before .before .before .report .result) _ _
+    (c .before .before .before .before .before .before .before .report .ensures) (figureFor _) _ (toZ-ofZ w64 _ (record { sfits = c .figure .ok })
+    ∙ c .figure .ensures ∙ sym (ap (λ (a : Answer). figureFor
+    (c .before .before .before .before .before .before .before .before .before .before .before .before .args .which) (reportAnswer a))
+    (c .before .before .answer .given .1)))
 
 same-length-5 : tie.Need-same-length-5
 same-length-5 c = search needs
@@ -52,7 +60,11 @@ same-length-6 : tie.Need-same-length-6
 same-length-6 c = search needs
 
 returns-3 : tie.Need-returns-3
-returns-3 c = called-is _ _ _ (c .before .before .before .before .before .before .before .before .report .result) _ _ (c .before .before .before .before .before .before .before .before .report .ensures) (figureFor _) _ (toZ-ofZ w64 _ (record { sfits = c .refusal-figure .ok }) ∙ c .refusal-figure .ensures ∙ refusal-answer _ (c .before .before .before .answer2 .given .1) (c .before .before .before .before .before .before .before .before .before .before .before .before .before .args .which) (c .before .if1 .left))
+returns-3 c = called-is _ _ _ (c .before .before .before .before .before .before .before .before .report .result) _ _
+    (c .before .before .before .before .before .before .before .before .report .ensures) (figureFor _) _
+    (toZ-ofZ w64 _ (record { sfits = c .refusal-figure .ok }) ∙ c .refusal-figure .ensures
+    ∙ refusal-answer _ (c .before .before .before .answer2 .given .1)
+    (c .before .before .before .before .before .before .before .before .before .before .before .before .before .args .which) (c .before .if1 .left))
 
 pub trial-report-spec : {M : Type 1} → statement M
 trial-report-spec =

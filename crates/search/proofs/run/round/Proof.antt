@@ -42,7 +42,8 @@ ranges c = let w = whole (c .before) in halves-ranged _ _ _ _ (w .can-cut) (w .r
 
 -- the limits by omega, whichever corner is taken: that it is the right one is shown in `returns`
 first-limit : (c : tie.After-improve) → c .improve .result .cost ≤ costLimit
-first-limit c = let known = start (c .before .before) .pre .2 .cost-limit in limit-of _ _ _ (c .improve .ensures) known (omega (arith, known, limits (c .before)))
+first-limit c = let known = start (c .before .before) .pre .2 .cost-limit in
+    limit-of _ _ _ (c .improve .ensures) known (omega (arith, known, limits (c .before)))
 
 second-limit : (c : tie.After-improve2) → c .improve2 .result .cost ≤ costLimit
 second-limit c =

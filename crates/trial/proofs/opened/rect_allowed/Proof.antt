@@ -25,7 +25,11 @@ low : (c : tie.After-place-in-range) {t : Bool} → c .place-in-range .result �
 low c e = let f = fits (c .before .before .before) in tested-place (f .0) (f .1) (c .place-in-range .ensures) e
 
 high : (c : tie.After-place-in-range2) {t : Bool} → c .place-in-range2 .result ≡ t →
-    placeInRange (record { x = rect (c .before .before .before .before .before .before .before) .xhi; y = rect (c .before .before .before .before .before .before .before) .yhi }) ≡ t
+    placeInRange (record {
+      x = rect (c .before .before .before .before .before .before .before) .xhi;
+      y =
+          rect (c .before .before .before .before .before .before .before) .yhi;
+    }) ≡ t
 high c e = let f = fits (c .before .before .before .before .before .before .before) in tested-place (f .2) (f .3) (c .place-in-range2 .ensures) e
 
 place-in-range-requires : tie.Need-place-in-range-requires
