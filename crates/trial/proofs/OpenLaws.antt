@@ -16,7 +16,7 @@ use Rattle.job.specs.declared.Outcome.the-variants.{Accepted}
 use Rattle.job.proofs.JobLaws.{most-rounds}
 use Rattle.job.proofs.Meaning.{accepted-law}
 use Rattle.deck.specs.DeckOf.{deckOf}
-use Rattle.job.proofs.ReadDeck.{differ, Spelt, spelt-range, read-accepted, read-deck, read-rounds, read-deckOf, read-full, objects-ask}
+use Rattle.job.proofs.ReadDeck.{differ, Spelt, read-accepted, read-deck, read-rounds, read-deckOf, read-full, objects-ask}
 use Rattle.problem.specs.declared.Problem.{Problem}
 use Rattle.problem.specs.Prepared.{Solvable, Prepared, problemRecord}
 use Rattle.problem.proofs.DeckProblem.{vertical-front, horizontal-front}
@@ -25,7 +25,8 @@ use Rattle.trial.specs.Trial.{onJob}
 use Rattle.trial.specs.declared.opened.Opened.{Opened}
 
 -- an accepted job has at most 1,000 rounds
-pub rounds-read : (bytes : List ℕ) (j : Held.Job) (e : j ≡ jobRecord (readJob bytes)) (rounds : ℕ) (f : j .outcome ≡ Accepted rounds) → (rounds ≤ 1000) × (rounds ≡ read-accepted bytes j e rounds f .job .rounds)
+pub rounds-read : (bytes : List ℕ) (j : Held.Job) (e : j ≡ jobRecord (readJob bytes)) (rounds : ℕ) (f : j .outcome ≡ Accepted rounds) →
+    (rounds ≤ 1000) × (rounds ≡ read-accepted bytes j e rounds f .job .rounds)
 rounds-read bytes j e rounds f =
     let s = read-accepted bytes j e rounds f in
     let g = read-rounds bytes j e rounds f s in
@@ -114,7 +115,8 @@ module _ (bytes : List ℕ) (o : Opened) (e : o ≡ openedRecord (readJob bytes)
 pub on-job : {A : Type 0} {bytes : List ℕ} (none : A) (f : Job → A) (s : Spelt bytes) → f (s .job) ≡ onJob none f (readJob bytes)
 on-job none f s = sym (ap (onJob none f) (s .read))
 
-pub inside : {A : Type 0} {bytes : List ℕ} (none : A) (b : Bool) (f : Job → A) (s : Spelt bytes) → b ≡ true → f (s .job) ≡ onJob none (λ job. cond b (f job) none) (readJob bytes)
+pub inside : {A : Type 0} {bytes : List ℕ} (none : A) (b : Bool) (f : Job → A) (s : Spelt bytes) → b ≡ true →
+    f (s .job) ≡ onJob none (λ job. cond b (f job) none) (readJob bytes)
 inside none b f s e = rw e (on-job none f s)
 
 pub outside : {A : Type 0} (none : A) (b : Bool) (f : Job → A) (r : Result) → b ≡ false → none ≡ onJob none (λ job. cond b (f job) none) r
