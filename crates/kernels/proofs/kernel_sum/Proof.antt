@@ -42,7 +42,8 @@ cast-result c = omega (arith, c .sum-of .ensures .within)
 returns-4 : tie.Need-returns-4
 returns-4 c =
     let d = c .before .before in
-    kernel-answer _ _ (d .before .before .before .if1 .left) (spelt d) (open-deck _ _ (d .before .before .open-job .ensures) (spelt d)) (c .before .if3 .left) (c .sum-of .ensures)
+    kernel-answer _ _ (d .before .before .before .if1 .left) (spelt d) (open-deck _ _ (d .before .before .open-job .ensures) (spelt d))
+    (c .before .if3 .left) (c .sum-of .ensures)
 
 pub kernel-sum-spec : {M : Type 1} → statement M
 kernel-sum-spec =

@@ -27,7 +27,8 @@ far r = record { x = r .xhi; y = r .yhi }
 low : (c : tie.After-place-in-range) {t : Bool} → c .place-in-range .result ≡ t → placeInRange (corner (rect (c .before .before .before))) ≡ t
 low c e = let f = fits (c .before .before .before) in tested-place (f .0) (f .1) (c .place-in-range .ensures) e
 
-high : (c : tie.After-place-in-range2) {t : Bool} → c .place-in-range2 .result ≡ t → placeInRange (far (rect (c .before .before .before .before .before .before .before))) ≡ t
+high : (c : tie.After-place-in-range2) {t : Bool} → c .place-in-range2 .result ≡ t →
+    placeInRange (far (rect (c .before .before .before .before .before .before .before))) ≡ t
 high c e = let f = fits (c .before .before .before .before .before .before .before) in tested-place (f .2) (f .3) (c .place-in-range2 .ensures) e
 
 place-in-range-requires : tie.Need-place-in-range-requires
