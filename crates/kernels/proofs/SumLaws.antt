@@ -70,11 +70,11 @@ sum-more : (f : ℕ → ℕ) (t : ℕ) → sumTo f (t + 1) ≡ sumTo f t + f t
 unfolding sumTo
 sum-more f t = rw add-one
 
-pub summed-more : {f : ℕ → ℕ} {limit k sum t : ℕ} (v : ℕ) → Summed f limit k sum t → t < k → v ≡ f t → v ≤ limit → Summed f limit k (sum + v) (t + 1)
+pub summed-more : {f : ℕ → ℕ} {limit k sum t : ℕ} (v : ℕ) → Summed f limit k sum t → t < k → v ≡ f t → v ≤ limit →
+    Summed f limit k (sum + v) (t + 1)
 summed-more {f} {limit} {k} {sum} {t} v s h e l = record {
   within = omega arith;
-  is =
-      ap (λ (n : ℕ). n + v) (s .is) ∙ ap (λ (n : ℕ). sumTo f t + n) e ∙ sym (sum-more f t);
+  is = ap (λ (n : ℕ). n + v) (s .is) ∙ ap (λ (n : ℕ). sumTo f t + n) e ∙ sym (sum-more f t);
   most = omega (arith, s .most);
 }
 
@@ -91,7 +91,7 @@ sumTo-same f g e zero = refl
 sumTo-same f g e (suc k) = rw (e k, sumTo-same f g e k)
 
 -- a sum of the same numbers
-pub same-sum : {f : ℕ → ℕ} (g : ℕ → ℕ) (k : ℕ) {limit n : ℕ} → ((t : ℕ) → f t ≡ g t) → Figure (sumTo f k) limit n → Figure (sumTo g k) limit n
+same-sum : {f : ℕ → ℕ} (g : ℕ → ℕ) (k : ℕ) {limit n : ℕ} → ((t : ℕ) → f t ≡ g t) → Figure (sumTo f k) limit n → Figure (sumTo g k) limit n
 same-sum {f} g k e fig = record { is = fig .is ∙ sumTo-same f g e k; within = fig .within }
 
 -- ---- the sums of a job's deck, by the kernel's number
@@ -153,9 +153,10 @@ module _ (which k : ℕ) (w : which ≤ 4) where
     pub too-many : 100000 < k → minusOne ≡ kernelSum which k (readJob bytes)
     too-many h = sym (ap (λ (b : Bool). cond b minusOne (pos (sumTo (turn (s .job .deck) which) k))) (lt-ltb 100000 k h)) ∙ sum-is
 
-    pub kernel-answer : {deck : Deck} {n : ℕ} → deck ≡ s .job .deck → k ≤ 100000 → Figure (sumTo (turn deck which) k) (100000 * costLimit) n →
+    pub kernel-answer : {deck : Deck} {n : ℕ} → deck ≡ s .job .deck → k ≤ 100000 → SumIs (turn deck which) k n →
         toZ w64 n ≡ kernelSum which k (readJob bytes)
-    kernel-answer {deck} {n} e h fig = toZ-pos w64 n (omega (arith, fig .within)) ∙ ap pos (fig .is ∙ ap (λ (d : Deck). sumTo (turn d which) k) e)
+    kernel-answer {deck} {n} e h fig =
+        toZ-pos w64 n (omega (arith, fig .within)) ∙ ap pos (fig .is ∙ ap (λ (d : Deck). sumTo (turn d which) k) e)
         ∙ sym (ap (λ (b : Bool). cond b minusOne (pos (sumTo (turn (s .job .deck) which) k))) (le-ltb 100000 k h)) ∙ sum-is
 
 -- ---- numbers of a turn
@@ -172,7 +173,7 @@ module _ (m s : ℕ) (g : m ≤ 20000) (h : s ≤ 20000) where
   pub less-fits : SFits w64 (toZ w64 m -ℤ toZ w64 s)
   less-fits = difference-fits m s (omega arith) (omega arith)
 
-  pub less-is : toZ w64 (ofZ w64 (toZ w64 m -ℤ toZ w64 s)) ≡ pos m -ℤ pos s
+  less-is : toZ w64 (ofZ w64 (toZ w64 m -ℤ toZ w64 s)) ≡ pos m -ℤ pos s
   less-is = toZ-ofZ w64 (toZ w64 m -ℤ toZ w64 s) less-fits ∙ difference m s (omega arith) (omega arith)
 
   less-range : natAbs (pos m -ℤ pos s) ≤ 20000

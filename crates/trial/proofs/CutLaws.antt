@@ -26,7 +26,7 @@ use Rattle.cuts.specs.CutRecord.{cutAt, isX, cutRecord}
 use Rattle.cuts.specs.declared.Cut.{Cut}
 use Rattle.cuts.proofs.CutRecordLaws.{cutRecord-found, cutRecord-cut}
 use Rattle.trial.specs.Opened.{openedRecord, rectAllowed}
-use Rattle.trial.specs.Trial.{minusOne, least, axisOf, axisNumber, cutAxisFigure, cutLineFigure, linesWritten}
+use Rattle.trial.specs.Trial.{minusOne, least, axisOf, axisNumber, cutAxisFigure, cutLineFigure, Written, linesWritten}
 use Rattle.trial.specs.declared.opened.Opened.{Opened}
 use Rattle.job.proofs.ReadDeck.{Spelt, spelt-range}
 use Rattle.trial.proofs.OpenLaws.{open-deck, open-problem, on-job, inside}
@@ -51,8 +51,9 @@ module _ {bytes : List ℕ} {o : Opened} (e : o ≡ openedRecord (readJob bytes)
   cut-at g = cut-is ∙ cutRecord-cut (grid (s .job .deck)) rect (can-cut g)
 
   axis-inside : cond (canCut (grid (s .job .deck)) rect) (axisNumber axis) (pos 0) ≡ cutAxisFigure rect (readJob bytes)
-  axis-inside = inside minusOne (rectAllowed rect) (λ job. cond (canCut (grid (job .deck)) rect) (axisNumber (cutLine (grid (job .deck)) rect .axis)) (pos 0)) s
-      on
+  axis-inside =
+      inside minusOne (rectAllowed rect)
+      (λ job. cond (canCut (grid (job .deck)) rect) (axisNumber (cutLine (grid (job .deck)) rect .axis)) (pos 0)) s on
 
   pub axis-none : cut .found ≡ false → pos 0 ≡ cutAxisFigure rect (readJob bytes)
   axis-none g = rw (can-cut g) at axis-inside
@@ -74,6 +75,12 @@ line-outside rect (refused why) e = refl
 line-outside rect (accepted job) e = rw e
 
 -- ---- the lines of the problem along an axis
+-- what is left of an output that they are written to
+abbrev writtenOf : List ℤ → List ℤ → Written
+writtenOf out ls =
+    cond (ltb (length out) (length ls)) (record { result = minusOne; out = out })
+    (record { result = pos (length ls); out = ls ++ drop (length ls) out })
+
 module _ {bytes : List ℕ} (s : Spelt bytes) (across : Bool) where
   abbrev ls : List ℤ
   ls = lines (s .job .deck) (axisOf across)
@@ -92,27 +99,20 @@ module _ {bytes : List ℕ} (s : Spelt bytes) (across : Bool) where
 
     pub vertical-lines : {n : ℕ} → across ≡ true → n ≡ length ls → take n (o .problem .v) ≡ ls
     unfolding problemRecord
-    vertical-lines {n} on k = ap (λ (p : Problem). take n (p .v)) (open-problem bytes o e s)
+    vertical-lines {n} on k =
+        ap (λ (p : Problem). take n (p .v)) (open-problem bytes o e s)
         ∙ rw (k, on) (padded-front 514 (pos 0) (lines (s .job .deck) x-axis))
 
     pub horizontal-lines : {n : ℕ} → across ≡ false → n ≡ length ls → take n (o .problem .h) ≡ ls
     unfolding problemRecord
-    horizontal-lines {n} off k = ap (λ (p : Problem). take n (p .h)) (open-problem bytes o e s)
+    horizontal-lines {n} off k =
+        ap (λ (p : Problem). take n (p .h)) (open-problem bytes o e s)
         ∙ rw (k, off) (padded-front 514 (pos 0) (lines (s .job .deck) y-axis))
 
   -- n of them, written out
   module _ {n : ℕ} (count : n ≡ length ls) (out : List ℤ) where
-    written : cond (ltb (length out) (length ls)) (record { result = minusOne; out = out }) (record {
-      result = pos (length ls);
-      out =
-          ls ++ drop (length ls) out;
-    }) ≡ linesWritten across out (readJob bytes)
-    written = on-job (record { result = minusOne; out = out })
-        (λ job. cond (ltb (length out) (length (lines (job .deck) (axisOf across)))) (record { result = minusOne; out = out }) (record {
-          result =
-              pos (length (lines (job .deck) (axisOf across)));
-          out = lines (job .deck) (axisOf across) ++ drop (length (lines (job .deck) (axisOf across))) out;
-        })) s
+    written : writtenOf out ls ≡ linesWritten across out (readJob bytes)
+    written = on-job (record { result = minusOne; out = out }) (λ job. writtenOf out (lines (job .deck) (axisOf across))) s
 
     pub written-none : length out < n → record { result = minusOne; out = out } ≡ linesWritten across out (readJob bytes)
     written-none h = rw (lt-ltb (length out) (length ls) (omega (arith, count))) at written

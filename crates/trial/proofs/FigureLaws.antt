@@ -21,10 +21,10 @@ use Rattle.query.specs.Bound.{bound}
 use Rattle.query.specs.Range.{costLimit, loadLimit}
 use Rattle.job.specs.Format.{readJob}
 use Rattle.deck.specs.Objects.{Object, Pricing, objectsOf, pricingOf}
-use Rattle.deck.specs.ObjectColumns.{columnsOf, objectAt, pricingIn}
+use Rattle.deck.specs.ObjectColumns.{pricingIn}
 use Rattle.deck.proofs.ColumnLaws.{nothing, row-object}
 use Rattle.pricing.specs.ObjectFigures.{costOf, beforeOf, loadOf}
-use Rattle.pricing.specs.Columns.{Priceable, ObjectInRange, Figure}
+use Rattle.pricing.specs.Columns.{Priceable, Figure}
 use Rattle.pricing.proofs.NarrowLaws.{word, natural, near-word}
 use Rattle.pricing.proofs.TurnLaws.{row}
 use Rattle.pricing.proofs.ObjectLaws.{objectOf, objectsOf-map, cost-law, before-law, load-law}
@@ -94,15 +94,18 @@ module _ {bytes : List ℕ} {o : Opened} (e : o ≡ openedRecord (readJob bytes)
   pub near-fits : (i : ℕ) → i < o .problem .count → SFits w64 (word (getD (o .problem .columns) (1536 + i) (pos 0)))
   near-fits i h = rw (near-natural i h) (record { sfits = omega (arith, row open-priceable h .near-range) })
 
+  near-figure : (i : ℕ) →
+      cond (ltb i (length (s .job .deck .stops))) (pos (getD (map (near (s .job .deck)) (s .job .deck .stops)) i 0)) minusOne ≡ nearFigure i (readJob bytes)
+  near-figure i =
+      on-job minusOne (λ job. cond (ltb i (length (job .deck .stops))) (pos (getD (map (near (job .deck)) (job .deck .stops)) i 0)) minusOne) s
+
   pub near-answer : (i : ℕ) → i < o .problem .count → back (word (getD (o .problem .columns) (1536 + i) (pos 0))) ≡ nearFigure i (readJob bytes)
   near-answer i h =
       let few : i < length (s .job .deck .stops) = omega (arith, count-is) in
       back-is (near-fits i h) ∙ near-natural i h ∙ ap pos (near-at i few)
-      ∙ rw (lt-ltb i (length (s .job .deck .stops)) few) at (on-job minusOne
-      (λ job. cond (ltb i (length (job .deck .stops))) (pos (getD (map (near (job .deck)) (job .deck .stops)) i 0)) minusOne) s)
+      ∙ rw (lt-ltb i (length (s .job .deck .stops)) few) at (near-figure i)
 
   pub near-none : (i : ℕ) → o .problem .count ≤ i → minusOne ≡ nearFigure i (readJob bytes)
   near-none i h =
       let many : length (s .job .deck .stops) ≤ i = omega (arith, count-is) in
-      rw (le-ltb i (length (s .job .deck .stops)) many) at (on-job minusOne
-      (λ job. cond (ltb i (length (job .deck .stops))) (pos (getD (map (near (job .deck)) (job .deck .stops)) i 0)) minusOne) s)
+      rw (le-ltb i (length (s .job .deck .stops)) many) at (near-figure i)

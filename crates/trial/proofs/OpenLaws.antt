@@ -16,7 +16,7 @@ use Rattle.job.specs.declared.Outcome.the-variants.{Accepted}
 use Rattle.job.proofs.JobLaws.{most-rounds}
 use Rattle.job.proofs.Meaning.{accepted-law}
 use Rattle.deck.specs.DeckOf.{deckOf}
-use Rattle.job.proofs.ReadDeck.{differ, Spelt, spelt-range, read-accepted, read-deck, read-rounds, read-deckOf, read-full, objects-ask}
+use Rattle.job.proofs.ReadDeck.{differ, Spelt, read-accepted, read-deck, read-rounds, read-deckOf, read-full, objects-ask}
 use Rattle.problem.specs.declared.Problem.{Problem}
 use Rattle.problem.specs.Prepared.{Solvable, Prepared, problemRecord}
 use Rattle.problem.proofs.DeckProblem.{vertical-front, horizontal-front}

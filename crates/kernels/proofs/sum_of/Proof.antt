@@ -37,12 +37,14 @@ slice-aggregate-cuts-2 : tie.Need-slice-aggregate-cuts-2
 slice-aggregate-cuts-2 c = horizontal-taken (c .before .before .before .before .before .before .before .before .before .before .before .before .pre .0)
 
 cuts-requires : tie.Need-cuts-requires
-cuts-requires c κs = let h = c .before .before .before .before .before .before .before .before .before .before .before .before .pre in
+cuts-requires c κs =
+    let h = c .before .before .before .before .before .before .before .before .before .before .before .before .pre in
     (prepared-lined _ (prepared (h .0)), h .2)
 
 returns-4 : tie.Need-returns-4
-returns-4 c = cut-sum (c .before .before .before .before .before .before .before .before .before .before .before .before .before .pre .0) _ _
-    (c .before .before .before .before .before .before .before .before .if4 .taken) (c .cuts .ensures)
+returns-4 c =
+    let d = c .before .before .before .before .before .before .before .before in
+    cut-sum (d .before .before .before .before .before .pre .0) _ _ (d .if4 .taken) (c .cuts .ensures)
 
 nears-requires : tie.Need-nears-requires
 nears-requires c κs = search needs

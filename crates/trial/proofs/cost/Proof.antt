@@ -6,9 +6,7 @@ use borrow.Author.Tests.{not-true, not-false}
 use denote.Ref.{now}
 use Rattle.numbers.proofs.Words.{is-true}
 use Rattle.query.specs.Place.{Place}
-use Rattle.query.specs.Range.{costLimit}
 use Rattle.job.specs.Format.{readJob}
-use Rattle.pricing.specs.Columns.{Figure}
 use Rattle.job.proofs.ReadDeck.{Spelt}
 use Rattle.trial.specs.Opened.{placeInRange}
 use Rattle.trial.proofs.OpenLaws.{open-accepted, open-refused, outside}
@@ -28,7 +26,8 @@ spelt c = open-accepted _ _ (c .before .before .open-job .ensures) (not-false _ 
 
 -- the place is in range
 on : (c : tie.Else2) → placeInRange (place (c .before .before .before .before .before .before)) ≡ true
-on c = let s = c .before .before .before .before .before .before in
+on c =
+    let s = c .before .before .before .before .before .before in
     tested-place (s .fits .x) (s .fits .y) (c .before .place-in-range .ensures) (not-false _ (c .if2 .left))
 
 open-job-requires : tie.Need-open-job-requires

@@ -34,12 +34,15 @@ before-requires : tie.Need-before-requires
 before-requires c κs = search needs
 
 returns : tie.Need-returns
-returns c = number-at (figures (c .before .before .before)) _ 0 _ (c .before .if1 .taken) (toZ-ofZ w64 _ (record { sfits = c .before2 .ok })
-    ∙ c .before2 .ensures)
+returns c =
+    number-at (figures (c .before .before .before)) _ 0 _ (c .before .if1 .taken)
+    (toZ-ofZ w64 _ (record { sfits = c .before2 .ok }) ∙ c .before2 .ensures)
 
 returns-2 : tie.Need-returns-2
-returns-2 c = let s = c .before .before .before .before in
-    number-at (figures s) _ 1 _ (c .before .if2 .taken) (near-negative (s .fits .xlo) (result s) (c .if3 .taken))
+returns-2 c =
+    let s = c .before .before .before .before in
+    number-at (figures s) _ 1 _ (c .before .if2 .taken)
+    (near-negative (s .fits .xlo) (result s) (c .if3 .taken))
 
 cast-near : tie.Need-cast-near
 cast-near c = near-cast (c .before .before .before .before .fits .xlo) (c .if3 .left)
@@ -48,60 +51,62 @@ near-requires : tie.Need-near-requires
 near-requires c κs = search needs
 
 returns-3 : tie.Need-returns-3
-returns-3 c = let s = c .before .before .before .before .before in
-    number-at (figures s) _ 1 _ (c .before .before .if2 .taken) (toZ-ofZ w64 _ (record { sfits = c .near .ok }) ∙ c .near .ensures
-    ∙ near-natural (s .fits .xlo) (result s) (c .before .if3 .left))
+returns-3 c =
+    let s = c .before .before .before .before .before in
+    number-at (figures s) _ 1 _ (c .before .before .if2 .taken)
+    (toZ-ofZ w64 _ (record { sfits = c .near .ok }) ∙ c .near .ensures ∙ near-natural (s .fits .xlo) (result s) (c .before .if3 .left))
 
 cost-requires : tie.Need-cost-requires
 cost-requires c κs = search needs
 
 returns-4 : tie.Need-returns-4
-returns-4 c = let s = c .before .before .before .before .before in
-    number-at (figures s) _ 2 _ (c .before .if4 .taken) (toZ-ofZ w64 _ (record { sfits = c .cost .ok }) ∙ c .cost .ensures
-    ∙ ap (λ (p : Place). costFigure p (result s)) (place-held (s .fits .xlo) (s .fits .ylo)))
+returns-4 c =
+    let s = c .before .before .before .before .before in
+    number-at (figures s) _ 2 _ (c .before .if4 .taken)
+    (toZ-ofZ w64 _ (record { sfits = c .cost .ok }) ∙ c .cost .ensures ∙ ap (λ (p : Place). costFigure p (result s)) (place-held (s .fits .xlo) (s .fits .ylo)))
 
 load-requires : tie.Need-load-requires
 load-requires c κs = search needs
 
 returns-5 : tie.Need-returns-5
-returns-5 c = let s = c .before .before .before .before .before .before in
-    number-at (figures s) _ 3 _ (c .before .if5 .taken) (toZ-ofZ w64 _ (record { sfits = c .load .ok }) ∙ c .load .ensures
-    ∙ ap (λ (r : Rect). loadFigure r (result s)) (held s))
+returns-5 c =
+    let s = c .before .before .before .before .before .before in
+    number-at (figures s) _ 3 _ (c .before .if5 .taken)
+    (toZ-ofZ w64 _ (record { sfits = c .load .ok }) ∙ c .load .ensures ∙ ap (λ (r : Rect). loadFigure r (result s)) (held s))
 
 bound-requires : tie.Need-bound-requires
 bound-requires c κs = search needs
 
 returns-6 : tie.Need-returns-6
-returns-6 c = let s = c .before .before .before .before .before .before .before in
-    number-at (figures s) _ 4 _ (c .before .if6 .taken) (toZ-ofZ w64 _ (record { sfits = c .bound .ok }) ∙ c .bound .ensures
-    ∙ ap (λ (r : Rect). boundFigure r (result s)) (held s))
+returns-6 c =
+    let s = c .before .before .before .before .before .before .before in
+    number-at (figures s) _ 4 _ (c .before .if6 .taken)
+    (toZ-ofZ w64 _ (record { sfits = c .bound .ok }) ∙ c .bound .ensures ∙ ap (λ (r : Rect). boundFigure r (result s)) (held s))
 
 cut-axis-requires : tie.Need-cut-axis-requires
 cut-axis-requires c κs = search needs
 
 returns-7 : tie.Need-returns-7
-returns-7 c = let s = c .before .before .before .before .before .before .before .before in
-    number-at (figures s) _ 5 _ (c .before .if7 .taken) (toZ-ofZ w64 _ (record { sfits = c .cut-axis .ok }) ∙ c .cut-axis .ensures
-    ∙ ap (λ (r : Rect). cutAxisFigure r (result s)) (held s))
+returns-7 c =
+    let s = c .before .before .before .before .before .before .before .before in
+    number-at (figures s) _ 5 _ (c .before .if7 .taken)
+    (toZ-ofZ w64 _ (record { sfits = c .cut-axis .ok }) ∙ c .cut-axis .ensures ∙ ap (λ (r : Rect). cutAxisFigure r (result s)) (held s))
 
 cut-line-requires : tie.Need-cut-line-requires
 cut-line-requires c κs = search needs
 
 returns-8 : tie.Need-returns-8
-returns-8 c = let s = c .before .before .before .before .before .before .before .before .before in
-    number-at (figures s) _ 6 _ (c .before .if8 .taken) (toZ-ofZ w64 _ (record { sfits = c .cut-line .ok }) ∙ c .cut-line .ensures
-    ∙ ap (λ (r : Rect). cutLineFigure r (result s)) (held s))
+returns-8 c =
+    let s = c .before .before .before .before .before .before .before .before .before in
+    number-at (figures s) _ 6 _ (c .before .if8 .taken)
+    (toZ-ofZ w64 _ (record { sfits = c .cut-line .ok }) ∙ c .cut-line .ensures ∙ ap (λ (r : Rect). cutLineFigure r (result s)) (held s))
 
 returns-9 : tie.Need-returns-9
 returns-9 c =
     let s = c .before .before .before .before .before .before .before .before in
-    let four : 4 ≤ s .args .which = omega (
-      arith,
-      c .before .before .before .before .before .before .if1 .left,
-      c .before .before .before .before .before .if2 .left,
-      c .before .before .before .before .if4 .left,
-      c .before .before .before .if5 .left,
-    ) in
+    let fourth = c .before .before .before in
+    let four : 4 ≤ s .args .which =
+    omega (arith, fourth .before .before .before .if1 .left, fourth .before .before .if2 .left, fourth .before .if4 .left, fourth .if5 .left) in
     no-deck-figure (rect s) (result s) (s .args .which) (omega (arith, four, c .before .before .if6 .left, c .before .if7 .left, c .if8 .left))
 
 pub trial-figure-spec : {M : Type 1} → statement M

@@ -3,6 +3,7 @@
 use mathlib.Core.Path.{_≡_, sym, ap, _∙_}
 use mathlib.Core.Logic.{⊎-elim}
 use mathlib.Core.List.{List, _++_}
+use Prim.Native.Nat.{_≤_}
 use lib.IntN.{ℤ}
 use lib.ListN.{length, drop}
 use lib.Seq.{length-take-le}
@@ -40,6 +41,9 @@ counted c =
     let e = d .before .before .open-job .ensures in
     ⊎-elim (λ w. w .1 ∙ vertical-number (spelt d) _ e (w .0 .taken)) (λ w. w .1 ∙ horizontal-number (spelt d) _ e (w .0 .left)) (c .if2 .came)
 
+few : (c : tie.Joined2) → c .if2 .n ≤ 514
+few c = omega (arith, counted c, few-lines (spelt (c .before .before)) (c .before .before .before .before .before .before .args .across))
+
 abbrev fronted : tie.Start → List ℤ → List ℤ
 fronted s ls = ls ++ drop (length ls) (now (s .args .out))
 
@@ -62,14 +66,13 @@ returns-2 : tie.Need-returns-2
 returns-2 c =
     let j = c .before in
     let d = j .before .before in
-    written-none (spelt d) (d .before .before .before .before .args .across) (counted j) (now (d .before .before .before .before .args .out)) (c .if3 .taken)
+    written-none (spelt d) (d .before .before .before .before .args .across) (counted j) (now (d .before .before .before .before .args .out))
+    (omega (arith, c .if3 .taken))
 
 slice-aggregate-put-lines : tie.Need-slice-aggregate-put-lines
 slice-aggregate-put-lines c =
     let j = c .before .before .before .before .before .before .before in
-    let d = j .before .before in
-    sym (length-take-le (j .if2 .n) (d .before .before .open-job .result .problem .v)
-    (omega (arith, counted j, few-lines (spelt d) (d .before .before .before .before .args .across))))
+    sym (length-take-le (j .if2 .n) (j .before .before .before .before .open-job .result .problem .v) (omega (arith, few j)))
 
 put-lines-requires : tie.Need-put-lines-requires
 put-lines-requires c κs = omega (arith, slice-aggregate-put-lines c, c .before .before .before .before .before .before .if3 .left)
@@ -77,18 +80,13 @@ put-lines-requires c κs = omega (arith, slice-aggregate-put-lines c, c .before 
 slice-aggregate-put-lines-2 : tie.Need-slice-aggregate-put-lines-2
 slice-aggregate-put-lines-2 c =
     let j = c .before .before .before .before .before .before .before in
-    let d = j .before .before in
-    sym (length-take-le (j .if2 .n) (d .before .before .open-job .result .problem .h)
-    (omega (arith, counted j, few-lines (spelt d) (d .before .before .before .before .args .across))))
+    sym (length-take-le (j .if2 .n) (j .before .before .before .before .open-job .result .problem .h) (omega (arith, few j)))
 
 put-lines-requires-2 : tie.Need-put-lines-requires-2
 put-lines-requires-2 c κs = omega (arith, slice-aggregate-put-lines-2 c, c .before .before .before .before .before .before .if3 .left)
 
 cast-result : tie.Need-cast-result
-cast-result c =
-    let j = c .before .before in
-    let d = j .before .before in
-    omega (arith, counted j, few-lines (spelt d) (d .before .before .before .before .args .across))
+cast-result c = omega (arith, few (c .before .before))
 
 same-length : tie.Need-same-length
 same-length c = ⊎-elim (λ w. ap length (w .8) ∙ w .6 .kept .0) (λ w. ap length (w .8) ∙ w .6 .kept .0) (c .if4 .came)

@@ -7,7 +7,7 @@ use borrow.Author.Tests.{not-true, not-false}
 use mir.Syntax.{w64}
 use mir.Val.{SFits}
 use Rattle.numbers.proofs.WordTests.{back-is}
-use Rattle.query.specs.Place.{Rect, corner}
+use Rattle.query.specs.Place.{Place, Rect, corner}
 use Rattle.deck.specs.Rectangle.{rectOf}
 use Rattle.trial.specs.Opened.{placeInRange}
 use Rattle.trial.proofs.RectLaws.{tested-place, low-off, high-off, across-off, deep-on}
@@ -21,15 +21,14 @@ fits : (s : tie.Start) → SFits w64 (rect s .xlo) × SFits w64 (rect s .ylo) ×
 fits s = (search needs, search needs, search needs, search needs)
 
 -- the tests of the corners
+abbrev far : Rect → Place
+far r = record { x = r .xhi; y = r .yhi }
+
 low : (c : tie.After-place-in-range) {t : Bool} → c .place-in-range .result ≡ t → placeInRange (corner (rect (c .before .before .before))) ≡ t
 low c e = let f = fits (c .before .before .before) in tested-place (f .0) (f .1) (c .place-in-range .ensures) e
 
 high : (c : tie.After-place-in-range2) {t : Bool} → c .place-in-range2 .result ≡ t →
-    placeInRange (record {
-      x = rect (c .before .before .before .before .before .before .before) .xhi;
-      y =
-          rect (c .before .before .before .before .before .before .before) .yhi;
-    }) ≡ t
+    placeInRange (far (rect (c .before .before .before .before .before .before .before))) ≡ t
 high c e = let f = fits (c .before .before .before .before .before .before .before) in tested-place (f .2) (f .3) (c .place-in-range2 .ensures) e
 
 place-in-range-requires : tie.Need-place-in-range-requires
