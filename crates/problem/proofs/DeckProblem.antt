@@ -77,11 +77,11 @@ pub horizontal-front : (deck : Query.Deck) → take (problemRecord deck .nh) (pr
 unfolding problemRecord
 horizontal-front deck = padded-front 514 (pos 0) (lines deck y-axis)
 
-vertical-count : (deck : Query.Deck) → problemRecord deck .nv ≡ length (lines deck x-axis)
+pub vertical-count : (deck : Query.Deck) → problemRecord deck .nv ≡ length (lines deck x-axis)
 unfolding problemRecord
 vertical-count deck = refl
 
-horizontal-count : (deck : Query.Deck) → problemRecord deck .nh ≡ length (lines deck y-axis)
+pub horizontal-count : (deck : Query.Deck) → problemRecord deck .nh ≡ length (lines deck y-axis)
 unfolding problemRecord
 horizontal-count deck = refl
 

@@ -8,7 +8,7 @@ use refusal::Refusal;
 ghost use mathlib.Core.Path.{_≡_};
 ghost use mathlib.Core.List.{_++_};
 ghost use Prim.Native.Nat.{_≤_};
-ghost use lib.ListN.{length, getD, take, drop};
+ghost use lib.ListN.{length, getD, drop};
 ghost use Rattle.refusal.specs.Refusal.{lineOf};
 ghost use Rattle.job.specs.Format.{readJob};
 ghost use Rattle.deck.specs.Rectangle.{rectOf};
@@ -194,7 +194,8 @@ pub extern "C" fn trial_figure(
     xhi: i64,
     yhi: i64,
 ) -> i64
-    ensures { λ r. ⌜ r ≡ getD (deckFigures (record { xlo = xlo; ylo = ylo; xhi = xhi; yhi = yhi }) (readJob (now (job .entry)))) which least ⌝ }
+    ensures { λ r. ⌜ r
+        ≡ getD (deckFigures (record { xlo = xlo; ylo = ylo; xhi = xhi; yhi = yhi }) (readJob (now (job .entry)))) which least ⌝ }
 {
     let rect = Rect { xlo, ylo, xhi, yhi };
     if which == 0 {

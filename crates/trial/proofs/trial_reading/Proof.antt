@@ -35,7 +35,8 @@ cast-result : tie.Need-cast-result
 cast-result c = omega (arith, rounds-read _ _ (c .before .before .before .before .before .read .ensures) _ (c .before .before .before .outcome .given .1) .0)
 
 returns-2 : tie.Need-returns-2
-returns-2 c = let h = rounds-read _ _ (c .before .before .before .before .before .read .ensures) _ (c .before .before .before .outcome .given .1) in toZ-pos w64 _ (omega (arith, h .0)) ∙ ap pos (h .1) ∙ rounds-number (spelt (c .before .before) .read) _ (c .if2 .taken)
+returns-2 c = let h = rounds-read _ _ (c .before .before .before .before .before .read .ensures) _ (c .before .before .before .outcome .given .1) in
+    toZ-pos w64 _ (omega (arith, h .0)) ∙ ap pos (h .1) ∙ rounds-number (spelt (c .before .before) .read) _ (c .if2 .taken)
 
 enum-known-outcome-2 : tie.Need-enum-known-outcome-2
 enum-known-outcome-2 c = search needs
@@ -47,10 +48,12 @@ refusal-figure-requires : tie.Need-refusal-figure-requires
 refusal-figure-requires c κs = line-most _ _ (refusal (c .before))
 
 returns-4 : tie.Need-returns-4
-returns-4 c = let d = c .before .before in no-reading-number (spelt d .read) (d .before .before .before .before .before .args .which) (omega (arith, c .before .if1 .left, c .if2 .left))
+returns-4 c = let d = c .before .before in no-reading-number (spelt d .read) (d .before .before .before .before .before .args .which)
+    (omega (arith, c .before .if1 .left, c .if2 .left))
 
 returns-5 : tie.Need-returns-5
-returns-5 c = toZ-ofZ w64 _ (record { sfits = c .refusal-figure .ok }) ∙ c .refusal-figure .ensures ∙ refusal-number (refusal (c .before .before)) _ (c .before .if3 .left)
+returns-5 c = toZ-ofZ w64 _ (record { sfits = c .refusal-figure .ok }) ∙ c .refusal-figure .ensures
+    ∙ refusal-number (refusal (c .before .before)) _ (c .before .if3 .left)
 
 pub trial-reading-spec : {M : Type 1} → statement M
 trial-reading-spec =

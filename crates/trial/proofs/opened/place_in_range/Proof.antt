@@ -12,7 +12,8 @@ coordinate-in-range-requires-2 : tie.Need-coordinate-in-range-requires-2
 coordinate-in-range-requires-2 c κs = search needs
 
 returns : tie.Need-returns
-returns c = place-on (c .before .before .before .fits .x) (c .before .before .before .fits .y) (c .before .before .coordinate-in-range .ensures) (c .before .if1 .taken) (c .coordinate-in-range2 .ensures)
+returns c = place-on (c .before .before .before .fits .x) (c .before .before .before .fits .y) (c .before .before .coordinate-in-range .ensures)
+    (c .before .if1 .taken) (c .coordinate-in-range2 .ensures)
 
 returns-2 : tie.Need-returns-2
 returns-2 c = place-off (c .before .before .fits .x) (c .before .before .fits .y) (c .before .coordinate-in-range .ensures) (c .if1 .left)
