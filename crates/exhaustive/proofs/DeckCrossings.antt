@@ -1,17 +1,18 @@
 -- The exhaustive search of a problem as the code prepares it: its lines in range, and its crossings in turn.
 -- Assumes nothing.
-use mathlib.Core.Path.{_≡_, ap, _∙_}
+use mathlib.Core.Path.{_≡_, sym, ap, subst, _∙_}
 use mathlib.Core.Bool.{not}
 use mathlib.Core.List.{List, flatMap, List·Memᴰ, Memᴰ·of-map}
 use Prim.Native.Nat.{ℕ, _≤_}
 use native.Mathlib.Omega.{arith}
 use lib.Dec.{T}
 use lib.IntN.{ℤ, pos, natAbs}
-use lib.ListN.{length, getD, take}
+use lib.ListN.{getD}
 use lib.Signed.{_≤ℤ_}
 use Rattle.numbers.proofs.Integer.{order, abs-range}
 use Rattle.numbers.proofs.Members.{flatMap-from}
 use Rattle.numbers.proofs.WordTests.{back}
+use Rattle.query.specs.Place as Place
 use Rattle.query.specs.Place.{Place, NonEmpty, Axis, x-axis, y-axis, low-edge, high-edge, corner, earlier}
 use Rattle.query.specs.Deck as Query
 use Rattle.query.specs.Lines.{lines}
@@ -19,18 +20,18 @@ use Rattle.query.specs.Exhaustive.{exhaustive}
 use Rattle.query.specs.Range.{PlaceInRange, InRange}
 use Rattle.query.proofs.KeyOrder.{not-earlier}
 use Rattle.query.proofs.LineLaws.{lines-range}
+use Rattle.deck.specs.declared.Rect.{Rect}
 use Rattle.deck.specs.Rectangle.{rectOf}
 use Rattle.deck.specs.Objects.{Pricing}
 use Rattle.deck.specs.ObjectColumns.{pricingIn}
 use Rattle.lines.specs.LineRecord.{gridOf}
 use Rattle.lines.proofs.Indexed.{member-at}
 use Rattle.lines.proofs.DeckLines.{lines-in-order}
-use Rattle.problem.specs.declared.Problem.{Problem}
 use Rattle.problem.specs.declared.Spot.{Spot}
 use Rattle.problem.specs.ObjectProblem.{pricedOf, spotOf}
-use Rattle.problem.specs.Prepared.{problemIn, problemRecord, Prepared}
+use Rattle.problem.specs.Prepared.{problemOf, Prepared}
 use Rattle.problem.proofs.Coordinates.{near-places, spot-back}
-use Rattle.problem.proofs.DeckProblem.{record-area, vertical-front, horizontal-front, prepared-ranged}
+use Rattle.problem.proofs.DeckProblem.{prepared-ranged}
 use Rattle.exhaustive.specs.Ramps.{LinesInRange}
 use Rattle.exhaustive.specs.Cheapest.{firstCheapest, along}
 use Rattle.exhaustive.proofs.CrossingOrder.{InTurn, crossing-turn, cheapest-is}
@@ -60,48 +61,36 @@ module _ (deck : Query.Deck) (range : InRange deck) (full : NonEmpty (deck .area
       rw (← e) (not-earlier (record { x = v; y = h }) (corner (deck .area)) (lines-range deck x-axis full v on-v .0) (lines-range deck y-axis full h on-h .0))
 
 -- ---- a prepared problem
-module _ (p : Problem) (prepared : Prepared p) where
+module _ {columns : List ℤ} {n : ℕ} {v h : List ℤ} {area : Rect} (prepared : Prepared columns n v h area) where
   abbrev P : Pricing
-  P = pricingIn (p .columns) (p .count)
-
-  abbrev vertical : List ℤ
-  vertical = take (p .nv) (p .v)
-
-  abbrev horizontal : List ℤ
-  horizontal = take (p .nh) (p .h)
+  P = pricingIn columns n
 
   abbrev deck : Query.Deck
   deck = prepared .deck
 
-  pub vertical-count : p .nv ≡ length vertical
-  unfolding problemRecord
-  vertical-count = rw (prepared .is, vertical-front deck)
+  pub vertical-lines : LinesInRange v
+  vertical-lines = subst LinesInRange (sym (prepared .vertical-are)) (deck-lines deck (prepared .range) (prepared .full) x-axis)
 
-  pub horizontal-count : p .nh ≡ length horizontal
-  unfolding problemRecord
-  horizontal-count = rw (prepared .is, horizontal-front deck)
-
-  pub vertical-lines : LinesInRange vertical
-  vertical-lines = rw (prepared .is, vertical-front deck) (deck-lines deck (prepared .range) (prepared .full) x-axis)
-
-  pub horizontal-lines : LinesInRange horizontal
-  horizontal-lines = rw (prepared .is, horizontal-front deck) (deck-lines deck (prepared .range) (prepared .full) y-axis)
+  pub horizontal-lines : LinesInRange h
+  horizontal-lines = subst LinesInRange (sym (prepared .horizontal-are)) (deck-lines deck (prepared .range) (prepared .full) y-axis)
 
   -- its crossings, in turn and none earlier than the area's corner
-  turn : InTurn (flatMap (along horizontal) vertical)
-  turn = crossing-turn horizontal vertical (horizontal-lines .in-order .increasing) (vertical-lines .in-order .increasing)
+  turn : InTurn (flatMap (along h) v)
+  turn = crossing-turn h v (horizontal-lines .in-order .increasing) (vertical-lines .in-order .increasing)
 
-  none-earlier : (q : Place) → List·Memᴰ q (flatMap (along horizontal) vertical) → T (not (earlier q (corner (rectOf (p .area)))))
-  none-earlier =
-      rw (prepared .is, vertical-front deck, horizontal-front deck, record-area deck) (deck-corner deck (prepared .range) (prepared .full))
+  none-earlier : (q : Place) → List·Memᴰ q (flatMap (along h) v) → T (not (earlier q (corner (rectOf area))))
+  none-earlier q m =
+      subst (λ (r : Place.Rect). T (not (earlier q (corner r)))) (sym (prepared .area-is))
+      (deck-corner deck (prepared .range) (prepared .full) q
+      (subst (List·Memᴰ q) (λ i. flatMap (along (prepared .horizontal-are i)) (prepared .vertical-are i)) m))
 
-  pub corner-near : PlaceInRange (record { x = back (p .area .xlo); y = back (p .area .ylo) })
-  corner-near = let low = prepared-ranged p prepared .range .low-corner in near-places (p .area .xlo) (p .area .ylo) (low .x-range) (low .y-range)
+  pub corner-near : PlaceInRange (record { x = back (area .xlo); y = back (area .ylo) })
+  corner-near = let low = prepared-ranged prepared .range .low-corner in near-places (area .xlo) (area .ylo) (low .x-range) (low .y-range)
 
-  pub answers : (first r : Spot) → first ≡ spotOf P (record { x = back (p .area .xlo); y = back (p .area .ylo) })
-      → r ≡ firstCheapest P first (flatMap (along horizontal) vertical) → pricedOf r ≡ exhaustive (problemIn p)
+  pub answers : (first r : Spot) → first ≡ spotOf P (record { x = back (area .xlo); y = back (area .ylo) })
+      → r ≡ firstCheapest P first (flatMap (along h) v) → pricedOf r ≡ exhaustive (problemOf columns n v h area)
   answers first r e b =
-      let low = prepared-ranged p prepared .range .low-corner in
-      let corner-first : first ≡ spotOf P (corner (rectOf (p .area))) = spot-back P (p .area .xlo) (p .area .ylo) first (low .x-range) (low .y-range) e in
-      ap pricedOf (b ∙ ap (λ (s : Spot). firstCheapest P s (flatMap (along horizontal) vertical)) corner-first)
-      ∙ cheapest-is P (gridOf vertical horizontal) (rectOf (p .area)) turn none-earlier
+      let low = prepared-ranged prepared .range .low-corner in
+      let corner-first : first ≡ spotOf P (corner (rectOf area)) = spot-back P (area .xlo) (area .ylo) first (low .x-range) (low .y-range) e in
+      ap pricedOf (b ∙ ap (λ (s : Spot). firstCheapest P s (flatMap (along h) v)) corner-first)
+      ∙ cheapest-is P (gridOf v h) (rectOf area) turn none-earlier

@@ -1,10 +1,10 @@
 // The exhaustive search: the cheapest crossing of a deck's lines. Along one vertical line the cost is a sum of ramps (specs/Ramps.antt),
 // so that the costs of all its crossings follow from prefix sums, with no pass over the objects for each. Line by line these costs are
 // written into an array (`costs_along`), and then the cheapest is chosen (`choose`).
+use deck::Rect;
 use limits::COLUMNS;
 use limits::LINES;
 use numbers::abs_diff;
-use problem::Problem;
 use problem::Spot;
 ghost use mathlib.Core.Path.{_≡_};
 ghost use mathlib.Core.List.{flatMap};
@@ -18,7 +18,7 @@ ghost use Rattle.pricing.specs.ObjectFigures.{beforeOf};
 ghost use Rattle.pricing.specs.Columns.{Priceable, ObjectInRange, Figure};
 ghost use Rattle.lines.specs.LineRecord.{FirstAtLeast};
 ghost use Rattle.problem.specs.ObjectProblem.{pricedOf};
-ghost use Rattle.problem.specs.Prepared.{problemIn, Prepared};
+ghost use Rattle.problem.specs.Prepared.{problemOf, Prepared};
 ghost use Rattle.exhaustive.specs.Ramps.{
   heightOf,
   LinesInRange,
@@ -345,19 +345,19 @@ fn cheapest_of<'a>(
 }
 
 // The cheapest crossing of the lines of a deck's problem, the earliest among equals, with its cost.
-pub fn cheapest(p: Problem) -> Spot
-    requires { ⌜ Prepared p ⌝ }
-    ensures { λ r. ⌜ pricedOf r ≡ exhaustive (problemIn p) ⌝ }
+pub fn cheapest<'a>(
+    columns: &'a [i32; COLUMNS],
+    n: usize,
+    v: &'a [i64],
+    h: &'a [i64],
+    area: Rect,
+) -> Spot
+    requires { ⌜ Prepared (now columns) n (now v) (now h) area ⌝ }
+    ensures { λ r. ⌜ pricedOf r ≡ exhaustive (problemOf (now (columns .entry)) n (now (v .entry)) (now (h .entry)) area) ⌝ }
 {
-    let n = p.count;
-    let nv = p.nv;
-    let nh = p.nh;
-    let area = p.area;
-    let before = pricing::before(&p.columns, n);
-    let first = problem::priced(&p.columns, n, area.xlo, area.ylo);
-    let v: &[i64] = &p.v;
-    let h: &[i64] = &p.h;
     let mut table = [0u16; 40001];
-    number_lines(&h[..nh], &mut table);
-    cheapest_of(&p.columns, n, &v[..nv], &h[..nh], &table, before, first)
+    number_lines(h, &mut table);
+    let before = pricing::before(columns, n);
+    let first = problem::priced(columns, n, area.xlo, area.ylo);
+    cheapest_of(columns, n, v, h, &table, before, first)
 }

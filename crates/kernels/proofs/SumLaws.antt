@@ -108,7 +108,7 @@ abbrev SumIs : (ℕ → ℕ) → ℕ → ℕ → Type 0
 SumIs f k n = Figure (sumTo f k) (100000 * costLimit) n
 
 pricing-is : {o : Opened} → Whole o → pricing o ≡ pricingOf (deckIn o)
-pricing-is {o} whole = prepared-pricing (o .problem) (prepared whole)
+pricing-is {o} whole = prepared-pricing (prepared whole)
 
 module _ {o : Opened} (whole : Whole o) (which k : ℕ) {n : ℕ} where
   pub cost-sum : which ≡ 0 → SumIs (λ t. costOf (pricing o) (placeAt t)) k n → SumIs (turn (deckIn o) which) k n
@@ -127,7 +127,7 @@ module _ {o : Opened} (whole : Whole o) (which k : ℕ) {n : ℕ} where
   pub cut-sum : which ≡ 3 → SumIs (λ t. positive (cutRecord (lineGrid o) (rectAt t) .at)) k n → SumIs (turn (deckIn o) which) k n
   cut-sum e fig =
       rw e (same-sum (cutTurn (deckIn o)) k
-      (λ t. ap (λ (G : Grid). positive (cutRecord G (rectAt t) .at)) (prepared-grid (o .problem) (prepared whole))) fig)
+      (λ t. ap (λ (G : Grid). positive (cutRecord G (rectAt t) .at)) (prepared-grid (prepared whole))) fig)
 
   pub near-sum : which ≡ 4 → SumIs (nearTurn (deckIn o)) k n → SumIs (turn (deckIn o) which) k n
   near-sum e fig = rw e fig

@@ -2,24 +2,23 @@
 -- Assumes nothing.
 use mathlib.Core.Path.{_≡_, refl, sym, ap, subst, _∙_}
 use mathlib.Core.List.{List}
-use Prim.Native.Nat.{ℕ, _+_, _*_, max, _≤_}
-use native.Mathlib.Omega.{arith}
+use Prim.Native.Nat.{ℕ, _+_, _*_, max}
 use lib.IntN.{ℤ, pos, _-ℤ_}
 use lib.ListN.{length, take}
 use Rattle.numbers.specs.Integer.{halfUp}
-use Rattle.numbers.specs.Padded.{padded}
-use Rattle.numbers.proofs.Padded.{padded-front, padded-length}
-use Rattle.query.specs.Place.{Rect, Axis, x-axis, y-axis}
+use Rattle.numbers.proofs.Padded.{padded-front}
+use Rattle.query.specs.Place as Place
+use Rattle.query.specs.Place.{x-axis, y-axis}
 use Rattle.query.specs.Deck as Query
 use Rattle.query.specs.Deck.{plain}
 use Rattle.query.specs.Bound.{span, bound}
 use Rattle.query.specs.Reach.{load}
 use Rattle.query.specs.Lines.{lines}
 use Rattle.query.specs.Grid.{grid}
-use Rattle.query.specs.Problem as QueryProblem
 use Rattle.query.specs.Problem.{problem}
 use Rattle.query.proofs.BoundLaws.{bound-is, cornerSum-is}
 use Rattle.deck.specs.declared.Deck.{Deck}
+use Rattle.deck.specs.declared.Rect.{Rect}
 use Rattle.deck.specs.DeckOf.{deckOf}
 use Rattle.deck.specs.Rectangle.{rectOf}
 use Rattle.deck.specs.Objects.{Pricing, objectsOf, pricingOf}
@@ -29,20 +28,20 @@ use Rattle.pricing.specs.Columns.{Priceable, Ranged}
 use Rattle.pricing.proofs.ObjectLaws.{cost-law, load-law}
 use Rattle.pricing.proofs.RecordLaws.{made-priceable, made-pricing}
 use Rattle.lines.specs.LineRecord.{LinesInOrder, Lined, gridOf}
-use Rattle.lines.proofs.DeckLines.{lines-in-order}
+use Rattle.lines.proofs.DeckLines.{deck-lined}
 use Rattle.problem.specs.declared.Problem.{Problem}
 use Rattle.problem.specs.ObjectProblem.{boundOf, objectProblem}
-use Rattle.problem.specs.Prepared.{problemIn, problemRecord, Solvable, Prepared}
+use Rattle.problem.specs.Prepared.{problemOf, problemRecord, Solvable, Prepared}
 
 -- ---- the figures and the problem of a deck
-pub boundOf-is : (P : Pricing) (r : Rect) → boundOf P r ≡ halfUp (pos
+pub boundOf-is : (P : Pricing) (r : Place.Rect) → boundOf P r ≡ halfUp (pos
     (max (costOf P (record { x = r .xlo; y = r .ylo }) + costOf P (record { x = r .xhi; y = r .yhi }))
     (costOf P (record { x = r .xlo; y = r .yhi }) + costOf P (record { x = r .xhi; y = r .ylo }))) -ℤ pos (span (P .axis) r * loadOf P r))
 unfolding boundOf
 boundOf-is P r = refl
 
 module _ (deck : Query.Deck) where
-  pub bound-law : (r : Rect) → boundOf (pricingOf deck) r ≡ bound deck r
+  pub bound-law : (r : Place.Rect) → boundOf (pricingOf deck) r ≡ bound deck r
   bound-law r =
       boundOf-is (pricingOf deck) r
       ∙ (λ i. halfUp (pos
@@ -57,76 +56,83 @@ module _ (deck : Query.Deck) where
   deck-problem = λ i. record { area = deck .area; rules = record { grid = grid deck; price = λ p. cost-law deck p i; bound = λ r. bound-law r i } }
 
 -- ---- a problem that was prepared
-pub record-area : (deck : Query.Deck) → rectOf (problemRecord deck .area) ≡ deck .area
-unfolding problemRecord
-record-area deck = refl
-
-pub record-columns : (deck : Query.Deck) → problemRecord deck .columns ≡ columnsOf (objectsOf deck)
-unfolding problemRecord
-record-columns deck = refl
-
-pub record-count : (deck : Query.Deck) → problemRecord deck .count ≡ length (deck .stops)
-unfolding problemRecord
-record-count deck = refl
-
-pub vertical-front : (deck : Query.Deck) → take (problemRecord deck .nv) (problemRecord deck .v) ≡ lines deck x-axis
-unfolding problemRecord
-vertical-front deck = padded-front 514 (pos 0) (lines deck x-axis)
-
-pub horizontal-front : (deck : Query.Deck) → take (problemRecord deck .nh) (problemRecord deck .h) ≡ lines deck y-axis
-unfolding problemRecord
-horizontal-front deck = padded-front 514 (pos 0) (lines deck y-axis)
-
-pub vertical-count : (deck : Query.Deck) → problemRecord deck .nv ≡ length (lines deck x-axis)
-unfolding problemRecord
-vertical-count deck = refl
-
-pub horizontal-count : (deck : Query.Deck) → problemRecord deck .nh ≡ length (lines deck y-axis)
-unfolding problemRecord
-horizontal-count deck = refl
-
-module _ (p : Problem) (prepared : Prepared p) where
+module _ {columns : List ℤ} {n : ℕ} {v h : List ℤ} {area : Rect} (prepared : Prepared columns n v h area) where
   abbrev deck : Query.Deck
   deck = prepared .deck
 
-  pub prepared-priceable : Priceable (p .columns) (p .count)
-  prepared-priceable = rw (prepared .is, record-columns deck, record-count deck) (made-priceable deck (prepared .range))
+  pub prepared-priceable : Priceable columns n
+  prepared-priceable =
+      subst (λ (l : List ℤ). Priceable l n) (sym (prepared .columns-are))
+      (subst (Priceable (columnsOf (objectsOf deck))) (sym (prepared .count-is)) (made-priceable deck (prepared .range)))
 
-  pub prepared-ranged : Ranged (rectOf (p .area))
-  prepared-ranged = rw (prepared .is, record-area deck) (record { range = prepared .range .area; full = prepared .full })
+  pub prepared-ranged : Ranged (rectOf area)
+  prepared-ranged = subst Ranged (sym (prepared .area-is)) (record { range = prepared .range .area; full = prepared .full })
 
-  pub prepared-lined : Lined (take (p .nv) (p .v)) (take (p .nh) (p .h))
+  pub prepared-lined : Lined v h
   prepared-lined =
-      rw (prepared .is, vertical-front deck, horizontal-front deck)
-      (record { across = lines-in-order deck x-axis (prepared .range .most-stops); deep = lines-in-order deck y-axis (prepared .range .most-stops) })
-
-  pub few-vertical : p .nv ≤ 514
-  few-vertical = rw (prepared .is, vertical-count deck) (lines-in-order deck x-axis (prepared .range .most-stops) .few)
-
-  pub few-horizontal : p .nh ≤ 514
-  few-horizontal = rw (prepared .is, horizontal-count deck) (lines-in-order deck y-axis (prepared .range .most-stops) .few)
+      let lined = deck-lined deck (prepared .range .most-stops) in
+      record {
+        across = subst LinesInOrder (sym (prepared .vertical-are)) (lined .across);
+        deep = subst LinesInOrder (sym (prepared .horizontal-are)) (lined .deep);
+      }
 
   -- what pricing needs, the lines and the whole problem are the deck's
-  pub prepared-pricing : pricingIn (p .columns) (p .count) ≡ pricingOf deck
-  prepared-pricing = ap (λ (q : Problem). pricingIn (q .columns) (q .count)) (prepared .is)
-      ∙ rw (record-columns deck, record-count deck) (made-pricing deck (prepared .range) (prepared .axis))
+  pub prepared-pricing : pricingIn columns n ≡ pricingOf deck
+  prepared-pricing =
+      (λ i. pricingIn (prepared .columns-are i) (prepared .count-is i)) ∙ made-pricing deck (prepared .range) (prepared .axis)
 
-  pub prepared-grid : gridOf (take (p .nv) (p .v)) (take (p .nh) (p .h)) ≡ grid deck
+  pub prepared-grid : gridOf v h ≡ grid deck
   unfolding grid
-  prepared-grid =
-      ap (λ (q : Problem). gridOf (take (q .nv) (q .v)) (take (q .nh) (q .h))) (prepared .is)
-      ∙ (λ i. gridOf (vertical-front deck i) (horizontal-front deck i))
+  prepared-grid = λ i. gridOf (prepared .vertical-are i) (prepared .horizontal-are i)
 
-  pub prepared-problem : problemIn p ≡ problem deck
-  prepared-problem =
-      (λ i. objectProblem (prepared-pricing i) (prepared-grid i) (rectOf (prepared .is i .area)))
-      ∙ ap (objectProblem (pricingOf deck) (grid deck)) (record-area deck)
-      ∙ deck-problem deck
+  pub prepared-problem : problemOf columns n v h area ≡ problem deck
+  prepared-problem = (λ i. objectProblem (prepared-pricing i) (prepared-grid i) (prepared .area-is i)) ∙ deck-problem deck
 
--- ---- the problem of a record's deck
+-- ---- the record of a deck's problem
 pub plain-axis : (deck : Deck) → deckOf deck .axis ≡ plain
 unfolding deckOf
 plain-axis deck = refl
 
-abbrev pub solvable-prepared : (deck : Deck) → Solvable deck → (p : Problem) → p ≡ problemRecord (deckOf deck) → Prepared p
-solvable-prepared deck h p e = record { deck = deckOf deck; is = e; axis = plain-axis deck; range = h .range; full = h .full }
+module _ (deck : Query.Deck) (p : Problem) (e : p ≡ problemRecord deck) where
+  pub record-columns : p .columns ≡ columnsOf (objectsOf deck)
+  unfolding problemRecord
+  record-columns = ap (λ (q : Problem). q .columns) e
+
+  pub record-count : p .count ≡ length (deck .stops)
+  unfolding problemRecord
+  record-count = ap (λ (q : Problem). q .count) e
+
+  pub record-vertical : take (p .nv) (p .v) ≡ lines deck x-axis
+  unfolding problemRecord
+  record-vertical = ap (λ (q : Problem). take (q .nv) (q .v)) e ∙ padded-front 514 (pos 0) (lines deck x-axis)
+
+  pub record-horizontal : take (p .nh) (p .h) ≡ lines deck y-axis
+  unfolding problemRecord
+  record-horizontal = ap (λ (q : Problem). take (q .nh) (q .h)) e ∙ padded-front 514 (pos 0) (lines deck y-axis)
+
+  pub record-area : rectOf (p .area) ≡ deck .area
+  unfolding problemRecord
+  record-area = ap (λ (q : Problem). rectOf (q .area)) e
+
+  -- as many lines are taken as stand in front
+  pub vertical-taken : p .nv ≡ length (take (p .nv) (p .v))
+  unfolding problemRecord
+  vertical-taken = ap (λ (q : Problem). q .nv) e ∙ sym (ap length record-vertical)
+
+  pub horizontal-taken : p .nh ≡ length (take (p .nh) (p .h))
+  unfolding problemRecord
+  horizontal-taken = ap (λ (q : Problem). q .nh) e ∙ sym (ap length record-horizontal)
+
+abbrev pub solvable-prepared : (deck : Deck) → Solvable deck → (p : Problem) → p ≡ problemRecord (deckOf deck) →
+    Prepared (p .columns) (p .count) (take (p .nv) (p .v)) (take (p .nh) (p .h)) (p .area)
+solvable-prepared deck h p e = record {
+  deck = deckOf deck;
+  axis = plain-axis deck;
+  range = h .range;
+  full = h .full;
+  columns-are = record-columns (deckOf deck) p e;
+  count-is = record-count (deckOf deck) p e;
+  vertical-are = record-vertical (deckOf deck) p e;
+  horizontal-are = record-horizontal (deckOf deck) p e;
+  area-is = record-area (deckOf deck) p e;
+}

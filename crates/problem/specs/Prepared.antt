@@ -1,9 +1,10 @@
 -- The problem of a deck as the code prepares it, once for each call.
 -- Assumes nothing.
-use Prim.Native.Nat.{_≤_}
+use Prim.Native.Nat.{ℕ, _≤_}
 use mathlib.Core.Path.{_≡_}
-use lib.IntN.{pos}
-use lib.ListN.{length, take}
+use mathlib.Core.List.{List}
+use lib.IntN.{ℤ, pos}
+use lib.ListN.{length}
 use Rattle.numbers.specs.Padded.{padded}
 use Rattle.query.specs.Place.{NonEmpty, x-axis, y-axis}
 use Rattle.query.specs.Deck as Query
@@ -12,6 +13,7 @@ use Rattle.query.specs.Lines.{lines}
 use Rattle.query.specs.Problem as QueryProblem
 use Rattle.query.specs.Range.{InRange, postsLimit, stopsLimit}
 use Rattle.deck.specs.declared.Deck.{Deck}
+use Rattle.deck.specs.declared.Rect.{Rect}
 use Rattle.deck.specs.DeckOf.{deckOf}
 use Rattle.deck.specs.Rectangle.{rectOf, rectRecord}
 use Rattle.deck.specs.Objects.{objectsOf}
@@ -20,9 +22,9 @@ use Rattle.lines.specs.LineRecord.{gridOf}
 use Rattle.problem.specs.declared.Problem.{Problem}
 use Rattle.problem.specs.ObjectProblem.{objectProblem}
 
--- the problem that a record holds
-abbrev pub problemIn : Problem → QueryProblem.Problem
-problemIn p = objectProblem (pricingIn (p .columns) (p .count)) (gridOf (take (p .nv) (p .v)) (take (p .nh) (p .h))) (rectOf (p .area))
+-- the problem of parts that are lent: the columns of n objects, the lines, and the area
+abbrev pub problemOf : List ℤ → ℕ → List ℤ → List ℤ → Rect → QueryProblem.Problem
+problemOf columns n v h area = objectProblem (pricingIn columns n) (gridOf v h) (rectOf area)
 
 -- the record of a deck's problem: its area, the columns of its objects and its lines
 unfoldable pub problemRecord : Query.Deck → Problem
@@ -44,10 +46,14 @@ pub record Solvable (deck : Deck) : Type 0 where
   pub posts : deck .posts ≤ postsLimit
   pub stops : deck .stops ≤ stopsLimit
 
--- the record of the problem of such a deck
-pub record Prepared (p : Problem) : Type 0 where
+-- the parts of the problem of some deck in range that has an area
+pub record Prepared (columns : List ℤ) (n : ℕ) (v h : List ℤ) (area : Rect) : Type 0 where
   pub deck : Query.Deck
-  pub is : p ≡ problemRecord deck
   pub axis : deck .axis ≡ plain
   pub range : InRange deck
   pub full : NonEmpty (deck .area)
+  pub columns-are : columns ≡ columnsOf (objectsOf deck)
+  pub count-is : n ≡ length (deck .stops)
+  pub vertical-are : v ≡ lines deck x-axis
+  pub horizontal-are : h ≡ lines deck y-axis
+  pub area-is : rectOf area ≡ deck .area

@@ -9,7 +9,7 @@ use lib.ListN.{length, take, drop}
 use Rattle.numbers.specs.Padded.{padded}
 use Rattle.query.specs.Place.{NonEmpty}
 use Rattle.query.specs.Deck.{Deck}
-use Rattle.query.specs.Problem.{problem}
+use Rattle.query.specs.Problem.{Problem, problem}
 use Rattle.query.specs.Order as Order
 use Rattle.query.specs.Search.{run}
 use Rattle.query.specs.Space.{allNumbers}
@@ -20,8 +20,8 @@ use Rattle.query.proofs.Invariant.{run-ok}
 use Rattle.query.proofs.Demand3.{lawful}
 use Rattle.query.proofs.FigureRanges.{run-in-range}
 use Rattle.deck.specs.Objects.{Pricing}
-use Rattle.problem.specs.declared.Problem.{Problem}
-use Rattle.problem.specs.Prepared.{problemIn, Prepared}
+use Rattle.deck.specs.declared.Rect.{Rect}
+use Rattle.problem.specs.Prepared.{problemOf, Prepared}
 use Rattle.problem.proofs.DeckProblem.{prepared-problem}
 use Rattle.slots.specs.Numbering.{Numbered, cellsIn}
 use Rattle.cells.proofs.Numbers.{order-numbers}
@@ -42,18 +42,18 @@ deck-steady deck range full = record {
   cost-limit = λ n. run-in-range deck range full n .figures-range .high-limit;
 }
 
-pub steady : (p : Problem) → Prepared p → Steady (problemIn p)
-steady p h = subst Steady (sym (prepared-problem p h)) (deck-steady (h .deck) (h .range) (h .full))
+pub steady : {columns : List ℤ} {n : ℕ} {v h : List ℤ} {area : Rect} → Prepared columns n v h area → Steady (problemOf columns n v h area)
+steady p = subst Steady (sym (prepared-problem p)) (deck-steady (p .deck) (p .range) (p .full))
 
 -- ---- a search
-pub searched : (P : Pricing) (p : Problem) (rounds : ℕ) (s : List ℤ) (o t : List ℕ) (st : Running) → Numbered o
-    → Holds P (run (problemIn p) rounds) 0 (cellsIn s o) t st → (before after : List ℤ) (r : Found) → r ≡ foundOf (searchOf (cellsIn s o) [] st)
-    → after ≡ padded (length before) (pos 0) (cellsIn s (take (st .tail - st .head) (drop (st .head) o))) → Searched p rounds before after r
-searched P p rounds s o t st numbered holds before after r found written = record {
-  found = found ∙ ap foundOf (holds-any (problemIn p) P rounds 0 (cellsIn s o) t st holds);
+pub searched : (P : Pricing) (Q : Problem) (rounds : ℕ) (s : List ℤ) (o t : List ℕ) (st : Running) → Numbered o
+    → Holds P (run Q rounds) 0 (cellsIn s o) t st → (before after : List ℤ) (r : Found) → r ≡ foundOf (searchOf (cellsIn s o) [] st)
+    → after ≡ padded (length before) (pos 0) (cellsIn s (take (st .tail - st .head) (drop (st .head) o))) → Searched Q rounds before after r
+searched P Q rounds s o t st numbered holds before after r found written = record {
+  found = found ∙ ap foundOf (holds-any Q P rounds 0 (cellsIn s o) t st holds);
   cells =
       written
       ∙ ap (padded (length before) (pos 0))
       (sym (order-numbers s o t (st .head) (st .tail - st .head) (omega (arith, numbered .long, holds .in-turn, holds .ends))))
-      ∙ ap (λ (l : List Order.Cell). padded (length before) (pos 0) (allNumbers l)) (cells-are (problemIn p) P rounds 0 (cellsIn s o) t st holds);
+      ∙ ap (λ (l : List Order.Cell). padded (length before) (pos 0) (allNumbers l)) (cells-are Q P rounds 0 (cellsIn s o) t st holds);
 }

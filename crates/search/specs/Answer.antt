@@ -1,4 +1,4 @@
--- What a search answers at its end, and what it asks.
+-- What a search answers at its end, and the room that it asks for.
 -- Assumes nothing.
 use Prim.Native.Nat.{ℕ, _-_, _≤_}
 use mathlib.Core.Path.{_≡_}
@@ -7,14 +7,13 @@ use mathlib.Core.List.{List, [], _∷_}
 use lib.IntN.{ℤ, pos}
 use lib.ListN.{length}
 use Rattle.numbers.specs.Padded.{padded}
+use Rattle.query.specs.Problem.{Problem}
 use Rattle.query.specs.Order as Query
 use Rattle.query.specs.Search.{Search, run}
 use Rattle.query.specs.Figures as Figures
 use Rattle.query.specs.Space.{allNumbers, spaceNeeded}
 use Rattle.query.specs.Range.{costLimit, roundsLimit}
 use Rattle.slots.specs.declared.Cell.{Cell}
-use Rattle.problem.specs.declared.Problem.{Problem}
-use Rattle.problem.specs.Prepared.{problemIn, Prepared}
 use Rattle.search.specs.declared.run.Running.{Running}
 use Rattle.search.specs.declared.run.Found.{Found}
 use Rattle.cells.specs.Entries.{entries}
@@ -42,13 +41,12 @@ foundOf s = record {
   cuts = s .cuts;
 }
 
--- what a search asks: the problem of a deck, and room for the cells of so many rounds
-pub record Ready (p : Problem) (rounds lent : ℕ) : Type 0 where
-  pub prepared : Prepared p
+-- rounds of a job, and room for their cells
+pub record Room (rounds lent : ℕ) : Type 0 where
   pub rounds-limit : rounds ≤ roundsLimit
   pub room : spaceNeeded rounds ≤ lent
 
 -- the answer, and what the cell space then holds
-pub record Searched (p : Problem) (rounds : ℕ) (before after : List ℤ) (r : Found) : Type 0 where
-  pub found : r ≡ foundOf (run (problemIn p) rounds)
-  pub cells : after ≡ padded (length before) (pos 0) (allNumbers (run (problemIn p) rounds .live))
+pub record Searched (Q : Problem) (rounds : ℕ) (before after : List ℤ) (r : Found) : Type 0 where
+  pub found : r ≡ foundOf (run Q rounds)
+  pub cells : after ≡ padded (length before) (pos 0) (allNumbers (run Q rounds .live))

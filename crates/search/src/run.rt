@@ -5,7 +5,6 @@ use limits::CELLS;
 use limits::COLUMNS;
 use limits::CORNER_COSTS;
 use limits::SPACE;
-use problem::Problem;
 use problem::Spot;
 use slots::Cell;
 use slots::Costs;
@@ -25,8 +24,9 @@ ghost use Rattle.slots.specs.Numbering.{cellsIn, costsIn, Numbered};
 ghost use Rattle.search.specs.Corners.{cornerCosts, CostsInRange, bestCorner};
 ghost use Rattle.search.specs.LiveEntries.{Addable, Added};
 ghost use Rattle.search.specs.Running.{searchOf, Takeable, Holds, Steady};
-ghost use Rattle.search.specs.Answer.{Answerable, foundOf, Ready, Searched};
-ghost use Rattle.problem.specs.ObjectProblem.{objectRules, objectProblem, pricedOf, rectIn};
+ghost use Rattle.search.specs.Answer.{Answerable, foundOf, Room, Searched};
+ghost use Rattle.problem.specs.ObjectProblem.{objectRules, pricedOf, rectIn};
+ghost use Rattle.problem.specs.Prepared.{problemOf, Prepared};
 
 // A search while it runs: where its live cells stand in the order, the best place so far and the cuts made.
 pub struct Running {
@@ -176,7 +176,7 @@ fn start<'a>(
     requires { ⌜ Priceable (now columns) n × Lined (now v) (now h) × Ranged (rectOf area) × Numbered (now o) ⌝ }
     ensures { λ r.
         ⌜ Holds (pricingIn (now (columns .entry)) n)
-        (Search.start (objectProblem (pricingIn (now (columns .entry)) n) (gridOf (now (v .entry)) (now (h .entry))) (rectOf area))) 1000
+        (Search.start (problemOf (now (columns .entry)) n (now (v .entry)) (now (h .entry)) area)) 1000
         (cellsIn (now (s .exit)) (now (o .exit))) (costsIn (now (t .exit)) (now (o .exit))) r × Numbered (now (o .exit)) ⌝ }
 {
     let k = corners(columns, n, area);
@@ -204,10 +204,10 @@ fn run_of<'a>(
     rounds: u64,
 ) -> Running
     requires { ⌜ Priceable (now columns) n × Lined (now v) (now h) × Ranged (rectOf area) × (rounds ≤ 1000)
-        × Steady (objectProblem (pricingIn (now columns) n) (gridOf (now v) (now h)) (rectOf area)) × Numbered (now o) ⌝ }
+        × Steady (problemOf (now columns) n (now v) (now h) area) × Numbered (now o) ⌝ }
     ensures { λ r.
         ⌜ Holds (pricingIn (now (columns .entry)) n)
-        (Search.run (objectProblem (pricingIn (now (columns .entry)) n) (gridOf (now (v .entry)) (now (h .entry))) (rectOf area)) rounds) 0
+        (Search.run (problemOf (now (columns .entry)) n (now (v .entry)) (now (h .entry)) area) rounds) 0
         (cellsIn (now (s .exit)) (now (o .exit))) (costsIn (now (t .exit)) (now (o .exit))) r × Numbered (now (o .exit)) ⌝ }
 {
     let mut st = start(columns, n, v, h, s, t, o, area);
@@ -258,30 +258,25 @@ fn answer<'a>(s: &'a [i64; SPACE], o: &'a [u16; CELLS], st: Running) -> Found
 }
 
 // The search of a deck's problem, for at most so many rounds: its answer, with its live cells in the cell space.
-pub fn search(p: Problem, rounds: u64, cells: &mut [i64]) -> Found
-    requires { ⌜ Ready p rounds (length (now cells)) ⌝ }
-    ensures { λ r. ⌜ Searched p rounds (now (cells .entry)) (now (cells .exit)) r ⌝ }
+pub fn search<'a>(
+    columns: &'a [i32; COLUMNS],
+    n: usize,
+    v: &'a [i64],
+    h: &'a [i64],
+    area: Rect,
+    rounds: u64,
+    cells: &mut [i64],
+) -> Found
+    requires { ⌜ Prepared (now columns) n (now v) (now h) area × Room rounds (length (now cells)) ⌝ }
+    ensures { λ r.
+        ⌜ Searched (problemOf (now (columns .entry)) n (now (v .entry)) (now (h .entry)) area) rounds (now (cells .entry))
+        (now (cells .exit)) r ⌝ }
 {
-    let n = p.count;
-    let nv = p.nv;
-    let nh = p.nh;
-    let v: &[i64] = &p.v;
-    let h: &[i64] = &p.h;
     let mut s = [0i64; SPACE];
     let mut t = [0u64; CORNER_COSTS];
     let mut o = [0u16; CELLS];
     slots::number(&mut o);
-    let st = run_of(
-        &p.columns,
-        n,
-        &v[..nv],
-        &h[..nh],
-        &mut s,
-        &mut t,
-        &mut o,
-        p.area,
-        rounds,
-    );
+    let st = run_of(columns, n, v, h, &mut s, &mut t, &mut o, area, rounds);
     cells::write_out(&s, &o, st.head, st.tail, cells);
     answer(&s, &o, st)
 }

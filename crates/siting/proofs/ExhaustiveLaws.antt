@@ -14,26 +14,19 @@ use Rattle.job.specs.declared.Outcome.the-variants.{Accepted, Refused}
 use Rattle.refusal.specs.declared.Refusal.{Refusal}
 use Rattle.deck.specs.DeckOf.{deckOf}
 use Rattle.problem.specs.ObjectProblem.{pricedOf}
-use Rattle.problem.specs.Prepared.{problemIn, problemRecord}
-use Rattle.problem.specs.declared.Problem.{Problem}
 use Rattle.problem.specs.declared.Spot.{Spot}
-use Rattle.problem.proofs.DeckProblem.{prepared-problem, solvable-prepared}
 use Rattle.calls.specs.declared.Cheapest.the-variants as Cheapest
 use Rattle.calls.specs.Answers.{gives, cheapestAnswer}
 use Rattle.calls.specs.CheapestCall.{exhaustiveCall}
 use Rattle.job.proofs.ReadDeck.{read-accepted, read-refused, read-deckOf}
-use Rattle.siting.proofs.SolveLaws.{solvable}
 use Rattle.calls.proofs.ExhaustiveCall.{call-accepted, call-refused}
 
 module _ (job : List ℕ) (j : Held.Job) (e : j ≡ jobRecord (readJob job)) where
-  pub exhaustive-found : (rounds : ℕ) → j .outcome ≡ Accepted rounds → (p : Problem) → p ≡ problemRecord (deckOf (j .deck)) → (s : Spot) →
-      pricedOf s ≡ Query.exhaustive (problemIn p) → cheapestAnswer (Cheapest.At s) ≡ exhaustiveCall job
-  exhaustive-found rounds o p g s f =
+  pub exhaustive-found : (rounds : ℕ) → j .outcome ≡ Accepted rounds → (s : Spot) →
+      pricedOf s ≡ Query.exhaustive (problem (deckOf (j .deck))) → cheapestAnswer (Cheapest.At s) ≡ exhaustiveCall job
+  exhaustive-found rounds o s f =
       let t = read-accepted job j e rounds o in
-      ap (λ (q : Priced). gives q)
-      (f
-      ∙ ap Query.exhaustive (prepared-problem p (solvable-prepared (j .deck) (solvable job j e rounds o) p g))
-      ∙ ap (λ (d : Deck). Query.exhaustive (problem d)) (read-deckOf t j e))
+      ap (λ (q : Priced). gives q) (f ∙ ap (λ (d : Deck). Query.exhaustive (problem d)) (read-deckOf t j e))
       ∙ sym (call-accepted job (t .job) (t .read))
 
   pub exhaustive-refused : (why : Refusal) → j .outcome ≡ Refused why → cheapestAnswer (Cheapest.Refused why) ≡ exhaustiveCall job

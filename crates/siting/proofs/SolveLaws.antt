@@ -7,7 +7,7 @@ use native.Mathlib.Omega.{arith}
 use mir.Syntax.{w64}
 use mir.ValLaws.{toZ-ofZ}
 use lib.IntN.{ℤ, pos}
-use lib.ListN.{length}
+use lib.ListN.{length, take}
 use Rattle.numbers.specs.Padded.{padded}
 use Rattle.numbers.proofs.Words.{word-fits}
 use Rattle.numbers.proofs.WordTests.{back}
@@ -33,7 +33,7 @@ use Rattle.deck.specs.ObjectColumns.{pricingIn}
 use Rattle.pricing.specs.ObjectFigures.{beforeOf}
 use Rattle.pricing.proofs.ObjectLaws.{before-law}
 use Rattle.problem.specs.declared.Problem.{Problem}
-use Rattle.problem.specs.Prepared.{problemIn, problemRecord, Solvable}
+use Rattle.problem.specs.Prepared.{problemOf, problemRecord, Solvable}
 use Rattle.problem.proofs.DeckProblem.{prepared-pricing, prepared-problem, solvable-prepared}
 use Rattle.report.specs.Report.{reportState, reportFigures}
 use Rattle.report.specs.Text.{reportText}
@@ -68,11 +68,14 @@ module _ (deck : Deck) (n : ℕ) (h : Solvable deck) (p : Problem) (e : p ≡ pr
   figures-range = run-in-range (deckOf deck) (h .range) (h .full) n .figures-range
 
   -- the problem and `before` are the deck's
-  problem-is : problemIn p ≡ problem (deckOf deck)
-  problem-is = prepared-problem p (solvable-prepared deck h p e)
+  abbrev held : QueryProblem.Problem
+  held = problemOf (p .columns) (p .count) (take (p .nv) (p .v)) (take (p .nh) (p .h)) (p .area)
+
+  problem-is : held ≡ problem (deckOf deck)
+  problem-is = prepared-problem (solvable-prepared deck h p e)
 
   before-is : (b : ℕ) → b ≡ beforeOf (pricingIn (p .columns) (p .count)) → b ≡ before (deckOf deck)
-  before-is b f = f ∙ ap beforeOf (prepared-pricing p (solvable-prepared deck h p e)) ∙ before-law (deckOf deck)
+  before-is b f = f ∙ ap beforeOf (prepared-pricing (solvable-prepared deck h p e)) ∙ before-law (deckOf deck)
 
   -- the signed fields of an answer, as the code holds them
   module _ (f : Found) (found : f ≡ foundOf (run (problem (deckOf deck)) n)) where
@@ -89,7 +92,7 @@ module _ (deck : Deck) (n : ℕ) (h : Solvable deck) (p : Problem) (e : p ≡ pr
     low-word = toZ-ofZ w64 (f .low) (word-fits w64 (f .low) (rw found (omega (arith, figures-range .low-limit))))
 
   pub solved : (cells cells′ : List ℤ) (f : Found) (state : State) (b : ℕ) → b ≡ beforeOf (pricingIn (p .columns) (p .count)) →
-      Searched p n cells cells′ f → state ≡ stateFor (f .done) → Solved deck n cells cells′ (record {
+      Searched held n cells cells′ f → state ≡ stateFor (f .done) → Solved deck n cells cells′ (record {
         state = state;
         x = back (f .x);
         y = back (f .y);

@@ -7,8 +7,7 @@ use mathlib.Core.List.{List, []}
 use lib.IntN.{ℤ}
 use lib.ListN.{length}
 use Rattle.query.specs.Figures.{figures}
-use Rattle.query.specs.Space.{space, spaceNeeded}
-use Rattle.query.specs.Range.{roundsLimit}
+use Rattle.query.specs.Space.{space}
 use Rattle.deck.specs.declared.Deck.{Deck}
 use Rattle.refusal.specs.declared.Refusal.{Refusal}
 use Rattle.deck.specs.DeckOf.{deckOf}
@@ -26,11 +25,6 @@ use Rattle.calls.specs.Call.{reportCall}
 
 abbrev pub stateFor : Bool → State
 stateFor isDone = cond isDone Done Stopped
-
--- rounds of a job, and room for their cells
-pub record Room (rounds lent : ℕ) : Type 0 where
-  pub rounds-limit : rounds ≤ roundsLimit
-  pub room : spaceNeeded rounds ≤ lent
 
 -- its report, and what the cell space then holds
 pub record Solved (deck : Deck) (rounds : ℕ) (before after : List ℤ) (r : Report) : Type 0 where

@@ -20,8 +20,13 @@ ghost use Rattle.calls.specs.Call.{reportCall};
 ghost use Rattle.calls.specs.Entry.{entry};
 ghost use Rattle.calls.specs.Program.{answerText, textRecord};
 ghost use Rattle.calls.specs.CheapestCall.{exhaustiveCall};
+ghost use Rattle.query.specs.Problem.{problem};
+ghost use Rattle.query.specs.Exhaustive as Query;
+ghost use Rattle.deck.specs.DeckOf.{deckOf};
+ghost use Rattle.problem.specs.ObjectProblem.{pricedOf};
 ghost use Rattle.problem.specs.Prepared.{Solvable};
-ghost use Rattle.siting.specs.Response.{stateFor, Room, Solved, refusedResponse, Responded};
+ghost use Rattle.search.specs.Answer.{Room};
+ghost use Rattle.siting.specs.Response.{stateFor, Solved, refusedResponse, Responded};
 
 // An answer, and how many bytes it has written.
 struct Response {
@@ -42,8 +47,12 @@ fn solve(deck: Deck, rounds: u64, cells: &mut [i64]) -> Report
 {
     let p = problem::of_deck(deck);
     let n = p.count;
+    let nv = p.nv;
+    let nh = p.nh;
     let before = pricing::before(&p.columns, n);
-    let found = run::search(p, rounds, cells);
+    let v: &[i64] = &p.v;
+    let h: &[i64] = &p.h;
+    let found = run::search(&p.columns, n, &v[..nv], &h[..nh], p.area, rounds, cells);
     let state = state_of(found.done);
     Report {
         state,
@@ -113,6 +122,20 @@ pub extern "C" fn siting_report(job: &[u8], out: &mut [u8]) -> i64
     }
 }
 
+// The cheapest crossing of a deck's lines.
+fn cheapest_in(deck: Deck) -> Spot
+    requires { ⌜ Solvable deck ⌝ }
+    ensures { λ r. ⌜ pricedOf r ≡ Query.exhaustive (problem (deckOf deck)) ⌝ }
+{
+    let p = problem::of_deck(deck);
+    let n = p.count;
+    let nv = p.nv;
+    let nh = p.nh;
+    let v: &[i64] = &p.v;
+    let h: &[i64] = &p.h;
+    exhaustive::cheapest(&p.columns, n, &v[..nv], &h[..nh], p.area)
+}
+
 // The cheapest crossing of lines, the earliest among equals, or the refusal of the job. Its rounds are not used.
 pub fn exhaustive(job: &[u8]) -> Cheapest
     ensures { λ r. ⌜ cheapestAnswer r ≡ exhaustiveCall (now (job .entry)) ⌝ }
@@ -121,7 +144,7 @@ pub fn exhaustive(job: &[u8]) -> Cheapest
     let outcome = j.outcome;
     let deck = j.deck;
     match outcome {
-        Outcome::Accepted(_) => Cheapest::At(exhaustive::cheapest(problem::of_deck(deck))),
+        Outcome::Accepted(_) => Cheapest::At(cheapest_in(deck)),
         Outcome::Refused(why) => Cheapest::Refused(why),
     }
 }

@@ -44,7 +44,7 @@ figure-word {figure} {n} fig = toZ-pos w64 n (omega (arith, fig .within)) ∙ ap
 -- ---- the answers
 module _ {bytes : List ℕ} {o : Opened} (e : o ≡ openedRecord (readJob bytes)) (s : Spelt bytes) where
   pricing-is : pricingIn (o .problem .columns) (o .problem .count) ≡ pricingOf (s .job .deck)
-  pricing-is = prepared-pricing (o .problem) (prepared (open-whole bytes o e s)) ∙ ap pricingOf (open-deck bytes o e s)
+  pricing-is = prepared-pricing (prepared (open-whole bytes o e s)) ∙ ap pricingOf (open-deck bytes o e s)
 
   pub cost-answer : (at : Place) {n : ℕ} → placeInRange at ≡ true → Figure (costOf (pricingIn (o .problem .columns) (o .problem .count)) at) costLimit n →
       toZ w64 n ≡ costFigure at (readJob bytes)
@@ -69,10 +69,10 @@ module _ {bytes : List ℕ} {o : Opened} (e : o ≡ openedRecord (readJob bytes)
       figure-word fig ∙ ap pos (ap beforeOf pricing-is ∙ before-law (s .job .deck)) ∙ on-job minusOne (λ job. pos (before (job .deck))) s
 
   pub open-priceable : Priceable (o .problem .columns) (o .problem .count)
-  open-priceable = prepared-priceable (o .problem) (prepared (open-whole bytes o e s))
+  open-priceable = prepared-priceable (prepared (open-whole bytes o e s))
 
   count-is : o .problem .count ≡ length (s .job .deck .stops)
-  count-is = ap (λ (p : Problem). p .count) (open-problem bytes o e s) ∙ record-count (s .job .deck)
+  count-is = record-count (s .job .deck) (o .problem) (open-problem bytes o e s)
 
   objects-count : length (objectsOf (s .job .deck)) ≡ length (s .job .deck .stops)
   objects-count = rw objectsOf-map (length-map (s .job .deck .stops) (objectOf (s .job .deck)))
@@ -81,9 +81,9 @@ module _ {bytes : List ℕ} {o : Opened} (e : o ≡ openedRecord (readJob bytes)
       natAbs (getD (o .problem .columns) (1536 + i) (pos 0)) ≡ getD (map (near (s .job .deck)) (s .job .deck .stops)) i 0
   near-at i h =
       let objects = objectsOf (s .job .deck) in
-      ap (λ (p : Problem). natAbs (getD (p .columns) (1536 + i) (pos 0))) (open-problem bytes o e s)
-      ∙ rw record-columns (ap (λ (t : Object). t .near)
-      (row-object objects (omega (arith, objects-count, spelt-range s .most-stops)) i (omega (arith, objects-count))))
+      ap (λ (l : List ℤ). natAbs (getD l (1536 + i) (pos 0))) (record-columns (s .job .deck) (o .problem) (open-problem bytes o e s))
+      ∙ ap (λ (t : Object). t .near)
+      (row-object objects (omega (arith, objects-count, spelt-range s .most-stops)) i (omega (arith, objects-count)))
       ∙ sym (List·getD-map (λ (t : Object). t .near) objects i nothing) ∙ rw (objectsOf-map, map-map)
 
   -- the near in row i, as a word

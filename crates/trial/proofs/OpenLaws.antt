@@ -19,7 +19,7 @@ use Rattle.deck.specs.DeckOf.{deckOf}
 use Rattle.job.proofs.ReadDeck.{differ, Spelt, read-accepted, read-deck, read-rounds, read-deckOf, read-full, objects-ask}
 use Rattle.problem.specs.declared.Problem.{Problem}
 use Rattle.problem.specs.Prepared.{Solvable, Prepared, problemRecord}
-use Rattle.problem.proofs.DeckProblem.{vertical-front, horizontal-front}
+use Rattle.problem.proofs.DeckProblem.{solvable-prepared}
 use Rattle.trial.specs.Opened.{Whole, noProblem, openedDeck, openedRecord}
 use Rattle.trial.specs.Trial.{onJob}
 use Rattle.trial.specs.declared.opened.Opened.{Opened}
@@ -47,29 +47,10 @@ pub opened-refused : (bytes : List ℕ) (j : Held.Job) (why : Refusal) → j ≡
 unfolding openedRecord jobRecord
 opened-refused bytes j why e f = rw (e, f)
 
--- ---- a deck in range with its problem
-pub plainly : (deck : Deck) → deckOf deck .axis ≡ plain
-unfolding deckOf
-plainly deck = refl
-
--- the problem is prepared, and its deck is the one held
-abbrev pub prepared : {o : Opened} → Whole o → Prepared (o .problem)
-prepared {o} w =
-    record { deck = deckOf (o .deck); is = w .problem-is; axis = plainly (o .deck); range = w .solvable .range; full = w .solvable .full }
-
--- as many lines are taken as stand in front
-module _ {o : Opened} (w : Whole o) where
-  pub vertical-taken : o .problem .nv ≡ length (take (o .problem .nv) (o .problem .v))
-  unfolding problemRecord
-  vertical-taken =
-      ap (λ (p : Problem). p .nv) (w .problem-is)
-      ∙ sym (ap length (ap (λ (p : Problem). take (p .nv) (p .v)) (w .problem-is) ∙ vertical-front (deckOf (o .deck))))
-
-  pub horizontal-taken : o .problem .nh ≡ length (take (o .problem .nh) (o .problem .h))
-  unfolding problemRecord
-  horizontal-taken =
-      ap (λ (p : Problem). p .nh) (w .problem-is)
-      ∙ sym (ap length (ap (λ (p : Problem). take (p .nh) (p .h)) (w .problem-is) ∙ horizontal-front (deckOf (o .deck))))
+-- ---- a deck in range with its problem: it is prepared, and its deck is the one held
+abbrev pub prepared : {o : Opened} → Whole o →
+    Prepared (o .problem .columns) (o .problem .count) (take (o .problem .nv) (o .problem .v)) (take (o .problem .nh) (o .problem .h)) (o .problem .area)
+prepared {o} w = solvable-prepared (o .deck) (w .solvable) (o .problem) (w .problem-is)
 
 -- ---- what `open_job` answers
 module _ (bytes : List ℕ) (o : Opened) (e : o ≡ openedRecord (readJob bytes)) where

@@ -3,14 +3,14 @@
 use native.Mathlib.Omega.{arith}
 use borrow.Author.Needs.{needs}
 use Rattle.pricing.specs.Columns.{Priceable}
-use Rattle.problem.proofs.DeckProblem.{prepared-priceable, prepared-lined}
-use Rattle.trial.proofs.OpenLaws.{prepared, vertical-taken, horizontal-taken}
+use Rattle.problem.proofs.DeckProblem.{prepared-priceable, prepared-lined, vertical-taken, horizontal-taken}
+use Rattle.trial.proofs.OpenLaws.{prepared}
 use Rattle.kernels.proofs.SumLaws.{cost-sum, load-sum, bound-sum, cut-sum, near-sum}
 use Rattle.kernels.proofs.sum_of.Statement.{statement}
 use Rattle.kernels.proofs.sum_of.Tie as tie
 
 priceable : (s : tie.Start) → Priceable (s .args .o .problem .columns) (s .args .o .problem .count)
-priceable s = prepared-priceable _ (prepared (s .pre .0))
+priceable s = prepared-priceable (prepared (s .pre .0))
 
 costs-requires : tie.Need-costs-requires
 costs-requires c κs = let s = c .before .before .before .before in (priceable s, s .pre .2)
@@ -31,15 +31,16 @@ returns-3 : tie.Need-returns-3
 returns-3 c = bound-sum (c .before .before .before .before .before .before .before .pre .0) _ _ (c .before .before .before .if3 .taken) (c .bounds .ensures)
 
 slice-aggregate-cuts : tie.Need-slice-aggregate-cuts
-slice-aggregate-cuts c = vertical-taken (c .before .before .before .before .before .before .before .before .before .before .before .pre .0)
+slice-aggregate-cuts c = vertical-taken _ _ (c .before .before .before .before .before .before .before .before .before .before .before .pre .0 .problem-is)
 
 slice-aggregate-cuts-2 : tie.Need-slice-aggregate-cuts-2
-slice-aggregate-cuts-2 c = horizontal-taken (c .before .before .before .before .before .before .before .before .before .before .before .before .pre .0)
+slice-aggregate-cuts-2 c =
+    horizontal-taken _ _ (c .before .before .before .before .before .before .before .before .before .before .before .before .pre .0 .problem-is)
 
 cuts-requires : tie.Need-cuts-requires
 cuts-requires c κs =
     let h = c .before .before .before .before .before .before .before .before .before .before .before .before .pre in
-    (prepared-lined _ (prepared (h .0)), h .2)
+    (prepared-lined (prepared (h .0)), h .2)
 
 returns-4 : tie.Need-returns-4
 returns-4 c =
