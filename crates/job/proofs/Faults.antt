@@ -12,7 +12,7 @@ use lib.IntN.{ℤ}
 use lib.ListN.{length, length-append, replicate}
 use Rattle.numbers.proofs.Joined.{flatten-snoc}
 use Rattle.numbers.proofs.Truth.{holds, fails, cond-ind}
-use Rattle.job_line.specs.Lines.{Kind, area, posts, post, stops, stop, rounds, row, formOf, inRanges}
+use Rattle.job_line.specs.Kinds.{Kind, area, posts, post, stops, stop, rounds, row, formOf, inRanges}
 use Rattle.job_line.specs.OneLine.{Reading, fault, got, Reader, line, lineResult}
 use Rattle.job.specs.Reader.{andThen, _>>=_, return, repeated, end}
 use Rattle.job.specs.Format.{Job, countOf, jobOf, jobLines}

@@ -17,7 +17,7 @@ use Rattle.text.specs.Decimal.{spellInt}
 use Rattle.text.proofs.DigitCounts.{length-spellInt-below}
 use Rattle.text.proofs.NumeralLaws.{number-reads, number-spelled}
 use Rattle.job_line.specs.Form.{Form, _>>=_, _>>_, byte, key, field, return}
-use Rattle.job_line.specs.Lines.{Range, Row, endOf, numbers, formOf}
+use Rattle.job_line.specs.Kinds.{Range, Row, endOf, numbers, formOf}
 use Rattle.job.specs.Spelling.{spellNumbers}
 
 -- what it says of a form that it reads the texts of values, where the values are such, and nothing else

@@ -13,7 +13,7 @@ use Rattle.query.specs.Place.{Place}
 use Rattle.query.specs.Deck.{Stop, plain, Deck}
 use Rattle.query.specs.Range.{RectInRange, PlaceInRange, StopInRange}
 use Rattle.text.specs.Ascii.{bytes}
-use Rattle.job_line.specs.Lines.{Kind, area, posts, post, stops, stop, rounds, row, inRanges}
+use Rattle.job_line.specs.Kinds.{Kind, area, posts, post, stops, stop, rounds, row, inRanges}
 use Rattle.job_line.specs.OneLine.{got, line}
 use Rattle.job.specs.Reader.{repeated, end}
 use Rattle.job.specs.Format.{Job, countOf, postOf, stopOf, jobOf, jobLines}

@@ -10,7 +10,7 @@ use lib.IntN.{ℤ, pos}
 use mir.Syntax.{w64}
 use mir.Val.{SFits}
 use Rattle.numbers.proofs.Joined.{drop-next}
-use Rattle.job_line.specs.Lines.{Kind, rounds, Row, row}
+use Rattle.job_line.specs.Kinds.{Kind, rounds, Row, row}
 use Rattle.job_line.specs.OneLine.{fault, got, Reader, line}
 use Rattle.job.specs.Reader.{andThen, repeated, end}
 use Rattle.numbers.proofs.Padded.{padded-none, padded-map}

@@ -15,7 +15,7 @@ use Rattle.numbers.proofs.Ranges.{between-range, range-between}
 use Rattle.query.specs.Place.{Place, Rect}
 use Rattle.query.specs.Deck.{Stop}
 use Rattle.query.specs.Range.{PlaceInRange, RectInRange, StopInRange}
-use Rattle.job_line.specs.Lines.{Kind, area, posts, post, stops, stop, rounds, Range, coordinates, upTo, row, inRange, inRanges}
+use Rattle.job_line.specs.Kinds.{Kind, area, posts, post, stops, stop, rounds, Range, coordinates, upTo, row, inRange, inRanges}
 use Rattle.job.specs.Format.{areaOf, countOf, postOf, stopOf}
 use Rattle.job.specs.Spelling.{areaLine, postLine, stopLine}
 use Rattle.job.proofs.FormLaws.{Within, within-more, Fitting}

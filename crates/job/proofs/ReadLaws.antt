@@ -12,7 +12,7 @@ use lib.Signed.{ltZ}
 use mir.Syntax.{w64}
 use mir.Val.{SFits}
 use Rattle.numbers.specs.Lists.{nonEmpty}
-use Rattle.job_line.specs.Lines.{area, posts, stops, rounds, row}
+use Rattle.job_line.specs.Kinds.{area, posts, stops, rounds, row}
 use Rattle.job_line.specs.OneLine.{Reading, fault, got, Reader, line}
 use Rattle.job.specs.Reader.{andThen, end}
 use Rattle.job.specs.Format as Format

@@ -14,7 +14,7 @@ use Rattle.numbers.proofs.Truth.{holds}
 use Rattle.numbers.proofs.Members.{each-cons}
 use Rattle.job_line.specs.OneLine.{Reading, fault, got, Reader, line, lineResult}
 use Rattle.job.specs.Reader.{andThen, _>>=_, repeated, end}
-use Rattle.job_line.specs.Lines.{Kind, row, formOf, inRanges}
+use Rattle.job_line.specs.Kinds.{Kind, row, formOf, inRanges}
 use Rattle.job.specs.Spelling.{JobLine}
 use Rattle.refusal.specs.declared.Refusal.{Refusal}
 use Rattle.refusal.specs.declared.Refusal.the-variants.{OutOfRange}

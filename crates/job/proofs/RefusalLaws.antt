@@ -8,7 +8,7 @@ use native.Mathlib.Omega.{arith}
 use lib.IntN.{ℤ}
 use lib.ListN.{length, length-append}
 use Rattle.numbers.proofs.Joined.{flatten-snoc}
-use Rattle.job_line.specs.Lines.{Kind, area, posts, post, stops, stop, rounds, row, formOf}
+use Rattle.job_line.specs.Kinds.{Kind, area, posts, post, stops, stop, rounds, row, formOf}
 use Rattle.job.specs.Format.{refused, readJob}
 use Rattle.refusal.specs.Refusal.{numberOf, lineOf}
 use Rattle.job.specs.Meaning.{Good, top, one-more, FirstMalformed, no-form, too-much, Condition, too-long, malformed, out-of-range, empty-area, no-posts, no-stops}

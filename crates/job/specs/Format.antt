@@ -10,7 +10,7 @@ use lib.Signed.{ltZ}
 use Rattle.numbers.specs.Lists.{nonEmpty}
 use Rattle.query.specs.Place.{Place, Rect}
 use Rattle.query.specs.Deck.{Stop, Deck, plain}
-use Rattle.job_line.specs.Lines.{area, posts, post, stops, stop, rounds, row}
+use Rattle.job_line.specs.Kinds.{area, posts, post, stops, stop, rounds, row}
 use Rattle.job_line.specs.OneLine.{Reading, fault, got, Reader, line}
 use Rattle.job.specs.Reader.{_>>=_, _>>_, return, repeated, end}
 use Rattle.refusal.specs.declared.Refusal.{Refusal}

@@ -5,7 +5,7 @@ use mathlib.Core.Path.{_≡_}
 use mathlib.Core.List.{List, [], _∷_, map}
 use lib.IntN.{ℤ, pos}
 use lib.ListN.{length, drop}
-use Rattle.job_line.specs.Lines.{Kind, posts, post, stops, stop, rounds, row}
+use Rattle.job_line.specs.Kinds.{Kind, posts, post, stops, stop, rounds, row}
 use Rattle.job_line.specs.OneLine.{Reading, fault, got, Reader, line}
 use Rattle.job.specs.Reader.{_>>=_, _>>_, return, repeated, end}
 use Rattle.job_line.specs.Reading.{areaNumbers, countAnswer, answerIn, Within}

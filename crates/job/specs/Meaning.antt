@@ -9,7 +9,7 @@ use mathlib.Core.Option.{none, some}
 use lib.Dec.{T}
 use lib.IntN.{ℤ}
 use lib.ListN.{length, replicate}
-use Rattle.job_line.specs.Lines.{Kind, area, posts, post, stops, stop, rounds, row, formOf, inRanges}
+use Rattle.job_line.specs.Kinds.{Kind, area, posts, post, stops, stop, rounds, row, formOf, inRanges}
 use Rattle.job.specs.Format.{Job, countOf, sizeLimit, refused, accepted, readJob, emptyArea}
 use Rattle.job.specs.Spelling.{spell, Writable, Allowed}
 use Rattle.refusal.specs.declared.Refusal.{Refusal}

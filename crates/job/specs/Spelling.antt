@@ -10,7 +10,7 @@ use Rattle.query.specs.Place.{Place, Rect, NonEmpty}
 use Rattle.query.specs.Deck.{Stop, plain}
 use Rattle.text.specs.Ascii.{bytes}
 use Rattle.text.specs.Decimal.{spellInt}
-use Rattle.job_line.specs.Lines.{Kind, area, posts, post, stops, stop, rounds, row, endOf, inRanges}
+use Rattle.job_line.specs.Kinds.{Kind, area, posts, post, stops, stop, rounds, row, endOf, inRanges}
 use Rattle.job.specs.Format.{Job}
 
 -- ---- the lines of a job

@@ -20,7 +20,7 @@ use Rattle.text.specs.declared.ParsedNumber.{ParsedNumber}
 use Rattle.text.specs.declared.ParsedNumber.the-variants.{Read, Fault}
 use Rattle.text.proofs.KeyLaws.{byte-there}
 use Rattle.job_line.specs.Form.{byte, key, field}
-use Rattle.job_line.specs.Lines.{Range, Row, endOf, numbers, formOf, inRanges}
+use Rattle.job_line.specs.Kinds.{Range, Row, endOf, numbers, formOf, inRanges}
 use Rattle.job_line.specs.OneLine.{line}
 use Rattle.job_line.specs.Reading.{FieldAt, read, refused, LineAt}
 use Rattle.refusal.specs.declared.Refusal.the-variants.{Malformed, OutOfRange}

@@ -7,7 +7,7 @@ use Prim.Native.Nat.{ℕ, _-_}
 use native.Mathlib.Omega.{arith}
 use lib.IntN.{ℤ, pos, natAbs}
 use lib.ListN.{length, getD, length-drop}
-use Rattle.job_line.specs.Lines.{Row}
+use Rattle.job_line.specs.Kinds.{Row}
 use Rattle.job_line.specs.OneLine.{Reading, fault, got}
 use Rattle.job_line.specs.Reading.{LineAnswer, read, refused, areaAnswer, countAnswer, postAnswer, stopAnswer, answerIn, Within, LineAt}
 use Rattle.job_line.specs.declared.AreaLine.{AreaLine}

@@ -15,7 +15,7 @@ use Rattle.numbers.specs.Integer.{between}
 use Rattle.numbers.proofs.Words.{is-true}
 use Rattle.numbers.proofs.WordTests.{back, back-is}
 use Rattle.numbers.proofs.Truth.{and-left, and-right}
-use Rattle.job_line.specs.Lines.{stop, post, Range, coordinates, visits, upTo, row, inRange, inRanges}
+use Rattle.job_line.specs.Kinds.{stop, post, Range, coordinates, visits, upTo, row, inRange, inRanges}
 
 module _ {lo hi v : ℤ} (l : SFits w64 lo) (h : SFits w64 hi) (f : SFits w64 v) where
   pub between-on : leZ (back lo) (back v) ≡ true → leZ (back v) (back hi) ≡ between lo hi v

@@ -1,4 +1,4 @@
 pub mod Form
-pub mod Lines
+pub mod Kinds
 pub mod OneLine
 pub mod Reading

@@ -5,7 +5,7 @@ use mathlib.Core.Bool.{cond}
 use mathlib.Core.List.{List}
 use mathlib.Core.Option.{Option, none, some}
 use lib.IntN.{ℤ}
-use Rattle.job_line.specs.Lines.{Row, formOf, inRanges}
+use Rattle.job_line.specs.Kinds.{Row, formOf, inRanges}
 use Rattle.refusal.specs.declared.Refusal.{Refusal}
 use Rattle.refusal.specs.declared.Refusal.the-variants.{Malformed, OutOfRange}
 

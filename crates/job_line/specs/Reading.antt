@@ -8,7 +8,7 @@ use lib.ListN.{length, drop}
 use Rattle.text.specs.TextReading.{numberIn, NumberWithin}
 use Rattle.text.specs.declared.ParsedNumber.{ParsedNumber}
 use Rattle.job_line.specs.Form.{field}
-use Rattle.job_line.specs.Lines.{Row, upTo}
+use Rattle.job_line.specs.Kinds.{Row, upTo}
 use Rattle.job_line.specs.OneLine.{Reading, fault, got, line}
 use Rattle.refusal.specs.declared.Refusal.{Refusal}
 use Rattle.deck.specs.declared.Rect.{Rect}

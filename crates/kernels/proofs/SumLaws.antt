@@ -41,8 +41,8 @@ use Rattle.trial.specs.declared.opened.Opened.{Opened}
 use Rattle.trial.proofs.OpenLaws.{prepared, open-refused, on-job}
 use Rattle.kernels.specs.Sums.{
   sumTo,
-  side,
-  Spread,
+  residue,
+  Sampled,
   TurnRect,
   placeAt,
   rectAt,
@@ -163,8 +163,8 @@ module _ (which k : ℕ) (w : which ≤ 4) where
 pub product-fits : (t factor : ℕ) → factor ≤ 65536 → (t % 65536) * factor ≤ 65536 * 65536
 product-fits t factor h = let g : t % 65536 ≤ 65536 = omega arith in mul-le-mul g h
 
-pub side-most : (t factor : ℕ) → side t factor ≤ 20000
-side-most t factor = go ((t % 65536) * factor)
+pub residue-most : (t factor : ℕ) → residue t factor ≤ 20000
+residue-most t factor = go ((t % 65536) * factor)
   where
     go : (n : ℕ) → n % 20001 ≤ 20000
     go n = omega arith
@@ -179,13 +179,13 @@ module _ (m s : ℕ) (g : m ≤ 20000) (h : s ≤ 20000) where
   less-range : natAbs (pos m -ℤ pos s) ≤ 20000
   less-range = abs-range (pos m -ℤ pos s) 20000 .1 (omega (arith, sub-nat (pos m) (pos s)))
 
-pub spread-is : (t factor less : ℕ) → less ≤ 20000 → Spread t factor less (toZ w64 (ofZ w64 (toZ w64 (side t factor) -ℤ toZ w64 less)))
-spread-is t factor less h =
-    let e = less-is (side t factor) less (side-most t factor) h in
-    record { is = e; range = rw e (less-range (side t factor) less (side-most t factor) h) }
+pub sample-is : (t factor less : ℕ) → less ≤ 20000 → Sampled t factor less (toZ w64 (ofZ w64 (toZ w64 (residue t factor) -ℤ toZ w64 less)))
+sample-is t factor less h =
+    let e = less-is (residue t factor) less (residue-most t factor) h in
+    record { is = e; range = rw e (less-range (residue t factor) less (residue-most t factor) h) }
 
 -- ---- the place and the rectangle of a turn
-module _ {t : ℕ} {x y : ℤ} (a : Spread t 7919 10000 x) (b : Spread t 6007 10000 y) where
+module _ {t : ℕ} {x y : ℤ} (a : Sampled t 7919 10000 x) (b : Sampled t 6007 10000 y) where
   pub place-turn : _≡_ {A = Place} (record { x = back x; y = back y }) (placeAt t)
   place-turn = rw (near-back x (a .range), near-back y (b .range), a .is, b .is)
 
@@ -196,7 +196,7 @@ module _ {t : ℕ} {x y : ℤ} (a : Spread t 7919 10000 x) (b : Spread t 6007 10
 low-high : (m s : ℕ) → m ≤ 20000 → (pos m -ℤ pos 20000) ≤ℤ (pos s -ℤ pos 0)
 low-high m s h = omega (arith, order, sub-nat (pos m) (pos 20000), sub-nat (pos s) (pos 0))
 
-module _ {t : ℕ} {xlo ylo xhi yhi : ℤ} (a : Spread t 7919 20000 xlo) (b : Spread t 6007 20000 ylo) (c : Spread t 4409 0 xhi) (d : Spread t 3001 0 yhi) where
+module _ {t : ℕ} {xlo ylo xhi yhi : ℤ} (a : Sampled t 7919 20000 xlo) (b : Sampled t 6007 20000 ylo) (c : Sampled t 4409 0 xhi) (d : Sampled t 3001 0 yhi) where
   turn-is : _≡_ {A = Rect} (record { xlo = back xlo; ylo = back ylo; xhi = back xhi; yhi = back yhi }) (rectAt t)
   turn-is =
       rect-back (record { xlo = xlo; ylo = ylo; xhi = xhi; yhi = yhi })
@@ -210,8 +210,8 @@ module _ {t : ℕ} {xlo ylo xhi yhi : ℤ} (a : Spread t 7919 20000 xlo) (b : Sp
       high-corner = record { x-range = rw (c .is) at (c .range); y-range = rw (d .is) at (d .range) };
     };
     full = record {
-      across = low-high (side t 7919) (side t 4409) (side-most t 7919);
-      deep = low-high (side t 6007) (side t 3001) (side-most t 6007);
+      across = low-high (residue t 7919) (residue t 4409) (residue-most t 7919);
+      deep = low-high (residue t 6007) (residue t 3001) (residue-most t 6007);
     };
   }
 

@@ -30,22 +30,22 @@ sumTo f zero = 0
 sumTo f (suc k) = sumTo f k + f k
 
 -- a number from 0 to 20,000 for each turn, less a number
-abbrev pub side : ℕ → ℕ → ℕ
-side t factor = (t % 65536) * factor % 20001
+abbrev pub residue : ℕ → ℕ → ℕ
+residue t factor = (t % 65536) * factor % 20001
 
-abbrev pub spread : ℕ → ℕ → ℕ → ℤ
-spread t factor less = pos (side t factor) -ℤ pos less
+abbrev pub sample : ℕ → ℕ → ℕ → ℤ
+sample t factor less = pos (residue t factor) -ℤ pos less
 
-pub record Spread (t factor less : ℕ) (r : ℤ) : Type 0 where
-  pub is : r ≡ spread t factor less
+pub record Sampled (t factor less : ℕ) (r : ℤ) : Type 0 where
+  pub is : r ≡ sample t factor less
   pub range : natAbs r ≤ coordinateLimit
 
 -- the place and the rectangle of a turn
 abbrev pub placeAt : ℕ → Place
-placeAt t = record { x = spread t 7919 10000; y = spread t 6007 10000 }
+placeAt t = record { x = sample t 7919 10000; y = sample t 6007 10000 }
 
 abbrev pub rectAt : ℕ → Rect
-rectAt t = record { xlo = spread t 7919 coordinateLimit; ylo = spread t 6007 coordinateLimit; xhi = spread t 4409 0; yhi = spread t 3001 0 }
+rectAt t = record { xlo = sample t 7919 coordinateLimit; ylo = sample t 6007 coordinateLimit; xhi = sample t 4409 0; yhi = sample t 3001 0 }
 
 -- a record of the code that holds it
 pub record TurnRect (t : ℕ) (r : Deck.Rect) : Type 0 where

@@ -17,12 +17,12 @@ ghost use Rattle.cuts.specs.CutRecord.{cutRecord};
 ghost use Rattle.problem.specs.ObjectProblem.{boundOf};
 ghost use Rattle.problem.specs.Prepared.{Solvable};
 ghost use Rattle.trial.specs.Opened.{Whole};
-ghost use Rattle.kernels.specs.Sums.{sumTo, Spread, TurnRect, placeAt, rectAt, positive, nearTurn, turn, kernelSum};
+ghost use Rattle.kernels.specs.Sums.{sumTo, Sampled, TurnRect, placeAt, rectAt, positive, nearTurn, turn, kernelSum};
 
 // A number of -20,000 to 20,000 for each turn.
-fn spread(t: u64, factor: u64, less: u64) -> i64
+fn sample(t: u64, factor: u64, less: u64) -> i64
     requires { ⌜ (factor ≤ 65536) × (less ≤ 20000) ⌝ }
-    ensures { λ r. ⌜ Spread t factor less r ⌝ }
+    ensures { λ r. ⌜ Sampled t factor less r ⌝ }
 {
     ((t % 65536) * factor % 20001) as i64 - less as i64
 }
@@ -38,10 +38,10 @@ fn rect_of(t: u64) -> Rect
     ensures { λ r. ⌜ TurnRect t r ⌝ }
 {
     Rect {
-        xlo: spread(t, 7919, 20000),
-        ylo: spread(t, 6007, 20000),
-        xhi: spread(t, 4409, 0),
-        yhi: spread(t, 3001, 0),
+        xlo: sample(t, 7919, 20000),
+        ylo: sample(t, 6007, 20000),
+        xhi: sample(t, 4409, 0),
+        yhi: sample(t, 3001, 0),
     }
 }
 
@@ -52,8 +52,8 @@ fn costs(columns: &[i32; COLUMNS], n: usize, k: u64) -> u64
     let mut sum: u64 = 0;
     let mut t: u64 = 0;
     while t < k {
-        let x = spread(t, 7919, 10000);
-        let y = spread(t, 6007, 10000);
+        let x = sample(t, 7919, 10000);
+        let y = sample(t, 6007, 10000);
         sum = sum + pricing::cost(columns, n, x, y);
         t = t + 1;
     }

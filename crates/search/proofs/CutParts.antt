@@ -17,7 +17,7 @@ use Rattle.query.proofs.CutLaws.{cut-law}
 use Rattle.deck.specs.Objects.{Pricing}
 use Rattle.pricing.specs.ObjectFigures.{costOf}
 use Rattle.pricing.specs.Columns.{Ranged}
-use Rattle.cuts.specs.CutRecord.{isX, cutAt, cutRecord}
+use Rattle.cuts.specs.CutRecord.{axisOf, isX, cutAt, cutRecord}
 use Rattle.cuts.specs.declared.Cut.{Cut}
 use Rattle.cuts.proofs.CutRecordLaws.{cutRecord-cut}
 use Rattle.slots.specs.declared.Cell.{Cell}
@@ -26,7 +26,7 @@ use Rattle.problem.specs.declared.Spot.{Spot}
 use Rattle.problem.specs.ObjectProblem.{spotOf}
 use Rattle.search.specs.declared.halves.Halves.{Halves}
 use Rattle.search.specs.Corners.{cornerCosts, cellFor}
-use Rattle.search.specs.CutCell.{axisOf, firstCosts, secondCosts, halvesOf}
+use Rattle.search.specs.CutCell.{firstCosts, secondCosts, halvesOf}
 
 -- ---- by axis
 pub axis-is : (axis : Axis) → axisOf (isX axis) ≡ axis

@@ -25,7 +25,7 @@ use Rattle.deck.specs.Objects.{Pricing}
 use Rattle.deck.specs.ObjectColumns.{pricingIn}
 use Rattle.pricing.specs.Columns.{Priceable, Ranged}
 use Rattle.pricing.proofs.TurnLaws.{cost-most}
-use Rattle.cuts.specs.CutRecord.{isX, cutAt, cutRecord}
+use Rattle.cuts.specs.CutRecord.{axisOf, isX, cutAt, cutRecord}
 use Rattle.cuts.specs.declared.Cut.{Cut}
 use Rattle.slots.specs.declared.Cell.{Cell}
 use Rattle.slots.specs.declared.Costs.{Costs}
@@ -36,7 +36,7 @@ use Rattle.slots.specs.Slot.{Entry, queryCell, entryCell, cellAt, costsAt}
 use Rattle.cells.specs.Entries.{keyOf, entries}
 use Rattle.cells.specs.Steps.{EntriesInOrder, Trimmed}
 use Rattle.search.specs.Corners.{cornerCosts, cellFor, improved, bestCorner}
-use Rattle.search.specs.CutCell.{axisOf, halvesOf, Cutting}
+use Rattle.search.specs.CutCell.{halvesOf, Cutting}
 use Rattle.search.specs.LiveEntries.{withLive, Added, Costed}
 use Rattle.search.specs.Running.{Takeable, searchOf, Holds}
 use Rattle.problem.specs.ObjectProblem.{objectRules, objectProblem, pricedOf, rectIn}

@@ -29,7 +29,8 @@ use Rattle.problem.specs.declared.Spot.{Spot}
 use Rattle.problem.specs.ObjectProblem.{pricedOf, spotOf, rectIn, boundOf, spotAt}
 use Rattle.problem.proofs.Coordinates.{near-back, spot-back}
 use Rattle.search.specs.Corners.{cornerCosts, cellFor, CostsInRange, improved, bestCorner}
-use Rattle.search.specs.CutCell.{axisOf, CutInRange}
+use Rattle.cuts.specs.CutRecord.{axisOf}
+use Rattle.search.specs.CutCell.{CutInRange}
 
 -- ---- the better of two
 better-is : (p best : Spot)

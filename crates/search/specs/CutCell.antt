@@ -2,25 +2,22 @@
 -- Assumes nothing.
 use Prim.Native.Nat.{ℕ, _≤_}
 use mathlib.Core.Path.{_≡_}
-use mathlib.Core.Bool.{Bool, true, false, cond}
+use mathlib.Core.Bool.{Bool, true, false}
 use lib.Dec.{T}
 use lib.IntN.{natAbs}
-use Rattle.query.specs.Place.{Rect, Axis, x-axis, y-axis}
+use Rattle.query.specs.Place.{Rect}
 use Rattle.query.specs.Grid.{Grid}
 use Rattle.query.specs.Cut.{canCut, cutBefore, cutAfter, lowCorner, highCorner}
 use Rattle.query.specs.Range.{RectInRange, coordinateLimit}
 use Rattle.deck.specs.Objects.{Pricing}
 use Rattle.pricing.specs.ObjectFigures.{costOf}
 use Rattle.cuts.specs.declared.Cut.{Cut}
+use Rattle.cuts.specs.CutRecord.{axisOf}
 use Rattle.slots.specs.declared.Costs.{Costs}
 use Rattle.pricing.specs.Columns.{Ranged}
 use Rattle.problem.specs.ObjectProblem.{boundOf, spotOf}
 use Rattle.search.specs.declared.halves.Halves.{Halves}
 use Rattle.search.specs.Corners.{cornerCosts, cellFor}
-
--- the axis of a cut
-abbrev pub axisOf : Bool → Axis
-axisOf across = cond across x-axis y-axis
 
 -- the costs of the corners of its parts, from those of the cell and of the new corners
 abbrev pub firstCosts : Bool → Costs → ℕ → ℕ → Costs

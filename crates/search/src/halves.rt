@@ -13,10 +13,10 @@ ghost use Rattle.deck.specs.Rectangle.{rectOf, rectRecord};
 ghost use Rattle.deck.specs.ObjectColumns.{pricingIn};
 ghost use Rattle.pricing.specs.Columns.{Priceable, Ranged};
 ghost use Rattle.lines.specs.LineRecord.{Lined, gridOf};
-ghost use Rattle.cuts.specs.CutRecord.{cutRecord};
+ghost use Rattle.cuts.specs.CutRecord.{axisOf, cutRecord};
 ghost use Rattle.problem.specs.ObjectProblem.{spotOf};
 ghost use Rattle.search.specs.Corners.{cornerCosts, cellFor, improved};
-ghost use Rattle.search.specs.CutCell.{axisOf, firstCosts, secondCosts, halvesOf, Cutting, CutInRange};
+ghost use Rattle.search.specs.CutCell.{firstCosts, secondCosts, halvesOf, Cutting, CutInRange};
 
 // What a cut makes of a cell: its two new corners, and its two parts with the costs of their corners.
 pub struct Halves {

@@ -22,11 +22,11 @@ use Rattle.numbers.proofs.Padded.{padded-front}
 use Rattle.lines.proofs.DeckLines.{lines-in-order}
 use Rattle.problem.specs.declared.Problem.{Problem}
 use Rattle.problem.specs.Prepared.{problemRecord}
-use Rattle.cuts.specs.CutRecord.{cutAt, isX, cutRecord}
+use Rattle.cuts.specs.CutRecord.{axisOf, cutAt, isX, cutRecord}
 use Rattle.cuts.specs.declared.Cut.{Cut}
 use Rattle.cuts.proofs.CutRecordLaws.{cutRecord-found, cutRecord-cut}
 use Rattle.trial.specs.Opened.{openedRecord, rectAllowed}
-use Rattle.trial.specs.Trial.{minusOne, least, axisOf, axisNumber, cutAxisFigure, cutLineFigure, Written, linesWritten}
+use Rattle.trial.specs.Trial.{minusOne, least, axisNumber, cutAxisFigure, cutLineFigure, Written, linesWritten}
 use Rattle.trial.specs.declared.opened.Opened.{Opened}
 use Rattle.job.proofs.ReadDeck.{Spelt, spelt-range}
 use Rattle.trial.proofs.OpenLaws.{open-deck, open-problem, on-job, inside}

@@ -11,7 +11,7 @@ use mir.Val.{SFits}
 use Rattle.numbers.proofs.Truth.{and-iff}
 use Rattle.query.specs.Place.{Place, Rect, corner}
 use Rattle.query.specs.Range.{PlaceInRange}
-use Rattle.job_line.specs.Lines.{coordinates, inRange}
+use Rattle.job_line.specs.Kinds.{coordinates, inRange}
 use Rattle.job.proofs.RangeLaws.{coordinate-range}
 use Rattle.numbers.proofs.WordTests.{back, back-is}
 use Rattle.pricing.specs.Columns.{Ranged}

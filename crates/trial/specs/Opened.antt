@@ -7,7 +7,7 @@ use lib.ListN.{replicate}
 use lib.Signed.{leZ}
 use Rattle.query.specs.Place.{Place, Rect, corner}
 use Rattle.query.specs.Deck as Query
-use Rattle.job_line.specs.Lines.{coordinates, inRange}
+use Rattle.job_line.specs.Kinds.{coordinates, inRange}
 use Rattle.job.specs.Format.{Result, refused, accepted}
 use Rattle.deck.specs.DeckOf.{deckOf, deckRecord, emptyDeck}
 use Rattle.problem.specs.declared.Problem.{Problem}

@@ -16,6 +16,7 @@ use Rattle.query.specs.Grid.{grid}
 use Rattle.query.specs.Cut.{canCut, cutLine}
 use Rattle.refusal.specs.Refusal.{numberOf, lineOf}
 use Rattle.refusal.specs.declared.Refusal.{Refusal}
+use Rattle.cuts.specs.CutRecord.{axisOf}
 use Rattle.job.specs.Format.{Job, Result, refused, accepted}
 use Rattle.trial.specs.Opened.{placeInRange, rectAllowed}
 
@@ -82,9 +83,6 @@ nearAt (negsuc i) r = minusOne
 abbrev pub deckFigures : Rect → Result → List ℤ
 deckFigures rect r = beforeFigure r ∷ nearAt (rect .xlo) r ∷ costFigure (corner rect) r ∷ loadFigure rect r ∷ boundFigure rect r
     ∷ cutAxisFigure rect r ∷ cutLineFigure rect r ∷ []
-
-abbrev pub axisOf : Bool → Axis
-axisOf across = cond across x-axis y-axis
 
 -- a result, and what an output holds then
 pub record Written : Type 0 where

@@ -10,7 +10,7 @@ use limits::MOST_COORDINATE;
 use problem::Problem;
 ghost use mathlib.Core.Path.{_≡_};
 ghost use Rattle.query.specs.Grid.{grid};
-ghost use Rattle.job_line.specs.Lines.{coordinates, inRange};
+ghost use Rattle.job_line.specs.Kinds.{coordinates, inRange};
 ghost use Rattle.job.specs.Format.{readJob};
 ghost use Rattle.deck.specs.DeckOf.{deckOf};
 ghost use Rattle.deck.specs.Rectangle.{rectOf};

@@ -5,7 +5,7 @@ use mathlib.Core.Path.{ap}
 use mathlib.Core.List.{[]}
 use native.Mathlib.Omega.{arith}
 use borrow.Author.Needs.{needs}
-use Rattle.job_line.specs.Lines.{post}
+use Rattle.job_line.specs.Kinds.{post}
 use Rattle.job_line.specs.Reading.{postAnswer}
 use Rattle.job.specs.ManyLines.{PlacesHeld}
 use Rattle.job.proofs.PartLaws.{Filled, filled-none, filled-all, filled-refused, filled-more, places-none, places-more}

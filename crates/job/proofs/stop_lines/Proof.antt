@@ -4,7 +4,7 @@ use Prim.Native.Nat.{_-_, _≤_}
 use mathlib.Core.Path.{ap}
 use native.Mathlib.Omega.{arith}
 use borrow.Author.Needs.{needs}
-use Rattle.job_line.specs.Lines.{stop}
+use Rattle.job_line.specs.Kinds.{stop}
 use Rattle.job_line.specs.Reading.{stopAnswer}
 use Rattle.job.specs.ManyLines.{StopsHeld}
 use Rattle.job.proofs.PartLaws.{Filled, filled-none, filled-all, filled-refused, filled-more, stops-none, stops-more}

@@ -1,7 +1,7 @@
 -- `job_line::coordinate_in_range` meets its contract.
 -- Assumes nothing.
 use borrow.Author.Needs.{needs}
-use Rattle.job_line.specs.Lines.{coordinates}
+use Rattle.job_line.specs.Kinds.{coordinates}
 use Rattle.job_line.proofs.RangeTests.{range-held}
 use Rattle.job_line.proofs.coordinate_in_range.Statement.{statement}
 use Rattle.job_line.proofs.coordinate_in_range.Tie as tie

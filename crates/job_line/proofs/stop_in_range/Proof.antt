@@ -1,7 +1,7 @@
 -- `job_line::stop_in_range` meets its contract.
 -- Assumes nothing.
 use borrow.Author.Needs.{needs}
-use Rattle.job_line.specs.Lines.{visits}
+use Rattle.job_line.specs.Kinds.{visits}
 use Rattle.job_line.proofs.RangeTests.{range-held, stop-on, stop-off}
 use Rattle.job_line.proofs.stop_in_range.Statement.{statement}
 use Rattle.job_line.proofs.stop_in_range.Tie as tie

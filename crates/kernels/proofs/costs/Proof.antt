@@ -20,19 +20,19 @@ abbrev μ-loop : tie.MeasureT-loop
 loop-holds : tie.Need-loop-holds Inv-loop μ-loop
 loop-holds c = summed-none _ _ _
 
-spread-requires : tie.Need-spread-requires Inv-loop μ-loop
-spread-requires c κs = (omega arith, omega arith)
+sample-requires : tie.Need-sample-requires Inv-loop μ-loop
+sample-requires c κs = (omega arith, omega arith)
 
-spread-requires-2 : tie.Need-spread-requires-2 Inv-loop μ-loop
-spread-requires-2 c κs = (omega arith, omega arith)
+sample-requires-2 : tie.Need-sample-requires-2 Inv-loop μ-loop
+sample-requires-2 c κs = (omega arith, omega arith)
 
 cost-requires : tie.Need-cost-requires Inv-loop μ-loop
-cost-requires c κs = (c .before .before .before .before .pre .0, place-ranged (c .before .spread .ensures) (c .spread2 .ensures))
+cost-requires c κs = (c .before .before .before .before .pre .0, place-ranged (c .before .sample .ensures) (c .sample2 .ensures))
 
 loop-again : tie.Need-loop-again Inv-loop μ-loop
 loop-again c =
     summed-more _ (c .before .before .before .before .loop .inv) (c .before .before .before .loop-test .taken)
-    (c .cost .ensures .is ∙ ap (costOf _) (place-turn (c .before .before .spread .ensures) (c .before .spread2 .ensures))) (c .cost .ensures .within)
+    (c .cost .ensures .is ∙ ap (costOf _) (place-turn (c .before .before .sample .ensures) (c .before .sample2 .ensures))) (c .cost .ensures .within)
 
 add-sum : tie.Need-add-sum Inv-loop μ-loop
 add-sum c = let next = loop-again c in omega (arith, next .most, next .within, c .before .before .before .before .before .pre .1)
@@ -47,4 +47,4 @@ returns : tie.Need-returns Inv-loop μ-loop
 returns c = summed-all (c .before .loop .inv) (c .loop-test .left) (c .before .before .pre .1) (omega arith)
 
 pub costs-spec : {M : Type 1} → statement M
-costs-spec = tie.close (tie.spec Inv-loop μ-loop loop-holds spread-requires spread-requires-2 cost-requires add-sum add-t loop-less loop-again returns)
+costs-spec = tie.close (tie.spec Inv-loop μ-loop loop-holds sample-requires sample-requires-2 cost-requires add-sum add-t loop-less loop-again returns)

@@ -5,22 +5,22 @@ use borrow.Author.Needs.{needs}
 use Rattle.kernels.proofs.rect_of.Statement.{statement}
 use Rattle.kernels.proofs.rect_of.Tie as tie
 
-spread-requires : tie.Need-spread-requires
-spread-requires c κs = search needs
+sample-requires : tie.Need-sample-requires
+sample-requires c κs = search needs
 
-spread-requires-2 : tie.Need-spread-requires-2
-spread-requires-2 c κs = search needs
+sample-requires-2 : tie.Need-sample-requires-2
+sample-requires-2 c κs = search needs
 
-spread-requires-3 : tie.Need-spread-requires-3
-spread-requires-3 c κs = search needs
+sample-requires-3 : tie.Need-sample-requires-3
+sample-requires-3 c κs = search needs
 
-spread-requires-4 : tie.Need-spread-requires-4
-spread-requires-4 c κs = search needs
+sample-requires-4 : tie.Need-sample-requires-4
+sample-requires-4 c κs = search needs
 
 returns : tie.Need-returns
-returns c = rect-turn (c .before .before .before .spread .ensures) (c .before .before .spread2 .ensures) (c .before .spread3 .ensures) (c .spread4 .ensures)
+returns c = rect-turn (c .before .before .before .sample .ensures) (c .before .before .sample2 .ensures) (c .before .sample3 .ensures) (c .sample4 .ensures)
 
 pub rect-of-spec : {M : Type 1} → statement M
 rect-of-spec =
     tie.close
-    (tie.spec spread-requires spread-requires-2 spread-requires-3 spread-requires-4 returns)
+    (tie.spec sample-requires sample-requires-2 sample-requires-3 sample-requires-4 returns)

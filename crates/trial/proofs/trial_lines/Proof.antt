@@ -11,7 +11,7 @@ use borrow.Author.Tests.{not-true, not-false}
 use denote.Ref.{now}
 use Rattle.query.specs.Lines.{lines}
 use Rattle.job.proofs.ReadDeck.{Spelt}
-use Rattle.trial.specs.Trial.{axisOf}
+use Rattle.cuts.specs.CutRecord.{axisOf}
 use Rattle.trial.proofs.OpenLaws.{open-accepted, open-refused}
 use Rattle.trial.proofs.CutLaws.{
   few-lines,

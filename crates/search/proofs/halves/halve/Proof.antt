@@ -11,7 +11,8 @@ use Rattle.deck.specs.Rectangle.{rectOf}
 use Rattle.pricing.specs.Columns.{Ranged}
 use Rattle.cuts.specs.declared.Cut.{Cut}
 use Rattle.search.specs.Corners.{cornerCosts, cellFor}
-use Rattle.search.specs.CutCell.{axisOf, halvesOf, CutInRange}
+use Rattle.cuts.specs.CutRecord.{axisOf}
+use Rattle.search.specs.CutCell.{halvesOf, CutInRange}
 use Rattle.search.proofs.CutParts.{cut-range, parts-ranged, first-costs-is, second-costs-is, halves-are}
 use Rattle.search.proofs.halves.halve.Statement.{statement}
 use Rattle.search.proofs.halves.halve.Tie as tie

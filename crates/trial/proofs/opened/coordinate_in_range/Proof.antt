@@ -2,7 +2,7 @@
 -- Assumes nothing.
 use native.Mathlib.Omega.{arith}
 use lib.IntN.{pos, negsuc}
-use Rattle.job_line.specs.Lines.{inRange}
+use Rattle.job_line.specs.Kinds.{inRange}
 use Rattle.job_line.proofs.RangeTests.{between-on, between-off}
 use Rattle.trial.proofs.opened.coordinate_in_range.Statement.{statement}
 use Rattle.trial.proofs.opened.coordinate_in_range.Tie as tie
