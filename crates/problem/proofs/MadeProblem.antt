@@ -2,12 +2,11 @@
 -- Assumes nothing.
 use mathlib.Core.Path.{_≡_, refl, sym, ap, subst, _∙_}
 use mathlib.Core.List.{List, map, map-map}
-use Prim.Native.Nat.{ℕ, _≤_}
-use native.Mathlib.Omega.{arith}
-use lib.IntN.{ℤ, pos}
+use Prim.Native.Nat.{ℕ}
+use lib.IntN.{ℤ}
 use lib.ListN.{length, take, length-map}
 use Rattle.numbers.specs.Padded.{padded}
-use Rattle.query.specs.Place.{Rect, Axis, x-axis, y-axis, low-edge, high-edge}
+use Rattle.query.specs.Place.{Axis, x-axis, y-axis}
 use Rattle.query.specs.Lines.{lines}
 use Rattle.deck.specs.declared.Deck.{Deck}
 use Rattle.deck.specs.DeckOf.{deckOf}
@@ -19,7 +18,7 @@ use Rattle.pricing.specs.ObjectFigures.{flagsOf}
 use Rattle.pricing.specs.Columns.{Priceable, Ranged}
 use Rattle.pricing.proofs.ObjectLaws.{objectOf, objectsOf-map, flags-law}
 use Rattle.pricing.proofs.RecordLaws.{made-priceable, made-pricing}
-use Rattle.lines.specs.LineRecord.{MarkedRows, marked, linesBetween, linesRecord}
+use Rattle.lines.specs.LineRecord.{marked, linesBetween, linesRecord}
 use Rattle.lines.specs.declared.Lines.{Lines}
 use Rattle.lines.proofs.DeckLines.{coordinates, reached, lines-marked, padded-reached}
 use Rattle.numbers.proofs.WordTests.{back}

@@ -29,7 +29,6 @@ use Rattle.pricing.proofs.NarrowLaws.{word, natural, near-word}
 use Rattle.pricing.proofs.TurnLaws.{row}
 use Rattle.pricing.proofs.ObjectLaws.{objectOf, objectsOf-map, cost-law, before-law, load-law}
 use Rattle.problem.specs.ObjectProblem.{boundOf}
-use Rattle.problem.specs.declared.Problem.{Problem}
 use Rattle.problem.proofs.DeckProblem.{bound-law, record-columns, record-count, prepared-priceable, prepared-pricing}
 use Rattle.trial.specs.Opened.{openedRecord, placeInRange, rectAllowed}
 use Rattle.trial.specs.Trial.{minusOne, least, beforeFigure, nearFigure, costFigure, loadFigure, boundFigure}

@@ -5,12 +5,10 @@ use mathlib.Core.Bool.{Bool, true, false, cond}
 use mathlib.Core.List.{List}
 use Prim.Native.Nat.{ℕ, _≤_}
 use native.Mathlib.Omega.{arith}
-use lib.ListN.{length, take}
-use Rattle.query.specs.Deck.{plain}
+use lib.ListN.{take}
 use Rattle.job.specs.Format.{Job, Result, refused, accepted, readJob}
 use Rattle.job.specs.JobRecord.{jobRecord}
 use Rattle.job.specs.declared.Job as Held
-use Rattle.deck.specs.declared.Deck.{Deck}
 use Rattle.refusal.specs.declared.Refusal.{Refusal}
 use Rattle.job.specs.declared.Outcome.the-variants.{Accepted}
 use Rattle.job.proofs.JobLaws.{most-rounds}

@@ -2,7 +2,7 @@
 -- Assumes nothing.
 use mathlib.Core.Path.{_∙_}
 use borrow.Author.Needs.{needs}
-use Rattle.problem.proofs.Coordinates.{near-places, priced-is}
+use Rattle.problem.proofs.Coordinates.{priced-is}
 use Rattle.problem.proofs.priced.Statement.{statement}
 use Rattle.problem.proofs.priced.Tie as tie
 
