@@ -1,7 +1,8 @@
 -- Reading every line of a job: it goes through for the spellings of jobs whose lines have their ranges, and for no other text.
 -- Assumes nothing.
 use mathlib.Core.Path.{_≡_, refl, sym, ap, subst, _∙_}
-use mathlib.Core.List.{List, [], _∷_, _++_, map, map-map, map-id, flatMap, List·Memᴰ, List·Memᴰ·head, List·Memᴰ·tail, List·Memᴰ·not-nil, Memᴰ·map, Memᴰ·append-left, Memᴰ·append-right}
+use mathlib.Core.List.{List, [], _∷_, _++_, map, map-map, map-id, flatMap, List·Memᴰ, List·Memᴰ·head, List·Memᴰ·tail, List·Memᴰ·not-nil, Memᴰ·map}
+use mathlib.Core.List.{Memᴰ·append-left, Memᴰ·append-right}
 use Prim.Native.Nat.{ℕ, _+_, _*_, _≤_}
 use native.Mathlib.Omega.{arith}
 use lib.Dec.{T}
@@ -19,7 +20,8 @@ use Rattle.job.specs.Reader.{repeated, end}
 use Rattle.job.specs.Format.{Job, countOf, postOf, stopOf, jobOf, jobLines}
 use Rattle.job.specs.Spelling.{JobLine, areaLine, countLine, postLine, stopLine, linesOf, spellLine, spell, Writable}
 use Rattle.job.proofs.FormLaws.{textOf, text-length}
-use Rattle.job.proofs.RangeLaws.{range-within, range-fits, area-range, count-range, post-range, stop-range, area-back, count-back, count-limit, post-back, stop-back}
+use Rattle.job.proofs.RangeLaws.{range-within, range-fits, area-range, count-range, post-range, stop-range, area-back, count-back, count-limit}
+use Rattle.job.proofs.RangeLaws.{post-back, stop-back}
 use Rattle.job.proofs.ReaderLaws.{lineOf, Ranged, bind-got, line-got, line-gets, all-got, repeated-gets, end-got}
 
 -- ---- lines of a kind

@@ -20,7 +20,8 @@ use Rattle.query.specs.Range.{InRange}
 use Rattle.job_line.specs.OneLine.{Reading, fault, got}
 use Rattle.job.specs.Format.{Job, jobLines, Result, refused, accepted, emptyArea, checked, readingResult, readJob}
 use Rattle.job.specs.Spelling.{spell, Writable, Allowed}
-use Rattle.job.specs.Meaning.{AcceptedLaw, SpellingLaw, top, Spelled, Condition, too-long, malformed, out-of-range, empty-area, no-posts, no-stops, RefusedLaw}
+use Rattle.job.specs.Meaning.{AcceptedLaw, SpellingLaw, top, Spelled, Condition, too-long, malformed, out-of-range, empty-area, no-posts, no-stops}
+use Rattle.job.specs.Meaning.{RefusedLaw}
 use Rattle.refusal.specs.declared.Refusal.{Refusal}
 use Rattle.refusal.specs.declared.Refusal.the-variants.{Malformed, OutOfRange}
 use Rattle.job.proofs.JobLaws.{job-got, job-gets, ranged-area, ranged-posts, ranged-stops, most-posts, most-stops, spell-length}

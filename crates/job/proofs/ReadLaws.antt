@@ -20,7 +20,8 @@ use Rattle.job.specs.Format.{refused, accepted, areaOf, countOf, postOf,
 use Rattle.job.specs.JobRecord.{jobRecord}
 use Rattle.numbers.specs.Padded.{padded}
 use Rattle.job_line.specs.Reading.{areaNumbers, areaAnswer, countAnswer, answerIn, LineAt}
-use Rattle.job.specs.ManyLines.{postLines, stopLines, countedLines, allPosts, allStops, lastLine, nextIn, PlacesHeld, PostsHold, StopsHold, PostsAt, StopsAt, LastAt, CheckedAt}
+use Rattle.job.specs.ManyLines.{postLines, stopLines, countedLines, allPosts, allStops, lastLine, nextIn, PlacesHeld, PostsHold, StopsHold, PostsAt}
+use Rattle.job.specs.ManyLines.{StopsAt, LastAt, CheckedAt}
 use Rattle.deck.specs.declared.Rect.{Rect}
 use Rattle.job_line.specs.declared.AreaLine.{AreaLine}
 use Rattle.job_line.specs.declared.AreaLine.the-variants as A

@@ -11,7 +11,8 @@ use Rattle.numbers.proofs.Joined.{flatten-snoc}
 use Rattle.job_line.specs.Kinds.{Kind, area, posts, post, stops, stop, rounds, row, formOf}
 use Rattle.job.specs.Format.{refused, readJob}
 use Rattle.refusal.specs.Refusal.{numberOf, lineOf}
-use Rattle.job.specs.Meaning.{Good, top, one-more, FirstMalformed, no-form, too-much, Condition, too-long, malformed, out-of-range, empty-area, no-posts, no-stops}
+use Rattle.job.specs.Meaning.{Good, top, one-more, FirstMalformed, no-form, too-much, Condition, too-long, malformed, out-of-range, empty-area, no-posts}
+use Rattle.job.specs.Meaning.{no-stops}
 use Rattle.refusal.specs.declared.Refusal.{Refusal}
 use Rattle.job.proofs.Meaning.{refused-law}
 

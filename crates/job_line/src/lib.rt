@@ -10,7 +10,8 @@ ghost use mathlib.Core.Path.{_≡_};
 ghost use Rattle.numbers.specs.Integer.{between};
 ghost use mathlib.Core.List.{_∷_, []};
 ghost use Rattle.job_line.specs.Kinds.{area, post, stop, coordinates, row, inRange, inRanges};
-ghost use Rattle.job_line.specs.Reading.{areaNumbers, placeNumbers, FieldAt, areaAnswer, countAnswer, postAnswer, stopAnswer, LineAt, countRow};
+ghost use Rattle.job_line.specs.Reading.{areaNumbers, placeNumbers, FieldAt, areaAnswer, countAnswer, postAnswer, stopAnswer, LineAt};
+ghost use Rattle.job_line.specs.Reading.{countRow};
 
 // A place as a line has it.
 struct Place {

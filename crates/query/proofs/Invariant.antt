@@ -22,7 +22,8 @@ use Rattle.query.specs.Search.{Search, isLive, pricedAt, cellOf, bestOf,
 use Rattle.query.specs.Laws.{Inside, CutLaw, CutLineLaw}
 use Rattle.query.proofs.KeyOrder.{precedes-strict, better-strict, point-after-cell}
 use Rattle.query.proofs.Axes.{for-both, Along, along, along-in, edges-in, place-eq, other, cut-or-other}
-use Rattle.query.proofs.Split.{OnEdge, Corner, corner-in, parts, PartOf, first-part, second-part, part-nonEmpty, part-point, part-edges, OnCut, new-corner-on, part-corner}
+use Rattle.query.proofs.Split.{OnEdge, Corner, corner-in, parts, PartOf, first-part, second-part, part-nonEmpty, part-point, part-edges, OnCut}
+use Rattle.query.proofs.Split.{new-corner-on, part-corner}
 use Rattle.query.proofs.CellsAfter.{axisOf, lineOf, firstOf, secondOf, Within, after-cases, after-within}
 use Rattle.query.proofs.Best.{bestOf-from, bestOf-old, bestOf-new}
 use Rattle.query.proofs.Lawful.{Lawful, OnLines}

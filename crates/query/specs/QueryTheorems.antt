@@ -13,7 +13,8 @@ use Rattle.query.specs.Problem.{Problem}
 use Rattle.query.specs.Order.{Cell}
 use Rattle.query.specs.Search.{run}
 use Rattle.query.specs.Figures.{figures}
-use Rattle.query.specs.Laws.{HalfLaw, NearLaw, TravelToLaw, BoundLaw, LinesLaw, GapsLaw, AsGood, CutLaw, RoundLaw, TakenLaw, PartitionLaw, SpaceLaw}
+use Rattle.query.specs.Laws.{HalfLaw, NearLaw, TravelToLaw, BoundLaw, LinesLaw, GapsLaw, AsGood, CutLaw, RoundLaw, TakenLaw}
+use Rattle.query.specs.Laws.{PartitionLaw, SpaceLaw}
 use Rattle.query.specs.Demand3.{Demand3}
 use Rattle.query.specs.ExhaustiveLaw.{ExhaustiveLaw}
 use Rattle.query.specs.Range.{InRange, FigureLimits, RunInRange}

@@ -11,7 +11,8 @@ use Rattle.refusal.specs.Refusal.{lineOf}
 use Rattle.report.specs.Text.{reportText}
 use Rattle.query.specs.Range.{FiguresInRange}
 use Rattle.report.specs.Limits.{ReportFits}
-use Rattle.report.proofs.TextLaws.{statePart, placePart, costsPart, roundsPart, report-parts, refusal-parts, length-five, length-state, length-place, length-costs, length-rounds, length-number}
+use Rattle.report.proofs.TextLaws.{statePart, placePart, costsPart, roundsPart, report-parts, refusal-parts, length-five, length-state, length-place}
+use Rattle.report.proofs.TextLaws.{length-costs, length-rounds, length-number}
 
 longest : (f : Figures) → FiguresInRange 1000 f → length (reportText f) ≤ 105
 unfolding bytes

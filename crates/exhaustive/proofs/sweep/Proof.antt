@@ -3,7 +3,8 @@
 use Prim.Native.Nat.{_-_}
 use native.Mathlib.Omega.{arith}
 use lib.ListN.{length}
-use Rattle.exhaustive.proofs.SweepLaws.{Sweeping, sweep-none, sweep-all, sweep-more, ups-cap, up-starts-cap, downs-cap, down-starts-cap, y-range, payable}
+use Rattle.exhaustive.proofs.SweepLaws.{Sweeping, sweep-none, sweep-all, sweep-more, ups-cap, up-starts-cap, downs-cap, down-starts-cap, y-range}
+use Rattle.exhaustive.proofs.SweepLaws.{payable}
 use Rattle.exhaustive.proofs.sweep.Statement.{statement}
 use Rattle.exhaustive.proofs.sweep.Tie as tie
 

@@ -4,7 +4,8 @@ use mathlib.Core.List.{[]}
 use native.Mathlib.Omega.{arith}
 use borrow.Author.Needs.{needs}
 use borrow.Author.Tests.{not-true, not-false}
-use Rattle.job_line.proofs.LineLaws.{after-key, no-number, last-number, no-key, key-then, malformed, out-of-range, line-read, last-natural, field-inside, field-natural, field-cast}
+use Rattle.job_line.proofs.LineLaws.{after-key, no-number, last-number, no-key, key-then, malformed, out-of-range, line-read, last-natural, field-inside}
+use Rattle.job_line.proofs.LineLaws.{field-natural, field-cast}
 use Rattle.job_line.proofs.RangeTests.{count-below, count-above, count-within}
 use Rattle.job_line.proofs.count_line.Statement.{statement}
 use Rattle.job_line.proofs.count_line.Tie as tie

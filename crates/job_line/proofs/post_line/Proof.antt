@@ -5,7 +5,8 @@ use native.Mathlib.Omega.{arith}
 use borrow.Author.Needs.{needs}
 use borrow.Author.Tests.{not-true, not-false}
 use Rattle.text.specs.Ascii.{bytes}
-use Rattle.job_line.proofs.LineLaws.{after-key, no-number, number-then-none, number-then, last-number, no-key, key-then, malformed, out-of-range, line-read, field-inside}
+use Rattle.job_line.proofs.LineLaws.{after-key, no-number, number-then-none, number-then, last-number, no-key, key-then, malformed, out-of-range}
+use Rattle.job_line.proofs.LineLaws.{line-read, field-inside}
 use Rattle.job_line.proofs.post_line.Statement.{statement}
 use Rattle.job_line.proofs.post_line.Tie as tie
 
