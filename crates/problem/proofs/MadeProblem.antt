@@ -2,11 +2,11 @@
 -- Assumes nothing.
 use mathlib.Core.Path.{_≡_, refl, sym, ap, subst, _∙_}
 use mathlib.Core.List.{List, map, map-map}
-use Prim.Native.Nat.{ℕ}
-use lib.IntN.{ℤ}
+use Prim.Native.Nat.{ℕ, _≤_}
+use lib.IntN.{ℤ, natAbs}
 use lib.ListN.{length, take, length-map}
 use Rattle.numbers.specs.Padded.{padded}
-use Rattle.query.specs.Place.{Axis, x-axis, y-axis}
+use Rattle.query.specs.Place.{Axis, x-axis, y-axis, low-edge, high-edge}
 use Rattle.query.specs.Lines.{lines}
 use Rattle.deck.specs.declared.Deck.{Deck}
 use Rattle.deck.specs.DeckOf.{deckOf}
@@ -45,35 +45,35 @@ module _ (deck : Deck) (held : DeckColumns deck) (h : Solvable deck) where
       flags-front : (axis : Axis) → take (deck .stops) flags ≡ reached (deckOf deck) axis
       flags-front axis = (λ i. take (sym stops-count i) (flags-are i)) ∙ padded-reached (deckOf deck) axis
 
-      -- the columns of coordinates
-      column-of : (number : Object → ℤ) → map (λ stop. number (objectOf (deckOf deck) stop)) (deckOf deck .stops) ≡ map number (objectsOf (deckOf deck))
-      column-of number = sym (ap (map number) (objectsOf-map (deckOf deck)) ∙ map-map _ _ (deckOf deck .stops))
+      -- the lines that `find_lines` finds along an axis, in a column of the stops' coordinates
+      pub lines-found : (axis : Axis) (coords : List ℤ) (lo hi : ℤ) → take (deck .stops) coords ≡ coordinates (deckOf deck) axis →
+          lo ≡ low-edge axis (deckOf deck .area) → hi ≡ high-edge axis (deckOf deck .area) →
+          linesRecord (linesBetween lo hi (marked coords flags (deck .stops))) ≡ linesRecord (lines (deckOf deck) axis)
+      lines-found axis coords lo hi same g k =
+          rw (g, k) (ap linesRecord (lines-marked (deckOf deck) axis coords flags (deck .stops) same (flags-front axis)))
 
-      pub vertical-is : (lo hi : ℤ) → lo ≡ deck .xlo → hi ≡ deck .xhi →
-          linesRecord (linesBetween lo hi (marked (deck .«stop_x») flags (deck .stops))) ≡ linesRecord (lines (deckOf deck) x-axis)
-      unfolding linesBetween linesRecord deckOf
-      vertical-is lo hi g k =
-          rw (g, k)
-          (ap linesRecord (lines-marked (deckOf deck) x-axis (deck .«stop_x») flags (deck .stops)
-          (sym (x-column deck held) ∙ sym (column-of (λ s. s .at .x))) (flags-front x-axis)))
+  -- the columns of coordinates
+  column-of : (number : Object → ℤ) →
+      map number (objectsOf (deckOf deck)) ≡ map (λ stop. number (objectOf (deckOf deck) stop)) (deckOf deck .stops)
+  column-of number = ap (map number) (objectsOf-map (deckOf deck)) ∙ map-map _ _ (deckOf deck .stops)
 
-      pub horizontal-is : (lo hi : ℤ) → lo ≡ deck .ylo → hi ≡ deck .yhi →
-          linesRecord (linesBetween lo hi (marked (deck .«stop_y») flags (deck .stops))) ≡ linesRecord (lines (deckOf deck) y-axis)
-      unfolding linesBetween linesRecord deckOf
-      horizontal-is lo hi g k =
-          rw (g, k)
-          (ap linesRecord (lines-marked (deckOf deck) y-axis (deck .«stop_y») flags (deck .stops)
-          (sym (y-column deck held) ∙ sym (column-of (λ s. s .at .y))) (flags-front y-axis)))
+  pub x-coordinates : take (deck .stops) (deck .«stop_x») ≡ coordinates (deckOf deck) x-axis
+  x-coordinates = sym (x-column deck held) ∙ column-of (λ s. s .at .x)
 
-  -- the area in words
-  pub edges : (back (deck .xlo) ≡ deck .xlo) × (back (deck .ylo) ≡ deck .ylo) × (back (deck .xhi) ≡ deck .xhi) × (back (deck .yhi) ≡ deck .yhi)
+  pub y-coordinates : take (deck .stops) (deck .«stop_y») ≡ coordinates (deckOf deck) y-axis
+  y-coordinates = sym (y-column deck held) ∙ column-of (λ s. s .at .y)
+
+  -- the area in words: its edges as `find_lines` gets them, and as a rectangle
+  pub edges : (back (back (deck .xlo)) ≡ deckOf deck .area .xlo) × (back (back (deck .ylo)) ≡ deckOf deck .area .ylo)
+      × (back (back (deck .xhi)) ≡ deckOf deck .area .xhi) × (back (back (deck .yhi)) ≡ deckOf deck .area .yhi)
   unfolding deckOf
   edges =
-      let r = h .range .area in (
-        near-back (deck .xlo) (r .low-corner .x-range),
-        near-back (deck .ylo) (r .low-corner .y-range),
-        near-back (deck .xhi) (r .high-corner .x-range),
-        near-back (deck .yhi) (r .high-corner .y-range),
+      let r = h .range .area in
+      let twice : (z : ℤ) → natAbs z ≤ 20000 → back (back z) ≡ z = λ z f. ap back (near-back z f) ∙ near-back z f in (
+        twice (deck .xlo) (r .low-corner .x-range),
+        twice (deck .ylo) (r .low-corner .y-range),
+        twice (deck .xhi) (r .high-corner .x-range),
+        twice (deck .yhi) (r .high-corner .y-range),
       )
 
   pub area-back : record { xlo = back (deck .xlo); ylo = back (deck .ylo); xhi = back (deck .xhi); yhi = back (deck .yhi) } ≡ deckOf deck .area

@@ -5,9 +5,9 @@ use borrow.Author.Needs.{needs}
 use native.Mathlib.Omega.{arith}
 use lib.ListN.{length}
 use Rattle.deck.proofs.DeckLaws.{DeckColumns}
-use Rattle.numbers.proofs.WordTests.{back}
+use Rattle.query.specs.Place.{x-axis, y-axis}
 use Rattle.pricing.specs.ObjectFigures.{flagsOf}
-use Rattle.problem.proofs.MadeProblem.{columns-priceable, vertical-is, horizontal-is, edges, area-back, area-ranged, made-problem}
+use Rattle.problem.proofs.MadeProblem.{columns-priceable, lines-found, x-coordinates, y-coordinates, edges, area-back, area-ranged, made-problem}
 use Rattle.problem.proofs.of_deck.Statement.{statement}
 use Rattle.problem.proofs.of_deck.Tie as tie
 
@@ -53,10 +53,10 @@ returns c =
     let e = edges _ (held s) (s .pre) in
     let flags = f .reach-flags .ensures ∙ ap (flagsOf _) (area-back _ (held s) (s .pre)) in
     let vertical = c .before .before .before .before .before .before .before .before .find-lines .ensures .0 in
+    let found = lines-found _ (held s) (s .pre) _ (made .columns-of .ensures) _ flags in
     made-problem _ (held s) (s .pre) _ (made .columns-of .ensures) _ _
-    (vertical ∙ vertical-is _ (held s) (s .pre) _ (made .columns-of .ensures) _ flags _ _ (ap back (e .0) ∙ e .0) (ap back (e .2) ∙ e .2))
-    (c .before .before .find-lines2 .ensures .0 ∙ horizontal-is _ (held s) (s .pre) _ (made .columns-of .ensures) _ flags _ _ (ap back (e .1)
-    ∙ e .1) (ap back (e .3) ∙ e .3))
+    (vertical ∙ found x-axis _ _ _ (x-coordinates _ (held s) (s .pre)) (e .0) (e .2))
+    (c .before .before .find-lines2 .ensures .0 ∙ found y-axis _ _ _ (y-coordinates _ (held s) (s .pre)) (e .1) (e .3))
 
 pub of-deck-spec : {M : Type 1} → statement M
 of-deck-spec = tie.close (tie.spec columns-of-requires reach-flags-requires find-lines-requires find-lines-requires-2 returns)
