@@ -1,7 +1,10 @@
 // The deck as a record, and its objects: its stops in columns, each with its near.
 use limits::COLUMNS;
+use limits::NEAR_COLUMN;
 use limits::POSTS;
 use limits::STOPS;
+use limits::VISITS_COLUMN;
+use limits::Y_COLUMN;
 ghost use mathlib.Core.Path.{_≡_};
 ghost use mathlib.Core.Bool.{cond};
 ghost use mathlib.Core.List.{map};
@@ -116,7 +119,7 @@ fn put_nears<'a>(columns: &mut [i32], n: usize, px: &'a [i32], py: &'a [i32], k:
 {
     let mut i: usize = 0;
     while i < n {
-        columns[3 * STOPS + i] = near_of(px, py, k, columns[i], columns[STOPS + i]);
+        columns[NEAR_COLUMN + i] = near_of(px, py, k, columns[i], columns[Y_COLUMN + i]);
         i = i + 1;
     }
 }
@@ -134,8 +137,8 @@ pub fn columns_of(deck: Deck) -> [i32; COLUMNS]
     copy_coordinates(&deck.post_y, &mut py, 0, k);
     let mut columns = [0i32; COLUMNS];
     copy_coordinates(&deck.stop_x, &mut columns, 0, n);
-    copy_coordinates(&deck.stop_y, &mut columns, STOPS, n);
-    copy_visits(&deck.visits, &mut columns, 2 * STOPS, n);
+    copy_coordinates(&deck.stop_y, &mut columns, Y_COLUMN, n);
+    copy_visits(&deck.visits, &mut columns, VISITS_COLUMN, n);
     put_nears(&mut columns, n, &px, &py, k);
     columns
 }

@@ -4,6 +4,9 @@
 use deck::Rect;
 use limits::COLUMNS;
 use limits::LINES;
+use limits::NEAR_COLUMN;
+use limits::VISITS_COLUMN;
+use limits::Y_COLUMN;
 use numbers::abs_diff;
 use problem::Spot;
 ghost use mathlib.Core.Path.{_≡_};
@@ -161,9 +164,9 @@ fn add_objects<'a>(
     let mut i: usize = 0;
     while i < n {
         let sx = columns[i] as i64;
-        let sy = columns[512 + i] as i64;
-        let visits = columns[1024 + i] as u32;
-        let near = columns[1536 + i] as u32;
+        let sy = columns[Y_COLUMN + i] as i64;
+        let visits = columns[VISITS_COLUMN + i] as u32;
+        let near = columns[NEAR_COLUMN + i] as u32;
         add_object(
             h,
             table,

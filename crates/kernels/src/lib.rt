@@ -2,6 +2,7 @@
 use deck::Deck;
 use deck::Rect;
 use limits::COLUMNS;
+use limits::NEAR_COLUMN;
 use trial::opened;
 use trial::opened::Opened;
 ghost use mathlib.Core.Path.{_≡_};
@@ -111,7 +112,7 @@ fn near_at(deck: Deck, t: u64) -> u64
 {
     let columns = deck::columns_of(deck);
     let i = (t % 512) as usize;
-    (columns[1536 + i] as u32) as u64
+    (columns[NEAR_COLUMN + i] as u32) as u64
 }
 
 fn nears(deck: Deck, k: u64) -> u64

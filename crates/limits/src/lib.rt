@@ -22,8 +22,14 @@ pub const STOPS: usize = 512;
 
 pub const LINES: usize = STOPS + 2;
 
-// The columns of all objects, one after another: x, y, visits and near.
+// The columns of all objects in one array, and where those of y, visits and near start; that of x is the first.
 pub const COLUMNS: usize = 4 * STOPS;
+
+pub const Y_COLUMN: usize = STOPS;
+
+pub const VISITS_COLUMN: usize = 2 * STOPS;
+
+pub const NEAR_COLUMN: usize = 3 * STOPS;
 
 // The most live cells, the numbers of each in the cell space, and the costs of its corners.
 pub const CELLS: usize = MOST_ROUNDS + 1;

@@ -2,7 +2,10 @@
 use deck::Rect;
 use deck::travelled;
 use limits::COLUMNS;
+use limits::NEAR_COLUMN;
 use limits::STOPS;
+use limits::VISITS_COLUMN;
+use limits::Y_COLUMN;
 use numbers::half_up;
 ghost use mathlib.Core.Path.{_≡_};
 ghost use mathlib.Core.Bool.{cond};
@@ -43,9 +46,9 @@ pub fn cost(columns: &[i32; COLUMNS], n: usize, x: i64, y: i64) -> u64
         sum = sum
             + paid(
                 columns[i],
-                columns[512 + i],
-                columns[1024 + i],
-                columns[1536 + i],
+                columns[Y_COLUMN + i],
+                columns[VISITS_COLUMN + i],
+                columns[NEAR_COLUMN + i],
                 px,
                 py,
             );
@@ -106,9 +109,9 @@ pub fn load(columns: &[i32; COLUMNS], n: usize, r: Rect) -> u64
         sum = sum
             + borne(
                 columns[i],
-                columns[512 + i],
-                columns[1024 + i],
-                columns[1536 + i],
+                columns[Y_COLUMN + i],
+                columns[VISITS_COLUMN + i],
+                columns[NEAR_COLUMN + i],
                 xlo,
                 ylo,
                 xhi,
@@ -127,8 +130,8 @@ pub fn before(columns: &[i32; COLUMNS], n: usize) -> u64
     let mut sum: u64 = 0;
     let mut i: usize = 0;
     while i < n {
-        let visits = columns[1024 + i];
-        let near = columns[1536 + i];
+        let visits = columns[VISITS_COLUMN + i];
+        let near = columns[NEAR_COLUMN + i];
         sum = sum + ((visits as u32) as u64) * ((near as u32) as u64);
         i = i + 1;
     }
@@ -180,8 +183,8 @@ pub fn reach_flags(columns: &[i32; COLUMNS], n: usize, r: Rect) -> [u8; STOPS]
     while i < n {
         flags[i] = flag(
             columns[i],
-            columns[512 + i],
-            columns[1536 + i],
+            columns[Y_COLUMN + i],
+            columns[NEAR_COLUMN + i],
             xlo,
             ylo,
             xhi,

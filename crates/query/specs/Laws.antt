@@ -86,8 +86,8 @@ pub record CutLineLaw (G : Grid) (r : Rect) : Type 0 where
       offMiddle (low-edge (cutLine G r .axis) r) (high-edge (cutLine G r .axis) r) (cutLine G r .at)
       ≤ offMiddle (low-edge (cutLine G r .axis) r) (high-edge (cutLine G r .axis) r) v
   pub smaller : (v : ℤ) → Inside G (cutLine G r .axis) r v →
-      offMiddle (low-edge (cutLine G r .axis) r) (high-edge (cutLine G r .axis) r) v ≡ offMiddle (low-edge (cutLine G r .axis) r)
-      (high-edge (cutLine G r .axis) r) (cutLine G r .at) → cutLine G r .at ≤ℤ v
+      offMiddle (low-edge (cutLine G r .axis) r) (high-edge (cutLine G r .axis) r) v
+      ≡ offMiddle (low-edge (cutLine G r .axis) r) (high-edge (cutLine G r .axis) r) (cutLine G r .at) → cutLine G r .at ≤ℤ v
   pub longer-side : (axis : Axis) (v : ℤ) → Inside G axis r v → side axis r ≤ side (cutLine G r .axis) r
   pub x-on-equal-sides : (v : ℤ) → Inside G x-axis r v → side x-axis r ≡ side y-axis r → cutLine G r .axis ≡ x-axis
 

@@ -68,8 +68,7 @@ deckAxis = record {
   axis = record { a = 2; b = 1 };
   area = rect 0 3 4 6;
   posts = at 0 4 ∷ at 0 0 ∷ [];
-  stops = stop 3 0 2 ∷ stop 2 4 1
-      ∷ [];
+  stops = stop 3 0 2 ∷ stop 2 4 1 ∷ [];
 }
 
 pub record Rows : Type 0 where

@@ -4,6 +4,7 @@ pub mod opened;
 
 use deck::Rect;
 use job::Outcome;
+use limits::NEAR_COLUMN;
 use refusal::Refusal;
 ghost use mathlib.Core.Path.{_≡_};
 ghost use mathlib.Core.List.{_++_};
@@ -96,7 +97,11 @@ fn near(job: &[u8], i: usize) -> i64
     let p = o.problem;
     let n = p.count;
     let columns = p.columns;
-    if i < n { columns[1536 + i] as i64 } else { -1 }
+    if i < n {
+        columns[NEAR_COLUMN + i] as i64
+    } else {
+        -1
+    }
 }
 
 // The cost of a place; -1 where the job is refused or the place is out of range.

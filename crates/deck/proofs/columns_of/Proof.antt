@@ -54,9 +54,6 @@ copy-coordinates-requires-4 c κs =
 slice-aggregate-copy-visits : tie.Need-slice-aggregate-copy-visits
 slice-aggregate-copy-visits c = search needs
 
-mul-copy-visits : tie.Need-mul-copy-visits
-mul-copy-visits c = search needs
-
 copy-visits-requires : tie.Need-copy-visits-requires
 copy-visits-requires c κs =
     let later = c .before .before .before .before .before .before .before .before .before .before .before .before .before .before in
@@ -113,7 +110,6 @@ columns-of-spec =
     slice-aggregate-copy-coordinates-4
     copy-coordinates-requires-4
     slice-aggregate-copy-visits
-    mul-copy-visits
     copy-visits-requires
     slice-aggregate-put-nears
     slice-aggregate-put-nears-2

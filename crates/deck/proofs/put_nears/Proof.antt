@@ -40,14 +40,11 @@ near-of-requires c κs =
     let s = turn .before .before in
     (s .pre .0, s .pre .1, s .pre .2, place-row _ _ (s .pre .3) (s .pre .4) (s .pre .5) (s .pre .6) (turn .before .loop .inv) (turn .loop-test .taken))
 
-mul-t16 : tie.Need-mul-t16 Inv-loop μ-loop
-mul-t16 c = omega arith
+add-t16 : tie.Need-add-t16 Inv-loop μ-loop
+add-t16 c = omega arith
 
-add-t17 : tie.Need-add-t17 Inv-loop μ-loop
-add-t17 c = omega arith
-
-mul-t18 : tie.Need-mul-t18 Inv-loop μ-loop
-mul-t18 c = omega arith
+mul-t17 : tie.Need-mul-t17 Inv-loop μ-loop
+mul-t17 c = omega arith
 
 slice-set-from-columns : tie.Need-slice-set-from-columns Inv-loop μ-loop
 slice-set-from-columns c = omega arith
@@ -84,9 +81,8 @@ put-nears-spec =
     mul-near-of-2
     slice-copy-out-near-of-2
     near-of-requires
-    mul-t16
-    add-t17
-    mul-t18
+    add-t16
+    mul-t17
     slice-set-from-columns
     add-i
     loop-less
