@@ -17,8 +17,7 @@ case-A = record {
   report-refused = refl;
   entry-done = refl;
   entry-most-rounds = refl;
-  entry-short =
-      refl;
+  entry-short = refl;
   entry-refused = refl;
   program-done = refl;
   program-most-rounds = refl;

@@ -40,8 +40,7 @@ job-limits job a =
       high-limit = range .high-limit;
       low-limit = range .low-limit;
       before-limit = range .before-limit;
-      rounds-limit =
-          omega (arith, range .rounds-limit, most-rounds (a .writable));
+      rounds-limit = omega (arith, range .rounds-limit, most-rounds (a .writable));
     }
 
 text-fits : (job : Job) → Allowed job → length (reportText (jobFigures job)) ≤ 128
@@ -53,8 +52,7 @@ allowed-more j h a = record {
   writable = other-rounds j (suc (j .rounds)) (a .writable) h;
   area-full = a .area-full;
   some-posts = a .some-posts;
-  some-stops =
-      a .some-stops;
+  some-stops = a .some-stops;
 }
 
 -- bytes that spell an allowed job are few enough

@@ -61,6 +61,5 @@ module _ (job : List ℕ) where
     report = reported-text;
     refusal = refusal-text;
     never-7 = λ line. never 7 line (omega arith) (omega arith);
-    never-8 =
-        λ line. never 8 line (omega arith) (omega arith);
+    never-8 = λ line. never 8 line (omega arith) (omega arith);
   }

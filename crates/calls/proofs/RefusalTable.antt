@@ -16,8 +16,7 @@ refusal-table = record {
   byte-13 = refl;
   no-form = refl;
   missing = refl;
-  ends-early =
-      refl;
+  ends-early = refl;
   too-much = refl;
   no-end = refl;
   no-end-beyond = refl;
@@ -25,8 +24,7 @@ refusal-table = record {
   area-below = refl;
   area-above = refl;
   post-ends = refl;
-  post-beyond =
-      refl;
+  post-beyond = refl;
   stop-ends = refl;
   stop-beyond = refl;
   nine-digits = refl;
@@ -34,16 +32,14 @@ refusal-table = record {
   posts-beyond = refl;
   posts-64 = refl;
   posts-65 = refl;
-  stops-beyond =
-      refl;
+  stops-beyond = refl;
   stops-512 = refl;
   stops-513 = refl;
   rounds-ends = refl;
   rounds-none = refl;
   rounds-beyond = refl;
   form-before-range = refl;
-  earlier-line =
-      refl;
+  earlier-line = refl;
   empty-area = refl;
   no-posts = refl;
   no-stops = refl;
@@ -51,8 +47,7 @@ refusal-table = record {
   five-before-six = refl;
   space-54 = refl;
   space-55 = refl;
-  output-127 =
-      refl;
+  output-127 = refl;
   seven-before-eight = refl;
   six-before-seven = refl;
 }

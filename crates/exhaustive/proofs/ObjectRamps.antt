@@ -117,8 +117,7 @@ module _ (v sx sy : ℤ) (visits near d : ℕ) (g : natAbs v ≤ 20000) (object 
     object-none up us down ds h = record {
       sums = λ m s. record {
         up-sums = sums-more m (m + 1) (s .up-sums) (omega arith);
-        down-sums =
-            sums-more (2 * m) (2 * (m + 1)) (s .down-sums) (omega arith);
+        down-sums = sums-more (2 * m) (2 * (m + 1)) (s .down-sums) (omega arith);
       };
       added = λ j k. same (min near (dist sx v + dist sy (getD ls j (pos 0)))) _ _ (omega (arith, d-is));
     }
@@ -132,8 +131,7 @@ module _ (v sx sy : ℤ) (visits near d : ℕ) (g : natAbs v ≤ 20000) (object 
     object-added up us down ds up′ us′ down₁ ds₁ down′ ds′ h low middle high = record {
       sums = λ m s. record {
         up-sums = middle .sums m (s .up-sums);
-        down-sums =
-            sums-more (2 * m + 1 + 1) (2 * (m + 1)) (high .sums (2 * m + 1) (low .sums (2 * m) (s .down-sums))) (omega arith);
+        down-sums = sums-more (2 * m + 1 + 1) (2 * (m + 1)) (high .sums (2 * m + 1) (low .sums (2 * m) (s .down-sums))) (omega arith);
       };
       added = λ j k. omega (
         arith,

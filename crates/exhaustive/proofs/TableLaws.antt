@@ -70,8 +70,7 @@ module _ (ls : List ℤ) (lines : LinesInRange ls) where
       parted = parted-from j to table′ f (λ t g l. record {
         within = omega arith;
         before = λ k q. omega (arith, s .passed k q);
-        after =
-            λ k q p. omega (arith, rising j k q p, e);
+        after = λ k q p. omega (arith, rising j k q p, e);
       });
     }
 

@@ -140,8 +140,7 @@ first-fault {lines} bytes short good number split (bad-value {k} {due} {n} {bs} 
       split = split;
       number = number;
       numbers = ns;
-      form =
-          e;
+      form = e;
       range = t;
     })
 first-fault {lines} bytes short good number split (more-text {n} {b} {bs}) =

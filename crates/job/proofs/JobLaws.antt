@@ -90,8 +90,7 @@ module _ (a n : List ℤ) (ps : List (List ℤ)) (m : List ℤ) (ss : List (List
     unfolding InRanges
     lines-writable = record {
       plain-axis = refl;
-      in-ranges =
-          subst (λ (ls : List JobLine). (l : JobLine) → List·Memᴰ l ls → InRanges l) (sym lines-are) each-line;
+      in-ranges = subst (λ (ls : List JobLine). (l : JobLine) → List·Memᴰ l ls → InRanges l) (sym lines-are) each-line;
     }
 
     lines-spelled : spell (jobOf a ps ss k) ≡ linesText
@@ -157,8 +156,7 @@ job-got from bs job to rest =
       stops-in = i₄;
       stop-in = i₅;
       rounds-in = i₆;
-      all-posts =
-          l₃;
+      all-posts = l₃;
       all-stops = l₅;
     } in
     let same : jobOf a ps ss k ≡ job = cc in

@@ -54,8 +54,7 @@ checked-says bytes job short e w =
         writable = w;
         area-full = full-area (job .deck .area) .0 t;
         some-posts = nonEmpty-length (job .deck .posts) p;
-        some-stops =
-            nonEmpty-length (job .deck .stops) s;
+        some-stops = nonEmpty-length (job .deck .stops) s;
       },
     ))
     (λ s. no-stops short spelled t (nonEmpty-iff (job .deck .posts) .0 p) (empty-iff (job .deck .stops) .0 s)))
@@ -137,8 +136,7 @@ allowed-in-range job a =
       area = ranged-area w;
       posts = ranged-posts w;
       some-posts = a .some-posts;
-      most-posts =
-          most-posts w;
+      most-posts = most-posts w;
       stops = ranged-stops w;
       some-stops = a .some-stops;
       most-stops = most-stops w;

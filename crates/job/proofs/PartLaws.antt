@@ -160,6 +160,5 @@ module _ {s : List ℕ} {at n : ℕ} {r : CountLine} (count-at : LineAt (row rou
     pub last-read : length s ≤ next → LastAt s at n (C.Read count next)
     last-read h = record {
       is = ended-here (pos count ∷ []) (n + 1) next s h ∙ counted count-at ended e ∙ last-is n (drop at s);
-      within =
-          subst (λ (r : CountLine). LineAt (row rounds) s at n (countAnswer r)) e count-at .within;
+      within = subst (λ (r : CountLine). LineAt (row rounds) s at n (countAnswer r)) e count-at .within;
     }

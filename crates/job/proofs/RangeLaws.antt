@@ -126,8 +126,7 @@ stop-range s t =
     let v = natural-range 1 65535 (pos (s .visits)) (e .1 .1 .0) in
     record {
       place = record { x-range = coordinate-range (s .at .x) .0 (e .0); y-range = coordinate-range (s .at .y) .0 (e .1 .0) };
-      some-visits =
-          v .1;
+      some-visits = v .1;
       most-visits = v .2;
     }
 

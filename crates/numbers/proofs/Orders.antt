@@ -54,8 +54,7 @@ module _ {A B : Type 0} (key : A → B) where
   ties-on ties = record {
     not-before = λ x y. ties .not-before (key x) (key y);
     not-after = λ x y. ties .not-after (key x) (key y);
-    otherwise =
-        λ x y. ties .otherwise (key x) (key y);
+    otherwise = λ x y. ties .otherwise (key x) (key y);
   }
 
 -- by `before`, and where that puts neither first by `then`

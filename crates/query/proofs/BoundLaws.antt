@@ -111,6 +111,5 @@ bound-law deck r = record { below = below deck r; part = part deck r }
 pub half-law : (z : ℤ) → HalfLaw z
 half-law z = record {
   enough = omega (arith, order, add-nat (halfUp z) (halfUp z), half-nat z);
-  at-most-one-more =
-      omega (arith, order, add-nat (halfUp z) (halfUp z), add-nat z (pos 1), half-nat z);
+  at-most-one-more = omega (arith, order, add-nat (halfUp z) (halfUp z), add-nat z (pos 1), half-nat z);
 }

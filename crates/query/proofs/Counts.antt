@@ -55,8 +55,7 @@ module _ (P : Problem) where
   unfolding run round
   round-law n = record {
     one-cut = (round-cuts (run P n) (run P n .live), round-live-cuts (run P n) (run P n .live));
-    no-cut =
-        no-round (run P n) (run P n .live);
+    no-cut = no-round (run P n) (run P n .live);
   }
 
   -- at most one live cell more than there were cuts, so at most n + 1 after n rounds

@@ -49,8 +49,7 @@ around Kind c lo hi [] l h p q all = record {
   below = p;
   above = q;
   from-low = omega (arith, order);
-  to-high =
-      omega (arith, order);
+  to-high = omega (arith, order);
   none = λ v m. absurd (List·Memᴰ·not-nil m);
 }
 around Kind c lo hi (x ∷ xs) l h p q all =
@@ -77,11 +76,9 @@ around Kind c lo hi (x ∷ xs) l h p q all =
       hi-kind = r .hi-kind;
       below = r .below;
       above = r .above;
-      from-low =
-          omega (arith, order);
+      from-low = omega (arith, order);
       to-high = omega (arith, order);
-      none =
-          λ v m. ⊎-elim (λ e. ⊎-elim (λ u. inl (omega (arith, order))) (λ u. inr (omega (arith, order))) side) (r .none v) (List·Memᴰ·cases-cons m);
+      none = λ v m. ⊎-elim (λ e. ⊎-elim (λ u. inl (omega (arith, order))) (λ u. inr (omega (arith, order))) side) (r .none v) (List·Memᴰ·cases-cons m);
     }
 
 moved-earlier : (axis : Axis) (p : Place) (v : ℤ) → v ≤ℤ coordinate axis p → T (not (earlier p (moved axis v p)))
@@ -163,7 +160,6 @@ crossing deck p within =
       record {
         in-area = within-w;
         on-lines = for-both (λ axis. List·Memᴰ (coordinate axis q) (lines deck axis)) on-v on-w;
-        not-worse =
-            better-strict .chain (priced deck q) (priced deck (moved x-axis v p)) (priced deck p) w-as-good v-as-good;
+        not-worse = better-strict .chain (priced deck q) (priced deck (moved x-axis v p)) (priced deck p) w-as-good v-as-good;
       },
     )

@@ -63,8 +63,7 @@ module _ (deck : Deck) (full : NonEmpty (deck .area)) where
   unfolding problem
   done-cheapest n e = record {
     ok = ok n .best-ok;
-    none-better =
-        FigureLaws.done-best (problem deck) (lawful deck full) (cut-law (problem deck .rules .grid)) (run (problem deck) n) (ok n) e;
+    none-better = FigureLaws.done-best (problem deck) (lawful deck full) (cut-law (problem deck .rules .grid)) (run (problem deck) n) (ok n) e;
   }
 
   limit : (n : ℕ) → run (problem deck) n .cuts ≤ gaps deck x-axis * gaps deck y-axis - 1

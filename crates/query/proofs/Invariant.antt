@@ -180,8 +180,7 @@ module _ (P : Problem) (lawful : Lawful P) (cut-law : (r : Rect) → CutLaw (P .
     within = λ p h. h;
     low-line = lawful .low-line;
     high-line = lawful .high-line;
-    priced =
-        start-priced;
+    priced = start-priced;
   }
 
   pub start-ok : Ok P (start P .best) (start P .live)

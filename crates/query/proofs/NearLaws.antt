@@ -36,6 +36,5 @@ pub travelTo-law : (deck : Deck) (r : Rect) (stop : Stop) → TravelToLaw deck r
 unfolding travelTo
 travelTo-law deck r stop = record {
   some-point = λ h. (closestPoint r (stop .at), closestPoint-in r (stop .at) h, refl);
-  every-point =
-      travelTo-least deck r stop;
+  every-point = travelTo-least deck r stop;
 }

@@ -84,8 +84,7 @@ module _ (deck : Deck) (range : InRange deck) where
     near-limit = near-limit;
     cost-limit = cost-limit;
     before-limit = before-limit;
-    load-limit =
-        load-limit;
+    load-limit = load-limit;
     span-limit = span-limit;
     bound-limit = bound-limit;
   }

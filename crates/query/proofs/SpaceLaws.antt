@@ -27,8 +27,7 @@ space-law deck n = record {
   in-order = run-in-order (problem deck) n;
   live-cells = count;
   numbers = room;
-  whole =
-      λ lent h. padded-length lent (pos 0) (allNumbers (run (problem deck) n .live)) (omega (arith, room));
+  whole = λ lent h. padded-length lent (pos 0) (allNumbers (run (problem deck) n .live)) (omega (arith, room));
 }
   where
     count : length (run (problem deck) n .live) ≤ n + 1

@@ -50,8 +50,7 @@ parts x-axis v r = record {
   second-low = refl;
   second-high = refl;
   first-low-other = refl;
-  first-high-other =
-      refl;
+  first-high-other = refl;
   second-low-other = refl;
   second-high-other = refl;
 }
@@ -61,8 +60,7 @@ parts y-axis v r = record {
   second-low = refl;
   second-high = refl;
   first-low-other = refl;
-  first-high-other =
-      refl;
+  first-high-other = refl;
   second-low-other = refl;
   second-high-other = refl;
 }
@@ -98,8 +96,7 @@ module _ (cut : Axis) (v : ℤ) (r : Rect) (above : low-edge cut r <ℤ v) (unde
   first-part first second s = record {
     low-is = inl (s .first-low);
     high-is = inr (s .first-high);
-    ordered =
-        rw (s .first-low, s .first-high) (omega (arith, order));
+    ordered = rw (s .first-low, s .first-high) (omega (arith, order));
     low-other = s .first-low-other;
     high-other = s .first-high-other;
   }
@@ -108,8 +105,7 @@ module _ (cut : Axis) (v : ℤ) (r : Rect) (above : low-edge cut r <ℤ v) (unde
   second-part first second s = record {
     low-is = inr (s .second-low);
     high-is = inl (s .second-high);
-    ordered =
-        rw (s .second-low, s .second-high) (omega (arith, order));
+    ordered = rw (s .second-low, s .second-high) (omega (arith, order));
     low-other = s .second-low-other;
     high-other = s .second-high-other;
   }
@@ -186,8 +182,7 @@ new-corners x-axis v r = record {
   are = refl;
   low-on = refl;
   high-on = refl;
-  low-at =
-      refl;
+  low-at = refl;
   high-at = refl;
 }
 new-corners y-axis v r = record {
@@ -196,8 +191,7 @@ new-corners y-axis v r = record {
   are = refl;
   low-on = refl;
   high-on = refl;
-  low-at =
-      refl;
+  low-at = refl;
   high-at = refl;
 }
 

@@ -115,8 +115,7 @@ pub respond-refused : (job : List ℕ) (cells : List ℤ) (out : List ℕ) (why 
 unfolding overwritten
 respond-refused job cells out why e r f = subst (Responded job cells out cells out) (sym f) (record {
   left = sym e;
-  filled =
-      record { number = refl; content = refl };
+  filled = record { number = refl; content = refl };
   few = omega arith;
 })
 

@@ -80,8 +80,7 @@ unfolding valueOf digits
 one-digit n h = record {
   all-digits = digits-cons (48 + n) [] (range-digit (48 + n) (omega arith) (omega arith));
   value = omega arith;
-  some-digit =
-      omega arith;
+  some-digit = omega arith;
   first-digit = λ k. omega arith;
 }
 

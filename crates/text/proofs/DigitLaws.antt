@@ -103,8 +103,7 @@ module _ {s : List ℕ} {at : ℕ} where
     left = rest;
     enough = omega (arith, longer);
     value-is = worth;
-    below =
-        rw (add-one, pow-suc) (omega (arith, m .below));
+    below = rw (add-one, pow-suc) (omega (arith, m .below));
   }
     where
       b : ℕ

@@ -121,6 +121,5 @@ module _ {s : List ℕ} {at : ℕ} {t : Bool} (byte : ByteIs s at minus t) (is-n
     pub number-read : {n next : ℕ} → r ≡ N.Read n next → NumberAt s at (Read (toZ w64 n) next)
     number-read {n} {next} e = rw (pos-bits n (read-small natural-at e)) (record {
       is = read natural-at e .is ∙ sym number-is;
-      within =
-          read natural-at e .within;
+      within = read natural-at e .within;
     })

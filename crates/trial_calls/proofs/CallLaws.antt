@@ -52,8 +52,7 @@ line-few _ job cells out (short-output j e h k) = omega arith
 -- ---- the answer of the call, by its case
 module _ (job : List ℕ) (cells : List ℤ) (out : List ℕ) (answer : Answer) (cells′ : List ℤ) (out′ : List ℕ) (e : record {
   answer = reportAnswer answer;
-  cells =
-      cells′;
+  cells = cells′;
   out = out′;
 } ≡ reportCall job cells out) where
   -- a result that is a figure of the answer
