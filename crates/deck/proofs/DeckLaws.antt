@@ -2,7 +2,7 @@
 -- Assumes nothing.
 use mathlib.Core.Path.{_≡_, refl, sym, ap, _∙_}
 use mathlib.Core.List.{List, [], _∷_, _++_, map, zipWith, map-map, map-id, List·Memᴰ, List·Memᴰ·head, List·Memᴰ·tail}
-use Prim.Native.Nat.{ℕ, zero, suc, _≤_, _<_}
+use Prim.Native.Nat.{ℕ, zero, suc, _≤_, _<_, min}
 use native.Mathlib.Omega.{arith}
 use lib.IntN.{ℤ, pos}
 use lib.ListN.{length, getD, take, length-take, length-map}
@@ -13,7 +13,7 @@ use Rattle.query.specs.Travel.{near}
 use Rattle.query.specs.Range.{InRange, StopInRange, PlaceInRange}
 use Rattle.numbers.specs.Padded.{padded}
 use Rattle.deck.specs.declared.Deck.{Deck}
-use Rattle.deck.specs.DeckOf.{places, stopsOf, deckOf, deckRecord}
+use Rattle.deck.specs.DeckOf.{Sized, places, stopsOf, deckOf, deckRecord}
 use Rattle.deck.specs.Objects.{Object, objectsOf}
 use Rattle.deck.specs.Ranges.{CoordinatesInRange, VisitsInRange}
 use Rattle.deck.specs.ObjectColumns.{columnsOf}
@@ -62,33 +62,39 @@ places-y xs ys e = zip-second placeOf (λ (p : Place). p .y) (λ y. y) (λ x y. 
 
 -- ---- the columns of a deck's record
 pub record DeckColumns (deck : Deck) : Type 0 where
+  pub sized : Sized deck
   pub posts : deck .posts ≤ 64
-  pub post-x : length (deck .«post_x») ≡ 64
-  pub post-y : length (deck .«post_y») ≡ 64
   pub stops : deck .stops ≤ 512
-  pub stop-x : length (deck .«stop_x») ≡ 512
-  pub stop-y : length (deck .«stop_y») ≡ 512
-  pub visits : length (deck .visits) ≡ 512
+
+abbrev pub stopIn : List ℤ → List ℤ → List ℕ → ℕ → Stop
+stopIn xs ys vs i = record { at = placeAt xs ys i; visits = getD vs i 0 }
+
+pub stops-length : (xs ys : List ℤ) (vs : List ℕ) → length (stopsOf (places xs ys) vs) ≡ min (min (length xs) (length ys)) (length vs)
+unfolding stopsOf
+stops-length xs ys vs = rw (zip-length stopOf (places xs ys) vs, places-length xs ys)
+
+pub stops-in : (xs ys : List ℤ) (vs : List ℕ) (i : ℕ) (d : Stop) → i < length xs → i < length ys → i < length vs →
+    getD (stopsOf (places xs ys) vs) i d ≡ stopIn xs ys vs i
+unfolding stopsOf
+stops-in xs ys vs i d g h k = zip-at _ (placeAt [] [] 0) 0 d (places xs ys) vs i (omega (arith, places-length xs ys)) k
+    ∙ rw (places-at xs ys i (placeAt [] [] 0) g h)
 
 abbrev stopAt : Deck → ℕ → Stop
-stopAt deck i = record { at = placeAt (deck .«stop_x») (deck .«stop_y») i; visits = getD (deck .visits) i 0 }
+stopAt deck i = stopIn (deck .«stop_x») (deck .«stop_y») (deck .visits) i
 
 abbrev allStops : Deck → List Stop
 allStops deck = stopsOf (places (deck .«stop_x») (deck .«stop_y»)) (deck .visits)
 
 module _ (deck : Deck) (columns : DeckColumns deck) where
   places-long : length (places (deck .«stop_x») (deck .«stop_y»)) ≡ 512
-  places-long = omega (arith, places-length (deck .«stop_x») (deck .«stop_y»), columns .stop-x, columns .stop-y)
+  places-long = omega (arith, places-length (deck .«stop_x») (deck .«stop_y»), columns .sized .stop-x, columns .sized .stop-y)
 
   stops-long : length (allStops deck) ≡ 512
-  unfolding stopsOf
-  stops-long = omega (arith, zip-length stopOf (places (deck .«stop_x») (deck .«stop_y»)) (deck .visits), places-long, columns .visits)
+  stops-long = omega (arith, stops-length (deck .«stop_x») (deck .«stop_y») (deck .visits), columns .sized .stop-x, columns .sized .stop-y, columns .sized .visits)
 
   stops-at : (i : ℕ) (d : Stop) → i < 512 → getD (allStops deck) i d ≡ stopAt deck i
-  unfolding stopsOf
-  stops-at i d h = zip-at _ (placeAt [] [] 0) 0 d (places (deck .«stop_x») (deck .«stop_y»)) (deck .visits) i (omega (arith, places-long))
-      (omega (arith, columns .visits)) ∙ rw (places-at (deck .«stop_x») (deck .«stop_y») i (placeAt [] [] 0) (omega (arith, columns .stop-x))
-      (omega (arith, columns .stop-y)))
+  stops-at i d h = stops-in (deck .«stop_x») (deck .«stop_y») (deck .visits) i d (omega (arith, columns .sized .stop-x)) (omega (arith, columns .sized .stop-y))
+      (omega (arith, columns .sized .visits))
 
   module _ (range : InRange (deckOf deck)) where
     stop-range : (i : ℕ) → i < deck .stops → StopInRange (stopAt deck i)
@@ -100,28 +106,28 @@ module _ (deck : Deck) (columns : DeckColumns deck) where
     post-in-range : (i : ℕ) → i < deck .posts → PlaceInRange (placeAt (deck .«post_x») (deck .«post_y») i)
     unfolding deckOf
     post-in-range i h = range .posts (placeAt (deck .«post_x») (deck .«post_y») i)
-        (rw (places-at (deck .«post_x») (deck .«post_y») i (placeAt [] [] 0) (omega (arith, columns .posts, columns .post-x))
-        (omega (arith, columns .posts, columns .post-y))) at (take-member (placeAt [] [] 0) (places (deck .«post_x») (deck .«post_y»)) (deck .posts) i h
-        (omega (arith, columns .posts, places-length (deck .«post_x») (deck .«post_y»), columns .post-x, columns .post-y))))
+        (rw (places-at (deck .«post_x») (deck .«post_y») i (placeAt [] [] 0) (omega (arith, columns .posts, columns .sized .post-x))
+        (omega (arith, columns .posts, columns .sized .post-y))) at (take-member (placeAt [] [] 0) (places (deck .«post_x») (deck .«post_y»)) (deck .posts) i h
+        (omega (arith, columns .posts, places-length (deck .«post_x») (deck .«post_y»), columns .sized .post-x, columns .sized .post-y))))
 
     pub some-post : 1 ≤ deck .posts
     unfolding deckOf
     some-post = omega (arith, range .some-posts, length-take (deck .posts) (places (deck .«post_x») (deck .«post_y»)))
 
     pub stop-x-range : CoordinatesInRange (deck .«stop_x») (deck .stops)
-    stop-x-range = record { count = omega (arith, columns .stops, columns .stop-x); range = λ i h. let r = stop-range i h .place .x-range in omega arith }
+    stop-x-range = record { count = omega (arith, columns .stops, columns .sized .stop-x); range = λ i h. let r = stop-range i h .place .x-range in omega arith }
 
     pub stop-y-range : CoordinatesInRange (deck .«stop_y») (deck .stops)
-    stop-y-range = record { count = omega (arith, columns .stops, columns .stop-y); range = λ i h. let r = stop-range i h .place .y-range in omega arith }
+    stop-y-range = record { count = omega (arith, columns .stops, columns .sized .stop-y); range = λ i h. let r = stop-range i h .place .y-range in omega arith }
 
     pub visits-in-range : VisitsInRange (deck .visits) (deck .stops)
-    visits-in-range = record { count = omega (arith, columns .stops, columns .visits); range = λ i h. stop-range i h .most-visits }
+    visits-in-range = record { count = omega (arith, columns .stops, columns .sized .visits); range = λ i h. stop-range i h .most-visits }
 
     pub post-x-range : CoordinatesInRange (deck .«post_x») (deck .posts)
-    post-x-range = record { count = omega (arith, columns .posts, columns .post-x); range = λ i h. let r = post-in-range i h .x-range in omega arith }
+    post-x-range = record { count = omega (arith, columns .posts, columns .sized .post-x); range = λ i h. let r = post-in-range i h .x-range in omega arith }
 
     pub post-y-range : CoordinatesInRange (deck .«post_y») (deck .posts)
-    post-y-range = record { count = omega (arith, columns .posts, columns .post-y); range = λ i h. let r = post-in-range i h .y-range in omega arith }
+    post-y-range = record { count = omega (arith, columns .posts, columns .sized .post-y); range = λ i h. let r = post-in-range i h .y-range in omega arith }
 
   -- ---- the record of the deck's objects
   pub objects-length : length (objectsOf (deckOf deck)) ≡ deck .stops
@@ -136,20 +142,20 @@ module _ (deck : Deck) (columns : DeckColumns deck) where
   by-place : {D : Type 0} (g : Stop → D) (h : Place → D) → ((p : Place) (v : ℕ) → g (stopOf p v) ≡ h p) →
       map g (allStops deck) ≡ map h (places (deck .«stop_x») (deck .«stop_y»))
   unfolding stopsOf
-  by-place g h e = zip-first stopOf g h e (places (deck .«stop_x») (deck .«stop_y»)) (deck .visits) (omega (arith, places-long, columns .visits))
+  by-place g h e = zip-first stopOf g h e (places (deck .«stop_x») (deck .«stop_y»)) (deck .visits) (omega (arith, places-long, columns .sized .visits))
 
   pub x-column : map (λ (s : Object). s .at .x) (objectsOf (deckOf deck)) ≡ take (deck .stops) (deck .«stop_x»)
   x-column = rw (
     column (λ (s : Object). s .at .x),
     by-place (λ (s : Stop). s .at .x) (λ (p : Place). p .x) (λ p v. refl),
-    places-x (deck .«stop_x») (deck .«stop_y») (omega (arith, columns .stop-x, columns .stop-y)),
+    places-x (deck .«stop_x») (deck .«stop_y») (omega (arith, columns .sized .stop-x, columns .sized .stop-y)),
   )
 
   pub y-column : map (λ (s : Object). s .at .y) (objectsOf (deckOf deck)) ≡ take (deck .stops) (deck .«stop_y»)
   y-column = rw (
     column (λ (s : Object). s .at .y),
     by-place (λ (s : Stop). s .at .y) (λ (p : Place). p .y) (λ p v. refl),
-    places-y (deck .«stop_x») (deck .«stop_y») (omega (arith, columns .stop-x, columns .stop-y)),
+    places-y (deck .«stop_x») (deck .«stop_y») (omega (arith, columns .sized .stop-x, columns .sized .stop-y)),
   )
 
   visits-column : map (λ (s : Object). pos (s .visits)) (objectsOf (deckOf deck)) ≡ take (deck .stops) (map pos (deck .visits))
@@ -158,7 +164,7 @@ module _ (deck : Deck) (columns : DeckColumns deck) where
       rw (
         column (λ (s : Object). pos (s .visits)),
         zip-second stopOf (λ (s : Stop). pos (s .visits)) pos (λ p v. refl) (places (deck .«stop_x») (deck .«stop_y»)) (deck .visits)
-            (omega (arith, places-long, columns .visits)),
+            (omega (arith, places-long, columns .sized .visits)),
       )
 
   near-is : (p : Place) (v : ℕ) → pos (near (deckOf deck) (stopOf p v)) ≡ nearBy (deck .«post_x») (deck .«post_y») (deck .posts) p

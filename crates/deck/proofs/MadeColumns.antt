@@ -81,17 +81,17 @@ module _ (deck : Deck) (columns : DeckColumns deck) where
   module _ {a b c : List ℤ} (ea : a ≡ paste (replicate 2048 (pos 0)) 0 (deck .«stop_x») (deck .stops))
       (eb : b ≡ paste a 512 (deck .«stop_y») (deck .stops)) (ec : c ≡ paste b 1024 (map pos (deck .visits)) (deck .stops)) where
     x-put : a ≡ x ++ replicate 1536 (pos 0)
-    x-put = ea ∙ put-column [] 0 1536 (deck .stops) (deck .«stop_x») refl (columns .stops) (omega (arith, columns .stops, columns .stop-x))
+    x-put = ea ∙ put-column [] 0 1536 (deck .stops) (deck .«stop_x») refl (columns .stops) (omega (arith, columns .stops, columns .sized .stop-x))
 
     y-put : b ≡ x ++ y ++ replicate 1024 (pos 0)
-    y-put = eb ∙ rw x-put (put-column x 512 1024 (deck .stops) (deck .«stop_y») (long _) (columns .stops) (omega (arith, columns .stops, columns .stop-y)))
+    y-put = eb ∙ rw x-put (put-column x 512 1024 (deck .stops) (deck .«stop_y») (long _) (columns .stops) (omega (arith, columns .stops, columns .sized .stop-y)))
 
     put : c ≡ x ++ y ++ visits ++ replicate 512 (pos 0)
     put =
         ec
         ∙ rw y-put
         (put-column (x ++ y) 1024 512 (deck .stops) (map pos (deck .visits)) two (columns .stops)
-        (omega (arith, columns .stops, columns .visits, length-map {B = ℤ} (deck .visits) pos)))
+        (omega (arith, columns .stops, columns .sized .visits, length-map {B = ℤ} (deck .visits) pos)))
 
     pub put-length : length c ≡ 2048
     put-length = rw put (omega (arith, length-append (x ++ y ++ visits) (replicate 512 (pos 0)), three, length-replicate 512 (pos 0)))
@@ -102,7 +102,7 @@ module _ (deck : Deck) (columns : DeckColumns deck) where
         (take-append-le (deck .stops) (x ++ y ++ visits) _ (omega (arith, three, columns .stops))
         ∙ take-append-le (deck .stops) (x ++ y) visits (omega (arith, two, columns .stops))
         ∙ take-append-le (deck .stops) x y (omega (arith, long (deck .«stop_x»), columns .stops))
-        ∙ front (deck .«stop_x») (omega (arith, columns .stops, columns .stop-x)))
+        ∙ front (deck .«stop_x») (omega (arith, columns .stops, columns .sized .stop-x)))
 
     y-front : take (deck .stops) (drop 512 c) ≡ take (deck .stops) (deck .«stop_y»)
     y-front =
@@ -113,7 +113,7 @@ module _ (deck : Deck) (columns : DeckColumns deck) where
           drop-at x (y ++ (visits ++ replicate 512 (pos 0))) 512 (long _),
         )
         (take-append-le (deck .stops) y _ (omega (arith, long (deck .«stop_y»), columns .stops))
-        ∙ front (deck .«stop_y») (omega (arith, columns .stops, columns .stop-y)))
+        ∙ front (deck .«stop_y») (omega (arith, columns .stops, columns .sized .stop-y)))
 
     module _ (range : InRange (deckOf deck)) where
       pub x-copied : CoordinatesInRange c (deck .stops)

@@ -1,6 +1,7 @@
 -- The deck that a record of the code holds, and the record that holds a deck.
 -- Assumes nothing.
 use Prim.Native.Nat.{ℕ}
+use mathlib.Core.Path.{_≡_}
 use mathlib.Core.List.{List, [], map, zipWith}
 use lib.IntN.{ℤ, pos}
 use lib.ListN.{length, take}
@@ -18,6 +19,14 @@ places xs ys = zipWith (λ x y. record { x = x; y = y }) xs ys
 unfoldable pub stopsOf : List Place → List ℕ → List Stop
 unfolding zipWith
 stopsOf ps visits = zipWith (λ p v. record { at = p; visits = v }) ps visits
+
+-- a record that the code can hold: its arrays have their sizes. Its numbers may be any
+pub record Sized (deck : Deck) : Type 0 where
+  pub post-x : length (deck .«post_x») ≡ postsLimit
+  pub post-y : length (deck .«post_y») ≡ postsLimit
+  pub stop-x : length (deck .«stop_x») ≡ stopsLimit
+  pub stop-y : length (deck .«stop_y») ≡ stopsLimit
+  pub visits : length (deck .visits) ≡ stopsLimit
 
 -- the deck of a record. A count beyond its arrays counts all of their elements
 unfoldable pub deckOf : Deck → Query.Deck

@@ -16,7 +16,7 @@ use Rattle.job_line.specs.Kinds.{Kind, area, posts, post, stops, stop, rounds, 
 use Rattle.job_line.specs.OneLine.{Reading, fault, got, Reader, line, lineResult}
 use Rattle.job.specs.Reader.{andThen, _>>=_, return, repeated, end}
 use Rattle.job.specs.Format.{Job, countOf, jobOf, jobLines}
-use Rattle.job.specs.Meaning.{dueAfter, Good, top, one-more, FirstMalformed, no-form, too-much, FirstOutOfRange, Condition, malformed, out-of-range}
+use Rattle.job.specs.Meaning.{dueAfter, Good, top, one-more, FirstMalformed, no-form, too-much, FirstOutOfRange, TextCondition, malformed, out-of-range}
 use Rattle.refusal.specs.declared.Refusal.{Refusal}
 use Rattle.refusal.specs.declared.Refusal.the-variants.{Malformed, OutOfRange}
 use Rattle.job.proofs.FormLaws.{textOf, form-spells, form-whole, form-local}
@@ -126,11 +126,11 @@ from-top (one-more {lines} {k} {due} good text ns e t) {rest} {why} f =
     rw (flatten-snoc lines text rest) (from-top good here)
 
 -- and back, the good lines being those that come before the fault
-pub first-fault : {lines : List (List ℕ)} {due : List Kind} {n : ℕ} {rest : List ℕ} {why : Refusal} (bytes : List ℕ) → length bytes ≤ 16384 → Good lines due →
-    n ≡ suc (length lines) → bytes ≡ flatten lines ++ rest → Faults due n rest why → Condition bytes why
-first-fault {lines} bytes short good number split (bad-form {k} {due} {n} {bs} e) = malformed short (no-form lines bs k due good split number e)
-first-fault {lines} bytes short good number split (bad-value {k} {due} {n} {bs} ns rest e t) =
-    out-of-range short (record {
+pub first-fault : {lines : List (List ℕ)} {due : List Kind} {n : ℕ} {rest : List ℕ} {why : Refusal} (bytes : List ℕ) → Good lines due →
+    n ≡ suc (length lines) → bytes ≡ flatten lines ++ rest → Faults due n rest why → TextCondition bytes why
+first-fault {lines} bytes good number split (bad-form {k} {due} {n} {bs} e) = malformed (no-form lines bs k due good split number e)
+first-fault {lines} bytes good number split (bad-value {k} {due} {n} {bs} ns rest e t) =
+    out-of-range (record {
       lines = lines;
       rest = bs;
       after = rest;
@@ -143,10 +143,10 @@ first-fault {lines} bytes short good number split (bad-value {k} {due} {n} {bs} 
       form = e;
       range = t;
     })
-first-fault {lines} bytes short good number split (more-text {n} {b} {bs}) =
-    malformed short (too-much lines (b ∷ bs) good split number (λ e. absurd (let z : _≡_ {A = ℕ} 0 1 = cc in omega arith)))
-first-fault {lines} bytes short good number split (further {k} {due} {n} {bs} {why} ns rest e t f) =
-    first-fault bytes short (one-more good (textOf (row k) ns) ns (form-whole (row k) ns (range-fits k ns t)) t)
+first-fault {lines} bytes good number split (more-text {n} {b} {bs}) =
+    malformed (too-much lines (b ∷ bs) good split number (λ e. absurd (let z : _≡_ {A = ℕ} 0 1 = cc in omega arith)))
+first-fault {lines} bytes good number split (further {k} {due} {n} {bs} {why} ns rest e t f) =
+    first-fault bytes (one-more good (textOf (row k) ns) ns (form-whole (row k) ns (range-fits k ns t)) t)
     (omega (arith, length-append lines (textOf (row k) ns ∷ []))) (split
     ∙ ap (λ (l : List ℕ). flatten lines ++ l) (form-spells (row k) .reads bs ns rest e .0) ∙ sym (flatten-snoc lines (textOf (row k) ns) rest)) f
 

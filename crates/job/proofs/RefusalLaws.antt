@@ -11,8 +11,8 @@ use Rattle.numbers.proofs.Joined.{flatten-snoc}
 use Rattle.job_line.specs.Kinds.{Kind, area, posts, post, stops, stop, rounds, row, formOf}
 use Rattle.job.specs.Format.{refused, readJob}
 use Rattle.refusal.specs.Refusal.{numberOf, lineOf}
-use Rattle.job.specs.Meaning.{Good, top, one-more, FirstMalformed, no-form, too-much, Condition, too-long, malformed, out-of-range, empty-area, no-posts}
-use Rattle.job.specs.Meaning.{no-stops}
+use Rattle.job.specs.Meaning.{Good, top, one-more, FirstMalformed, no-form, too-much, Condition, too-long, in-text}
+use Rattle.job.specs.Meaning.{TextCondition, malformed, out-of-range, empty-area, no-posts, no-stops}
 use Rattle.refusal.specs.declared.Refusal.{Refusal}
 use Rattle.job.proofs.Meaning.{refused-law}
 
@@ -59,20 +59,23 @@ malformed-most bytes n short (too-much lines rest good split number some-text) =
 
 pub condition-line : (bytes : List ℕ) (why : Refusal) → Condition bytes why → lineOf why ≤ 16385
 condition-line bytes _ (too-long h) = omega arith
-condition-line bytes _ (malformed {n} short f) = malformed-most bytes n short f
-condition-line bytes _ (out-of-range short f) = line-number bytes (f .lines) (f .rest) short (f .before) (f .split) (f .number)
-condition-line bytes _ (empty-area short s t) = omega arith
-condition-line bytes _ (no-posts short s t p) = omega arith
-condition-line bytes _ (no-stops short s t p q) = omega arith
+condition-line bytes _ (in-text short (malformed {n} f)) = malformed-most bytes n short f
+condition-line bytes _ (in-text short (out-of-range f)) = line-number bytes (f .lines) (f .rest) short (f .before) (f .split) (f .number)
+condition-line bytes _ (in-text short (empty-area s t)) = omega arith
+condition-line bytes _ (in-text short (no-posts s t p)) = omega arith
+condition-line bytes _ (in-text short (no-stops s t p q)) = omega arith
 
--- 1 to 6
+-- 2 to 6, and 1 besides
+pub text-number : (bytes : List ℕ) (why : Refusal) → TextCondition bytes why → (2 ≤ numberOf why) × (numberOf why ≤ 6)
+text-number bytes _ (malformed f) = omega arith
+text-number bytes _ (out-of-range f) = omega arith
+text-number bytes _ (empty-area s t) = omega arith
+text-number bytes _ (no-posts s t p) = omega arith
+text-number bytes _ (no-stops s t p q) = omega arith
+
 pub condition-number : (bytes : List ℕ) (why : Refusal) → Condition bytes why → numberOf why ≤ 6
 condition-number bytes _ (too-long h) = omega arith
-condition-number bytes _ (malformed short f) = omega arith
-condition-number bytes _ (out-of-range short f) = omega arith
-condition-number bytes _ (empty-area short s t) = omega arith
-condition-number bytes _ (no-posts short s t p) = omega arith
-condition-number bytes _ (no-stops short s t p q) = omega arith
+condition-number bytes why (in-text short f) = text-number bytes why f .1
 
 pub line-most : (bytes : List ℕ) (why : Refusal) → readJob bytes ≡ refused why → lineOf why ≤ 16385
 line-most bytes why e = condition-line bytes why (refused-law bytes why .exactly .0 e)

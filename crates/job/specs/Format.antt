@@ -85,7 +85,11 @@ readingResult (got job n bs) = checked job
 abbrev pub sizeLimit : ℕ
 sizeLimit = 16384
 
+-- 01 "line by line from the top ..; then 4 to" 6, for text of any size
+abbrev pub readText : List ℕ → Result
+readText bytes = readingResult (jobLines 1 bytes)
+
 -- 01 "Order: 1; then line by line from the top ..; then 4 to 8"
 unfoldable pub readJob : List ℕ → Result
 unfolding jobLines checked
-readJob bytes = cond (ltb sizeLimit (length bytes)) (refused TooLong) (readingResult (jobLines 1 bytes))
+readJob bytes = cond (ltb sizeLimit (length bytes)) (refused TooLong) (readText bytes)

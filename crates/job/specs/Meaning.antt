@@ -10,7 +10,7 @@ use lib.Dec.{T}
 use lib.IntN.{ℤ}
 use lib.ListN.{length, replicate}
 use Rattle.job_line.specs.Kinds.{Kind, area, posts, post, stops, stop, rounds, row, formOf, inRanges}
-use Rattle.job.specs.Format.{Job, countOf, sizeLimit, refused, accepted, readJob, emptyArea}
+use Rattle.job.specs.Format.{Job, countOf, sizeLimit, refused, accepted, readText, readJob, emptyArea}
 use Rattle.job.specs.Spelling.{spell, Writable, Allowed}
 use Rattle.refusal.specs.declared.Refusal.{Refusal}
 use Rattle.refusal.specs.declared.Refusal.the-variants.{TooLong, Malformed, OutOfRange, EmptyArea, NoPosts, NoStops}
@@ -67,17 +67,21 @@ pub record Spelled (bytes : List ℕ) : Type 0 where
   pub writable : Writable job
   pub spelled : bytes ≡ spell job
 
--- document 01, "Turned down": the refusals that reading can give, each with its condition, in the stated order
+-- document 01, "Turned down": refusals 2 to 6, which reading gives for text of any size, each with its condition, in the stated order
+pub data TextCondition (bytes : List ℕ) : Refusal → Type 0 where
+  malformed : {n : ℕ} → FirstMalformed bytes n → TextCondition bytes (Malformed n)
+  out-of-range : {n : ℕ} → FirstOutOfRange bytes n → TextCondition bytes (OutOfRange n)
+  empty-area : (s : Spelled bytes) → T (emptyArea (s .job .deck .area)) → TextCondition bytes EmptyArea
+  no-posts : (s : Spelled bytes) → T (not (emptyArea (s .job .deck .area))) → s .job .deck .posts ≡ [] → TextCondition bytes NoPosts
+  no-stops : (s : Spelled bytes) → T (not (emptyArea (s .job .deck .area))) → s .job .deck .posts ≢ [] → s .job .deck .stops ≡ [] →
+      TextCondition bytes NoStops
+
+-- all that reading can give: 1 first, then those
 pub data Condition (bytes : List ℕ) : Refusal → Type 0 where
   too-long : sizeLimit < length bytes → Condition bytes TooLong
-  malformed : {n : ℕ} → length bytes ≤ sizeLimit → FirstMalformed bytes n → Condition bytes (Malformed n)
-  out-of-range : {n : ℕ} → length bytes ≤ sizeLimit → FirstOutOfRange bytes n → Condition bytes (OutOfRange n)
-  empty-area : length bytes ≤ sizeLimit → (s : Spelled bytes) → T (emptyArea (s .job .deck .area)) → Condition bytes EmptyArea
-  no-posts : length bytes ≤ sizeLimit → (s : Spelled bytes) → T (not (emptyArea (s .job .deck .area))) → s .job .deck .posts ≡ [] →
-      Condition bytes NoPosts
-  no-stops : length bytes ≤ sizeLimit → (s : Spelled bytes) → T (not (emptyArea (s .job .deck .area))) → s .job .deck .posts ≢ [] →
-      s .job .deck .stops ≡ [] → Condition bytes NoStops
+  in-text : {why : Refusal} → length bytes ≤ sizeLimit → TextCondition bytes why → Condition bytes why
 
 -- demand 1 of the reader: "A number is used under its condition and under no other"
 pub record RefusedLaw (bytes : List ℕ) (why : Refusal) : Type 0 where
   pub exactly : (readJob bytes ≡ refused why) ↔ Condition bytes why
+  pub exactly-in-text : (readText bytes ≡ refused why) ↔ TextCondition bytes why

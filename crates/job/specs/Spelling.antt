@@ -35,11 +35,14 @@ postLine p = record { kind = post; numbers = p .x ∷ p .y ∷ [] }
 abbrev pub stopLine : Stop → JobLine
 stopLine s = record { kind = stop; numbers = s .at .x ∷ s .at .y ∷ pos (s .visits) ∷ [] }
 
--- 01 "A job is lines in this order": the lines of a job
+-- 01 "A job is lines in this order": the lines of a job, where these numbers of posts and of stops are written
+abbrev pub linesCounting : ℕ → ℕ → Job → List JobLine
+linesCounting p s job = areaLine (job .deck .area) ∷ countLine posts p
+    ∷ (map postLine (job .deck .posts) ++ (countLine stops s ∷ (map stopLine (job .deck .stops) ++ (countLine rounds (job .rounds) ∷ []))))
+
+-- those that it has
 abbrev pub linesOf : Job → List JobLine
-linesOf job = areaLine (job .deck .area) ∷ countLine posts (length (job .deck .posts))
-    ∷ (map postLine (job .deck .posts)
-    ++ (countLine stops (length (job .deck .stops)) ∷ (map stopLine (job .deck .stops) ++ (countLine rounds (job .rounds) ∷ []))))
+linesOf job = linesCounting (length (job .deck .posts)) (length (job .deck .stops)) job
 
 -- ---- their bytes
 -- numbers, each with its end

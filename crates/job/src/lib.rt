@@ -186,7 +186,7 @@ fn last_line(s: &[u8], at: usize, line: u64) -> CountLine
 // ---- the job
 
 // Refusal 4: the area has no point.
-fn empty_area(a: Rect) -> bool
+pub fn empty_area(a: Rect) -> bool
     ensures { λ r. ⌜ r ≡ emptyArea (areaOf (areaNumbers a)) ⌝ }
 {
     if a.xhi < a.xlo { true } else { a.yhi < a.ylo }

@@ -14,9 +14,9 @@ ghost use Rattle.job_line.specs.Reading.{areaNumbers, placeNumbers, Fiel
 ghost use Rattle.job_line.specs.Reading.{countRow};
 
 // A place as a line has it.
-struct Place {
-    x: i64,
-    y: i64,
+pub struct Place {
+    pub x: i64,
+    pub y: i64,
 }
 
 // What one line is read as: what it holds and the place after it, or the refusal.
@@ -40,7 +40,7 @@ pub enum StopLine {
     Refused(Refusal),
 }
 
-// ---- ranges
+// ---- ranges: whether the numbers of a line are in those of its row
 
 fn between(lo: i64, hi: i64, v: i64) -> bool
     ensures { λ r. ⌜ r ≡ between lo hi v ⌝ }
@@ -54,7 +54,7 @@ fn coordinate_in_range(v: i64) -> bool
     between(LEAST_COORDINATE, MOST_COORDINATE, v)
 }
 
-fn place_in_range(p: Place) -> bool
+pub fn place_in_range(p: Place) -> bool
     ensures { λ r. ⌜ r ≡ inRanges (row post .ranges) (placeNumbers p) ⌝ }
 {
     if coordinate_in_range(p.x) {
@@ -64,7 +64,7 @@ fn place_in_range(p: Place) -> bool
     }
 }
 
-fn area_in_range(a: Rect) -> bool
+pub fn area_in_range(a: Rect) -> bool
     ensures { λ r. ⌜ r ≡ inRanges (row area .ranges) (areaNumbers a) ⌝ }
 {
     if !coordinate_in_range(a.xlo) {
@@ -79,7 +79,7 @@ fn area_in_range(a: Rect) -> bool
     coordinate_in_range(a.yhi)
 }
 
-fn stop_in_range(p: Place, visits: i64) -> bool
+pub fn stop_in_range(p: Place, visits: i64) -> bool
     ensures { λ r. ⌜ r ≡ inRanges (row stop .ranges) (p .x ∷ p .y ∷ visits ∷ []) ⌝ }
 {
     if place_in_range(p) {

@@ -9,13 +9,9 @@ use Rattle.deck.proofs.columns_of.Tie as tie
 
 columns : (c : tie.Start) → DeckColumns (c .args .t1)
 columns c = record {
+  sized = record { post-x = search needs; post-y = search needs; stop-x = search needs; stop-y = search needs; visits = search needs };
   posts = c .pre .1;
-  post-x = search needs;
-  post-y = search needs;
   stops = c .pre .2;
-  stop-x = search needs;
-  stop-y = search needs;
-  visits = search needs;
 }
 
 slice-aggregate-copy-coordinates : tie.Need-slice-aggregate-copy-coordinates

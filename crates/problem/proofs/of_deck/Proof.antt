@@ -13,13 +13,9 @@ use Rattle.problem.proofs.of_deck.Tie as tie
 
 held : (c : tie.Start) → DeckColumns (c .args .t1)
 held c = record {
+  sized = record { post-x = search needs; post-y = search needs; stop-x = search needs; stop-y = search needs; visits = search needs };
   posts = c .pre .posts;
-  post-x = search needs;
-  post-y = search needs;
   stops = c .pre .stops;
-  stop-x = search needs;
-  stop-y = search needs;
-  visits = search needs;
 }
 
 flags-long : (c : tie.After-reach-flags) → length (c .reach-flags .result) ≡ 512
@@ -37,13 +33,13 @@ find-lines-requires : tie.Need-find-lines-requires
 find-lines-requires c κs =
     let f = c .before .before .before .before .before in
     let s = f .before .before .before .before .before .before .before in
-    record { within = s .pre .stops; coords-full = omega (arith, held s .stop-x, s .pre .stops); flags-full = omega (arith, flags-long f, s .pre .stops) }
+    record { within = s .pre .stops; coords-full = omega (arith, held s .sized .stop-x, s .pre .stops); flags-full = omega (arith, flags-long f, s .pre .stops) }
 
 find-lines-requires-2 : tie.Need-find-lines-requires-2
 find-lines-requires-2 c κs =
     let f = c .before .before .before .before .before .before .before .before .before .before .before in
     let s = f .before .before .before .before .before .before .before in
-    record { within = s .pre .stops; coords-full = omega (arith, held s .stop-y, s .pre .stops); flags-full = omega (arith, flags-long f, s .pre .stops) }
+    record { within = s .pre .stops; coords-full = omega (arith, held s .sized .stop-y, s .pre .stops); flags-full = omega (arith, flags-long f, s .pre .stops) }
 
 returns : tie.Need-returns
 returns c =

@@ -1,0 +1,47 @@
+use borrow.Author.Needs.{needs}
+use Rattle.job_check.proofs.all_stops.Statement.{statement}
+use Rattle.job_check.proofs.all_stops.Tie as tie
+use Rattle.job_check.proofs.all_stops.Reads as reads
+use Rattle.job_check.proofs.all_stops.Lts as lts
+use Rattle.job_check.proofs.count_line.Reads as count-line-reads
+use Rattle.job_check.proofs.stop_lines.Reads as stop-lines-reads
+
+-- src/lib.rt:150:11
+count-line-requires : tie.Need-count-line-requires
+count-line-requires c κs = search needs
+
+-- src/lib.rt:151:56
+enum-told : tie.Need-enum-told
+enum-told c = search needs
+
+-- src/lib.rt:151:56
+add-stop-lines : tie.Need-add-stop-lines
+add-stop-lines c = search needs
+
+-- src/lib.rt:151:26
+stop-lines-requires : tie.Need-stop-lines-requires
+stop-lines-requires c κs = ?
+
+-- src/lib.rt:152:26
+enum-known-why : tie.Need-enum-known-why
+enum-known-why c = search needs
+
+-- src/lib.rt:145:1
+returns : tie.Need-returns
+returns c = ?
+
+-- src/lib.rt:145:1
+returns-2 : tie.Need-returns-2
+returns-2 c = ?
+
+pub all-stops-spec : {M : Type 1} → statement M
+all-stops-spec =
+    tie.close
+    (tie.spec
+    count-line-requires
+    enum-told
+    add-stop-lines
+    stop-lines-requires
+    enum-known-why
+    returns
+    returns-2)

@@ -1,0 +1,29 @@
+use borrow.Author.Needs.{needs}
+use Rattle.job_check.proofs.parts.Statement.{statement}
+use Rattle.job_check.proofs.parts.Tie as tie
+use Rattle.job_check.proofs.parts.Reads as reads
+use Rattle.job_check.proofs.parts.Lts as lts
+use Rattle.job.proofs.empty_area.Reads as empty-area-reads
+
+-- src/lib.rt:162:8
+empty-area-requires : tie.Need-empty-area-requires
+empty-area-requires c κs = search needs
+
+-- src/lib.rt:163:9
+returns : tie.Need-returns
+returns c = ?
+
+-- src/lib.rt:166:9
+returns-2 : tie.Need-returns-2
+returns-2 c = ?
+
+-- src/lib.rt:169:9
+returns-3 : tie.Need-returns-3
+returns-3 c = ?
+
+-- src/lib.rt:159:1
+returns-4 : tie.Need-returns-4
+returns-4 c = ?
+
+pub parts-spec : {M : Type 1} → statement M
+parts-spec = tie.close (tie.spec empty-area-requires returns returns-2 returns-3 returns-4)

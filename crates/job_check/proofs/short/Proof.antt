@@ -1,0 +1,15 @@
+use Rattle.job_check.proofs.short.Statement.{statement}
+use Rattle.job_check.proofs.short.Tie as tie
+use Rattle.job_check.proofs.short.Reads as reads
+use Rattle.job_check.proofs.short.Lts as lts
+
+-- src/lib.rt:30:1
+returns : tie.Need-returns
+returns c = ?
+
+-- src/lib.rt:30:1
+returns-2 : tie.Need-returns-2
+returns-2 c = ?
+
+pub short-spec : {M : Type 1} → statement M
+short-spec = tie.close (tie.spec returns returns-2)

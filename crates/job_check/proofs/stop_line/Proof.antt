@@ -1,0 +1,47 @@
+use borrow.Author.Needs.{needs}
+use Rattle.job_check.proofs.stop_line.Statement.{statement}
+use Rattle.job_check.proofs.stop_line.Tie as tie
+use Rattle.job_check.proofs.stop_line.Reads as reads
+use Rattle.job_check.proofs.stop_line.Lts as lts
+use Rattle.job_check.proofs.short_place.Reads as short-place-reads
+use Rattle.job_line.proofs.stop_in_range.Reads as stop-in-range-reads
+
+-- src/lib.rt:93:9
+short-place-requires : tie.Need-short-place-requires
+short-place-requires c κs = search needs
+
+-- src/lib.rt:94:9
+returns : tie.Need-returns
+returns c = ?
+
+-- src/lib.rt:97:9
+returns-2 : tie.Need-returns-2
+returns-2 c = ?
+
+-- src/lib.rt:99:36
+cast-stop-in-range : tie.Need-cast-stop-in-range
+cast-stop-in-range c = search needs
+
+-- src/lib.rt:99:9
+stop-in-range-requires : tie.Need-stop-in-range-requires
+stop-in-range-requires c κs = search needs
+
+-- src/lib.rt:100:9
+returns-3 : tie.Need-returns-3
+returns-3 c = ?
+
+-- src/lib.rt:90:1
+returns-4 : tie.Need-returns-4
+returns-4 c = ?
+
+pub stop-line-spec : {M : Type 1} → statement M
+stop-line-spec =
+    tie.close
+    (tie.spec
+    short-place-requires
+    returns
+    returns-2
+    cast-stop-in-range
+    stop-in-range-requires
+    returns-3
+    returns-4)

@@ -1,0 +1,98 @@
+use Rattle.job_check.proofs.stop_lines.Statement.{statement}
+use Rattle.job_check.proofs.stop_lines.Tie as tie
+use Rattle.job_check.proofs.stop_lines.Reads as reads
+use Rattle.job_check.proofs.stop_lines.Lts as lts
+use Rattle.job_check.proofs.stop_line.Reads as stop-line-reads
+
+abbrev Inv-loop : tie.InvT-loop
+Inv-loop xs ys visits n first i₀ i = ?
+
+abbrev μ-loop : tie.MeasureT-loop
+μ-loop xs ys visits n first i₀ i = ?
+
+-- src/lib.rt:129:5
+loop-holds : tie.Need-loop-holds Inv-loop μ-loop
+loop-holds c = ?
+
+-- src/lib.rt:130:36
+mul-t10 : tie.Need-mul-t10 Inv-loop μ-loop
+mul-t10 c = ?
+
+-- src/lib.rt:130:36
+shared-slice-copy-out-t12 : tie.Need-shared-slice-copy-out-t12 Inv-loop μ-loop
+shared-slice-copy-out-t12 c = ?
+
+-- src/lib.rt:130:46
+mul-t13 : tie.Need-mul-t13 Inv-loop μ-loop
+mul-t13 c = ?
+
+-- src/lib.rt:130:46
+shared-slice-copy-out-t15 : tie.Need-shared-slice-copy-out-t15 Inv-loop μ-loop
+shared-slice-copy-out-t15 c = ?
+
+-- src/lib.rt:130:55
+mul-stop-line : tie.Need-mul-stop-line Inv-loop μ-loop
+mul-stop-line c = ?
+
+-- src/lib.rt:130:55
+shared-slice-read-stop-line : tie.Need-shared-slice-read-stop-line Inv-loop μ-loop
+shared-slice-read-stop-line c = ?
+
+-- src/lib.rt:130:66
+add-stop-line : tie.Need-add-stop-line Inv-loop μ-loop
+add-stop-line c = ?
+
+-- src/lib.rt:130:15
+stop-line-requires : tie.Need-stop-line-requires Inv-loop μ-loop
+stop-line-requires c κs = ?
+
+-- src/lib.rt:131:30
+enum-told : tie.Need-enum-told Inv-loop μ-loop
+enum-told c = ?
+
+-- src/lib.rt:131:30
+add-i : tie.Need-add-i Inv-loop μ-loop
+add-i c = ?
+
+-- src/lib.rt:129:5
+loop-less : tie.Need-loop-less Inv-loop μ-loop
+loop-less c = ?
+
+-- src/lib.rt:129:5
+loop-again : tie.Need-loop-again Inv-loop μ-loop
+loop-again c = ?
+
+-- src/lib.rt:132:30
+enum-known-why : tie.Need-enum-known-why Inv-loop μ-loop
+enum-known-why c = ?
+
+-- src/lib.rt:132:38
+returns : tie.Need-returns Inv-loop μ-loop
+returns c = ?
+
+-- src/lib.rt:123:1
+returns-2 : tie.Need-returns-2 Inv-loop μ-loop
+returns-2 c = ?
+
+pub stop-lines-spec : {M : Type 1} → statement M
+stop-lines-spec =
+    tie.close
+    (tie.spec
+    Inv-loop
+    μ-loop
+    loop-holds
+    mul-t10
+    shared-slice-copy-out-t12
+    mul-t13
+    shared-slice-copy-out-t15
+    mul-stop-line
+    shared-slice-read-stop-line
+    add-stop-line
+    stop-line-requires
+    enum-told
+    add-i
+    loop-less
+    loop-again
+    enum-known-why
+    returns
+    returns-2)

@@ -1,0 +1,104 @@
+use Rattle.job_file.proofs.stops_len.Statement.{statement}
+use Rattle.job_file.proofs.stops_len.Tie as tie
+use Rattle.job_file.proofs.stops_len.Reads as reads
+use Rattle.job_file.proofs.stops_len.Lts as lts
+use Rattle.job_file.proofs.place_len.Reads as place-len-reads
+use Rattle.write.proofs.nat_len.Reads as nat-len-reads
+
+abbrev Inv-loop : tie.InvT-loop
+Inv-loop xs ys visits n len₀ i₀ len i = ?
+
+abbrev μ-loop : tie.MeasureT-loop
+μ-loop xs ys visits n len₀ i₀ len i = ?
+
+-- src/lib.rt:47:5
+loop-holds : tie.Need-loop-holds Inv-loop μ-loop
+loop-holds c = ?
+
+-- src/lib.rt:48:30
+mul-place-len : tie.Need-mul-place-len Inv-loop μ-loop
+mul-place-len c = ?
+
+-- src/lib.rt:48:30
+shared-slice-copy-out-place-len : tie.Need-shared-slice-copy-out-place-len Inv-loop μ-loop
+shared-slice-copy-out-place-len c = ?
+
+-- src/lib.rt:48:37
+mul-place-len-2 : tie.Need-mul-place-len-2 Inv-loop μ-loop
+mul-place-len-2 c = ?
+
+-- src/lib.rt:48:37
+shared-slice-copy-out-place-len-2 : tie.Need-shared-slice-copy-out-place-len-2 Inv-loop μ-loop
+shared-slice-copy-out-place-len-2 c = ?
+
+-- src/lib.rt:48:20
+place-len-requires : tie.Need-place-len-requires Inv-loop μ-loop
+place-len-requires c κs = ?
+
+-- src/lib.rt:48:16
+add-len : tie.Need-add-len Inv-loop μ-loop
+add-len c = ?
+
+-- src/lib.rt:48:61
+mul-nat-len : tie.Need-mul-nat-len Inv-loop μ-loop
+mul-nat-len c = ?
+
+-- src/lib.rt:48:61
+shared-slice-read-nat-len : tie.Need-shared-slice-read-nat-len Inv-loop μ-loop
+shared-slice-read-nat-len c = ?
+
+-- src/lib.rt:48:46
+nat-len-requires : tie.Need-nat-len-requires Inv-loop μ-loop
+nat-len-requires c κs = ?
+
+-- src/lib.rt:48:16
+add-len-2 : tie.Need-add-len-2 Inv-loop μ-loop
+add-len-2 c = ?
+
+-- src/lib.rt:48:16
+add-len-3 : tie.Need-add-len-3 Inv-loop μ-loop
+add-len-3 c = ?
+
+-- src/lib.rt:48:9
+add-len-4 : tie.Need-add-len-4 Inv-loop μ-loop
+add-len-4 c = ?
+
+-- src/lib.rt:49:9
+add-i : tie.Need-add-i Inv-loop μ-loop
+add-i c = ?
+
+-- src/lib.rt:47:5
+loop-less : tie.Need-loop-less Inv-loop μ-loop
+loop-less c = ?
+
+-- src/lib.rt:47:5
+loop-again : tie.Need-loop-again Inv-loop μ-loop
+loop-again c = ?
+
+-- src/lib.rt:40:1
+returns : tie.Need-returns Inv-loop μ-loop
+returns c = ?
+
+pub stops-len-spec : {M : Type 1} → statement M
+stops-len-spec =
+    tie.close
+    (tie.spec
+    Inv-loop
+    μ-loop
+    loop-holds
+    mul-place-len
+    shared-slice-copy-out-place-len
+    mul-place-len-2
+    shared-slice-copy-out-place-len-2
+    place-len-requires
+    add-len
+    mul-nat-len
+    shared-slice-read-nat-len
+    nat-len-requires
+    add-len-2
+    add-len-3
+    add-len-4
+    add-i
+    loop-less
+    loop-again
+    returns)
