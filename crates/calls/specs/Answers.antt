@@ -11,6 +11,10 @@ use Rattle.calls.specs.declared.Answer.{Answer}
 use Rattle.calls.specs.declared.Answer.the-variants as Answered
 use Rattle.calls.specs.declared.Cheapest.{Cheapest}
 use Rattle.calls.specs.declared.Cheapest.the-variants as Cheapest
+use Rattle.calls.specs.declared.Written.{Written}
+use Rattle.calls.specs.declared.Written.the-variants as Written
+use Rattle.job.specs.declared.Outcome.{Outcome}
+use Rattle.job.specs.declared.Outcome.the-variants as Outcome
 
 -- what is asked for, or a refusal by its number and its line
 pub data AnswerOf (A : Type 0) : Type 0 where
@@ -29,3 +33,13 @@ reportAnswer (Answered.Refused why) = refusal why
 abbrev pub cheapestAnswer : Cheapest → AnswerOf Priced
 cheapestAnswer (Cheapest.At spot) = gives (pricedOf spot)
 cheapestAnswer (Cheapest.Refused why) = refusal why
+
+-- 02, card 1: the rounds of a job that was read, or one refusal
+abbrev pub readAnswer : Outcome → AnswerOf ℕ
+readAnswer (Outcome.Accepted rounds) = gives rounds
+readAnswer (Outcome.Refused why) = refusal why
+
+-- 02, card 1: the number of bytes written, or one refusal
+abbrev pub writtenAnswer : Written → AnswerOf ℕ
+writtenAnswer (Written.Bytes count) = gives count
+writtenAnswer (Written.Refused why) = refusal why

@@ -3,6 +3,8 @@ pub mod Call
 pub mod Entry
 pub mod Program
 pub mod CheapestCall
+pub mod ReadCall
+pub mod WriteCall
 pub mod Demands
 pub mod EntryLaw
 pub mod ProgramLaw

@@ -16,6 +16,12 @@ pub enum Cheapest {
     Refused(Refusal),
 }
 
+// The number of bytes that a job was written in, or one refusal.
+pub enum Written {
+    Bytes(usize),
+    Refused(Refusal),
+}
+
 // A text: the first `length` bytes; the others are 0.
 pub struct Text {
     pub length: usize,
