@@ -3,7 +3,8 @@
 use mathlib.Core.Path.{_≡_, refl, ap, _∙_}
 use mathlib.Core.Bool.{not}
 use mathlib.Core.List.{List, [], _∷_, _++_, append-nil, append-assoc}
-use mathlib.Core.Option.{Option, some, bind-eq-some-iff, Option·none-ne-some, Option·some-injective}
+use mathlib.Core.Logic.{_⊎_, inl, inr}
+use mathlib.Core.Option.{Option, none, some, bind-eq-some-iff, Option·none-ne-some, Option·some-injective}
 use Prim.Native.Nat.{ℕ, suc, _+_, _*_, _^_, _≤_, _<_}
 use native.Mathlib.Nat.{le-trans, pow-le-pow-right}
 use native.Mathlib.Omega.{arith}
@@ -15,7 +16,7 @@ use Rattle.text.specs.Ascii.{isDigit}
 use Rattle.text.specs.Numeral.{digits, number}
 use Rattle.text.specs.Decimal.{spellInt}
 use Rattle.text.proofs.DigitCounts.{length-spellInt-below}
-use Rattle.text.proofs.NumeralLaws.{number-reads, number-spelled}
+use Rattle.text.proofs.NumeralLaws.{number-reads, number-spelled, number-too-long}
 use Rattle.job_line.specs.Form.{Form, _>>=_, _>>_, byte, key, field, return}
 use Rattle.job_line.specs.Kinds.{Range, Row, endOf, numbers, formOf}
 use Rattle.job.specs.Spelling.{spellNumbers}
@@ -130,6 +131,29 @@ numbers-spells (range ∷ others) = record {
           ih .writes ns rest (record { as-many = e; small = f .small .1 }),
         )
 
+-- ---- numbers of which one has ten digits or more
+abbrev pub SomeLong : List ℤ → Type 0
+SomeLong [] = ⊥
+SomeLong (n ∷ ns) = (10 ^ 9 ≤ natAbs n) ⊎ ((natAbs n < 10 ^ 9) × SomeLong ns)
+
+field-long : (end : ℕ) (z : ℤ) (rest : List ℕ) → 10 ^ 9 ≤ natAbs z → field end (spellInt z ++ rest) ≡ none
+unfolding field
+field-long end z rest h = rw (number-too-long z rest h)
+
+numbers-long : (ranges : List Range) (ns : List ℤ) (rest : List ℕ) → length ns ≡ length ranges → SomeLong ns → numbers ranges (spellNumbers ns ++ rest) ≡ none
+unfolding numbers spellNumbers
+numbers-long ranges [] rest e s = absurd s
+numbers-long [] (n ∷ ns) rest e s = absurd (omega arith)
+numbers-long (range ∷ others) (n ∷ ns) rest e (inl h) = rw (append-assoc, field-long (endOf others) n _ h)
+numbers-long (range ∷ others) (n ∷ ns) rest e (inr s) =
+    let as-many : length ns ≡ length others = omega arith in
+    rw (
+      append-assoc,
+      end-same ns others as-many,
+      field-spells (endOf others) (end-no-digit others) .writes n (spellNumbers ns ++ rest) (s .0),
+      numbers-long others ns rest as-many (s .1),
+    )
+
 -- ---- the lines
 abbrev pub textOf : Row → List ℤ → List ℕ
 textOf row ns = row .key ++ spellNumbers ns
@@ -143,6 +167,10 @@ module _ (row : Row) where
         (rw append-assoc (key-spells (row .key) .reads bs u mid p .0 ∙ ap (λ (l : List ℕ). row .key ++ l) text), fit));
     writes = λ ns rest fit. rw (append-assoc, key-spells (row .key) .writes tt (spellNumbers ns ++ rest) tt) (numbers-spells (row .ranges) .writes ns rest fit);
   }
+
+  pub form-long : (ns : List ℤ) (rest : List ℕ) → length ns ≡ length (row .ranges) → SomeLong ns → formOf row (textOf row ns ++ rest) ≡ none
+  unfolding formOf
+  form-long ns rest e s = rw (append-assoc, key-spells (row .key) .writes tt (spellNumbers ns ++ rest) tt) (numbers-long (row .ranges) ns rest e s)
 
   pub form-whole : (ns : List ℤ) → Fitting (row .ranges) ns → formOf row (textOf row ns) ≡ some (ns, [])
   form-whole ns fit = rw append-nil at (form-spells .writes ns [] fit)

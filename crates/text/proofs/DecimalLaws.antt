@@ -64,6 +64,16 @@ pub decimal-large : (most n : ℕ) → 10 ≤ n → decimal (suc most) n ≡ dec
 unfolding decimal
 decimal-large most n h = cond-false (ltb n 10) _ _ (le→nltb n 10 h)
 
+-- they are all digits
+pub decimal-all : (most n : ℕ) → digits (decimal most n) ≡ decimal most n
+unfolding digits decimal
+decimal-all zero n = refl
+decimal-all (suc most) n = ⊎-elim
+    (λ t. let h : n < 10 = ltb→lt n 10 t in rw (decimal-small most n h) (digits-cons (48 + n) [] (range-digit (48 + n) (omega arith) (omega arith))))
+    (λ t. rw (decimal-large most n (nltb→le n 10 t)) (digits-append (decimal most (n / 10)) _ (decimal-all most (n / 10))
+    ∙ ap (λ (l : List ℕ). decimal most (n / 10) ++ l) (digits-cons (48 + n % 10) [] (range-digit (48 + n % 10) (omega arith) (omega arith)))))
+    (test (ltb n 10))
+
 -- the number that digits spell behind those of v
 abbrev onwards : ℕ → List ℕ → ℕ
 onwards v ds = foldl (λ value d. value * 10 + (d - 48)) v ds

@@ -5,9 +5,9 @@ use mathlib.Core.Bool.{cond, true, false, true≢false}
 use mathlib.Core.Logic.{⊎-elim}
 use Prim.Native.Nat.{ℕ, zero, suc, _+_, _/_, _%_, _^_, _≤_, _<_}
 use native.Mathlib.Omega.{arith}
-use native.Mathlib.Nat.{le-of-lt, lt-of-lt-of-le, pow-suc, pow-le-pow-right}
+use native.Mathlib.Nat.{le-of-lt, lt-of-lt-of-le, one-le-pow, pow-suc, pow-le-pow-right}
 use mathlib.Core.List.{List, [], _∷_, _++_}
-use lib.Dec.{lit<, leb, leb→le, nleb→lt, ltb}
+use lib.Dec.{T, lit<, leb, leb→le, nleb→lt, ltb, ltb→lt, nltb→le}
 use lib.ListN.{length, length-append}
 use lib.IntN.{ℤ, pos, negsuc, natAbs}
 use lib.Signed.{ltZ}
@@ -23,6 +23,32 @@ length-decimal zero n = omega arith
 length-decimal (suc most) n =
     cond-ind (λ (l : List ℕ). length l ≤ suc most) (ltb n 10) (λ t. omega arith)
     (λ t. omega (arith, length-append (decimal most (n / 10)) ((48 + n % 10) ∷ []), length-decimal most (n / 10)))
+
+pub length-decimal-some : (most n : ℕ) → 1 ≤ length (decimal (suc most) n)
+length-decimal-some most n = ⊎-elim (λ t. rw (decimal-small most n (ltb→lt n 10 t)) (omega arith))
+    (λ t. rw (decimal-large most n (nltb→le n 10 t)) (omega (arith, length-append (decimal most (n / 10)) ((48 + n % 10) ∷ [])))) (test (ltb n 10))
+
+-- a number from 10 ^ k on has more than k digits
+pub length-decimal-from : (k most n : ℕ) → 10 ^ k ≤ n → k < most → suc k ≤ length (decimal most n)
+length-decimal-from k zero n h m = absurd (omega arith)
+length-decimal-from zero (suc most) n h m = length-decimal-some most n
+length-decimal-from (suc k) (suc most) n h m =
+    let p : 1 ≤ 10 ^ k = one-le-pow k 10 (lit< tt) in
+    let tens : 10 ≤ n = omega (arith, pow-suc 10 k) in
+    let ih = length-decimal-from k most (n / 10) (omega (arith, pow-suc 10 k)) (omega arith) in
+    rw (decimal-large most n tens) (omega (arith, ih, length-append (decimal most (n / 10)) ((48 + n % 10) ∷ [])))
+
+-- a larger number has as many digits or more
+pub length-decimal-grows : (most m n : ℕ) → m ≤ n → length (decimal most m) ≤ length (decimal most n)
+length-decimal-grows zero m n h = omega (arith, length-decimal 0 m)
+length-decimal-grows (suc most) m n h = ⊎-elim small (λ t. large (nltb→le m 10 t) (length-decimal-grows most (m / 10) (n / 10) (omega arith))) (test (ltb m 10))
+  where
+    small : T (ltb m 10) → length (decimal (suc most) m) ≤ length (decimal (suc most) n)
+    small t = rw (decimal-small most m (ltb→lt m 10 t)) (length-decimal-some most n)
+
+    large : 10 ≤ m → length (decimal most (m / 10)) ≤ length (decimal most (n / 10)) → length (decimal (suc most) m) ≤ length (decimal (suc most) n)
+    large k ih = rw (decimal-large most m k, decimal-large most n (omega arith))
+        (omega (arith, ih, length-append (decimal most (m / 10)) ((48 + m % 10) ∷ []), length-append (decimal most (n / 10)) ((48 + n % 10) ∷ [])))
 
 -- digits for more digits than needed are the digits
 pub decimal-enough : (f g n : ℕ) → n < 10 ^ suc f → n < 10 ^ suc g → decimal (suc f) n ≡ decimal (suc g) n
@@ -61,6 +87,10 @@ length-spellNat-below k n h = ⊎-elim (λ t. omega (arith, length-spellNat n, l
     few m =
         let p : 10 ^ suc k ≤ 10 ^ 20 = pow-le-pow-right (lit< tt) (le-of-lt m) in
         rw (decimal-enough 19 k n (lt-of-lt-of-le h p) h) (length-decimal (suc k) n)
+
+pub length-spellNat-grows : (m n : ℕ) → m ≤ n → length (spellNat m) ≤ length (spellNat n)
+unfolding spellNat
+length-spellNat-grows m n h = length-decimal-grows 20 m n h
 
 -- ---- numbers with a sign
 pub spellInt-nonNeg : (z : ℤ) → ltZ z (pos 0) ≡ false → spellInt z ≡ spellNat (natAbs z)

@@ -9,13 +9,13 @@ use Prim.Native.Nat.{ℕ, zero, suc, _^_, _≤_, _<_}
 use native.Mathlib.Omega.{arith}
 use lib.Dec.{T, T-not, not-T, leb, eqb, leb→le, le→leb, eqb→eq, eqb·suc-zero}
 use lib.IntN.{ℤ, pos, negsuc, negℤ, natAbs}
-use lib.ListN.{length, getD, drop}
+use lib.ListN.{length, getD, drop, length-append}
 use lib.Seq.{drop-append-seam}
-use Rattle.numbers.proofs.Truth.{and-left, and-right, holds, cond-ind, cond-false}
+use Rattle.numbers.proofs.Truth.{and-left, and-right, and-fails-left, holds, cond-ind, cond-false}
 use Rattle.text.specs.Numeral.{digits, valueOf, isNatural, natural, negative, number}
 use Rattle.text.specs.Decimal.{spellNat, spellInt}
-use Rattle.text.proofs.DecimalLaws.{DigitsOf, decimal-digits, digits-append, digits-first, digits-rest, digits-twice, decimal-value, value-less}
-use Rattle.text.proofs.DigitCounts.{length-spellNat-below}
+use Rattle.text.proofs.DecimalLaws.{DigitsOf, decimal-all, decimal-digits, digits-append, digits-first, digits-rest, digits-twice, decimal-value, value-less}
+use Rattle.text.proofs.DigitCounts.{length-decimal-from, length-spellNat-below}
 
 -- ---- the form of a number that is not negative
 natural-tests : (a b c d : Bool) → T (a && b && (c || not d)) ↔ (T a × T b × (T d → T c))
@@ -122,3 +122,24 @@ unfolding number spellInt
 number-spelled (pos n) rest h e = number-natural (spellNat n ++ rest) (spelled-found n rest h e .form) ∙ natural-spelled n rest h e
 number-spelled (negsuc n) rest h e = let f = spelled-found (suc n) rest h e in
     rw (holds (isNatural (digits (spellNat (suc n) ++ rest))) (f .form), f .value, f .after, eqb·suc-zero n)
+
+-- ---- a number of ten digits or more
+natural-long : (bs : List ℕ) → 10 ≤ length (digits bs) → T (not (isNatural (digits bs)))
+natural-long bs h = not-T (isNatural (digits bs)) (λ t. let (some-digit, short, first) = natural-form (digits bs) t in omega arith)
+
+number-long : (bs : List ℕ) → 10 ≤ length (digits bs) → number bs ≡ none
+unfolding number natural digits
+number-long [] h = refl
+number-long (b ∷ bs) h = cond-false (eqb b 45) _ _ (not-T (eqb b 45) (λ u. let k = subst (λ (c : ℕ). 10 ≤ length (digits (c ∷ bs))) (eqb→eq b 45 u) h in omega arith))
+    ∙ cond-false (isNatural (digits (b ∷ bs))) _ _ (natural-long (b ∷ bs) h)
+
+digits-long : (n : ℕ) (rest : List ℕ) → 10 ^ 9 ≤ n → 10 ≤ length (digits (spellNat n ++ rest))
+unfolding spellNat
+digits-long n rest h = rw (digits-append (spellNat n) rest (decimal-all 20 n))
+    (omega (arith, length-append (spellNat n) (digits rest), length-decimal-from 9 20 n h (omega arith)))
+
+pub number-too-long : (z : ℤ) (rest : List ℕ) → 10 ^ 9 ≤ natAbs z → number (spellInt z ++ rest) ≡ none
+unfolding number spellInt negative
+number-too-long (pos n) rest h = number-long (spellNat n ++ rest) (digits-long n rest h)
+number-too-long (negsuc n) rest h = cond-false (isNatural (digits (spellNat (suc n) ++ rest)) && not (eqb (valueOf (digits (spellNat (suc n) ++ rest))) 0)) _ _
+    (and-fails-left (isNatural (digits (spellNat (suc n) ++ rest))) _ (natural-long (spellNat (suc n) ++ rest) (digits-long (suc n) rest h)))
