@@ -5,17 +5,15 @@ use mathlib.Core.Bool.{not}
 use mathlib.Core.List.{List, [], _∷_, _++_, append-nil, append-assoc}
 use mathlib.Core.Logic.{_⊎_, inl, inr}
 use mathlib.Core.Option.{Option, none, some, bind-eq-some-iff, Option·none-ne-some, Option·some-injective}
-use Prim.Native.Nat.{ℕ, suc, _+_, _*_, _^_, _≤_, _<_}
-use native.Mathlib.Nat.{le-trans, pow-le-pow-right}
+use Prim.Native.Nat.{ℕ, suc, _^_, _≤_, _<_}
 use native.Mathlib.Omega.{arith}
-use lib.Dec.{T, eqb, eqb→eq, eqb-refl, lit≤}
+use lib.Dec.{T, eqb, eqb→eq, eqb-refl}
 use lib.IntN.{ℤ, natAbs}
-use lib.ListN.{length, length-append}
+use lib.ListN.{length}
 use Rattle.numbers.proofs.Truth.{cond-ind, cond-true, cond-false}
 use Rattle.text.specs.Ascii.{isDigit}
 use Rattle.text.specs.Numeral.{digits, number}
 use Rattle.text.specs.Decimal.{spellInt}
-use Rattle.text.proofs.DigitCounts.{length-spellInt-below}
 use Rattle.text.proofs.NumeralLaws.{number-reads, number-spelled, number-too-long}
 use Rattle.job_line.specs.Form.{Form, _>>=_, _>>_, byte, key, field, return}
 use Rattle.job_line.specs.Kinds.{Range, Row, endOf, numbers, formOf}
@@ -66,19 +64,10 @@ field-spells end t = record {
 }
 
 -- ---- the numbers of a line, each with its end
--- each within so many digits
-abbrev pub Within : ℕ → List ℤ → Type 0
-Within d [] = Unit
-Within d (n ∷ ns) = (natAbs n < 10 ^ d) × Within d ns
-
-pub within-more : (d e : ℕ) → d ≤ e → (ns : List ℤ) → Within d ns → Within e ns
-within-more d e h [] w = tt
-within-more d e h (n ∷ ns) w = (le-trans (w .0) (pow-le-pow-right (lit≤ {m = 1} {n = 10} tt) h), within-more d e h ns (w .1))
-
-numbers-length : (d : ℕ) (ns : List ℤ) → Within (suc d) ns → length (spellNumbers ns) ≤ length ns * (d + 3)
-unfolding spellNumbers
-numbers-length d [] w = omega arith
-numbers-length d (n ∷ ns) w = simp length-append (omega (arith, length-spellInt-below d n (w .0), numbers-length d ns (w .1)))
+-- each of at most nine digits
+abbrev pub Within : List ℤ → Type 0
+Within [] = Unit
+Within (n ∷ ns) = (natAbs n < 10 ^ 9) × Within ns
 
 end-no-digit : {A : Type 0} (others : List A) → T (not (isDigit (endOf others)))
 unfolding isDigit
@@ -94,7 +83,7 @@ end-same (x ∷ xs) (y ∷ ys) e = refl
 -- as many numbers as ranges, and each of at most nine digits
 pub record Fitting (ranges : List Range) (ns : List ℤ) : Type 0 where
   pub as-many : length ns ≡ length ranges
-  pub small : Within 9 ns
+  pub small : Within ns
 
 numbers-spells : (ranges : List Range) → Spells (numbers ranges) (λ ns rest. spellNumbers ns ++ rest) (Fitting ranges)
 unfolding numbers spellNumbers
@@ -178,6 +167,3 @@ module _ (row : Row) where
   -- a form that reads a text whole reads it at the start of any text
   pub form-local : (text : List ℕ) (ns : List ℤ) (rest : List ℕ) → formOf row text ≡ some (ns, []) → formOf row (text ++ rest) ≡ some (ns, rest)
   form-local text ns rest e = let (t, fit) = form-spells .reads text ns [] e in rw (t, append-nil) (form-spells .writes ns rest fit)
-
-  pub text-length : (d : ℕ) (ns : List ℤ) → Within (suc d) ns → length (textOf row ns) ≤ length (row .key) + length ns * (d + 3)
-  text-length d ns w = simp length-append (omega (arith, numbers-length d ns w))

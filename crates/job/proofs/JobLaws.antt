@@ -19,15 +19,12 @@ use Rattle.job_line.specs.OneLine.{got, line}
 use Rattle.job.specs.Reader.{repeated, end}
 use Rattle.job.specs.Format.{Job, countOf, postOf, stopOf, jobOf, jobLines}
 use Rattle.job.specs.Spelling.{JobLine, areaLine, countLine, postLine, stopLine, linesOf, spellLine, spell, Writable}
-use Rattle.job.proofs.FormLaws.{textOf, text-length}
-use Rattle.job.proofs.RangeLaws.{range-within, range-fits, area-range, count-range, post-range, stop-range, area-back, count-back, count-limit}
+use Rattle.job.proofs.FormLaws.{textOf}
+use Rattle.job.proofs.RangeLaws.{line-length, area-range, count-range, post-range, stop-range, area-back, count-back, count-limit}
 use Rattle.job.proofs.RangeLaws.{post-back, stop-back}
 use Rattle.job.proofs.ReaderLaws.{lineOf, Ranged, bind-got, line-got, line-gets, all-got, repeated-gets, end-got}
 
 -- ---- lines of a kind
-line-length : (k : Kind) (ns : List ℤ) → Ranged k ns → length (textOf (row k) ns) ≤ length (row k .key) + length (row k .ranges) * 7
-line-length k ns t = rw (← range-fits k ns t .as-many) (text-length (row k) 4 ns (range-within k ns t))
-
 line-text : (k : Kind) (ns : List ℤ) → textOf (row k) ns ≡ spellLine (lineOf k ns)
 unfolding spellLine
 line-text k ns = refl
@@ -36,6 +33,10 @@ kind-text : (k : Kind) (all : List (List ℤ)) (others : List JobLine) →
     flatMap spellLine (map (lineOf k) all ++ others) ≡ flatMap (textOf (row k)) all ++ flatMap spellLine others
 kind-text k all others = flatMap-append spellLine (map (lineOf k) all) others
     ∙ ap (λ (l : List ℕ). l ++ flatMap spellLine others) (sym (flatMap-map (textOf (row k)) spellLine (lineOf k) all (λ ns m. line-text k ns)))
+
+six-length : (a b c d e f : List ℕ) →
+    length (a ++ (b ++ (c ++ (d ++ (e ++ (f ++ [])))))) ≡ length a + length b + length c + length d + length e + length f
+six-length a b c d e f = simp length-append (omega arith)
 
 InRanges : JobLine → Type 0
 InRanges l = T (inRanges (row (l .kind) .ranges) (l .numbers))
@@ -119,10 +120,12 @@ module _ (a n : List ℤ) (ps : List (List ℤ)) (m : List ℤ) (ss : List (List
           ),
         )
 
-    lines-length : length linesText ≤ 16384
-    unfolding linesText bytes
-    lines-length = simp length-append (omega (
+    lines-length : length linesText ≤ 14080
+    unfolding linesText
+    lines-length = omega (
       arith,
+      six-length (textOf (row area) a) (textOf (row posts) n) (flatMap (textOf (row post)) ps) (textOf (row stops) m) (flatMap (textOf (row stop)) ss)
+          (textOf (row rounds) k),
       i .all-posts,
       count-limit 64 n (i .posts-in),
       i .all-stops,
@@ -131,9 +134,9 @@ module _ (a n : List ℤ) (ps : List (List ℤ)) (m : List ℤ) (ss : List (List
       line-length posts n (i .posts-in),
       flatMap-length (textOf (row post)) 19 ps (λ ns j. line-length post ns (i .post-in ns j)),
       line-length stops m (i .stops-in),
-      flatMap-length (textOf (row stop)) 26 ss (λ ns j. line-length stop ns (i .stop-in ns j)),
+      flatMap-length (textOf (row stop)) 25 ss (λ ns j. line-length stop ns (i .stop-in ns j)),
       line-length rounds k (i .rounds-in),
-    ))
+    )
 
 -- ---- the job that is read
 pub job-got : (from : ℕ) (bs : List ℕ) (job : Job) (to : ℕ) (rest : List ℕ) → jobLines from bs ≡ got job to rest → (bs ≡ spell job) × Writable job
@@ -244,10 +247,10 @@ job-gets from job w = let i = deck-lines job (job .rounds) w (most-rounds w) in
     subst (λ (j : Job). (to : ℕ) × (jobLines from (spell j) ≡ got j to [])) (job-back job (w .plain-axis))
     (rw (lines-spelled _ _ _ _ _ _ i) (lines-gets _ _ _ _ _ _ i from))
 
-pub spell-length : (job : Job) → Writable job → length (spell job) ≤ 16384
+pub spell-length : (job : Job) → Writable job → length (spell job) ≤ 14080
 unfolding DeckLines
 spell-length job w = let i = deck-lines job (job .rounds) w (most-rounds w) in
-    subst (λ (j : Job). length (spell j) ≤ 16384) (job-back job (w .plain-axis)) (rw (lines-spelled _ _ _ _ _ _ i) (lines-length _ _ _ _ _ _ i))
+    subst (λ (j : Job). length (spell j) ≤ 14080) (job-back job (w .plain-axis)) (rw (lines-spelled _ _ _ _ _ _ i) (lines-length _ _ _ _ _ _ i))
 
 -- another number of rounds
 pub other-rounds : (job : Job) (n : ℕ) → Writable job → n ≤ 1000 → Writable (record { deck = job .deck; rounds = n })

@@ -140,12 +140,9 @@ text-accepted bytes job e = subst (λ (r : Result). Says r bytes) e (text-says b
 
 pub spelling-law : (job : Job) → SpellingLaw job
 spelling-law job = record {
-  fits = λ a. spell-length job (a .writable);
-  one-job = λ other a b e. cc (
-    e,
-    allowed-read (spell job) job (spell-length job (a .writable)) refl a,
-    allowed-read (spell other) other (spell-length other (b .writable)) refl b,
-  );
+  fits = λ a. omega (arith, spell-length job (a .writable));
+  longest = λ a. spell-length job (a .writable);
+  one-job = λ other a b e. cc (e, allowed-text (spell job) job refl a, allowed-text (spell other) other refl b);
 }
 
 -- an accepted job's deck is one of those that the searches are proved for

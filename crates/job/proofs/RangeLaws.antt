@@ -3,22 +3,26 @@
 use mathlib.Core.Path.{_≡_, refl, sym, ap, subst}
 use mathlib.Core.Bool.{true}
 use mathlib.Core.Logic.{_↔_}
-use mathlib.Core.List.{List, [], _∷_}
-use Prim.Native.Nat.{ℕ, suc, _≤_, _<_, _^_}
+use mathlib.Core.List.{List, [], _∷_, _++_}
+use Prim.Native.Nat.{ℕ, suc, _+_, _≤_, _<_, _^_, max}
 use native.Mathlib.Omega.{arith}
 use lib.Dec.{T}
 use lib.IntN.{ℤ, pos, negsuc, natAbs}
-use lib.ListN.{length}
+use lib.ListN.{length, length-append}
+use lib.Signed.{_≤ℤ_}
 use Rattle.numbers.proofs.Truth.{and-left, and-right, and-intro}
 use Rattle.numbers.proofs.Integer.{order, abs-range}
 use Rattle.numbers.proofs.Ranges.{between-range, range-between}
 use Rattle.query.specs.Place.{Place, Rect}
 use Rattle.query.specs.Deck.{Stop}
 use Rattle.query.specs.Range.{PlaceInRange, RectInRange, StopInRange}
+use Rattle.text.specs.Ascii.{bytes}
+use Rattle.text.specs.Decimal.{spellInt}
+use Rattle.text.proofs.DigitCounts.{length-spellNat-grows}
 use Rattle.job_line.specs.Kinds.{Kind, area, posts, post, stops, stop, rounds, Range, coordinates, upTo, row, inRange, inRanges}
 use Rattle.job.specs.Format.{areaOf, countOf, postOf, stopOf}
-use Rattle.job.specs.Spelling.{areaLine, postLine, stopLine}
-use Rattle.job.proofs.FormLaws.{Within, within-more, Fitting}
+use Rattle.job.specs.Spelling.{areaLine, postLine, stopLine, spellNumbers}
+use Rattle.job.proofs.FormLaws.{Within, Fitting, textOf}
 
 -- ---- each number in its range
 abbrev EachIn : List Range → List ℤ → Type 0
@@ -44,10 +48,10 @@ as-many [] (n ∷ ns) e = absurd e
 as-many (range ∷ ranges) [] e = absurd e
 as-many (range ∷ ranges) (n ∷ ns) e = ap suc (as-many ranges ns (e .1))
 
--- ---- a number in its range has at most five digits
+-- ---- a number in its range has at most nine digits
 abbrev Narrow : List Range → Type 0
 Narrow [] = Unit
-Narrow (range ∷ ranges) = ((natAbs (range .low) < 10 ^ 5) × (natAbs (range .high) < 10 ^ 5)) × Narrow ranges
+Narrow (range ∷ ranges) = ((natAbs (range .low) < 10 ^ 9) × (natAbs (range .high) < 10 ^ 9)) × Narrow ranges
 
 narrow : (k : Kind) → Narrow (row k .ranges)
 narrow area = omega arith
@@ -57,32 +61,79 @@ narrow stops = omega arith
 narrow stop = omega arith
 narrow rounds = omega arith
 
-range-narrow : (range : Range) (n : ℤ) → (natAbs (range .low) < 10 ^ 5) × (natAbs (range .high) < 10 ^ 5) → T (inRange range n) → natAbs n < 10 ^ 5
+range-narrow : (range : Range) (n : ℤ) → (natAbs (range .low) < 10 ^ 9) × (natAbs (range .high) < 10 ^ 9) → T (inRange range n) → natAbs n < 10 ^ 9
 unfolding inRange
 range-narrow range n h t = omega (
   arith,
-  abs-range n 99999 .1
+  abs-range n 999999999 .1
       (omega (
         arith,
         order,
         between-range (range .low) (range .high) n t,
-        abs-range (range .low) 99999 .0 (omega arith),
-        abs-range (range .high) 99999 .0 (omega arith),
+        abs-range (range .low) 999999999 .0 (omega arith),
+        abs-range (range .high) 999999999 .0 (omega arith),
       )),
 )
 
-ranges-narrow : (ranges : List Range) (ns : List ℤ) → Narrow ranges → EachIn ranges ns → Within 5 ns
+ranges-narrow : (ranges : List Range) (ns : List ℤ) → Narrow ranges → EachIn ranges ns → Within ns
 ranges-narrow [] [] h e = tt
 ranges-narrow [] (n ∷ ns) h e = absurd e
 ranges-narrow (range ∷ ranges) [] h e = absurd e
 ranges-narrow (range ∷ ranges) (n ∷ ns) h e = (range-narrow range n (h .0) (e .0), ranges-narrow ranges ns (h .1) (e .1))
 
 module _ (k : Kind) (ns : List ℤ) (t : T (inRanges (row k .ranges) ns)) where
-  pub range-within : Within 5 ns
-  range-within = ranges-narrow (row k .ranges) ns (narrow k) (each-in (row k .ranges) ns t)
-
   pub range-fits : Fitting (row k .ranges) ns
-  range-fits = record { as-many = as-many (row k .ranges) ns (each-in (row k .ranges) ns t); small = within-more 5 9 (omega arith) ns range-within }
+  range-fits =
+      let e = each-in (row k .ranges) ns t in
+      record { as-many = as-many (row k .ranges) ns e; small = ranges-narrow (row k .ranges) ns (narrow k) e }
+
+-- ---- how many bytes the numbers of a line take
+-- at most as many as an end of the range
+abbrev widest : Range → ℕ
+widest range = max (length (spellInt (range .low))) (length (spellInt (range .high)))
+
+widest-is : (range : Range) (n : ℤ) → T (inRange range n) → length (spellInt n) ≤ widest range
+unfolding inRange spellInt
+widest-is range n t = go n (range .low) (range .high) (between-range (range .low) (range .high) n t .0) (between-range (range .low) (range .high) n t .1)
+  where
+    go : (n low high : ℤ) → low ≤ℤ n → n ≤ℤ high → length (spellInt n) ≤ max (length (spellInt low)) (length (spellInt high))
+    go (pos n) low (pos high) h k = omega (arith, length-spellNat-grows n high (omega (arith, order)))
+    go (pos n) low (negsuc high) h k = absurd (omega (arith, order))
+    go (negsuc n) (pos low) high h k = absurd (omega (arith, order))
+    go (negsuc n) (negsuc low) high h k = omega (arith, length-spellNat-grows (suc n) (suc low) (omega (arith, order)))
+
+abbrev widths : List Range → ℕ
+widths [] = 0
+widths (range ∷ ranges) = widest range + 1 + widths ranges
+
+numbers-widths : (ranges : List Range) (ns : List ℤ) → EachIn ranges ns → length (spellNumbers ns) ≤ widths ranges
+unfolding spellNumbers
+numbers-widths [] [] e = omega arith
+numbers-widths [] (n ∷ ns) e = absurd e
+numbers-widths (range ∷ ranges) [] e = absurd e
+numbers-widths (range ∷ ranges) (n ∷ ns) e = simp length-append (omega (arith, widest-is range n (e .0), numbers-widths ranges ns (e .1)))
+
+-- the longest line of each kind
+abbrev pub longest : Kind → ℕ
+longest area = 33
+longest posts = 9
+longest post = 19
+longest stops = 10
+longest stop = 25
+longest rounds = 12
+
+longest-is : (k : Kind) → length (row k .key) + widths (row k .ranges) ≡ longest k
+unfolding bytes spellInt
+longest-is area = refl
+longest-is posts = refl
+longest-is post = refl
+longest-is stops = refl
+longest-is stop = refl
+longest-is rounds = refl
+
+pub line-length : (k : Kind) (ns : List ℤ) → T (inRanges (row k .ranges) ns) → length (textOf (row k) ns) ≤ longest k
+line-length k ns t =
+    omega (arith, longest-is k, length-append (row k .key) (spellNumbers ns), numbers-widths (row k .ranges) ns (each-in (row k .ranges) ns t))
 
 -- ---- what a range says of a number
 pub coordinate-range : (v : ℤ) → T (inRange coordinates v) ↔ (natAbs v ≤ 20000)

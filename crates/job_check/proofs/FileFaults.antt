@@ -33,13 +33,13 @@ use Rattle.refusal.specs.declared.Refusal.the-variants.{Malformed, OutOfRange, 
 use Rattle.job_check.specs.LineFaults.{short, allShort, numbersFault, lineFault, orElse, firstFault, partsFault, refusalIn}
 
 -- ---- one line
-short-or-long : (ns : List ℤ) → (T (allShort ns) × Within 9 ns) ⊎ (T (not (allShort ns)) × SomeLong ns)
+short-or-long : (ns : List ℤ) → (T (allShort ns) × Within ns) ⊎ (T (not (allShort ns)) × SomeLong ns)
 unfolding allShort
 short-or-long [] = inl (tt, tt)
 short-or-long (n ∷ ns) = go (ltb (natAbs n) 1000000000) (allShort ns) (λ t. ltb→lt _ _ t) (λ t. nltb→le _ _ t) (short-or-long ns)
   where
-    go : (b c : Bool) → (T b → natAbs n < 1000000000) → (T (not b) → 1000000000 ≤ natAbs n) → (T c × Within 9 ns) ⊎ (T (not c) × SomeLong ns)
-        → (T (b && c) × Within 9 (n ∷ ns)) ⊎ (T (not (b && c)) × SomeLong (n ∷ ns))
+    go : (b c : Bool) → (T b → natAbs n < 1000000000) → (T (not b) → 1000000000 ≤ natAbs n) → (T c × Within ns) ⊎ (T (not c) × SomeLong ns)
+        → (T (b && c) × Within (n ∷ ns)) ⊎ (T (not (b && c)) × SomeLong (n ∷ ns))
     go false c lt le r = inr (tt, inl (omega (arith, le tt)))
     go true c lt le (inl r) = inl (r .0, (omega (arith, lt tt), r .1))
     go true c lt le (inr r) = inr (r .0, inr (omega (arith, lt tt), r .1))
@@ -47,8 +47,8 @@ short-or-long (n ∷ ns) = go (ltb (natAbs n) 1000000000) (allShort ns) (λ t. l
 -- what a line's numbers come to
 data LineIs (n : ℕ) (l : JobLine) : Type 0 where
   long : lineFault n l ≡ some (Malformed n) → SomeLong (l .numbers) → LineIs n l
-  beyond : lineFault n l ≡ some (OutOfRange n) → Within 9 (l .numbers) → T (not (inRanges (row (l .kind) .ranges) (l .numbers))) → LineIs n l
-  fine : lineFault n l ≡ none → Within 9 (l .numbers) → T (inRanges (row (l .kind) .ranges) (l .numbers)) → LineIs n l
+  beyond : lineFault n l ≡ some (OutOfRange n) → Within (l .numbers) → T (not (inRanges (row (l .kind) .ranges) (l .numbers))) → LineIs n l
+  fine : lineFault n l ≡ none → Within (l .numbers) → T (inRanges (row (l .kind) .ranges) (l .numbers)) → LineIs n l
 
 line-is : (n : ℕ) (l : JobLine) → LineIs n l
 unfolding numbersFault
@@ -73,7 +73,7 @@ some-same e = cc
 
 -- a line and the text behind it, by what its numbers come to
 module _ (due : List Kind) (n : ℕ) (l : JobLine) (ls : List JobLine) (why : Refusal) (as-many : length (l .numbers) ≡ length (row (l .kind) .ranges)) where
-  fits : Within 9 (l .numbers) → Fitting (row (l .kind) .ranges) (l .numbers)
+  fits : Within (l .numbers) → Fitting (row (l .kind) .ranges) (l .numbers)
   fits w = record { as-many = as-many; small = w }
 
   line-fault : LineIs n l → (T (inRanges (row (l .kind) .ranges) (l .numbers)) → firstFault (n + 1) ls ≡ some why →
