@@ -4,6 +4,7 @@ pub mod OwnSpace
 pub mod EntryLaw
 pub mod ProgramLaw
 pub mod ExhaustiveCall
+pub mod SavingLaw
 pub mod RefusalTable
 pub mod CaseA
 pub mod Theorems

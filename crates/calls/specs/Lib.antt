@@ -9,6 +9,7 @@ pub mod Demands
 pub mod EntryLaw
 pub mod ProgramLaw
 pub mod ExhaustiveCallLaw
+pub mod SavingLaw
 pub mod RefusalTable
 pub mod CaseA
 pub mod Theorems

@@ -177,7 +177,15 @@ module _ (deck : Deck) (rounds-held : ℕ) (sized : Sized deck) where
       (posts-held (count-range 64 (deck .posts) .0 p)) (stops ∷ rounds ∷ []) _ (refl, refl, λ q. many-follow stop (λ s. stopLine s .numbers) (λ a. refl)
       (λ ns. refl) (deckOf deck .stops) (deck .stops) (stops-held (count-range 512 (deck .stops) .0 q)) (rounds ∷ []) _ (refl, refl, λ r. refl))))
 
-  -- where no line has a fault, the file is the spelling of the job that is held
+  lines-held : deck .posts ≤ 64 → deck .stops ≤ 512 → fileLines deck rounds-held ≡ linesOf (heldJob deck rounds-held)
+  lines-held p s = ap₂ (λ (p s : ℕ). linesCounting p s (heldJob deck rounds-held)) (sym (posts-held p)) (sym (stops-held s))
+
+  -- where the counts are those of the lists, the file is the spelling of the job that is held
+  pub file-spelled : deck .posts ≤ 64 → deck .stops ≤ 512 → fileText deck rounds-held ≡ spell (heldJob deck rounds-held)
+  unfolding fileText spell
+  file-spelled p s = ap (flatMap spellLine) (lines-held p s)
+
+  -- as it is where no line has a fault
   record AllFine : Type 0 where
     posts-few : deck .posts ≤ 64
     stops-few : deck .stops ≤ 512
@@ -185,19 +193,17 @@ module _ (deck : Deck) (rounds-held : ℕ) (sized : Sized deck) where
     spelled : fileText deck rounds-held ≡ spell (heldJob deck rounds-held)
 
   all-fine : firstFault 1 (fileLines deck rounds-held) ≡ none → AllFine
-  unfolding InRanges fileText spell
+  unfolding InRanges
   all-fine e =
       let each = lines-fine (fileLines deck rounds-held) 1 e in
       let p : deck .posts ≤ 64 = count-range 64 (deck .posts) .0 (each _ (List·Memᴰ·tail (List·Memᴰ·head refl))) in
       let s : deck .stops ≤ 512 = count-range 512 (deck .stops) .0
           (each _ (List·Memᴰ·tail (List·Memᴰ·tail (Memᴰ·append-right (map postLine (deckOf deck .posts)) (List·Memᴰ·head refl))))) in
-      let same : fileLines deck rounds-held ≡ linesOf (heldJob deck rounds-held) =
-          ap₂ (λ (p s : ℕ). linesCounting p s (heldJob deck rounds-held)) (sym (posts-held p)) (sym (stops-held s)) in
       record {
         posts-few = p;
         stops-few = s;
-        writable = record { plain-axis = plain-held; in-ranges = subst (λ (ls : List JobLine). (l : JobLine) → List·Memᴰ l ls → InRanges l) same each };
-        spelled = ap (flatMap spellLine) same;
+        writable = record { plain-axis = plain-held; in-ranges = subst (λ (ls : List JobLine). (l : JobLine) → List·Memᴰ l ls → InRanges l) (lines-held p s) each };
+        spelled = file-spelled p s;
       }
 
   parts-is : AllFine → refusalIn (checked (heldJob deck rounds-held)) ≡ partsFault (deckOf deck .area) (deck .posts) (deck .stops)
