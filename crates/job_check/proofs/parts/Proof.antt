@@ -11,19 +11,19 @@ empty-area-requires c κs = search needs
 
 -- src/lib.rt:163:9
 returns : tie.Need-returns
-returns c = ?
+returns c = {! c .before .empty-area .ensures !}
 
 -- src/lib.rt:166:9
 returns-2 : tie.Need-returns-2
-returns-2 c = ?
+returns-2 c = {! c .if2 .taken !}
 
 -- src/lib.rt:169:9
 returns-3 : tie.Need-returns-3
-returns-3 c = ?
+returns-3 c = {! c .before .if2 .left !}
 
 -- src/lib.rt:159:1
 returns-4 : tie.Need-returns-4
-returns-4 c = ?
+returns-4 c = {! c .if3 .left !}
 
 pub parts-spec : {M : Type 1} → statement M
 parts-spec = tie.close (tie.spec empty-area-requires returns returns-2 returns-3 returns-4)

@@ -1,3 +1,5 @@
+use Rattle.job_check.proofs.ShortLaws.{malformed, out-of-range, in-range, stop-long, visits-long, stop-short, visits-fit, visits-tested}
+use borrow.Author.Tests.{not-true, not-false}
 use borrow.Author.Needs.{needs}
 use Rattle.job_check.proofs.stop_line.Statement.{statement}
 use Rattle.job_check.proofs.stop_line.Tie as tie
@@ -12,15 +14,15 @@ short-place-requires c κs = search needs
 
 -- src/lib.rt:94:9
 returns : tie.Need-returns
-returns c = ?
+returns c = malformed _ _ _ (stop-long _ _ _ (c .before .short-place .ensures) (not-true _ (c .if1 .taken)))
 
 -- src/lib.rt:97:9
 returns-2 : tie.Need-returns-2
-returns-2 c = ?
+returns-2 c = malformed _ _ _ (visits-long _ _ _ (c .before .before .short-place .ensures) (not-false _ (c .before .if1 .left)) (c .if2 .taken))
 
 -- src/lib.rt:99:36
 cast-stop-in-range : tie.Need-cast-stop-in-range
-cast-stop-in-range c = search needs
+cast-stop-in-range c = visits-fit (c .if2 .left)
 
 -- src/lib.rt:99:9
 stop-in-range-requires : tie.Need-stop-in-range-requires
@@ -28,11 +30,15 @@ stop-in-range-requires c κs = search needs
 
 -- src/lib.rt:100:9
 returns-3 : tie.Need-returns-3
-returns-3 c = ?
+returns-3 c =
+    out-of-range _ _ _ (stop-short _ _ _ (c .before .before .before .before .short-place .ensures) (not-false _ (c .before .before .before .if1 .left)) (c .before .before .if2 .left))
+    (visits-tested _ _ _ (c .before .before .if2 .left) (c .before .stop-in-range .ensures) (not-true _ (c .if3 .taken)))
 
 -- src/lib.rt:90:1
 returns-4 : tie.Need-returns-4
-returns-4 c = ?
+returns-4 c =
+    in-range _ _ _ (stop-short _ _ _ (c .before .before .before .before .short-place .ensures) (not-false _ (c .before .before .before .if1 .left)) (c .before .before .if2 .left))
+    (visits-tested _ _ _ (c .before .before .if2 .left) (c .before .stop-in-range .ensures) (not-false _ (c .if3 .left)))
 
 pub stop-line-spec : {M : Type 1} → statement M
 stop-line-spec =
