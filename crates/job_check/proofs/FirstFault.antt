@@ -33,6 +33,14 @@ pub fault-more : (n : ℕ) (l : JobLine) (ls : List JobLine) → firstFault n (l
 unfolding firstFault
 fault-more n l ls = refl
 
+-- a line, and those behind it
+module _ (n : ℕ) (l : JobLine) (ls : List JobLine) {found : Option Refusal} (e : found ≡ lineFault n l) where
+  pub line-then : {rest : Option Refusal} → found ≡ none → rest ≡ firstFault (n + 1) ls → rest ≡ firstFault n (l ∷ ls)
+  line-then fine g = g ∙ rw (fault-more n l ls, ← e, fine)
+
+  pub line-alone : {why : Refusal} → found ≡ some why → some why ≡ firstFault n (l ∷ ls)
+  line-alone refused = rw (fault-more n l ls, ← e, refused)
+
 or-both : (a b c : Option Refusal) → orElse (orElse a b) c ≡ orElse a (orElse b c)
 or-both none b c = refl
 or-both (some why) b c = refl

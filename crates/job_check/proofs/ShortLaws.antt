@@ -1,21 +1,25 @@
 -- Numbers of at most nine digits, and the fault of one line by tests of its numbers.
 -- Assumes nothing.
-use mathlib.Core.Path.{_≡_, refl, sym, ap, _∙_}
+use mathlib.Core.Path.{_≡_, refl, sym, ap, subst, _∙_}
 use mathlib.Core.Bool.{Bool, true, false, _&&_}
 use mathlib.Core.List.{List, [], _∷_}
-use mathlib.Core.Option.{none, some}
+use mathlib.Core.Option.{Option, none, some}
+use mathlib.Core.Logic.{⊎-elim}
 use Prim.Native.Nat.{ℕ, suc, _≤_, _<_}
 use native.Mathlib.Omega.{arith}
 use borrow.Author.Tests.{ltb-true, ltb-false, lt-ltb, le-ltb}
+use lib.Dec.{T, ltb, ltb→lt, nltb→le}
 use lib.IntN.{ℤ, pos, negsuc}
 use lib.Signed.{ltZ}
 use mir.Syntax.{w64}
 use mir.Val.{SFits, toZ}
 use mir.ValLaws.{toZ-pos}
+use Rattle.numbers.proofs.Truth.{test}
 use Rattle.numbers.proofs.Words.{is-true}
 use Rattle.numbers.proofs.WordTests.{back, back-is}
 use Rattle.job_line.specs.Kinds.{Range, stop, upTo, row, inRanges}
 use Rattle.job_line.proofs.RangeTests.{count-above, count-within}
+use Rattle.refusal.specs.declared.Refusal.{Refusal}
 use Rattle.refusal.specs.declared.Refusal.the-variants.{Malformed, OutOfRange}
 use Rattle.job_check.specs.LineFaults.{short, allShort, numbersFault}
 
@@ -134,6 +138,22 @@ module _ (most n line : ℕ) where
 
     pub count-in : n ≤ most → none ≡ numbersFault (upTo most ∷ []) line (pos n ∷ [])
     count-in within = in-range _ line (pos n ∷ []) (short-one (pos n) ∙ natural-short n h) (count-within most (pos n) tt within)
+
+-- one without a fault
+abbrev there : Option Refusal → Bool
+there none = false
+there (some why) = true
+
+some-none : {why : Refusal} → some why ≡ none → ⊥
+some-none e = subst (λ (o : Option Refusal). T (there o)) e tt
+
+pub count-most : (most n line : ℕ) {found : Option Refusal} → found ≡ numbersFault (upTo most ∷ []) line (pos n ∷ []) → found ≡ none → n ≤ most
+count-most most n line e fine = ⊎-elim (λ t. absurd (beyond (ltb→lt most n t))) (λ t. nltb→le most n t) (test (ltb most n))
+  where
+    beyond : most < n → ⊥
+    beyond h =
+        ⊎-elim (λ t. some-none (count-long most n line (ltb→lt 999999999 n t) ∙ sym e ∙ fine))
+        (λ t. some-none (count-out most n line (nltb→le 999999999 n t) h ∙ sym e ∙ fine)) (test (ltb 999999999 n))
 
 -- visits that are cast to a signed word
 pub visits-fit : {n : ℕ} → n ≤ 999999999 → SFits w64 (pos n)
