@@ -1,6 +1,6 @@
 -- The first fault of lines one after another: by what is left of them, and of lines joined end to end; and the faults behind all lines.
 -- Assumes nothing.
-use mathlib.Core.Path.{_≡_, refl, sym, ap, _∙_}
+use mathlib.Core.Path.{_≡_, refl, sym, _∙_}
 use mathlib.Core.Bool.{Bool, true, false}
 use mathlib.Core.List.{List, [], _∷_, _++_, map}
 use mathlib.Core.Option.{Option, none, some}
@@ -41,7 +41,7 @@ module _ (n : ℕ) (l : JobLine) (ls : List JobLine) {found : Option Refusal} (e
   pub line-alone : {why : Refusal} → found ≡ some why → some why ≡ firstFault n (l ∷ ls)
   line-alone refused = rw (fault-more n l ls, ← e, refused)
 
-or-both : (a b c : Option Refusal) → orElse (orElse a b) c ≡ orElse a (orElse b c)
+pub or-both : (a b c : Option Refusal) → orElse (orElse a b) c ≡ orElse a (orElse b c)
 or-both none b c = refl
 or-both (some why) b c = refl
 
