@@ -1,1 +1,4 @@
+pub mod CheckLaws
 pub mod FileFaults
+pub mod FirstFault
+pub mod ShortLaws

@@ -30,7 +30,11 @@ pub enum Checked {
 fn short(z: i64) -> bool
     ensures { λ r. ⌜ r ≡ short z ⌝ }
 {
-    if -1000000000 < z { z < 1000000000 } else { false }
+    if -1000000000 < z {
+        z < 1000000000
+    } else {
+        false
+    }
 }
 
 fn short_place(p: Place) -> bool

@@ -1,93 +1,144 @@
+-- `job_check::check` meets its contract: the file's refusal is the first one of its parts, found one after another.
+-- Assumes nothing.
+use mathlib.Core.Path.{ap}
+use Prim.Native.Nat.{_+_}
+use native.Mathlib.Omega.{arith}
 use borrow.Author.Needs.{needs}
+use Rattle.job_check.specs.LineFaults.{checkedAs}
+use Rattle.deck.specs.DeckOf.{Sized}
+use Rattle.job_check.proofs.FileFaults.{file-fault}
+use Rattle.job_check.proofs.CheckLaws.{AreaFits, area-refused, posts-refused, posts-most, stops-refused, stops-most, rounds-refused, parts-answer}
 use Rattle.job_check.proofs.check.Statement.{statement}
 use Rattle.job_check.proofs.check.Tie as tie
-use Rattle.job_check.proofs.check.Reads as reads
-use Rattle.job_check.proofs.check.Lts as lts
-use Rattle.job_check.proofs.all_posts.Reads as all-posts-reads
-use Rattle.job_check.proofs.all_stops.Reads as all-stops-reads
-use Rattle.job_check.proofs.area_line.Reads as area-line-reads
-use Rattle.job_check.proofs.count_line.Reads as count-line-reads
-use Rattle.job_check.proofs.parts.Reads as parts-reads
 
--- src/lib.rt:184:11
+sized : (c : tie.Start) → Sized (c .args .t1)
+sized c = record { post-x = search needs; post-y = search needs; stop-x = search needs; stop-y = search needs; visits = search needs }
+
+fits : (c : tie.Start) → AreaFits (c .args .t1)
+fits c = record { xlo = search needs; ylo = search needs; xhi = search needs; yhi = search needs }
+
 area-line-requires : tie.Need-area-line-requires
 area-line-requires c κs = search needs
 
 enum-told : tie.Need-enum-told
 enum-told c = search needs
 
--- src/lib.rt:186:26
 enum-known-why : tie.Need-enum-known-why
 enum-known-why c = search needs
 
--- src/lib.rt:186:34
 returns : tie.Need-returns
-returns c = ?
+returns c =
+    let a = c .before .before .before in
+    let s = a .before .before .before .before .before in
+    area-refused _ _ (sized s) (fits s) (file-fault _ _ (sized s)) (a .area-line .ensures)
+    (ap checkedAs (c .before .why .given .1))
 
--- src/lib.rt:188:11
 all-posts-requires : tie.Need-all-posts-requires
 all-posts-requires c κs = search needs
 
 enum-told-2 : tie.Need-enum-told-2
 enum-told-2 c = search needs
 
--- src/lib.rt:190:26
 enum-known-why-2 : tie.Need-enum-known-why-2
 enum-known-why-2 c = search needs
 
--- src/lib.rt:190:34
 returns-2 : tie.Need-returns-2
-returns-2 c = ?
+returns-2 c =
+    let p = c .before .before .before in
+    let a = p .before .before .before .before .before .before .before .before in
+    let s = a .before .before .before .before .before in
+    posts-refused _ _ (sized s) (fits s) (file-fault _ _ (sized s)) (a .area-line .ensures)
+    (ap checkedAs (p .before .before .before .before .before .before .enum-told .given .1)) (p .all-posts .ensures)
+    (ap checkedAs (c .before .why2 .given .1))
 
--- src/lib.rt:192:16
 add-line : tie.Need-add-line
-add-line c = ?
+add-line c =
+    let p = c .before .before in
+    let s = p .before .before .before .before .before .before .before .before .before .before .before .before .before in
+    omega (arith, posts-most (s .args .t1) (p .all-posts .ensures) (ap checkedAs (c .enum-told2 .given .1)))
 
--- src/lib.rt:193:11
 all-stops-requires : tie.Need-all-stops-requires
-all-stops-requires c κs = ?
+all-stops-requires c κs =
+    let e = c .before .before .before .before .before .before .before in
+    let p = e .before .before in
+    let s = p .before .before .before .before .before .before .before .before .before .before .before .before .before in
+    let few = posts-most (s .args .t1) (p .all-posts .ensures) (ap checkedAs (e .enum-told2 .given .1)) in
+    (omega (arith, sized s .stop-x), omega (arith, sized s .stop-y), omega (arith, sized s .visits), omega arith)
 
 enum-told-3 : tie.Need-enum-told-3
 enum-told-3 c = search needs
 
--- src/lib.rt:195:26
 enum-known-why-3 : tie.Need-enum-known-why-3
 enum-known-why-3 c = search needs
 
--- src/lib.rt:195:34
 returns-3 : tie.Need-returns-3
-returns-3 c = ?
+returns-3 c =
+    let t = c .before .before .before in
+    let p = t .before .before .before .before .before .before .before .before .before .before in
+    let a = p .before .before .before .before .before .before .before .before in
+    let s = a .before .before .before .before .before in
+    stops-refused _ _ (sized s) (fits s) (file-fault _ _ (sized s)) (a .area-line .ensures)
+    (ap checkedAs (p .before .before .before .before .before .before .enum-told .given .1)) (p .all-posts .ensures)
+    (ap checkedAs (t .before .before .before .before .before .before .before .before .enum-told2 .given .1)) (t .all-stops .ensures)
+    (ap checkedAs (c .before .why3 .given .1))
 
--- src/lib.rt:197:43
 add-count-line : tie.Need-add-count-line
-add-count-line c = ?
+add-count-line c =
+    let t = c .before .before in
+    let e = t .before .before .before .before .before .before .before .before in
+    let p = e .before .before in
+    let s = p .before .before .before .before .before .before .before .before .before .before .before .before .before in
+    let few = posts-most (s .args .t1) (p .all-posts .ensures) (ap checkedAs (e .enum-told2 .given .1)) in
+    let many = stops-most (s .args .t1) (3 + s .args .t1 .posts) (t .all-stops .ensures) (ap checkedAs (c .enum-told3 .given .1)) in
+    omega arith
 
--- src/lib.rt:197:43
 add-count-line-2 : tie.Need-add-count-line-2
-add-count-line-2 c = ?
+add-count-line-2 c =
+    let t = c .before .before in
+    let e = t .before .before .before .before .before .before .before .before in
+    let p = e .before .before in
+    let s = p .before .before .before .before .before .before .before .before .before .before .before .before .before in
+    let few = posts-most (s .args .t1) (p .all-posts .ensures) (ap checkedAs (e .enum-told2 .given .1)) in
+    let many = stops-most (s .args .t1) (3 + s .args .t1 .posts) (t .all-stops .ensures) (ap checkedAs (c .enum-told3 .given .1)) in
+    omega arith
 
--- src/lib.rt:197:11
 count-line-requires : tie.Need-count-line-requires
 count-line-requires c κs = search needs
 
 enum-told-4 : tie.Need-enum-told-4
 enum-told-4 c = search needs
 
--- src/lib.rt:199:26
 enum-known-why-4 : tie.Need-enum-known-why-4
 enum-known-why-4 c = search needs
 
--- src/lib.rt:199:34
 returns-4 : tie.Need-returns-4
-returns-4 c = ?
+returns-4 c =
+    let n = c .before .before .before in
+    let t = n .before .before .before in
+    let p = t .before .before .before .before .before .before .before .before .before .before in
+    let a = p .before .before .before .before .before .before .before .before in
+    let s = a .before .before .before .before .before in
+    rounds-refused _ _ (sized s) (fits s) (file-fault _ _ (sized s)) (a .area-line .ensures)
+    (ap checkedAs (p .before .before .before .before .before .before .enum-told .given .1)) (p .all-posts .ensures)
+    (ap checkedAs (t .before .before .before .before .before .before .before .before .enum-told2 .given .1)) (t .all-stops .ensures)
+    (ap checkedAs (n .before .enum-told3 .given .1)) (n .count-line .ensures)
+    (ap checkedAs (c .before .why4 .given .1))
 
--- src/lib.rt:201:5
 parts-requires : tie.Need-parts-requires
 parts-requires c κs = search needs
 
--- src/lib.rt:175:1
 returns-5 : tie.Need-returns-5
-returns-5 c = ?
+returns-5 c =
+    let n = c .before .before .before in
+    let t = n .before .before .before in
+    let p = t .before .before .before .before .before .before .before .before .before .before in
+    let a = p .before .before .before .before .before .before .before .before in
+    let s = a .before .before .before .before .before in
+    parts-answer _ _ (sized s) (fits s) (file-fault _ _ (sized s)) (a .area-line .ensures)
+    (ap checkedAs (p .before .before .before .before .before .before .enum-told .given .1)) (p .all-posts .ensures)
+    (ap checkedAs (t .before .before .before .before .before .before .before .before .enum-told2 .given .1)) (t .all-stops .ensures)
+    (ap checkedAs (n .before .enum-told3 .given .1)) (n .count-line .ensures)
+    (ap checkedAs (c .before .enum-told4 .given .1)) (c .parts .ensures)
 
 pub check-spec : {M : Type 1} → statement M
 check-spec =

@@ -1,70 +1,71 @@
+-- `job_check::post_lines` meets its contract: the first fault of all lines is that of those that are left.
+-- Assumes nothing.
+use mathlib.Core.Path.{ap}
+use Prim.Native.Nat.{_≤_, _-_}
+use native.Mathlib.Omega.{arith}
+use borrow.Author.Needs.{needs}
+use Rattle.job_check.specs.LineFaults.{checkedAs}
+use Rattle.job_check.proofs.FirstFault.{Passed, none-passed, postLines, all-posts-passed, post-passed, post-refused}
 use Rattle.job_check.proofs.post_lines.Statement.{statement}
 use Rattle.job_check.proofs.post_lines.Tie as tie
-use Rattle.job_check.proofs.post_lines.Reads as reads
-use Rattle.job_check.proofs.post_lines.Lts as lts
-use Rattle.job_check.proofs.post_line.Reads as post-line-reads
 
 abbrev Inv-loop : tie.InvT-loop
-Inv-loop xs ys n first i₀ i = ?
+Inv-loop xs ys n first i₀ i = (i ≤ n) × Passed first (postLines xs ys n) i
 
 abbrev μ-loop : tie.MeasureT-loop
-μ-loop xs ys n first i₀ i = ?
+μ-loop xs ys n first i₀ i = n - i
 
--- src/lib.rt:113:5
 loop-holds : tie.Need-loop-holds Inv-loop μ-loop
-loop-holds c = ?
+loop-holds c = (omega arith, none-passed _ _)
 
--- src/lib.rt:114:36
 mul-t9 : tie.Need-mul-t9 Inv-loop μ-loop
-mul-t9 c = ?
+mul-t9 c = omega (arith, c .before .before .pre)
 
--- src/lib.rt:114:36
 shared-slice-copy-out-t11 : tie.Need-shared-slice-copy-out-t11 Inv-loop μ-loop
-shared-slice-copy-out-t11 c = ?
+shared-slice-copy-out-t11 c = omega (arith, c .before .before .pre)
 
--- src/lib.rt:114:46
 mul-t12 : tie.Need-mul-t12 Inv-loop μ-loop
-mul-t12 c = ?
+mul-t12 c = omega (arith, c .before .before .before .pre)
 
--- src/lib.rt:114:46
 shared-slice-copy-out-t14 : tie.Need-shared-slice-copy-out-t14 Inv-loop μ-loop
-shared-slice-copy-out-t14 c = ?
+shared-slice-copy-out-t14 c = omega (arith, c .before .before .before .pre)
 
--- src/lib.rt:114:55
 add-post-line : tie.Need-add-post-line Inv-loop μ-loop
-add-post-line c = ?
+add-post-line c = omega (arith, c .before .before .before .before .pre)
 
--- src/lib.rt:114:15
 post-line-requires : tie.Need-post-line-requires Inv-loop μ-loop
-post-line-requires c κs = ?
+post-line-requires c κs = search needs
 
--- src/lib.rt:115:30
 enum-told : tie.Need-enum-told Inv-loop μ-loop
-enum-told c = ?
+enum-told c = search needs
 
--- src/lib.rt:115:30
 add-i : tie.Need-add-i Inv-loop μ-loop
-add-i c = ?
+add-i c = omega (arith, c .before .before .before .before .before .before .before .pre)
 
--- src/lib.rt:113:5
 loop-less : tie.Need-loop-less Inv-loop μ-loop
-loop-less c = ?
+loop-less c = omega (arith, c .before .before .before .before .before .loop-test .taken)
 
--- src/lib.rt:113:5
 loop-again : tie.Need-loop-again Inv-loop μ-loop
-loop-again c = ?
+loop-again c =
+    let t = c .before .before in
+    let s = t .before .before .before .before .before in (
+      omega (arith, t .before .before .before .loop-test .taken),
+      post-passed _ _ _ (s .pre .0) (s .pre .1) (t .before .before .before .before .loop .inv .1) (t .before .before .before .loop-test .taken)
+          (t .before .before .t11 .given) (t .before .t14 .given) (t .post-line .ensures) (ap checkedAs (c .enum-told .given .1)),
+    )
 
--- src/lib.rt:116:30
 enum-known-why : tie.Need-enum-known-why Inv-loop μ-loop
-enum-known-why c = ?
+enum-known-why c = search needs
 
--- src/lib.rt:116:38
 returns : tie.Need-returns Inv-loop μ-loop
-returns c = ?
+returns c =
+    let t = c .before .before .before in
+    let s = t .before .before .before .before .before in
+    post-refused _ _ _ (s .pre .0) (s .pre .1) (t .before .before .before .before .loop .inv .1) (t .before .before .before .loop-test .taken)
+    (t .before .before .t11 .given) (t .before .t14 .given) (t .post-line .ensures) (ap checkedAs (c .before .why .given .1))
 
--- src/lib.rt:108:1
 returns-2 : tie.Need-returns-2 Inv-loop μ-loop
-returns-2 c = ?
+returns-2 c = all-posts-passed _ _ _ (c .before .before .pre .0) (c .before .before .pre .1) (c .before .loop .inv .1) (omega (arith, c .loop-test .left))
 
 pub post-lines-spec : {M : Type 1} → statement M
 post-lines-spec =
