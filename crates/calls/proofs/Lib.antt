@@ -7,4 +7,5 @@ pub mod ExhaustiveCall
 pub mod SavingLaw
 pub mod RefusalTable
 pub mod CaseA
+pub mod WriteTable
 pub mod Theorems

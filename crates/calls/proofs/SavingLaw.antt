@@ -10,8 +10,10 @@ use lib.Dec.{ltb, ltb→lt, lt→ltb, nltb→le}
 use lib.IntN.{pos}
 use lib.ListN.{length, take, drop, length-append, length-drop, length-map}
 use lib.Seq.{take-at, drop-at}
+use Rattle.numbers.specs.Padded.{padded}
 use Rattle.numbers.proofs.Truth.{test, cond-true, cond-false}
-use Rattle.numbers.proofs.Padded.{length-padded}
+use Rattle.numbers.proofs.Padded.{padded-length}
+use Rattle.query.specs.Deck as Query
 use Rattle.deck.specs.DeckOf.{Sized, deckOf, deckRecord, emptyDeck}
 use Rattle.deck.specs.declared.Deck.{Deck}
 use Rattle.deck.proofs.DeckLaws.{held-deck}
@@ -36,7 +38,7 @@ use Rattle.calls.proofs.AnswerLaws.{same-number, same-line, same-refusa
 use Rattle.calls.proofs.Demands.{read-exactly}
 
 -- ---- bytes put over the front
-module _ (text out : List ℕ) (h : length text ≤ length out) where
+module _ (text out : List ℕ) where
   front-taken : take (length text) (overwritten text out) ≡ text
   unfolding overwritten
   front-taken = take-at text (drop (length text) out) (length text) refl
@@ -45,15 +47,22 @@ module _ (text out : List ℕ) (h : length text ≤ length out) where
   unfolding overwritten
   rest-kept = drop-at text (drop (length text) out) (length text) refl
 
-  length-kept : length (overwritten text out) ≡ length out
+  length-kept : length text ≤ length out → length (overwritten text out) ≡ length out
   unfolding overwritten
-  length-kept = omega (arith, length-append text (drop (length text) out), length-drop (length text) out)
+  length-kept h = omega (arith, length-append text (drop (length text) out), length-drop (length text) out)
+
+-- ---- the call `read`
+module _ (job : List ℕ) where
+  pub read-given : (j : Job) → readJob job ≡ accepted j → readCall job ≡ record { answer = gives (j .rounds); deck = deckRecord (j .deck) }
+  unfolding readCall readAs
+  read-given j e = ap readAs e
+
+  pub read-refused : (why : Refusal) → readJob job ≡ refused why → readCall job ≡ record { answer = refusal why; deck = deckRecord emptyDeck }
+  unfolding readCall readAs
+  read-refused why e = ap readAs e
 
 -- ---- how the call `write` ends
 module _ (deck : Deck) (rounds : ℕ) (out : List ℕ) (sized : Sized deck) where
-  spelling : List ℕ
-  spelling = spell (heldJob deck rounds)
-
   data Ends : Type 0 where
     refuses-file : (why : Refusal) → readText (fileText deck rounds) ≡ refused why → writeCall deck rounds out ≡ notSaved why out → Ends
     too-short : Saveable deck rounds → length out < length (spell (heldJob deck rounds)) → writeCall deck rounds out ≡ notSaved ShortOutput out → Ends
@@ -139,3 +148,132 @@ module _ (deck : Deck) (rounds : ℕ) (out : List ℕ) (sized : Sized deck) wher
         go (refuses-file w r p) = ap (λ (r : Saved). r .out) p
         go (too-short s h p) = ap (λ (r : Saved). r .out) p
         go (writes s h p) = absurd (not-refused _ _ _ (sym (answer-of p) ∙ e))
+
+  -- ---- what is written
+  saveable : (n : ℕ) → writeCall deck rounds out .answer ≡ gives n → Saveable deck rounds × (length (spell (heldJob deck rounds)) ≤ length out)
+  saveable n e = go ends
+    where
+      go : Ends → Saveable deck rounds × (length (spell (heldJob deck rounds)) ≤ length out)
+      go (refuses-file w r p) = absurd (not-refused _ _ _ (sym e ∙ answer-of p))
+      go (too-short s h p) = absurd (not-refused _ _ _ (sym e ∙ answer-of p))
+      go (writes s h p) = (s, h)
+
+  module _ (n : ℕ) (e : writeCall deck rounds out .answer ≡ gives n) where
+    left : writeCall deck rounds out .out ≡ overwritten (spell (heldJob deck rounds)) out
+    left = let (s, h) = saveable n e in ap (λ (r : Saved). r .out) (written-ends s h)
+
+    count-is : n ≡ length (spell (heldJob deck rounds))
+    count-is = let (s, h) = saveable n e in same-given _ _ (sym e ∙ answer-of (written-ends s h))
+
+    pub front-is : take n (writeCall deck rounds out .out) ≡ spell (heldJob deck rounds)
+    front-is = ap₂ (λ (k : ℕ) (l : List ℕ). take k l) count-is left ∙ front-taken (spell (heldJob deck rounds)) out
+
+-- ---- the laws
+module _ (deck : Deck) (rounds : ℕ) (out : List ℕ) (sized : Sized deck) where
+  written-law : (n : ℕ) → writeCall deck rounds out .answer ≡ gives n → WrittenLaw deck rounds out n
+  written-law n e =
+      let (s, room) = saveable deck rounds out sized n e in
+      let front = front-is deck rounds out sized n e in
+      let back = ap readJob front ∙ read-exactly (spell (heldJob deck rounds)) (heldJob deck rounds) .1 (refl, s .allowed) in
+      record {
+        same-length = ap length (left deck rounds out sized n e) ∙ length-kept (spell (heldJob deck rounds)) out room;
+        later-kept = ap₂ (λ (k : ℕ) (l : List ℕ). drop k l) (count-is deck rounds out sized n e) (left deck rounds out sized n e)
+            ∙ rest-kept (spell (heldJob deck rounds)) out ∙ ap (λ (k : ℕ). drop k out) (sym (count-is deck rounds out sized n e));
+        reads-back = back;
+        reads-back-record = read-given _ _ back;
+        longest = omega (arith, count-is deck rounds out sized n e, spelling-law (heldJob deck rounds) .longest (s .allowed));
+        one-job = λ other more lent m fit f same. spelling-law (heldJob deck rounds) .one-job (heldJob other more) (s .allowed)
+            (saveable other more lent fit m f .0 .allowed) (sym front ∙ same ∙ front-is other more lent fit m f);
+      }
+
+  pub write-law : WriteLaw deck rounds out
+  write-law = record {
+    refused-exactly = λ why. (applies deck rounds out sized why, applied deck rounds out sized why);
+    refused-listed = listed deck rounds out sized;
+    never-1 = λ line e. let h = from-two deck rounds out sized 1 line e in absurd (omega arith);
+    refused-out = unchanged deck rounds out sized;
+    written-exactly = (
+      λ w. saveable deck rounds out sized (w .0) (w .1),
+      λ s. (length (spell (heldJob deck rounds)), answer-of deck rounds out sized (written-ends deck rounds out sized (s .0) (s .1))),
+    );
+    given = written-ends deck rounds out sized;
+    written = written-law;
+  }
+
+column-sized : {A B : Type 0} (f : A → B) (z : B) (size : ℕ) (xs : List A) → length xs ≤ size → length (padded size z (map f xs)) ≡ size
+column-sized f z size xs h = padded-length size z (map f xs) (rw (length-map xs f) h)
+
+-- the record of an allowed job's deck, and the job that it holds
+module _ (j : Job) (a : Allowed j) where
+  record-held : heldJob (deckRecord (j .deck)) (j .rounds) ≡ j
+  record-held = ap (λ (d : Query.Deck). record { deck = d; rounds = j .rounds }) (held-deck (j .deck) (a .writable .plain-axis))
+
+  record-sized : Sized (deckRecord (j .deck))
+  unfolding deckRecord
+  record-sized =
+      let p = most-posts (a .writable) in
+      let s = most-stops (a .writable) in
+      record {
+        post-x = column-sized _ _ 64 (j .deck .posts) p;
+        post-y = column-sized _ _ 64 (j .deck .posts) p;
+        stop-x = column-sized _ _ 512 (j .deck .stops) s;
+        stop-y = column-sized _ _ 512 (j .deck .stops) s;
+        visits = column-sized _ _ 512 (j .deck .stops) s;
+      }
+
+  record-saveable : Saveable (deckRecord (j .deck)) (j .rounds)
+  unfolding deckRecord
+  record-saveable = record { allowed = subst Allowed (sym record-held) a; few-posts = most-posts (a .writable); few-stops = most-stops (a .writable) }
+
+  record-written : (out : List ℕ) → length (spell j) ≤ length out →
+      writeCall (deckRecord (j .deck)) (j .rounds) out ≡ record { answer = gives (length (spell j)); out = overwritten (spell j) out }
+  record-written out h = subst (λ (k : Job). length (spell k) ≤ length out → writeCall (deckRecord (j .deck)) (j .rounds) out
+      ≡ record { answer = gives (length (spell k)); out = overwritten (spell k) out }) record-held
+      (written-ends (deckRecord (j .deck)) (j .rounds) out record-sized record-saveable) h
+
+module _ (job : List ℕ) where
+  refused-read : (why : Refusal) → readCall job .answer ≡ refusal why → readJob job ≡ refused why
+  refused-read why f = go (readJob job) refl
+    where
+      go : (r : Result) → readJob job ≡ r → readJob job ≡ refused why
+      go (refused w) e = e ∙ ap refused (same-refusal w why (sym (ap (λ (r : Read). r .answer) (read-refused job w e)) ∙ f))
+      go (accepted j) e = absurd (not-refused (j .rounds) (numberOf why) (lineOf why) (sym (ap (λ (r : Read). r .answer) (read-given job j e)) ∙ f))
+
+  refused-zeros : (number line : ℕ) → readCall job .answer ≡ refuses number line → readCall job .deck ≡ deckRecord emptyDeck
+  refused-zeros number line f = go (readJob job) refl
+    where
+      go : (r : Result) → readJob job ≡ r → readCall job .deck ≡ deckRecord emptyDeck
+      go (refused w) e = ap (λ (r : Read). r .deck) (read-refused job w e)
+      go (accepted j) e = absurd (not-refused (j .rounds) number line (sym (ap (λ (r : Read). r .answer) (read-given job j e)) ∙ f))
+
+  read-held : (j : Job) → readJob job ≡ accepted j → deckOf (readCall job .deck) ≡ j .deck
+  read-held j e = ap (λ (r : Read). deckOf (r .deck)) (read-given job j e) ∙ held-deck (j .deck) (read-exactly job j .0 e .1 .writable .plain-axis)
+
+  own-bytes : (rounds : ℕ) (out : List ℕ) → readCall job .answer ≡ gives rounds → length job ≤ length out →
+      writeCall (readCall job .deck) rounds out ≡ record { answer = gives (length job); out = overwritten job out }
+  own-bytes rounds out f h = go (readJob job) refl
+    where
+      Written : Deck → ℕ → List ℕ → Type 0
+      Written deck rounds text = writeCall deck rounds out ≡ record { answer = gives (length text); out = overwritten text out }
+
+      go : (r : Result) → readJob job ≡ r → Written (readCall job .deck) rounds job
+      go (refused w) e = absurd (not-refused rounds (numberOf w) (lineOf w) (sym f ∙ ap (λ (r : Read). r .answer) (read-refused job w e)))
+      go (accepted j) e =
+          let (spelt, a) = read-exactly job j .0 e in
+          let g = read-given job j e in
+          let same : rounds ≡ j .rounds = same-given _ _ (sym f ∙ ap (λ (r : Read). r .answer) g) in
+          let known = record-written j a out (subst (λ (l : List ℕ). length l ≤ length out) spelt h) in
+          subst₂ (λ (k : ℕ) (l : List ℕ). Written (readCall job .deck) k l) (sym same) (sym spelt)
+          (subst (λ (d : Deck). Written d (j .rounds) (spell j)) (sym (ap (λ (r : Read). r .deck) g)) known)
+
+  pub read-law : ReadLaw job
+  read-law = record {
+    refused-exactly = λ why. (
+      λ f. refused-law job why .exactly .0 (refused-read why f),
+      λ c. ap (λ (r : Read). r .answer) (read-refused job why (refused-law job why .exactly .1 c)),
+    );
+    refused-deck = refused-zeros;
+    given = read-given job;
+    held = read-held;
+    own-bytes = own-bytes;
+  }

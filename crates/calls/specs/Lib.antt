@@ -12,4 +12,5 @@ pub mod ExhaustiveCallLaw
 pub mod SavingLaw
 pub mod RefusalTable
 pub mod CaseA
+pub mod WriteTable
 pub mod Theorems

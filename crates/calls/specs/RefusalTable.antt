@@ -7,7 +7,6 @@ use mathlib.Core.Path.{_≡_}
 use mathlib.Core.List.{List, [], _∷_, _++_, map, flatMap}
 use lib.IntN.{pos}
 use lib.ListN.{replicate, set, take, drop}
-use Rattle.query.specs.Figures.{Figures}
 use Rattle.text.specs.Ascii.{bytes, newline}
 use Rattle.calls.specs.Answers.{AnswerOf, gives, refuses}
 use Rattle.calls.specs.Call.{reportCall}
@@ -26,8 +25,8 @@ manyPosts count n = ended (take 1 caseA ++ (count ∷ replicate n "post=0,0") ++
 abbrev pub manyStops : String → ℕ → List ℕ
 manyStops count n = ended (take 3 caseA ++ (count ∷ replicate n "stop=4,3,2") ++ ("rounds=0" ∷ []))
 
-abbrev pub numberAndLine : AnswerOf Figures → ℕ × ℕ
-numberAndLine (gives f) = (0, 0)
+abbrev pub numberAndLine : {A : Type 0} → AnswerOf A → ℕ × ℕ
+numberAndLine (gives a) = (0, 0)
 numberAndLine (refuses number line) = (number, line)
 
 -- what the call answers with so many numbers of cell space and so many bytes of output
