@@ -10,8 +10,10 @@ use Rattle.calls.proofs.Demands.{demands}
 use Rattle.calls.proofs.EntryLaw.{entry-law}
 use Rattle.calls.proofs.ProgramLaw.{program-law}
 use Rattle.calls.proofs.ExhaustiveCall.{exhaustive-call-law}
+use Rattle.calls.proofs.SavingLaw.{read-law, write-law}
 use Rattle.calls.proofs.RefusalTable.{refusal-table}
 use Rattle.calls.proofs.CaseA.{case-A}
+use Rattle.calls.proofs.WriteTable.{write-table}
 
 pub theorems : Theorems
 theorems = record {
@@ -19,10 +21,13 @@ theorems = record {
   entry = entry-law;
   program = program-law;
   exhaustive = exhaustive-call-law;
+  read = read-law;
+  write = write-law;
   spelling = spelling-law;
   report-fits = report-fits;
   refusal-table = refusal-table;
   case-A = case-A;
+  write-table = write-table;
   job-vectors = JobVectors.vectors;
   report-vectors = ReportVectors.vectors;
   rules = query-theorems;

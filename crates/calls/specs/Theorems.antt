@@ -5,6 +5,8 @@ use Prim.Native.Nat.{ℕ}
 use mathlib.Core.List.{List}
 use lib.IntN.{ℤ}
 use Rattle.query.specs.QueryTheorems.{QueryTheorems}
+use Rattle.deck.specs.DeckOf.{Sized}
+use Rattle.deck.specs.declared.Deck.{Deck}
 use Rattle.job.specs.Format.{Job}
 use Rattle.job.specs.Meaning.{SpellingLaw}
 use Rattle.job.specs.JobVectors.{JobVectors}
@@ -14,8 +16,10 @@ use Rattle.calls.specs.Demands.{Demands}
 use Rattle.calls.specs.EntryLaw.{EntryLaw}
 use Rattle.calls.specs.ProgramLaw.{ProgramLaw}
 use Rattle.calls.specs.ExhaustiveCallLaw.{ExhaustiveCallLaw}
+use Rattle.calls.specs.SavingLaw.{ReadLaw, WriteLaw}
 use Rattle.calls.specs.RefusalTable.{RefusalTable}
 use Rattle.calls.specs.CaseA.{CaseA}
+use Rattle.calls.specs.WriteTable.{WriteTable}
 
 pub record Theorems : Type 0 where
   -- for every file, however garbled, and all that is lent
@@ -23,12 +27,16 @@ pub record Theorems : Type 0 where
   pub entry : (job out : List ℕ) → EntryLaw job out
   pub program : (job : List ℕ) → ProgramLaw job
   pub exhaustive : (job : List ℕ) → ExhaustiveCallLaw job
+  -- document 02, card 1: reading a job, and writing every record that the code can hold, with every output
+  pub read : (job : List ℕ) → ReadLaw job
+  pub write : (deck : Deck) (rounds : ℕ) (out : List ℕ) → Sized deck → WriteLaw deck rounds out
   -- no two allowed jobs are spelled alike, and 128 bytes hold every report
   pub spelling : (job : Job) → SpellingLaw job
   pub report-fits : ReportFits
   -- what document 01 works out
   pub refusal-table : RefusalTable
   pub case-A : CaseA
+  pub write-table : WriteTable
   pub job-vectors : JobVectors
   pub report-vectors : ReportVectors
   -- the rules, for every deck and every number of rounds

@@ -2,8 +2,11 @@
 use calls::Answer;
 use calls::Cheapest;
 use calls::Text;
+use calls::Written;
 use deck::Deck;
+use job::Job;
 use job::Outcome;
+use job_check::Checked;
 use limits::CELL_NUMBERS;
 use limits::REPORT_BYTES;
 use limits::SPACE;
@@ -15,11 +18,13 @@ use search::run;
 ghost use Prim.Native.Nat.{_≤_};
 ghost use mathlib.Core.Path.{_≡_};
 ghost use lib.ListN.{length};
-ghost use Rattle.calls.specs.Answers.{reportAnswer, cheapestAnswer};
+ghost use Rattle.calls.specs.Answers.{reportAnswer, cheapestAnswer, readAnswer, writtenAnswer};
 ghost use Rattle.calls.specs.Call.{reportCall};
 ghost use Rattle.calls.specs.Entry.{entry};
 ghost use Rattle.calls.specs.Program.{answerText, textRecord};
 ghost use Rattle.calls.specs.CheapestCall.{exhaustiveCall};
+ghost use Rattle.calls.specs.ReadCall.{readCall};
+ghost use Rattle.calls.specs.WriteCall.{writeCall};
 ghost use Rattle.query.specs.Problem.{problem};
 ghost use Rattle.query.specs.Exhaustive as Query;
 ghost use Rattle.deck.specs.DeckOf.{deckOf};
@@ -147,6 +152,27 @@ pub fn exhaustive(job: &[u8]) -> Cheapest
         Outcome::Accepted(_) => Cheapest::At(cheapest_in(deck)),
         Outcome::Refused(why) => Cheapest::Refused(why),
     }
+}
+
+// A job's bytes as the deck's record and the rounds that they spell, or the refusal of the job with a record that is all zeros.
+pub fn read(job: &[u8]) -> Job
+    ensures { λ r. ⌜ record { answer = readAnswer (r .outcome); deck = r .deck } ≡ readCall (now (job .entry)) ⌝ }
+{
+    job::read(job)
+}
+
+// The job of any record and rounds, written into the output: how many bytes it has, or the refusal that applies first.
+pub fn write(deck: Deck, rounds: u64, out: &mut [u8]) -> Written
+    ensures { λ r. ⌜ record { answer = writtenAnswer r; out = now (out .exit) } ≡ writeCall deck rounds (now (out .entry)) ⌝ }
+{
+    match job_check::check(deck, rounds) {
+        Checked::Fine => {}
+        Checked::Refused(why) => return Written::Refused(why),
+    }
+    if out.len() < job_file::length(deck, rounds) {
+        return Written::Refused(Refusal::ShortOutput);
+    }
+    Written::Bytes(job_file::put(deck, rounds, out))
 }
 
 // What the program prints for its input.
