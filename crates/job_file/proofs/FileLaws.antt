@@ -46,8 +46,10 @@ front₆ deck = front₅ deck ++ countPart (bytes "stops=") (deck .stops)
 abbrev pub front₇ : Deck → List ℕ
 front₇ deck = front₆ deck ++ stopTexts (deck .«stop_x») (deck .«stop_y») (deck .visits) (deck .stops)
 
-file-lines : (deck : Deck) (n : ℕ) → fileText deck n ≡ flatMap spellLine (areaLine (record { xlo = deck .xlo; ylo = deck .ylo; xhi = deck .xhi; yhi = deck .yhi })
-    ∷ countLine posts (deck .posts) ∷ (map postLine (take (deck .posts) (places (deck .«post_x») (deck .«post_y»))) ++ (countLine stops (deck .stops)
+-- the lines, with the deck that the record holds written out
+file-lines : (deck : Deck) (n : ℕ) → fileText deck n ≡
+    flatMap spellLine (areaLine (record { xlo = deck .xlo; ylo = deck .ylo; xhi = deck .xhi; yhi = deck .yhi }) ∷ countLine posts (deck .posts)
+    ∷ (map postLine (take (deck .posts) (places (deck .«post_x») (deck .«post_y»))) ++ (countLine stops (deck .stops)
     ∷ (map stopLine (take (deck .stops) (stopsOf (places (deck .«stop_x») (deck .«stop_y»)) (deck .visits))) ++ (countLine rounds n ∷ [])))))
 unfolding fileText
 file-lines deck n = refl
@@ -71,9 +73,12 @@ pub length-file : (deck : Deck) (n : ℕ) → length (fileText deck n) ≡
     + (6 + length (spellNat (deck .stops)) + 1) + length (stopTexts (deck .«stop_x») (deck .«stop_y») (deck .visits) (deck .stops))
     + (7 + length (spellNat n) + 1)
 unfolding bytes
-length-file deck n = rw (
-  file-parts,
-  eight,
+length-file deck n = omega (
+  arith,
+  ap length (file-parts deck n),
+  eight (bytes "area=") (placeText (deck .xlo) (deck .ylo) comma) (placeText (deck .xhi) (deck .yhi) newline) (countPart (bytes "posts=") (deck .posts))
+      (postTexts (deck .«post_x») (deck .«post_y») (deck .posts)) (countPart (bytes "stops=") (deck .stops))
+      (stopTexts (deck .«stop_x») (deck .«stop_y») (deck .visits) (deck .stops)) (countPart (bytes "rounds=") n),
   length-place (deck .xlo) (deck .ylo) comma,
   length-place (deck .xhi) (deck .yhi) newline,
   length-count (bytes "posts=") (deck .posts),

@@ -78,7 +78,7 @@ stop-text x y v = line-text (stopLine (record { at = record { x = x; y = y }; vi
 pub area-text : (r : Rect) → spellLine (areaLine r) ≡ bytes "area=" ++ placeText (r .xlo) (r .ylo) comma ++ placeText (r .xhi) (r .yhi) newline
 area-text r = line-text (areaLine r)
     ∙ ap (λ (l : List ℕ). bytes "area=" ++ l) (numbers-place (r .xlo) (r .ylo) (r .xhi) (r .yhi ∷ [])
-        ∙ ap (λ (l : List ℕ). placeText (r .xlo) (r .ylo) comma ++ l) (numbers-two (r .xhi) (r .yhi)))
+    ∙ ap (λ (l : List ℕ). placeText (r .xlo) (r .ylo) comma ++ l) (numbers-two (r .xhi) (r .yhi)))
     ∙ sym (append-assoc (bytes "area=") (placeText (r .xlo) (r .ylo) comma) (placeText (r .xhi) (r .yhi) newline))
 
 pub count-text : (kind : Kind) (n : ℕ) → spellLine (countLine kind n) ≡ row kind .key ++ numberText (pos n) newline

@@ -1,30 +1,40 @@
 -- `job_file::length` meets its contract: the lengths of the lines are those of the file's parts.
 -- Assumes nothing.
-use mathlib.Core.Path.{_≡_, ap}
+use mathlib.Core.Path.{_≡_}
 use Prim.Native.Nat.{ℕ, _+_, _≤_}
 use native.Mathlib.Omega.{arith}
 use lib.IntN.{ℤ}
 use lib.ListN.{length}
+use borrow.Author.Needs.{needs}
 use mir.Syntax.{w64}
 use mir.Val.{SFits, toZ, ofZ}
 use mir.ValLaws.{toZ-ofZ}
 use Rattle.text.specs.Decimal.{spellInt}
 use Rattle.job_file.proofs.FileLaws.{length-file}
-use borrow.Author.Needs.{needs}
 use Rattle.job_file.proofs.length.Statement.{statement}
 use Rattle.job_file.proofs.length.Tie as tie
+
+-- the calls that the end stands behind, and the start
+abbrev at-stops : tie.After-nat-len3 → tie.After-stops-len
+at-stops c = c .before .before .before .before .before .before .before .before .before
+
+abbrev at-posts : tie.After-stops-len → tie.After-posts-len
+at-posts c = c .before .before .before .before .before .before .before .before
+
+abbrev start : tie.After-posts-len → tie.Start
+start c = c .before .before .before .before .before .before
 
 -- the lines of posts and of stops are few
 record Sizes (posts stops : ℕ) : Type 0 where
   posts-most : posts ≤ 3136
   stops-most : stops ≤ 35840
 
-sizes : (c : tie.After-nat-len3) → Sizes (c .before .before .before .before .before .before .before .before .before .before .before .before .before .before .before .before .before .posts-len .result) (c .before .before .before .before .before .before .before .before .before .stops-len .result)
+sizes : (c : tie.After-nat-len3) → Sizes (at-posts (at-stops c) .posts-len .result) (at-stops c .stops-len .result)
 sizes c =
-    let s = c .before .before .before .before .before .before .before .before .before .before .before .before .before .before .before .before .before .before .before .before .before .before .before in
+    let s = start (at-posts (at-stops c)) in
     record {
-      posts-most = omega (arith, c .before .before .before .before .before .before .before .before .before .before .before .before .before .before .before .before .before .posts-len .ensures .1, s .pre .0);
-      stops-most = omega (arith, c .before .before .before .before .before .before .before .before .before .stops-len .ensures .1, s .pre .1);
+      posts-most = omega (arith, at-posts (at-stops c) .posts-len .ensures .1, s .pre .0);
+      stops-most = omega (arith, at-stops c .stops-len .ensures .1, s .pre .1);
     }
 
 -- the length of a place that was read back from its bits
@@ -94,13 +104,13 @@ add-result-5 c = omega (arith, sizes c)
 
 returns : tie.Need-returns
 returns c =
-    let s = c .before .before .before .before .before .before .before .before .before .before .before .before .before .before .before .before .before .before .before .before .before .before .before in
+    let s = start (at-posts (at-stops c)) in
     let deck = s .args .t1 in
     omega (
       arith,
       length-file deck (s .args .rounds),
-      c .before .before .before .before .before .before .before .before .before .before .before .before .before .before .before .before .before .posts-len .ensures .0,
-      c .before .before .before .before .before .before .before .before .before .stops-len .ensures .0,
+      at-posts (at-stops c) .posts-len .ensures .0,
+      at-stops c .stops-len .ensures .0,
       back (deck .xlo) (deck .ylo) (search needs) (search needs) (c .before .before .before .before .before .before .place-len .ensures .0),
       back (deck .xhi) (deck .yhi) (search needs) (search needs) (c .before .before .before .place-len2 .ensures .0),
       c .before .before .nat-len .ensures .0,

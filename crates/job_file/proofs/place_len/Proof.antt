@@ -4,10 +4,10 @@ use mathlib.Core.Path.{ap}
 use native.Mathlib.Omega.{arith}
 use lib.ListN.{length}
 use lib.IntN.{ℤ}
+use borrow.Author.Needs.{needs}
 use mir.Syntax.{w64}
 use mir.ValLaws.{toZ-ofZ}
 use Rattle.text.specs.Decimal.{spellInt}
-use borrow.Author.Needs.{needs}
 use Rattle.job_file.proofs.place_len.Statement.{statement}
 use Rattle.job_file.proofs.place_len.Tie as tie
 
@@ -24,7 +24,7 @@ add-result-2 : tie.Need-add-result-2
 add-result-2 c = omega arith
 
 returns : tie.Need-returns
-returns c = 
+returns c =
     let s = c .before .before in
     let x = ap (λ (z : ℤ). length (spellInt z)) (toZ-ofZ w64 (s .args .x) (s .fits .x)) in
     let y = ap (λ (z : ℤ). length (spellInt z)) (toZ-ofZ w64 (s .args .y) (s .fits .y)) in

@@ -1,31 +1,27 @@
 -- `job_file::put_int` meets its contract: the number, and a byte behind it.
 -- Assumes nothing.
-use mathlib.Core.Path.{ap}
 use native.Mathlib.Omega.{arith}
-use lib.ListN.{length}
-use lib.IntN.{ℤ}
+use borrow.Author.Needs.{needs}
 use mir.Syntax.{w64}
 use mir.ValLaws.{toZ-ofZ}
-use Rattle.text.specs.Decimal.{spellInt}
 use Rattle.write.proofs.WrittenLaws.{wrote-byte}
 use Rattle.job_file.proofs.TextLaws.{length-number}
-use borrow.Author.Needs.{needs}
 use Rattle.job_file.proofs.put_int.Statement.{statement}
 use Rattle.job_file.proofs.put_int.Tie as tie
 
 put-int-requires : tie.Need-put-int-requires
-put-int-requires c κs = 
+put-int-requires c κs =
     let s = c .before .before in
     rw (toZ-ofZ w64 (s .args .z) (s .fits .z)) (omega (arith, s .pre, length-number (s .args .z) (s .args .end)))
 
 slice-write-out : tie.Need-slice-write-out
-slice-write-out c = 
+slice-write-out c =
     let s = c .before .before .before .before .before in
     let w = rw (toZ-ofZ w64 (s .args .z) (s .fits .z)) at (c .before .before .put-int .ensures) in
     omega (arith, s .pre, w .next, c .before .before .put-int .kept .0, length-number (s .args .z) (s .args .end))
 
 add-result : tie.Need-add-result
-add-result c = 
+add-result c =
     let s = c .before .before .before .before .before in
     let w = rw (toZ-ofZ w64 (s .args .z) (s .fits .z)) at (c .before .before .put-int .ensures) in
     omega (arith, s .pre, w .next, c .before .before .put-int .kept .0, length-number (s .args .z) (s .args .end))
@@ -34,7 +30,7 @@ same-length : tie.Need-same-length
 same-length c = search needs
 
 returns : tie.Need-returns
-returns c = 
+returns c =
     let s = c .before .before .before .before .before in
     let w = rw (toZ-ofZ w64 (s .args .z) (s .fits .z)) at (c .before .before .put-int .ensures) in
     wrote-byte (s .args .end) w (omega (arith, s .pre, w .next, length-number (s .args .z) (s .args .end))) (c .before .before .put-int .kept .0)

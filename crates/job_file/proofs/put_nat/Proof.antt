@@ -1,21 +1,21 @@
 -- `job_file::put_nat` meets its contract: the number, and a byte behind it.
 -- Assumes nothing.
 use mathlib.Core.Path.{ap}
-use lib.IntN.{pos}
 use native.Mathlib.Omega.{arith}
+use lib.IntN.{pos}
 use lib.ListN.{length}
+use borrow.Author.Needs.{needs}
 use Rattle.write.proofs.WrittenLaws.{wrote-byte}
 use Rattle.job_file.proofs.TextLaws.{spelled-pos, length-number}
-use borrow.Author.Needs.{needs}
 use Rattle.job_file.proofs.put_nat.Statement.{statement}
 use Rattle.job_file.proofs.put_nat.Tie as tie
 
 put-nat-requires : tie.Need-put-nat-requires
-put-nat-requires c κs = 
+put-nat-requires c κs =
     let s = c .before .before in omega (arith, s .pre, length-number (pos (s .args .n)) (s .args .end), ap length (spelled-pos (s .args .n)))
 
 slice-write-out : tie.Need-slice-write-out
-slice-write-out c = 
+slice-write-out c =
     let s = c .before .before .before .before .before in
     omega (
       arith,
@@ -27,7 +27,7 @@ slice-write-out c =
     )
 
 add-result : tie.Need-add-result
-add-result c = 
+add-result c =
     let s = c .before .before .before .before .before in
     omega (
       arith,
@@ -42,11 +42,12 @@ same-length : tie.Need-same-length
 same-length c = search needs
 
 returns : tie.Need-returns
-returns c = 
+returns c =
     let s = c .before .before .before .before .before in
     let w = c .before .before .put-nat .ensures in
     rw (spelled-pos (s .args .n)) (wrote-byte (s .args .end) w
-    (omega (arith, s .pre, w .next, length-number (pos (s .args .n)) (s .args .end), ap length (spelled-pos (s .args .n)))) (c .before .before .put-nat .kept .0))
+    (omega (arith, s .pre, w .next, length-number (pos (s .args .n)) (s .args .end), ap length (spelled-pos (s .args .n))))
+    (c .before .before .put-nat .kept .0))
 
 pub put-nat-spec : {M : Type 1} → statement M
 put-nat-spec = tie.close (tie.spec put-nat-requires slice-write-out add-result same-length returns)

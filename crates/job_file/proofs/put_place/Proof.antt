@@ -2,23 +2,23 @@
 -- Assumes nothing.
 use native.Mathlib.Omega.{arith}
 use lib.ListN.{length-append}
+use borrow.Author.Needs.{needs}
 use mir.Syntax.{w64}
 use mir.ValLaws.{toZ-ofZ}
 use Rattle.text.specs.Ascii.{comma}
 use Rattle.write.proofs.WrittenLaws.{wrote-both}
 use Rattle.job_file.specs.Texts.{numberText}
-use borrow.Author.Needs.{needs}
 use Rattle.job_file.proofs.put_place.Statement.{statement}
 use Rattle.job_file.proofs.put_place.Tie as tie
 
 put-int-requires : tie.Need-put-int-requires
-put-int-requires c κs = 
+put-int-requires c κs =
     let s = c .before .before in
     rw (toZ-ofZ w64 (s .args .x) (s .fits .x))
     (omega (arith, s .pre, length-append (numberText (s .args .x) comma) (numberText (s .args .y) (s .args .end))))
 
 put-int-requires-2 : tie.Need-put-int-requires-2
-put-int-requires-2 c κs = 
+put-int-requires-2 c κs =
     let s = c .before .before .before .before .before .before in
     let w = rw (toZ-ofZ w64 (s .args .x) (s .fits .x)) at (c .before .before .before .put-int .ensures) in
     rw (toZ-ofZ w64 (s .args .y) (s .fits .y)) (omega (
@@ -33,7 +33,7 @@ same-length : tie.Need-same-length
 same-length c = search needs
 
 returns : tie.Need-returns
-returns c = 
+returns c =
     let s = c .before .before .before .before .before .before .before .before .before in
     let v = rw (toZ-ofZ w64 (s .args .x) (s .fits .x)) at (c .before .before .before .before .before .before .put-int .ensures) in
     let w = rw (toZ-ofZ w64 (s .args .y) (s .fits .y)) at (c .before .before .put-int2 .ensures) in

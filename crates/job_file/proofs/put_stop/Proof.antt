@@ -2,15 +2,15 @@
 -- Assumes nothing.
 use mathlib.Core.Path.{ap}
 use Prim.Native.Nat.{_≤_}
+use native.Mathlib.Omega.{arith}
 use lib.IntN.{pos}
 use lib.ListN.{length}
-use native.Mathlib.Omega.{arith}
+use borrow.Author.Needs.{needs}
 use mir.Syntax.{w64}
 use mir.ValLaws.{toZ-ofZ}
 use Rattle.text.specs.Ascii.{bytes, comma, newline}
 use Rattle.write.proofs.WrittenLaws.{wrote-both}
 use Rattle.job_file.proofs.TextLaws.{spelled-pos, stop-text, length-number, length-place, length-stop}
-use borrow.Author.Needs.{needs}
 use Rattle.job_file.proofs.put_stop.Statement.{statement}
 use Rattle.job_file.proofs.put_stop.Tie as tie
 
@@ -21,7 +21,7 @@ put-requires : tie.Need-put-requires
 put-requires c κs = let s = c .before .before .before in omega (arith, s .pre, length-stop (s .args .x) (s .args .y) (s .args .visits))
 
 put-place-requires : tie.Need-put-place-requires
-put-place-requires c κs = 
+put-place-requires c κs =
     let s = c .before .before .before .before .before .before .before in
     rw (toZ-ofZ w64 (s .args .x) (s .fits .x), toZ-ofZ w64 (s .args .y) (s .fits .y)) (omega (
       arith,
@@ -33,7 +33,7 @@ put-place-requires c κs =
     ))
 
 put-nat-requires : tie.Need-put-nat-requires
-put-nat-requires c κs = 
+put-nat-requires c κs =
     let s = c .before .before .before .before .before .before .before .before .before .before .before in
     let w = rw (toZ-ofZ w64 (s .args .x) (s .fits .x), toZ-ofZ w64 (s .args .y) (s .fits .y)) at (c .before .before .before .put-place .ensures) in
     omega (
@@ -54,11 +54,14 @@ same-length c = search needs
 
 returns : tie.Need-returns
 unfolding bytes
-returns c = 
+returns c =
     let s = c .before .before .before .before .before .before .before .before .before .before .before .before .before .before in
-    let w = rw (toZ-ofZ w64 (s .args .x) (s .fits .x), toZ-ofZ w64 (s .args .y) (s .fits .y)) at (c .before .before .before .before .before .before .put-place .ensures) in
+    let w = rw (toZ-ofZ w64 (s .args .x) (s .fits .x), toZ-ofZ w64 (s .args .y) (s .fits .y))
+    at (c .before .before .before .before .before .before .put-place .ensures) in
     let h : s .args .at ≤ length (s .args .out .now) = omega (arith, s .pre) in
-    rw (stop-text (s .args .x) (s .args .y) (s .args .visits)) (wrote-both (wrote-both (c .before .before .before .before .before .before .before .before .before .before .put .ensures) w h) (c .before .before .put-nat .ensures) h)
+    rw (stop-text (s .args .x) (s .args .y) (s .args .visits))
+    (wrote-both (wrote-both (c .before .before .before .before .before .before .before .before .before .before .put .ensures) w h)
+    (c .before .before .put-nat .ensures) h)
 
 pub put-stop-spec : {M : Type 1} → statement M
 put-stop-spec =
