@@ -1,5 +1,6 @@
 -- `job_file::put` meets its contract: the parts of the file one after another, each with room for it where there is room for the file.
 -- Assumes nothing.
+use mathlib.Core.Path.{_≡_}
 use Prim.Native.Nat.{ℕ, zero-le}
 use native.Mathlib.Omega.{arith}
 use mathlib.Core.List.{List}
@@ -22,6 +23,11 @@ use Rattle.job_file.proofs.put.Tie as tie
 back : {out after : List ℕ} {at end : ℕ} (x y : ℤ) (last : ℕ) → SFits w64 x → SFits w64 y →
     Wrote out at (placeText (toZ w64 (ofZ w64 x)) (toZ w64 (ofZ w64 y)) last) after end → Wrote out at (placeText x y last) after end
 back x y last fx fy w = rw (toZ-ofZ w64 x fx, toZ-ofZ w64 y fy) at w
+
+-- a line with a number
+counted : {out after : List ℕ} {at end m : ℕ} (key : List ℕ) (n : ℕ) → Wrote out at (countPart key m) after end → m ≡ n →
+    Wrote out at (countPart key n) after end
+counted key n w e = rw e at w
 
 -- the calls that a call stands behind
 abbrev before-put-place : tie.After-put-place → tie.After-put
@@ -89,7 +95,9 @@ wrote-put-place2 c =
 wrote-put-count : (c : tie.After-put-count) → let s = start-put-count c in
     Wrote (s .args .out .now) 0 (front₄ (s .args .t1)) (c .put-count .last .0) (c .put-count .result)
 unfolding bytes
-wrote-put-count c = wrote-both (wrote-put-place2 (before-put-count c)) (c .put-count .ensures) zero-le
+wrote-put-count c =
+    let s = start-put-count c in
+    wrote-both (wrote-put-place2 (before-put-count c)) (counted (bytes "posts=") (s .args .t1 .posts) (c .put-count .ensures) (omega arith)) zero-le
 
 wrote-put-posts : (c : tie.After-put-posts) → let s = start-put-posts c in
     Wrote (s .args .out .now) 0 (front₅ (s .args .t1)) (c .put-posts .last .0) (c .put-posts .result)
@@ -99,7 +107,9 @@ wrote-put-posts c = wrote-both (wrote-put-count (before-put-posts c)) (c .put-po
 wrote-put-count2 : (c : tie.After-put-count2) → let s = start-put-count2 c in
     Wrote (s .args .out .now) 0 (front₆ (s .args .t1)) (c .put-count2 .last .0) (c .put-count2 .result)
 unfolding bytes
-wrote-put-count2 c = wrote-both (wrote-put-posts (before-put-count2 c)) (c .put-count2 .ensures) zero-le
+wrote-put-count2 c =
+    let s = start-put-count2 c in
+    wrote-both (wrote-put-posts (before-put-count2 c)) (counted (bytes "stops=") (s .args .t1 .stops) (c .put-count2 .ensures) (omega arith)) zero-le
 
 wrote-put-stops : (c : tie.After-put-stops) → let s = start-put-stops c in
     Wrote (s .args .out .now) 0 (front₇ (s .args .t1)) (c .put-stops .last .0) (c .put-stops .result)
@@ -109,7 +119,10 @@ wrote-put-stops c = wrote-both (wrote-put-count2 (before-put-stops c)) (c .put-s
 wrote-file : (c : tie.After-put-count3) → let s = start-put-stops (c .before .before .before .before .before) in
     Wrote (s .args .out .now) 0 (fileText (s .args .t1) (s .args .rounds)) (c .put-count3 .last .0) (c .put-count3 .result)
 unfolding bytes
-wrote-file c = rw file-parts (wrote-both (wrote-put-stops (c .before .before .before .before .before)) (c .put-count3 .ensures) zero-le)
+wrote-file c =
+    let before = c .before .before .before .before .before in
+    let s = start-put-stops before in
+    rw file-parts (wrote-both (wrote-put-stops before) (counted (bytes "rounds=") (s .args .rounds) (c .put-count3 .ensures) (omega arith)) zero-le)
 
 -- the room for each part
 rooms : (s : tie.Start) → Fronts (s .args .t1) (length (s .args .out .now))

@@ -1,33 +1,25 @@
 -- `job_file::put_place` meets its contract: two numbers, each with the byte behind it.
 -- Assumes nothing.
 use native.Mathlib.Omega.{arith}
-use lib.ListN.{length-append}
 use borrow.Author.Needs.{needs}
 use mir.Syntax.{w64}
 use mir.ValLaws.{toZ-ofZ}
-use Rattle.text.specs.Ascii.{comma}
 use Rattle.write.proofs.WrittenLaws.{wrote-both}
-use Rattle.job_file.specs.Texts.{numberText}
+use Rattle.job_file.proofs.TextLaws.{length-number, length-place}
 use Rattle.job_file.proofs.put_place.Statement.{statement}
 use Rattle.job_file.proofs.put_place.Tie as tie
 
 put-int-requires : tie.Need-put-int-requires
 put-int-requires c κs =
     let s = c .before .before in
-    rw (toZ-ofZ w64 (s .args .x) (s .fits .x))
-    (omega (arith, s .pre, length-append (numberText (s .args .x) comma) (numberText (s .args .y) (s .args .end))))
+    rw (toZ-ofZ w64 (s .args .x) (s .fits .x), length-number) (omega (arith, s .pre, length-place (s .args .x) (s .args .y) (s .args .end)))
 
 put-int-requires-2 : tie.Need-put-int-requires-2
 put-int-requires-2 c κs =
     let s = c .before .before .before .before .before .before in
-    let w = rw (toZ-ofZ w64 (s .args .x) (s .fits .x)) at (c .before .before .before .put-int .ensures) in
-    rw (toZ-ofZ w64 (s .args .y) (s .fits .y)) (omega (
-      arith,
-      s .pre,
-      w .next,
-      c .before .before .before .put-int .kept .0,
-      length-append (numberText (s .args .x) comma) (numberText (s .args .y) (s .args .end)),
-    ))
+    let next = rw (toZ-ofZ w64 (s .args .x) (s .fits .x), length-number) at (c .before .before .before .put-int .ensures .next) in
+    rw (toZ-ofZ w64 (s .args .y) (s .fits .y), length-number)
+    (omega (arith, s .pre, next, c .before .before .before .put-int .kept .0, length-place (s .args .x) (s .args .y) (s .args .end)))
 
 same-length : tie.Need-same-length
 same-length c = search needs
