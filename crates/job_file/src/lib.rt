@@ -141,7 +141,14 @@ fn put_posts<'a>(out: &mut [u8], start: usize, xs: &'a [i64], ys: &'a [i64], n: 
 }
 
 // The lines of the first n stops.
-fn put_stops<'a>(out: &mut [u8], start: usize, xs: &'a [i64], ys: &'a [i64], visits: &'a [u64], n: usize) -> usize
+fn put_stops<'a>(
+    out: &mut [u8],
+    start: usize,
+    xs: &'a [i64],
+    ys: &'a [i64],
+    visits: &'a [u64],
+    n: usize,
+) -> usize
     requires { ⌜ (n ≤ length (now xs)) × (n ≤ length (now ys)) × (n ≤ length (now visits))
         × (start + length (stopTexts (now xs) (now ys) (now visits) n) ≤ length (now out)) ⌝ }
     ensures { λ r. ⌜ Wrote (now (out .entry)) start (stopTexts (now (xs .entry)) (now (ys .entry)) (now (visits .entry)) n)
@@ -169,6 +176,13 @@ pub fn put(deck: Deck, rounds: u64, out: &mut [u8]) -> usize
     let next = put_count(out, next, b"posts=", deck.posts as u64);
     let next = put_posts(out, next, &deck.post_x, &deck.post_y, deck.posts);
     let next = put_count(out, next, b"stops=", deck.stops as u64);
-    let next = put_stops(out, next, &deck.stop_x, &deck.stop_y, &deck.visits, deck.stops);
+    let next = put_stops(
+        out,
+        next,
+        &deck.stop_x,
+        &deck.stop_y,
+        &deck.visits,
+        deck.stops,
+    );
     put_count(out, next, b"rounds=", rounds)
 }

@@ -1,29 +1,34 @@
+-- `job_file::place_len` meets its contract: the bytes of each number, and one behind each.
+-- Assumes nothing.
+use mathlib.Core.Path.{ap}
+use native.Mathlib.Omega.{arith}
+use lib.ListN.{length}
+use lib.IntN.{ℤ}
 use borrow.Author.Needs.{needs}
+use mir.Syntax.{w64}
+use mir.ValLaws.{toZ-ofZ}
+use Rattle.text.specs.Decimal.{spellInt}
 use Rattle.job_file.proofs.place_len.Statement.{statement}
 use Rattle.job_file.proofs.place_len.Tie as tie
-use Rattle.job_file.proofs.place_len.Reads as reads
-use Rattle.job_file.proofs.place_len.Lts as lts
-use Rattle.write.proofs.int_len.Reads as int-len-reads
 
--- src/lib.rt:21:5
 int-len-requires : tie.Need-int-len-requires
 int-len-requires c κs = search needs
 
--- src/lib.rt:21:25
 int-len-requires-2 : tie.Need-int-len-requires-2
 int-len-requires-2 c κs = search needs
 
--- src/lib.rt:21:5
 add-result : tie.Need-add-result
-add-result c = search needs
+add-result c = omega arith
 
--- src/lib.rt:21:5
 add-result-2 : tie.Need-add-result-2
-add-result-2 c = search needs
+add-result-2 c = omega arith
 
--- src/lib.rt:17:1
 returns : tie.Need-returns
-returns c = ?
+returns c =
+    let s = c .before .before in
+    let x = ap (λ (z : ℤ). length (spellInt z)) (toZ-ofZ w64 (s .args .x) (s .fits .x)) in
+    let y = ap (λ (z : ℤ). length (spellInt z)) (toZ-ofZ w64 (s .args .y) (s .fits .y)) in
+    (omega (arith, x, y), omega arith)
 
 pub place-len-spec : {M : Type 1} → statement M
 place-len-spec =

@@ -1,26 +1,37 @@
+-- `job_file::put_count` meets its contract: the key, and the number behind it.
+-- Assumes nothing.
+use native.Mathlib.Omega.{arith}
+use lib.IntN.{pos}
+use lib.ListN.{length-append}
 use borrow.Author.Needs.{needs}
+use Rattle.text.specs.Ascii.{newline}
+use Rattle.write.proofs.WrittenLaws.{wrote-both}
+use Rattle.job_file.specs.Texts.{numberText}
 use Rattle.job_file.proofs.put_count.Statement.{statement}
 use Rattle.job_file.proofs.put_count.Tie as tie
-use Rattle.job_file.proofs.put_count.Reads as reads
-use Rattle.job_file.proofs.put_count.Lts as lts
-use Rattle.job_file.proofs.put_nat.Reads as put-nat-reads
-use Rattle.write.proofs.put.Reads as put-reads
 
--- src/lib.rt:103:9
 put-requires : tie.Need-put-requires
-put-requires c κs = ?
+put-requires c κs =
+    let s = c .before .before .before in omega (arith, s .pre, length-append (s .args .key .now) (numberText (pos (s .args .n)) newline))
 
--- src/lib.rt:104:5
 put-nat-requires : tie.Need-put-nat-requires
-put-nat-requires c κs = ?
+put-nat-requires c κs =
+    let s = c .before .before .before .before .before .before .before in
+    omega (
+      arith,
+      s .pre,
+      c .before .before .before .put .ensures .next,
+      c .before .before .before .put .kept .0,
+      length-append (s .args .key .now) (numberText (pos (s .args .n)) newline),
+    )
 
--- src/lib.rt:99:1
 same-length : tie.Need-same-length
 same-length c = search needs
 
--- src/lib.rt:99:1
 returns : tie.Need-returns
-returns c = ?
+returns c =
+    let s = c .before .before .before .before .before .before .before .before .before .before in
+    wrote-both (c .before .before .before .before .before .before .put .ensures) (c .before .before .put-nat .ensures) (omega (arith, s .pre))
 
 pub put-count-spec : {M : Type 1} → statement M
 put-count-spec = tie.close (tie.spec put-requires put-nat-requires same-length returns)

@@ -1,29 +1,53 @@
+-- `job_file::put_nat` meets its contract: the number, and a byte behind it.
+-- Assumes nothing.
+use mathlib.Core.Path.{ap}
+use native.Mathlib.Omega.{arith}
+use lib.IntN.{pos}
+use lib.ListN.{length}
 use borrow.Author.Needs.{needs}
+use Rattle.write.proofs.WrittenLaws.{wrote-byte}
+use Rattle.job_file.proofs.TextLaws.{spelled-pos, length-number}
 use Rattle.job_file.proofs.put_nat.Statement.{statement}
 use Rattle.job_file.proofs.put_nat.Tie as tie
-use Rattle.job_file.proofs.put_nat.Reads as reads
-use Rattle.job_file.proofs.put_nat.Lts as lts
-use Rattle.write.proofs.put_nat.Reads as put-nat-reads
 
--- src/lib.rt:84:9
 put-nat-requires : tie.Need-put-nat-requires
-put-nat-requires c κs = ?
+put-nat-requires c κs =
+    let s = c .before .before in omega (arith, s .pre, length-number (pos (s .args .n)) (s .args .end), ap length (spelled-pos (s .args .n)))
 
--- src/lib.rt:85:5
 slice-write-out : tie.Need-slice-write-out
-slice-write-out c = ?
+slice-write-out c =
+    let s = c .before .before .before .before .before in
+    omega (
+      arith,
+      s .pre,
+      c .before .before .put-nat .ensures .next,
+      c .before .before .put-nat .kept .0,
+      length-number (pos (s .args .n)) (s .args .end),
+      ap length (spelled-pos (s .args .n)),
+    )
 
--- src/lib.rt:86:5
 add-result : tie.Need-add-result
-add-result c = ?
+add-result c =
+    let s = c .before .before .before .before .before in
+    omega (
+      arith,
+      s .pre,
+      c .before .before .put-nat .ensures .next,
+      c .before .before .put-nat .kept .0,
+      length-number (pos (s .args .n)) (s .args .end),
+      ap length (spelled-pos (s .args .n)),
+    )
 
--- src/lib.rt:80:1
 same-length : tie.Need-same-length
 same-length c = search needs
 
--- src/lib.rt:80:1
 returns : tie.Need-returns
-returns c = ?
+returns c =
+    let s = c .before .before .before .before .before in
+    let w = c .before .before .put-nat .ensures in
+    rw (spelled-pos (s .args .n)) (wrote-byte (s .args .end) w
+    (omega (arith, s .pre, w .next, length-number (pos (s .args .n)) (s .args .end), ap length (spelled-pos (s .args .n))))
+    (c .before .before .put-nat .kept .0))
 
 pub put-nat-spec : {M : Type 1} → statement M
 put-nat-spec = tie.close (tie.spec put-nat-requires slice-write-out add-result same-length returns)

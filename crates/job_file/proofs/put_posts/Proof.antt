@@ -1,58 +1,74 @@
+-- `job_file::put_posts` meets its contract. The loop's invariant: the lines of the first i posts are written.
+-- Assumes nothing.
+use mathlib.Core.Path.{_≡_, _∙_}
+use Prim.Native.Nat.{_≤_, _-_}
+use native.Mathlib.Omega.{arith}
+use lib.ListN.{length}
+use mir.Syntax.{w64}
+use mir.ValLaws.{toZ-ofZ}
+use Rattle.write.specs.Written.{Wrote}
+use Rattle.write.proofs.WrittenLaws.{wrote-nothing}
+use Rattle.job_file.specs.Texts.{postTexts}
+use Rattle.job_file.proofs.TextLaws.{posts-none, post-room, post-wrote}
 use Rattle.job_file.proofs.put_posts.Statement.{statement}
 use Rattle.job_file.proofs.put_posts.Tie as tie
-use Rattle.job_file.proofs.put_posts.Reads as reads
-use Rattle.job_file.proofs.put_posts.Lts as lts
-use Rattle.job_file.proofs.put_post.Reads as put-post-reads
 
 abbrev Inv-loop : tie.InvT-loop
-Inv-loop out₀ start xs ys n at₀ i₀ out at i = ?
+Inv-loop out₀ start xs ys n at₀ i₀ out at i = (i ≤ n) × (length out ≡ length out₀) × Wrote out₀ start (postTexts xs ys i) out at
 
 abbrev μ-loop : tie.MeasureT-loop
-μ-loop out₀ start xs ys n at₀ i₀ out at i = ?
+μ-loop out₀ start xs ys n at₀ i₀ out at i = n - i
 
--- src/lib.rt:136:5
 loop-holds : tie.Need-loop-holds Inv-loop μ-loop
-loop-holds c = ?
+loop-holds c =
+    let s = c .before .args in
+    (omega arith, omega arith, rw (posts-none (s .xs .now) (s .ys .now)) (wrote-nothing (s .out .now) (s .start) (s .start) (omega arith)))
 
--- src/lib.rt:137:32
 mul-put-post : tie.Need-mul-put-post Inv-loop μ-loop
-mul-put-post c = ?
+mul-put-post c = omega arith
 
--- src/lib.rt:137:32
 shared-slice-copy-out-put-post : tie.Need-shared-slice-copy-out-put-post Inv-loop μ-loop
-shared-slice-copy-out-put-post c = ?
+shared-slice-copy-out-put-post c = omega arith
 
--- src/lib.rt:137:39
 mul-put-post-2 : tie.Need-mul-put-post-2 Inv-loop μ-loop
-mul-put-post-2 c = ?
+mul-put-post-2 c = omega arith
 
--- src/lib.rt:137:39
 shared-slice-copy-out-put-post-2 : tie.Need-shared-slice-copy-out-put-post-2 Inv-loop μ-loop
-shared-slice-copy-out-put-post-2 c = ?
+shared-slice-copy-out-put-post-2 c = omega arith
 
--- src/lib.rt:137:9
 put-post-requires : tie.Need-put-post-requires Inv-loop μ-loop
-put-post-requires c κs = ?
+put-post-requires c κs =
+    let s = c .before .before .before .before .before .before in
+    let l = c .before .before .before .before .loop .inv in
+    post-room {n = s .args .n} (s .args .xs .now) (s .args .ys .now) (l .2)
+    (toZ-ofZ w64 _ (record { sfits = c .before .put-post-arg2 .given })) (toZ-ofZ w64 _ (record { sfits = c .put-post-arg3 .given }))
+    (omega arith) (omega arith) (omega arith) (omega (arith, s .pre, l .1))
 
--- src/lib.rt:138:9
 add-i : tie.Need-add-i Inv-loop μ-loop
-add-i c = ?
+add-i c = omega arith
 
--- src/lib.rt:136:5
 loop-less : tie.Need-loop-less Inv-loop μ-loop
-loop-less c = ?
+loop-less c = omega arith
 
--- src/lib.rt:136:5
 loop-again : tie.Need-loop-again Inv-loop μ-loop
-loop-again c = ?
+loop-again c =
+    let s = c .before .before .before .before .before .before .before .before .before in
+    let l = c .before .before .before .before .before .before .before .loop .inv in (
+      omega arith,
+      c .before .before .put-post .kept .0 ∙ l .1,
+      post-wrote (s .args .xs .now) (s .args .ys .now) (l .2) (c .before .before .put-post .ensures)
+          (toZ-ofZ w64 _ (record { sfits = c .before .before .before .before .put-post-arg2 .given }))
+          (toZ-ofZ w64 _ (record { sfits = c .before .before .before .put-post-arg3 .given }))
+          (omega arith) (omega arith) (omega (arith, s .pre)),
+    )
 
--- src/lib.rt:129:1
 same-length : tie.Need-same-length Inv-loop μ-loop
-same-length c = ?
+same-length c = c .before .loop .inv .1
 
--- src/lib.rt:129:1
 returns : tie.Need-returns Inv-loop μ-loop
-returns c = ?
+returns c =
+    let e : c .before .loop .i ≡ c .before .before .before .args .n = omega arith in
+    rw e at (c .before .loop .inv .2)
 
 pub put-posts-spec : {M : Type 1} → statement M
 put-posts-spec =

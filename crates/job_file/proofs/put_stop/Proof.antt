@@ -1,35 +1,67 @@
+-- `job_file::put_stop` meets its contract: the key, the place behind it, and the visits behind that.
+-- Assumes nothing.
+use mathlib.Core.Path.{ap}
+use Prim.Native.Nat.{_≤_}
+use native.Mathlib.Omega.{arith}
+use lib.IntN.{pos}
+use lib.ListN.{length}
 use borrow.Author.Needs.{needs}
+use mir.Syntax.{w64}
+use mir.ValLaws.{toZ-ofZ}
+use Rattle.text.specs.Ascii.{bytes, comma, newline}
+use Rattle.write.proofs.WrittenLaws.{wrote-both}
+use Rattle.job_file.proofs.TextLaws.{spelled-pos, stop-text, length-number, length-place, length-stop}
 use Rattle.job_file.proofs.put_stop.Statement.{statement}
 use Rattle.job_file.proofs.put_stop.Tie as tie
-use Rattle.job_file.proofs.put_stop.Reads as reads
-use Rattle.job_file.proofs.put_stop.Lts as lts
-use Rattle.job_file.proofs.put_nat.Reads as put-nat-reads
-use Rattle.job_file.proofs.put_place.Reads as put-place-reads
-use Rattle.write.proofs.put.Reads as put-reads
 
--- src/lib.rt:121:36
 slice-aggregate-put : tie.Need-slice-aggregate-put
 slice-aggregate-put c = search needs
 
--- src/lib.rt:121:9
 put-requires : tie.Need-put-requires
-put-requires c κs = ?
+put-requires c κs = let s = c .before .before .before in omega (arith, s .pre, length-stop (s .args .x) (s .args .y) (s .args .visits))
 
--- src/lib.rt:122:9
 put-place-requires : tie.Need-put-place-requires
-put-place-requires c κs = ?
+put-place-requires c κs =
+    let s = c .before .before .before .before .before .before .before in
+    rw (toZ-ofZ w64 (s .args .x) (s .fits .x), toZ-ofZ w64 (s .args .y) (s .fits .y)) (omega (
+      arith,
+      s .pre,
+      c .before .before .before .put .ensures .next,
+      c .before .before .before .put .kept .0,
+      length-stop (s .args .x) (s .args .y) (s .args .visits),
+      length-place (s .args .x) (s .args .y) comma,
+    ))
 
--- src/lib.rt:123:5
 put-nat-requires : tie.Need-put-nat-requires
-put-nat-requires c κs = ?
+put-nat-requires c κs =
+    let s = c .before .before .before .before .before .before .before .before .before .before .before in
+    let w = rw (toZ-ofZ w64 (s .args .x) (s .fits .x), toZ-ofZ w64 (s .args .y) (s .fits .y)) at (c .before .before .before .put-place .ensures) in
+    omega (
+      arith,
+      s .pre,
+      c .before .before .before .before .before .before .before .put .ensures .next,
+      c .before .before .before .before .before .before .before .put .kept .0,
+      w .next,
+      c .before .before .before .put-place .kept .0,
+      length-stop (s .args .x) (s .args .y) (s .args .visits),
+      length-place (s .args .x) (s .args .y) comma,
+      length-number (pos (s .args .visits)) newline,
+      ap length (spelled-pos (s .args .visits)),
+    )
 
--- src/lib.rt:117:1
 same-length : tie.Need-same-length
 same-length c = search needs
 
--- src/lib.rt:117:1
 returns : tie.Need-returns
-returns c = ?
+unfolding bytes
+returns c =
+    let s = c .before .before .before .before .before .before .before .before .before .before .before .before .before .before in
+    let w = rw (toZ-ofZ w64 (s .args .x) (s .fits .x), toZ-ofZ w64 (s .args .y) (s .fits .y))
+    at (c .before .before .before .before .before .before .put-place .ensures) in
+    let h : s .args .at ≤ length (s .args .out .now) = omega (arith, s .pre) in
+    rw (stop-text (s .args .x) (s .args .y) (s .args .visits))
+    (wrote-both (wrote-both (c .before .before .before .before .before .before .before .before .before .before .put .ensures) w h)
+    (c .before .before .put-nat .ensures) h)
 
 pub put-stop-spec : {M : Type 1} → statement M
 put-stop-spec =

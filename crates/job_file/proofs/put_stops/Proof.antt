@@ -1,66 +1,80 @@
+-- `job_file::put_stops` meets its contract. The loop's invariant: the lines of the first i stops are written.
+-- Assumes nothing.
+use mathlib.Core.Path.{_≡_, _∙_}
+use Prim.Native.Nat.{_≤_, _-_}
+use native.Mathlib.Omega.{arith}
+use lib.ListN.{length}
+use mir.Syntax.{w64}
+use mir.ValLaws.{toZ-ofZ}
+use Rattle.write.specs.Written.{Wrote}
+use Rattle.write.proofs.WrittenLaws.{wrote-nothing}
+use Rattle.job_file.specs.Texts.{stopTexts}
+use Rattle.job_file.proofs.TextLaws.{stops-none, stop-room, stop-wrote}
 use Rattle.job_file.proofs.put_stops.Statement.{statement}
 use Rattle.job_file.proofs.put_stops.Tie as tie
-use Rattle.job_file.proofs.put_stops.Reads as reads
-use Rattle.job_file.proofs.put_stops.Lts as lts
-use Rattle.job_file.proofs.put_stop.Reads as put-stop-reads
 
 abbrev Inv-loop : tie.InvT-loop
-Inv-loop out₀ start xs ys visits n at₀ i₀ out at i = ?
+Inv-loop out₀ start xs ys visits n at₀ i₀ out at i = (i ≤ n) × (length out ≡ length out₀) × Wrote out₀ start (stopTexts xs ys visits i) out at
 
 abbrev μ-loop : tie.MeasureT-loop
-μ-loop out₀ start xs ys visits n at₀ i₀ out at i = ?
+μ-loop out₀ start xs ys visits n at₀ i₀ out at i = n - i
 
--- src/lib.rt:152:5
 loop-holds : tie.Need-loop-holds Inv-loop μ-loop
-loop-holds c = ?
+loop-holds c =
+    let s = c .before .before .args in
+    (omega arith, omega arith, rw (stops-none (s .xs .now) (s .ys .now) (s .visits .now)) (wrote-nothing (s .out .now) (s .start) (s .start) (omega arith)))
 
--- src/lib.rt:153:32
 mul-put-stop : tie.Need-mul-put-stop Inv-loop μ-loop
-mul-put-stop c = ?
+mul-put-stop c = omega arith
 
--- src/lib.rt:153:32
 shared-slice-copy-out-put-stop : tie.Need-shared-slice-copy-out-put-stop Inv-loop μ-loop
-shared-slice-copy-out-put-stop c = ?
+shared-slice-copy-out-put-stop c = omega arith
 
--- src/lib.rt:153:39
 mul-put-stop-2 : tie.Need-mul-put-stop-2 Inv-loop μ-loop
-mul-put-stop-2 c = ?
+mul-put-stop-2 c = omega arith
 
--- src/lib.rt:153:39
 shared-slice-copy-out-put-stop-2 : tie.Need-shared-slice-copy-out-put-stop-2 Inv-loop μ-loop
-shared-slice-copy-out-put-stop-2 c = ?
+shared-slice-copy-out-put-stop-2 c = omega arith
 
--- src/lib.rt:153:46
 mul-put-stop-3 : tie.Need-mul-put-stop-3 Inv-loop μ-loop
-mul-put-stop-3 c = ?
+mul-put-stop-3 c = omega arith
 
--- src/lib.rt:153:46
 shared-slice-read-put-stop : tie.Need-shared-slice-read-put-stop Inv-loop μ-loop
-shared-slice-read-put-stop c = ?
+shared-slice-read-put-stop c = omega arith
 
--- src/lib.rt:153:9
 put-stop-requires : tie.Need-put-stop-requires Inv-loop μ-loop
-put-stop-requires c κs = ?
+put-stop-requires c κs =
+    let s = c .before .before .before .before .before .before .before .before in
+    let l = c .before .before .before .before .before .loop .inv in
+    stop-room {n = s .args .n} (s .args .xs .now) (s .args .ys .now) (s .args .visits .now) (l .2)
+    (toZ-ofZ w64 _ (record { sfits = c .before .before .put-stop-arg2 .given })) (toZ-ofZ w64 _ (record { sfits = c .before .put-stop-arg3 .given }))
+    (omega arith) (omega arith) (omega arith) (omega arith) (omega (arith, s .pre, l .1))
 
--- src/lib.rt:154:9
 add-i : tie.Need-add-i Inv-loop μ-loop
-add-i c = ?
+add-i c = omega arith
 
--- src/lib.rt:152:5
 loop-less : tie.Need-loop-less Inv-loop μ-loop
-loop-less c = ?
+loop-less c = omega arith
 
--- src/lib.rt:152:5
 loop-again : tie.Need-loop-again Inv-loop μ-loop
-loop-again c = ?
+loop-again c =
+    let s = c .before .before .before .before .before .before .before .before .before .before .before in
+    let l = c .before .before .before .before .before .before .before .before .loop .inv in (
+      omega arith,
+      c .before .before .put-stop .kept .0 ∙ l .1,
+      stop-wrote (s .args .xs .now) (s .args .ys .now) (s .args .visits .now) (l .2) (c .before .before .put-stop .ensures)
+          (toZ-ofZ w64 _ (record { sfits = c .before .before .before .before .before .put-stop-arg2 .given }))
+          (toZ-ofZ w64 _ (record { sfits = c .before .before .before .before .put-stop-arg3 .given }))
+          (omega arith) (omega arith) (omega arith) (omega (arith, s .pre)),
+    )
 
--- src/lib.rt:144:1
 same-length : tie.Need-same-length Inv-loop μ-loop
-same-length c = ?
+same-length c = c .before .loop .inv .1
 
--- src/lib.rt:144:1
 returns : tie.Need-returns Inv-loop μ-loop
-returns c = ?
+returns c =
+    let e : c .before .loop .i ≡ c .before .before .before .before .args .n = omega arith in
+    rw e at (c .before .loop .inv .2)
 
 pub put-stops-spec : {M : Type 1} → statement M
 put-stops-spec =

@@ -1,83 +1,84 @@
+-- `job_file::stops_len` meets its contract. The loop's invariant: the lines of the first i stops are counted.
+-- Assumes nothing.
+use mathlib.Core.Path.{_≡_, sym, ap, _∙_}
+use Prim.Native.Nat.{ℕ, _*_, _≤_, _-_}
+use native.Mathlib.Omega.{arith}
+use lib.ListN.{length}
+use mir.Syntax.{w64}
+use mir.ValLaws.{toZ-ofZ}
+use Rattle.job_file.specs.Texts.{stopTexts}
+use Rattle.job_file.proofs.TextLaws.{stops-none, stop-counted}
 use Rattle.job_file.proofs.stops_len.Statement.{statement}
 use Rattle.job_file.proofs.stops_len.Tie as tie
-use Rattle.job_file.proofs.stops_len.Reads as reads
-use Rattle.job_file.proofs.stops_len.Lts as lts
-use Rattle.job_file.proofs.place_len.Reads as place-len-reads
-use Rattle.write.proofs.nat_len.Reads as nat-len-reads
 
 abbrev Inv-loop : tie.InvT-loop
-Inv-loop xs ys visits n len₀ i₀ len i = ?
+Inv-loop xs ys visits n len₀ i₀ len i = (i ≤ n) × (len ≡ length (stopTexts xs ys visits i)) × (len ≤ i * 70)
 
 abbrev μ-loop : tie.MeasureT-loop
-μ-loop xs ys visits n len₀ i₀ len i = ?
+μ-loop xs ys visits n len₀ i₀ len i = n - i
 
--- src/lib.rt:47:5
 loop-holds : tie.Need-loop-holds Inv-loop μ-loop
-loop-holds c = ?
+loop-holds c = (omega arith, sym (ap length (stops-none (c .before .args .xs .now) (c .before .args .ys .now) (c .before .args .visits .now))), omega arith)
 
--- src/lib.rt:48:30
 mul-place-len : tie.Need-mul-place-len Inv-loop μ-loop
-mul-place-len c = ?
+mul-place-len c = omega arith
 
--- src/lib.rt:48:30
 shared-slice-copy-out-place-len : tie.Need-shared-slice-copy-out-place-len Inv-loop μ-loop
-shared-slice-copy-out-place-len c = ?
+shared-slice-copy-out-place-len c = omega arith
 
--- src/lib.rt:48:37
 mul-place-len-2 : tie.Need-mul-place-len-2 Inv-loop μ-loop
-mul-place-len-2 c = ?
+mul-place-len-2 c = omega arith
 
--- src/lib.rt:48:37
 shared-slice-copy-out-place-len-2 : tie.Need-shared-slice-copy-out-place-len-2 Inv-loop μ-loop
-shared-slice-copy-out-place-len-2 c = ?
+shared-slice-copy-out-place-len-2 c = omega arith
 
--- src/lib.rt:48:20
 place-len-requires : tie.Need-place-len-requires Inv-loop μ-loop
-place-len-requires c κs = ?
+place-len-requires c κs = tt
 
--- src/lib.rt:48:16
 add-len : tie.Need-add-len Inv-loop μ-loop
-add-len c = ?
+add-len c = omega arith
 
--- src/lib.rt:48:61
 mul-nat-len : tie.Need-mul-nat-len Inv-loop μ-loop
-mul-nat-len c = ?
+mul-nat-len c = omega arith
 
--- src/lib.rt:48:61
 shared-slice-read-nat-len : tie.Need-shared-slice-read-nat-len Inv-loop μ-loop
-shared-slice-read-nat-len c = ?
+shared-slice-read-nat-len c = omega arith
 
--- src/lib.rt:48:46
 nat-len-requires : tie.Need-nat-len-requires Inv-loop μ-loop
-nat-len-requires c κs = ?
+nat-len-requires c κs = tt
 
--- src/lib.rt:48:16
 add-len-2 : tie.Need-add-len-2 Inv-loop μ-loop
-add-len-2 c = ?
+add-len-2 c = omega arith
 
--- src/lib.rt:48:16
 add-len-3 : tie.Need-add-len-3 Inv-loop μ-loop
-add-len-3 c = ?
+add-len-3 c = omega arith
 
--- src/lib.rt:48:9
 add-len-4 : tie.Need-add-len-4 Inv-loop μ-loop
-add-len-4 c = ?
+add-len-4 c = omega arith
 
--- src/lib.rt:49:9
 add-i : tie.Need-add-i Inv-loop μ-loop
-add-i c = ?
+add-i c = omega arith
 
--- src/lib.rt:47:5
 loop-less : tie.Need-loop-less Inv-loop μ-loop
-loop-less c = ?
+loop-less c = omega arith
 
--- src/lib.rt:47:5
 loop-again : tie.Need-loop-again Inv-loop μ-loop
-loop-again c = ?
+loop-again c =
+    let s = c .before .before .before .before .before .before .before .before .args in (
+      omega arith,
+      stop-counted (s .xs .now) (s .ys .now) (s .visits .now) (c .before .before .before .before .before .before .loop .inv .1)
+          (toZ-ofZ w64 _ (record { sfits = c .before .before .before .before .place-len-arg .given }))
+          (toZ-ofZ w64 _ (record { sfits = c .before .before .before .place-len-arg2 .given }))
+          (c .before .before .place-len .ensures .0) (c .nat-len .ensures .0)
+          (omega arith) (omega arith) (omega arith),
+      omega arith,
+    )
 
--- src/lib.rt:40:1
 returns : tie.Need-returns Inv-loop μ-loop
-returns c = ?
+returns c =
+    let s = c .before .before .before .args in
+    let e : c .before .loop .i ≡ s .n = omega arith in
+    (c .before .loop .inv .1 ∙ ap (λ (k : ℕ). length (stopTexts (s .xs .now) (s .ys .now) (s .visits .now) k)) e, omega arith)
 
 pub stops-len-spec : {M : Type 1} → statement M
 stops-len-spec =
