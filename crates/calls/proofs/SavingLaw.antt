@@ -61,22 +61,30 @@ module _ (job : List ℕ) where
   unfolding readCall readAs
   read-refused why e = ap readAs e
 
--- ---- how the call `write` ends
+-- ---- the call `write`, by what reading the file gives
+module _ (deck : Deck) (rounds : ℕ) (out : List ℕ) where
+  pub file-refused : (why : Refusal) → readText (fileText deck rounds) ≡ refused why → writeCall deck rounds out ≡ notSaved why out
+  unfolding writeCall savedAs
+  file-refused why e = ap (λ (r : Result). savedAs r (fileText deck rounds) out) e
+
+  module _ (job : Job) (e : readText (fileText deck rounds) ≡ accepted job) where
+    pub file-short : length out < length (fileText deck rounds) → writeCall deck rounds out ≡ notSaved ShortOutput out
+    unfolding writeCall savedAs
+    file-short h = ap (λ (r : Result). savedAs r (fileText deck rounds) out) e ∙ cond-true (ltb (length out) (length (fileText deck rounds))) _ _ (lt→ltb _ _ h)
+
+    pub file-written : length (fileText deck rounds) ≤ length out →
+        writeCall deck rounds out ≡ record { answer = gives (length (fileText deck rounds)); out = overwritten (fileText deck rounds) out }
+    unfolding writeCall savedAs
+    file-written h = ap (λ (r : Result). savedAs r (fileText deck rounds) out) e
+        ∙ cond-false (ltb (length out) (length (fileText deck rounds))) _ _ (le→nltb _ _ h)
+
+-- ---- how it ends
 module _ (deck : Deck) (rounds : ℕ) (out : List ℕ) (sized : Sized deck) where
   data Ends : Type 0 where
     refuses-file : (why : Refusal) → readText (fileText deck rounds) ≡ refused why → writeCall deck rounds out ≡ notSaved why out → Ends
     too-short : Saveable deck rounds → length out < length (spell (heldJob deck rounds)) → writeCall deck rounds out ≡ notSaved ShortOutput out → Ends
     writes : Saveable deck rounds → length (spell (heldJob deck rounds)) ≤ length out → writeCall deck rounds out
         ≡ record { answer = gives (length (spell (heldJob deck rounds))); out = overwritten (spell (heldJob deck rounds)) out } → Ends
-
-  file-refused : (why : Refusal) → readText (fileText deck rounds) ≡ refused why → writeCall deck rounds out ≡ notSaved why out
-  unfolding writeCall savedAs
-  file-refused why e = ap (λ (r : Result). savedAs r (fileText deck rounds) out) e
-
-  accepted-ends : {job : Job} → readText (fileText deck rounds) ≡ accepted job → fileText deck rounds ≡ spell (heldJob deck rounds) →
-      writeCall deck rounds out ≡ savedAs (accepted job) (spell (heldJob deck rounds)) out
-  unfolding writeCall
-  accepted-ends e t = ap₂ (λ (r : Result) (text : List ℕ). savedAs r text out) e t
 
   saveable-read : Saveable deck rounds → readText (fileText deck rounds) ≡ accepted (heldJob deck rounds)
   saveable-read s = allowed-text (fileText deck rounds) (heldJob deck rounds) (file-spelled deck rounds sized (s .few-posts) (s .few-stops)) (s .allowed)
@@ -86,19 +94,18 @@ module _ (deck : Deck) (rounds : ℕ) (out : List ℕ) (sized : Sized deck) wher
     same-text = file-spelled deck rounds sized (s .few-posts) (s .few-stops)
 
     short-ends : length out < length (spell (heldJob deck rounds)) → writeCall deck rounds out ≡ notSaved ShortOutput out
-    unfolding savedAs
-    short-ends h = accepted-ends (saveable-read s) same-text ∙ cond-true (ltb (length out) (length (spell (heldJob deck rounds)))) _ _ (lt→ltb _ _ h)
+    short-ends h = file-short deck rounds out (heldJob deck rounds) (saveable-read s) (rw same-text h)
 
     written-ends : length (spell (heldJob deck rounds)) ≤ length out → writeCall deck rounds out
         ≡ record { answer = gives (length (spell (heldJob deck rounds))); out = overwritten (spell (heldJob deck rounds)) out }
-    unfolding savedAs
-    written-ends h = accepted-ends (saveable-read s) same-text ∙ cond-false (ltb (length out) (length (spell (heldJob deck rounds)))) _ _ (le→nltb _ _ h)
+    written-ends h = file-written deck rounds out (heldJob deck rounds) (saveable-read s) (rw same-text h)
+        ∙ ap (λ (text : List ℕ). record { answer = gives (length text); out = overwritten text out }) same-text
 
   ends : Ends
   ends = go (readText (fileText deck rounds)) refl
     where
       go : (r : Result) → readText (fileText deck rounds) ≡ r → Ends
-      go (refused why) e = refuses-file why e (file-refused why e)
+      go (refused why) e = refuses-file why e (file-refused deck rounds out why e)
       go (accepted job) e =
           let f = file-is deck rounds sized (ap refusalIn e) in
           let s : Saveable deck rounds = record { allowed = f .allowed; few-posts = f .few-posts; few-stops = f .few-stops } in
@@ -121,7 +128,7 @@ module _ (deck : Deck) (rounds : ℕ) (out : List ℕ) (sized : Sized deck) wher
       go (writes s h p) = absurd (not-refused _ _ _ (sym (answer-of p) ∙ e))
 
   applied : (why : Refusal) → WriteApplies deck rounds out why → writeCall deck rounds out .answer ≡ refusal why
-  applied why (in-file c) = answer-of (file-refused why (refused-law (fileText deck rounds) why .exactly-in-text .1 c))
+  applied why (in-file c) = answer-of (file-refused deck rounds out why (refused-law (fileText deck rounds) why .exactly-in-text .1 c))
   applied _ (short-output s h) = answer-of (short-ends s h)
 
   module _ (number line : ℕ) (e : writeCall deck rounds out .answer ≡ refuses number line) where
