@@ -1,5 +1,7 @@
 // The calls `siting::report` and `siting::exhaustive`, for the tests and benchmarks from Rust: a number of the answer, and all that the
-// first leaves in the memory that it is lent.
+// first leaves in the memory that it is lent. `records`: the calls that read and write jobs.
+pub mod records;
+
 use calls::Answer;
 use calls::Cheapest;
 use problem::Spot;
