@@ -1,11 +1,14 @@
-//! The C entry and the program against the reference, one input of libFuzzer at a time. An input is a job's bytes, whole.
-//! A difference is printed and ends the run; libFuzzer then saves the input.
+//! The C entry, the program and the calls that read and write a record against the reference, one input of libFuzzer at a time. An input
+//! is a job's bytes, whole; for the writer the numbers in it are a record too. A difference is printed and ends the run; libFuzzer then
+//! saves the input.
 
 #![no_main]
 
 mod mutate;
+mod record;
 
-use reference::{read, refusal_text, report_text, search, Refusal};
+use mutate::Random;
+use reference::{read, refusal_text, report_text, search, write, Record, Refusal};
 use std::ffi::c_void;
 use std::io::{ErrorKind, Write};
 use std::process::{abort, Command, Stdio};
@@ -13,6 +16,25 @@ use std::sync::{Mutex, MutexGuard};
 
 extern "C" {
     fn siting_report(job: *const u8, job_length: usize, out: *mut u8, out_length: usize) -> i64;
+    fn trial_read(
+        job: *const u8,
+        len: usize,
+        coordinates: *mut i64,
+        coordinates_len: usize,
+        naturals: *mut u64,
+        naturals_len: usize,
+        which: u64,
+    ) -> i64;
+    fn trial_write(
+        coordinates: *const i64,
+        coordinates_len: usize,
+        naturals: *const u64,
+        naturals_len: usize,
+        rounds: u64,
+        out: *mut u8,
+        out_len: usize,
+        which: u64,
+    ) -> i64;
     fn blocks_watch();
     fn blocks_print();
     fn mmap(at: *mut c_void, length: usize, access: i32, flags: i32, file: i32, offset: i64) -> *mut c_void;
@@ -24,6 +46,9 @@ extern "C" {
 const PAGE: usize = 4_096;
 /// The bytes beside what is lent that are looked at too.
 const BESIDE: usize = 200;
+/// The numbers of a record's two lists.
+const COORDINATES: usize = 1_156;
+const NATURALS: usize = 514;
 
 /// Whole pages between two that may not be touched.
 struct Lent {
@@ -54,6 +79,9 @@ impl Lent {
 struct State {
     job: Lent,
     out: Lent,
+    coordinates: Lent,
+    naturals: Lent,
+    saved: Lent,
     program: String,
     /// The program gets one input of so many.
     every: u64,
@@ -62,6 +90,9 @@ struct State {
     done: u64,
     stopped: u64,
     refused: [u64; 9],
+    records: u64,
+    written: u64,
+    not_written: [u64; 9],
 }
 
 static STATE: Mutex<Option<State>> = Mutex::new(None);
@@ -79,6 +110,9 @@ extern "C" fn LLVMFuzzerInitialize(_: *mut c_void, _: *mut c_void) -> i32 {
     *state() = Some(State {
         job: Lent::new(5 * PAGE),
         out: Lent::new(PAGE),
+        coordinates: Lent::new(3 * PAGE),
+        naturals: Lent::new(2 * PAGE),
+        saved: Lent::new(4 * PAGE),
         program: variable("FUZZ_PROGRAM"),
         every: variable("FUZZ_EVERY").parse().unwrap(),
         inputs: 0,
@@ -86,6 +120,9 @@ extern "C" fn LLVMFuzzerInitialize(_: *mut c_void, _: *mut c_void) -> i32 {
         done: 0,
         stopped: 0,
         refused: [0; 9],
+        records: 0,
+        written: 0,
+        not_written: [0; 9],
     });
     unsafe {
         // a write to a program that has ended is an error, not a signal: 13 is SIGPIPE, 1 is SIG_IGN
@@ -100,6 +137,7 @@ extern "C" fn last() {
     if let Some(s) = &*state() {
         println!("{} inputs: {} done, {} stopped, refusals 1 to 6 {:?}", s.inputs, s.done, s.stopped, &s.refused[1..7]);
         println!("{} of them by the program too", s.programs);
+        println!("{} of {} records written, refusals 2 to 8 {:?}", s.written, s.records, &s.not_written[2..]);
     }
     unsafe { blocks_print() };
 }
@@ -118,6 +156,65 @@ fn place(lent: &mut Lent, length: usize, at_end: bool, fill: impl Fn(usize) -> u
     (bytes, first)
 }
 
+/// What a place holds before a call.
+fn pattern(fill: u8) -> impl Fn(usize) -> u8 {
+    move |i| (i as u8).wrapping_mul(31).wrapping_add(fill)
+}
+
+/// A job in its place. The bytes beside it could belong to it.
+fn place_job<'a>(lent: &'a mut Lent, bytes: &[u8], at_end: bool, fill: u8) -> (&'a mut [u8], usize) {
+    let (job, start) = place(lent, bytes.len(), at_end, |_| if fill % 2 == 0 { b'\n' } else { b'0' });
+    job[start..start + bytes.len()].copy_from_slice(bytes);
+    (job, start)
+}
+
+/// The bytes of numbers.
+fn bytes_of<T: Copy>(numbers: &[T]) -> &[u8] {
+    unsafe { std::slice::from_raw_parts(numbers.as_ptr().cast(), std::mem::size_of_val(numbers)) }
+}
+
+/// The places of a record's two lists, with what is beside them.
+struct Lists<'a> {
+    coordinates: (&'a mut [u8], usize),
+    naturals: (&'a mut [u8], usize),
+}
+
+fn place_lists<'a>(coordinates: &'a mut Lent, naturals: &'a mut Lent, at_end: bool, fill: u8) -> Lists<'a> {
+    Lists {
+        coordinates: place(coordinates, 8 * COORDINATES, at_end, pattern(fill)),
+        naturals: place(naturals, 8 * NATURALS, at_end, pattern(fill)),
+    }
+}
+
+impl Lists<'_> {
+    fn pointers(&mut self) -> (*mut i64, *mut u64) {
+        let ((c, i), (n, j)) = (&mut self.coordinates, &mut self.naturals);
+        (c[*i..].as_mut_ptr().cast(), n[*j..].as_mut_ptr().cast())
+    }
+
+    fn bytes(&self) -> (Vec<u8>, Vec<u8>) {
+        (self.coordinates.0.to_vec(), self.naturals.0.to_vec())
+    }
+
+    /// What they hold once they have a record.
+    fn with(&self, record: &Record) -> (Vec<u8>, Vec<u8>) {
+        let ((mut c, mut n), (i, j)) = (self.bytes(), (self.coordinates.1, self.naturals.1));
+        let (zs, ns) = record.lists();
+        c[i..i + 8 * COORDINATES].copy_from_slice(bytes_of(&zs));
+        n[j..j + 8 * NATURALS].copy_from_slice(bytes_of(&ns));
+        (c, n)
+    }
+
+    fn hold(&self, (c, n): &(Vec<u8>, Vec<u8>)) -> bool {
+        self.coordinates.0 == c && self.naturals.0 == n
+    }
+}
+
+/// The numbers of an answer: its value, the number of the refusal, the line. The last stands for numbers that no answer has.
+fn figures(answer: Result<i64, Refusal>) -> [i64; 4] {
+    answer.map_or_else(|why| [i64::MIN, why.number, why.line, i64::MIN], |value| [value, 0, 0, i64::MIN])
+}
+
 fn differs(what: &str, got: &str, want: &str) -> ! {
     eprintln!("DIFFERENCE: {what}\n-- got\n{got}\n-- the reference has\n{want}");
     abort()
@@ -126,12 +223,10 @@ fn differs(what: &str, got: &str, want: &str) -> ! {
 impl State {
     /// One call of the entry. Job and output stand at the ends of their pages, or at the starts.
     fn call(&mut self, bytes: &[u8], want: &Result<String, Refusal>, length: usize, at_end: bool, fill: u8) {
-        // the bytes beside the job could belong to it
-        let (job, start) = place(&mut self.job, bytes.len(), at_end, |_| if fill % 2 == 0 { b'\n' } else { b'0' });
-        job[start..start + bytes.len()].copy_from_slice(bytes);
+        let (job, start) = place_job(&mut self.job, bytes, at_end, fill);
         let job_before = job.to_vec();
 
-        let (out, first) = place(&mut self.out, length, at_end, |i| (i as u8).wrapping_mul(31).wrapping_add(fill));
+        let (out, first) = place(&mut self.out, length, at_end, pattern(fill));
         let mut after = out.to_vec();
         let result = match want {
             Err(why) => -why.number,
@@ -152,6 +247,80 @@ impl State {
         if job != job_before {
             differs("the job's bytes", "changed", "not changed");
         }
+    }
+
+    /// The call that reads the job: the answer's numbers, each number of the record, and what is beside them.
+    fn read(&mut self, bytes: &[u8], want: &Result<Record, Refusal>, at_end: bool, fill: u8) {
+        let (job, start) = place_job(&mut self.job, bytes, at_end, fill);
+        let job_before = job.to_vec();
+        let mut lists = place_lists(&mut self.coordinates, &mut self.naturals, at_end, fill);
+        let after = lists.with(want.as_ref().unwrap_or(&Record::ZEROS));
+        let answer = want.as_ref().map_or_else(|why| Err(*why), |record| Ok(record.rounds as i64));
+        for (which, figure) in (0..).zip(figures(answer)) {
+            let (zs, ns) = lists.pointers();
+            let got = unsafe { trial_read(job[start..].as_ptr(), bytes.len(), zs, COORDINATES, ns, NATURALS, which) };
+            if got != figure {
+                differs(&format!("number {which} of reading"), &got.to_string(), &figure.to_string());
+            }
+            if !lists.hold(&after) {
+                differs("the record that was read, as bytes", &format!("{:?}", lists.bytes()), &format!("{after:?}"));
+            }
+        }
+        if job != job_before {
+            differs("the job's bytes", "changed by reading", "not changed");
+        }
+    }
+
+    /// The call that writes a record into an output of `length` bytes.
+    fn write(&mut self, record: &Record, length: usize, at_end: bool, fill: u8) {
+        let want = write(record, length);
+        self.records += 1;
+        *(want.as_ref().map_or_else(|why| &mut self.not_written[why.number as usize], |_| &mut self.written)) += 1;
+        let mut lists = place_lists(&mut self.coordinates, &mut self.naturals, at_end, fill);
+        let held = lists.with(record);
+        lists.coordinates.0.copy_from_slice(&held.0);
+        lists.naturals.0.copy_from_slice(&held.1);
+        let (out, first) = place(&mut self.saved, length, at_end, pattern(fill));
+        let mut after = out.to_vec();
+        if let Ok(text) = &want {
+            after[first..first + text.len()].copy_from_slice(text);
+        }
+        let text = |bytes: &[u8]| bytes.escape_ascii().to_string();
+        for (which, figure) in (0..).zip(figures(want.map(|text| text.len() as i64))) {
+            let (zs, ns) = lists.pointers();
+            let got = unsafe { trial_write(zs, COORDINATES, ns, NATURALS, record.rounds, out[first..].as_mut_ptr(), length, which) };
+            if got != figure {
+                let what = format!("number {which} of writing {}, output of {length} bytes", text(&record.text()));
+                differs(&what, &got.to_string(), &figure.to_string());
+            }
+            if out != after {
+                differs(&format!("the record's output of {length} bytes from byte {first}"), &text(out), &text(&after));
+            }
+        }
+        if !lists.hold(&held) {
+            differs("the record's numbers", "changed by writing", "not changed");
+        }
+    }
+
+    /// The job's own record, if it is accepted, and others made of its numbers.
+    fn check_records(&mut self, bytes: &[u8], want: Result<Record, Refusal>, any: u64) {
+        let (at_end, fill, some) = (any >> 16 & 1 == 0, (any >> 24) as u8, any as usize % 300);
+        self.read(bytes, &want, at_end, fill);
+        let mut random = Random(any | 1);
+        let mut record = record::of(bytes, &mut random);
+        if let Ok(own) = want {
+            if write(&own, bytes.len()).as_deref() != Ok(bytes) {
+                differs("the reference's own text of an accepted job", &own.text().escape_ascii().to_string(), "the input");
+            }
+            self.write(&own, bytes.len(), at_end, fill);
+            self.write(&record, bytes.len() - 1, !at_end, fill);
+        } else {
+            self.write(&record, (bytes.len() + some).min(14_080), at_end, fill);
+        }
+        record::replace(&mut random, &mut record);
+        let length = record.text().len().min(14_080);
+        let lengths = [0, length - 1, length, length + some, length.min(some)];
+        self.write(&record, lengths[random.below(lengths.len())], at_end, fill);
     }
 
     fn run_program(&mut self, bytes: &[u8], want: &str) {
@@ -177,7 +346,9 @@ impl State {
     }
 
     fn check(&mut self, bytes: &[u8]) {
-        let want = match read(bytes) {
+        let job = read(bytes);
+        let record = job.as_ref().map_or_else(|why| Err(*why), |job| Ok(Record::of(job)));
+        let want = match job {
             Ok(job) => {
                 let found = search(&job);
                 *(if found.done { &mut self.done } else { &mut self.stopped }) += 1;
@@ -195,6 +366,7 @@ impl State {
         for (i, length) in lengths.into_iter().enumerate() {
             self.call(bytes, &want, length, (any as usize + i) % 2 == 0, (any >> 8) as u8 ^ i as u8);
         }
+        self.check_records(bytes, record, any);
         if self.inputs % self.every == 0 {
             self.run_program(bytes, &want.unwrap_or_else(refusal_text));
         }

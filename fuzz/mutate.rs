@@ -6,10 +6,11 @@ extern "C" {
     fn LLVMFuzzerMutate(data: *mut u8, length: usize, most: usize) -> usize;
 }
 
-struct Random(u64);
+/// Any state but 0.
+pub struct Random(pub u64);
 
 impl Random {
-    fn below(&mut self, n: usize) -> usize {
+    pub fn below(&mut self, n: usize) -> usize {
         // xorshift64*
         self.0 ^= self.0 >> 12;
         self.0 ^= self.0 << 25;

@@ -10,6 +10,7 @@ mod exhaustive;
 mod read;
 mod twin;
 mod whole;
+mod write;
 
 #[link(name = "trial", kind = "static")]
 extern "C" {
@@ -20,6 +21,16 @@ extern "C" {
 extern "C" {
     fn trial_report(job: *const u8, len: usize, cells: *mut i64, cells_len: usize, out: *mut u8, out_len: usize, which: u64) -> i64;
     fn trial_exhaustive(job: *const u8, len: usize, which: u64) -> i64;
+    fn trial_write(
+        coordinates: *const i64,
+        coordinates_len: usize,
+        naturals: *const u64,
+        naturals_len: usize,
+        rounds: u64,
+        out: *mut u8,
+        out_len: usize,
+        which: u64,
+    ) -> i64;
 }
 
 #[link(name = "kernels", kind = "static")]
@@ -144,6 +155,49 @@ fn growth() {
     }
 }
 
+/// The bytes written, or the least number for a refusal.
+fn proved_write(lists: &write::Lists, out: &mut [u8]) -> i64 {
+    let (c, n) = (&lists.coordinates, &lists.naturals);
+    unsafe { trial_write(c.as_ptr(), c.len(), n.as_ptr(), n.len(), lists.rounds, out.as_mut_ptr(), out.len(), 0) }
+}
+
+fn twin_write(lists: &write::Lists, out: &mut [u8]) -> i64 {
+    match write::write(&lists.coordinates, &lists.naturals, lists.rounds, out) {
+        Some(Ok(length)) => length as i64,
+        _ => i64::MIN,
+    }
+}
+
+/// Writing a job into an output of exactly its length: both must write the same bytes, those of `job` where it is given.
+fn compare_writing(name: &str, lists: &write::Lists, job: Option<&[u8]>) {
+    let turns = 20;
+    let mut text = vec![b'x'; 16_384];
+    let length = twin_write(lists, &mut text) as usize;
+    text.truncate(length);
+    assert!(job.is_none_or(|job| job == text), "{name}: another job");
+    assert_eq!(proved_write(lists, &mut vec![b'x'; length - 1]), i64::MIN, "{name}: written in too short an output");
+    let run = |write: fn(&write::Lists, &mut [u8]) -> i64| {
+        let mut out = vec![b'x'; length];
+        let (t, r) = timed(|| (0..turns).map(|_| write(black_box(lists), black_box(&mut out))).sum());
+        assert!(r == turns * length as i64 && out == text, "{name}: another text");
+        t / turns as f64 / 1e3
+    };
+    let (mut ours, mut theirs) = (f64::MAX, f64::MAX);
+    for _ in 0..4 * REPETITIONS {
+        ours = ours.min(run(proved_write));
+        theirs = theirs.min(run(twin_write));
+    }
+    println!("{:<52} {ours:>10.1} {theirs:>10.1} {:>7.2}", format!("{name}, {length} bytes"), ours / theirs);
+}
+
+fn writing() {
+    println!();
+    println!("{:<52} {:>10} {:>10} {:>7}", "writing, us a job", "proved", "twin", "ratio");
+    compare_writing("largest", &write::mixed(), None);
+    let typical = read::job(8, 40_001, 100, 6_325, 200);
+    compare_writing("typical", &write::lists(&typical), Some(&typical));
+}
+
 /// The exhaustive call, `turns` times: place and cost must be the same. The plain pass over all crossings, last of the twins, is long, and has few repetitions.
 fn compare_exhaustive(name: &str, job: &[u8], turns: usize, twins: &[(&str, fn(&[u8]) -> exhaustive::Spot)]) {
     let proved = |job: &[u8], which| unsafe { trial_exhaustive(job.as_ptr(), job.len(), which) };
@@ -193,4 +247,5 @@ fn main() {
     reports();
     exhaustive_calls();
     growth();
+    writing();
 }

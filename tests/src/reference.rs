@@ -1,5 +1,6 @@
-//! Document 01 as a plain program: reading, pricing, the search by cells over the whole partition, the full walk, the report text.
-//! It is written to be read beside document 01 and is slow on purpose: cells are never dropped, and nothing is kept in order.
+//! Document 01 as a plain program: reading, pricing, the search by cells over the whole partition, the full walk, the report text; and
+//! of document 02 the writing of jobs (card 1).
+//! It is written to be read beside these and is slow on purpose: cells are never dropped, and nothing is kept in order.
 
 use std::cmp::Ordering;
 
@@ -87,6 +88,11 @@ pub fn read(bytes: &[u8]) -> Result<Job, Refusal> {
     if bytes.len() > 16_384 {
         return Err(refuse(1, 0));
     }
+    read_text(bytes)
+}
+
+/// The same for text of any size: refusals 2 to 6.
+pub fn read_text(bytes: &[u8]) -> Result<Job, Refusal> {
     let mut lines = Lines { rest: bytes, line: 0 };
     let a = lines.next("area=", &[XY; 4])?;
     let area = Rect { xlo: a[0], ylo: a[1], xhi: a[2], yhi: a[3] };
@@ -127,6 +133,84 @@ pub fn spell(job: &Job) -> Vec<u8> {
     }
     text += &format!("rounds={}\n", job.rounds);
     text.into_bytes()
+}
+
+// ---- writing
+
+/// A deck's record and the rounds, as they are lent: any number may stand anywhere. The first `posts` and `stops` elements count.
+#[derive(Clone, Debug, PartialEq, Eq)]
+pub struct Record {
+    pub area: [i64; 4],
+    pub posts: u64,
+    pub post_x: [i64; 64],
+    pub post_y: [i64; 64],
+    pub stops: u64,
+    pub stop_x: [i64; 512],
+    pub stop_y: [i64; 512],
+    pub visits: [u64; 512],
+    pub rounds: u64,
+}
+
+impl Record {
+    pub const ZEROS: Record = Record {
+        area: [0; 4],
+        posts: 0,
+        post_x: [0; 64],
+        post_y: [0; 64],
+        stops: 0,
+        stop_x: [0; 512],
+        stop_y: [0; 512],
+        visits: [0; 512],
+        rounds: 0,
+    };
+
+    /// That of a job that was read: zeros behind its lists.
+    pub fn of(job: &Job) -> Record {
+        let a = job.area;
+        let mut record = Record { area: [a.xlo, a.ylo, a.xhi, a.yhi], rounds: job.rounds as u64, ..Record::ZEROS };
+        record.posts = job.posts.len() as u64;
+        for (i, p) in job.posts.iter().enumerate() {
+            (record.post_x[i], record.post_y[i]) = *p;
+        }
+        record.stops = job.stops.len() as u64;
+        for (i, s) in job.stops.iter().enumerate() {
+            (record.stop_x[i], record.stop_y[i]) = s.at;
+            record.visits[i] = s.visits as u64;
+        }
+        record
+    }
+
+    /// The text of its file. A count is written as it is; beyond its arrays it counts all of their elements.
+    pub fn text(&self) -> Vec<u8> {
+        let [xlo, ylo, xhi, yhi] = self.area;
+        let mut text = format!("area={xlo},{ylo},{xhi},{yhi}\nposts={}\n", self.posts);
+        for i in 0..self.posts.min(64) as usize {
+            text += &format!("post={},{}\n", self.post_x[i], self.post_y[i]);
+        }
+        text += &format!("stops={}\n", self.stops);
+        for i in 0..self.stops.min(512) as usize {
+            text += &format!("stop={},{},{}\n", self.stop_x[i], self.stop_y[i], self.visits[i]);
+        }
+        text += &format!("rounds={}\n", self.rounds);
+        text.into_bytes()
+    }
+
+    /// The lists of numbers by which the trial functions know it, the rounds left out.
+    pub fn lists(&self) -> (Vec<i64>, Vec<u64>) {
+        let coordinates = [&self.area[..], &self.post_x, &self.post_y, &self.stop_x, &self.stop_y].concat();
+        let naturals = [&[self.posts, self.stops][..], &self.visits].concat();
+        (coordinates, naturals)
+    }
+}
+
+/// The bytes that are written into an output of `room` bytes. The refusal is the one that the record's file would get, 1 aside; then 8.
+pub fn write(record: &Record, room: usize) -> Result<Vec<u8>, Refusal> {
+    let text = record.text();
+    read_text(&text)?;
+    if room < text.len() {
+        return Err(refuse(8, 0));
+    }
+    Ok(text)
 }
 
 // ---- pricing
@@ -373,6 +457,8 @@ mod tests {
         assert_eq!(exhaustive(&job), (13, (4, 3)));
         assert_eq!(brute_force(&job), (13, (4, 3)));
         assert_eq!(spell(&job), A.as_bytes());
+        assert_eq!(write(&Record::of(&job), A.len()), Ok(A.into()));
+        assert_eq!(write(&Record::of(&job), A.len() - 1), Err(Refusal { number: 8, line: 0 }));
     }
 
     #[test]

@@ -14,6 +14,25 @@ extern "C" {
 extern "C" {
     fn trial_report(job: *const u8, len: usize, cells: *mut i64, cells_len: usize, out: *mut u8, out_len: usize, which: u64) -> i64;
     fn trial_exhaustive(job: *const u8, len: usize, which: u64) -> i64;
+    fn trial_read(
+        job: *const u8,
+        len: usize,
+        coordinates: *mut i64,
+        coordinates_len: usize,
+        naturals: *mut u64,
+        naturals_len: usize,
+        which: u64,
+    ) -> i64;
+    fn trial_write(
+        coordinates: *const i64,
+        coordinates_len: usize,
+        naturals: *const u64,
+        naturals_len: usize,
+        rounds: u64,
+        out: *mut u8,
+        out_len: usize,
+        which: u64,
+    ) -> i64;
 }
 
 // ---- reading
@@ -109,4 +128,20 @@ pub fn exhaustive(job: &[u8], which: u64) -> i64 {
 /// The line of its refusal, and 0 for none.
 pub fn exhaustive_line(job: &[u8]) -> u64 {
     exhaustive_figure(job, 4) as u64
+}
+
+// ---- records, as the two lists of `Record::lists`. Lists of other lengths get the least number, and nothing changes
+
+/// A number of the read call's answer, from 0: the rounds, the number of the refusal, its line (0 and 0 for none). The least number where
+/// there is none. The lists get the record's numbers, or zeros.
+pub fn read(job: &[u8], coordinates: &mut [i64], naturals: &mut [u64], which: u64) -> i64 {
+    let (c, n) = (coordinates.len(), naturals.len());
+    unsafe { trial_read(job.as_ptr(), job.len(), coordinates.as_mut_ptr(), c, naturals.as_mut_ptr(), n, which) }
+}
+
+/// A number of the write call's answer, from 0: the bytes written, the number of the refusal, its line (0 and 0 for none). The least number
+/// where there is none.
+pub fn write(coordinates: &[i64], naturals: &[u64], rounds: u64, out: &mut [u8], which: u64) -> i64 {
+    let (c, n) = (coordinates.len(), naturals.len());
+    unsafe { trial_write(coordinates.as_ptr(), c, naturals.as_ptr(), n, rounds, out.as_mut_ptr(), out.len(), which) }
 }

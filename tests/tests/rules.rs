@@ -1,7 +1,7 @@
 //! The reference against itself: what document 01 promises of its rules, on random decks.
 
 use siting_tests::generate::{job, job_of, seed, Random};
-use siting_tests::reference::{brute_force, read, search, spell, exhaustive, Job};
+use siting_tests::reference::{brute_force, read, search, spell, exhaustive, write, Job, Record};
 
 #[test]
 fn a_finished_search_finds_the_earliest_cheapest_point() {
@@ -33,10 +33,12 @@ fn low_rises_and_high_falls() {
 }
 
 #[test]
-fn a_spelled_job_is_read_as_itself() {
+fn a_spelled_job_is_read_and_written_as_itself() {
     let mut random = Random::new(seed());
     for _ in 0..2_000 {
         let j = job(&mut random);
-        assert_eq!(read(&spell(&j)), Ok(j));
+        let text = spell(&j);
+        assert_eq!(write(&Record::of(&j), text.len()).as_ref(), Ok(&text));
+        assert_eq!(read(&text), Ok(j));
     }
 }

@@ -1,0 +1,675 @@
+//! The calls that read a job into a record and write a record as a job, against the reference: the answer, every number of the record and
+//! every byte of the output.
+
+use siting_tests::decks::{folder, CASE_A};
+use siting_tests::generate::{damaged, each_job, job, job_of, largest, noise, seed, special, Random};
+use siting_tests::reference::{read, spell, write, Record, Refusal};
+use siting_tests::trial;
+
+const LEAST: i64 = i64::MIN;
+
+/// The bytes before and behind the output that must stay too.
+const BESIDE: usize = 16;
+
+fn text(bytes: &[u8]) -> String {
+    String::from_utf8_lossy(bytes).into_owned()
+}
+
+// ---- checks
+
+/// The numbers that an answer has, from 0, and one that none has.
+fn figures(random: &mut Random, answer: Result<i64, Refusal>) -> [(u64, i64); 4] {
+    let [value, number, line] = answer.map_or_else(|r| [LEAST, r.number, r.line], |value| [value, 0, 0]);
+    let none = pick(random, &[3, 4, 1 << 32, (1 << 32) + 1, 1 << 63, u64::MAX]);
+    [(0, value), (1, number), (2, line), (none, LEAST)]
+}
+
+/// A record written into an output of `room` bytes.
+fn check_write(random: &mut Random, record: &Record, room: usize) -> Result<Vec<u8>, Refusal> {
+    let want = write(record, room);
+    let (coordinates, naturals) = record.lists();
+    let before: Vec<u8> = (0..room + 2 * BESIDE).map(|_| random.next() as u8).collect();
+    let mut after = before.clone();
+    if let Ok(bytes) = &want {
+        after[BESIDE..BESIDE + bytes.len()].copy_from_slice(bytes);
+    }
+    let answer = want.as_ref().map_or_else(|r| Err(*r), |bytes| Ok(bytes.len() as i64));
+    for (which, figure) in figures(random, answer) {
+        let mut out = before.clone();
+        let got = trial::write(&coordinates, &naturals, record.rounds, &mut out[BESIDE..BESIDE + room], which);
+        assert_eq!(got, figure, "figure {which}, output of {room} bytes\n{}", text(&record.text()));
+        assert!(out == after, "output of {room} bytes: {}\n{}", text(&out[BESIDE..]), text(&record.text()));
+    }
+    want
+}
+
+/// A job's bytes read into lists that held other numbers.
+fn check_read(random: &mut Random, bytes: &[u8]) -> Result<Record, Refusal> {
+    let want = read(bytes).map(|job| Record::of(&job));
+    let after = want.as_ref().unwrap_or(&Record::ZEROS).lists();
+    for (which, figure) in figures(random, want.as_ref().map_or_else(|r| Err(*r), |record| Ok(record.rounds as i64))) {
+        let mut coordinates: Vec<i64> = (0..1_156).map(|_| random.next() as i64).collect();
+        let mut naturals: Vec<u64> = (0..514).map(|_| random.next()).collect();
+        assert_eq!(trial::read(bytes, &mut coordinates, &mut naturals, which), figure, "figure {which}\n{}", text(bytes));
+        assert!((&coordinates, &naturals) == (&after.0, &after.1), "record {coordinates:?} {naturals:?}\n{}", text(bytes));
+    }
+    want
+}
+
+/// An accepted job is read, and written into outputs of its length, one byte less, more and none.
+fn check_own_bytes(random: &mut Random, bytes: &[u8]) {
+    let record = check_read(random, bytes).unwrap();
+    for room in [bytes.len(), bytes.len() + 1, bytes.len() + random.range(2, 500) as usize] {
+        assert!(check_write(random, &record, room).as_deref() == Ok(bytes), "{}", text(bytes));
+    }
+    for room in [0, bytes.len() - 1, random.range(1, bytes.len() as i64 - 1) as usize] {
+        assert_eq!(check_write(random, &record, room), Err(Refusal { number: 8, line: 0 }), "{}", text(bytes));
+    }
+}
+
+/// What the call writes, with more than enough room.
+fn written(record: &Record) -> Option<Vec<u8>> {
+    let (coordinates, naturals) = record.lists();
+    let mut out = vec![0; 16_384];
+    let n = trial::write(&coordinates, &naturals, record.rounds, &mut out, 0);
+    out.truncate(usize::try_from(n).ok()?);
+    Some(out)
+}
+
+/// How often each answer was seen.
+#[derive(Default, Debug)]
+struct Seen {
+    accepted: usize,
+    refusals: [usize; 9],
+}
+
+impl Seen {
+    fn add<T>(&mut self, answer: Result<T, Refusal>) {
+        match answer {
+            Ok(_) => self.accepted += 1,
+            Err(r) => self.refusals[r.number as usize] += 1,
+        }
+    }
+
+    /// Whether it has the refusals that it may have, each so often, and no other.
+    fn has(&self, numbers: std::ops::RangeInclusive<usize>, often: usize) -> bool {
+        println!("{self:?}");
+        (0..9).all(|i| if numbers.contains(&i) && i != 7 { self.refusals[i] >= often } else { self.refusals[i] == 0 })
+    }
+}
+
+// ---- records
+
+/// The ends of the ranges, of ten digits and of the machine's numbers, and what could be mistaken for a number in range.
+#[rustfmt::skip]
+const COORDINATES: [i64; 27] = [
+    0, 1, -1, 9, -10, 19_999, 20_000, -20_000, 20_001, -20_001, 65_535, 65_536, 99_999, -100_000, 999_999_999, -999_999_999,
+    1_000_000_000, -1_000_000_000, 1 << 32, (1 << 32) + 5, -(1 << 32) - 5, i32::MIN as i64, i32::MAX as i64,
+    i64::MIN, i64::MIN + 1, i64::MAX, i64::MAX - 1,
+];
+#[rustfmt::skip]
+const NATURALS: [u64; 27] = [
+    0, 1, 2, 63, 64, 65, 511, 512, 513, 999, 1_000, 1_001, 65_534, 65_535, 65_536, 65_537, 999_999_999, 1_000_000_000, 1_000_000_001,
+    1 << 32, (1 << 32) + 1, i64::MAX as u64, 1 << 63, (1 << 63) + 1, 9_999_999_999_999_999_999, 10_000_000_000_000_000_000, u64::MAX,
+];
+/// One number in so many from these: none.
+const NEVER: i64 = 1 << 40;
+
+fn pick<T: Copy>(random: &mut Random, from: &[T]) -> T {
+    from[random.range(0, from.len() as i64 - 1) as usize]
+}
+
+fn coordinate(random: &mut Random, ends: i64) -> i64 {
+    if random.one_in(ends) {
+        return pick(random, &COORDINATES);
+    }
+    let size = pick(random, &[9, 99, 999, 20_000]);
+    random.range(-size, size)
+}
+
+fn natural(random: &mut Random, ends: i64, lo: i64, hi: i64) -> u64 {
+    if random.one_in(ends) {
+        return pick(random, &NATURALS);
+    }
+    random.range(lo, hi) as u64
+}
+
+/// Numbers for all elements behind the lists.
+fn litter(random: &mut Random, record: &mut Record, ends: i64) {
+    for i in record.posts.min(64) as usize..64 {
+        (record.post_x[i], record.post_y[i]) = (coordinate(random, ends), coordinate(random, ends));
+    }
+    for i in record.stops.min(512) as usize..512 {
+        (record.stop_x[i], record.stop_y[i]) = (coordinate(random, ends), coordinate(random, ends));
+        record.visits[i] = natural(random, ends, 1, 65_535);
+    }
+}
+
+/// The record of a valid job, with numbers behind its lists.
+fn valid(random: &mut Random, ends: i64) -> Record {
+    let mut record = Record::of(&match random.range(1, 12) {
+        1 => largest(random),
+        2..=4 => special(random),
+        _ => job(random),
+    });
+    litter(random, &mut record, ends);
+    record
+}
+
+/// Which post and which stop: one that counts, if any does.
+fn items(random: &mut Random, record: &Record) -> (usize, usize) {
+    let mut item = |n: u64, most: u64| random.range(0, n.clamp(1, most) as i64 - 1) as usize;
+    (item(record.posts, 64), item(record.stops, 512))
+}
+
+/// An end in the place of a number that counts.
+fn replace(random: &mut Random, record: &mut Record) {
+    let (post, stop) = items(random, record);
+    let (z, n) = (pick(random, &COORDINATES), pick(random, &NATURALS));
+    match random.range(1, 9) {
+        1 => record.area[random.range(0, 3) as usize] = z,
+        2 => record.posts = n,
+        3 => record.post_x[post] = z,
+        4 => record.post_y[post] = z,
+        5 => record.stops = n,
+        6 => record.stop_x[stop] = z,
+        7 => record.stop_y[stop] = z,
+        8 => record.visits[stop] = n,
+        _ => record.rounds = n,
+    }
+}
+
+/// Another number in range in the place of one that counts.
+fn alter(random: &mut Random, record: &mut Record) {
+    let (post, stop) = items(random, record);
+    let mut other = |old: i64, lo: i64, hi: i64| loop {
+        let new = if random.one_in(2) { random.range(lo, hi) } else { (old + random.range(-1, 1)).clamp(lo, hi) };
+        if new != old {
+            return new;
+        }
+    };
+    let (which, corner) = (other(0, 1, 9), other(-1, 0, 3) as usize);
+    let mut xy = |z: &mut i64| *z = other(*z, -20_000, 20_000);
+    match which {
+        1 => xy(&mut record.area[corner]),
+        2 => xy(&mut record.post_x[post]),
+        3 => xy(&mut record.post_y[post]),
+        4 => xy(&mut record.stop_x[stop]),
+        5 => xy(&mut record.stop_y[stop]),
+        6 => record.posts = other(record.posts as i64, 1, 64) as u64,
+        7 => record.stops = other(record.stops as i64, 1, 512) as u64,
+        8 => record.visits[stop] = other(record.visits[stop] as i64, 1, 65_535) as u64,
+        _ => record.rounds = other(record.rounds as i64, 0, 1_000) as u64,
+    }
+}
+
+/// A record of any numbers, one in `ends` of them an end; the area is mostly not an empty one.
+fn drawn(random: &mut Random, ends: i64) -> Record {
+    let mut record = Record::ZEROS;
+    litter(random, &mut record, ends);
+    record.area.iter_mut().for_each(|z| *z = coordinate(random, ends));
+    if !random.one_in(4) {
+        let [x, y, u, v] = record.area;
+        record.area = [x.min(u), y.min(v), x.max(u), y.max(v)];
+    }
+    let most = pick(random, &[3, 64, 512]);
+    record.posts = natural(random, ends, 0, most.min(64));
+    record.stops = natural(random, ends, 0, most);
+    record.rounds = natural(random, ends, 0, 1_000);
+    record
+}
+
+/// The record whose lists are the first elements of this one's, and zeros behind them.
+fn without_litter(record: &Record) -> Record {
+    let mut clean = record.clone();
+    for i in record.posts.min(64) as usize..64 {
+        (clean.post_x[i], clean.post_y[i]) = (0, 0);
+    }
+    for i in record.stops.min(512) as usize..512 {
+        (clean.stop_x[i], clean.stop_y[i], clean.visits[i]) = (0, 0, 0);
+    }
+    clean
+}
+
+// ---- jobs
+
+#[test]
+fn accepted_jobs_come_out_in_their_own_bytes() {
+    each_job(6_000, |random| spell(&job(random)), check_own_bytes);
+    each_job(2_000, |random| spell(&special(random)), check_own_bytes);
+    each_job(100, |random| spell(&largest(random)), check_own_bytes);
+}
+
+#[test]
+fn every_output_length_of_one_job() {
+    let mut random = Random::new(seed());
+    let bytes = spell(&job_of(&mut random, 30, 6));
+    let record = check_read(&mut random, &bytes).unwrap();
+    let mut seen = Seen::default();
+    for room in 0..=bytes.len() + 40 {
+        seen.add(check_write(&mut random, &record, room));
+    }
+    assert_eq!((seen.accepted, seen.refusals[8]), (41, bytes.len()));
+}
+
+#[test]
+fn jobs_are_read_as_the_reference_reads_them() {
+    let mut seen = Seen::default();
+    each_job(12_000, damaged, |random, bytes| seen.add(check_read(random, bytes)));
+    each_job(2_000, noise, |random, bytes| seen.add(check_read(random, bytes)));
+    each_job(
+        1_000,
+        |random| valid(random, NEVER).text(),
+        |random, bytes| {
+            seen.add(check_read(random, bytes));
+            let end = random.range(0, bytes.len() as i64 - 1) as usize;
+            seen.add(check_read(random, &bytes[..end]));
+        },
+    );
+    assert!(seen.has(1..=6, 100) && seen.accepted > 1_000);
+}
+
+#[test]
+fn the_files_of_examples_and_seeds() {
+    let mut random = Random::new(seed());
+    let mut seen = Seen::default();
+    for folder in [folder(), folder().join("../fuzz/seeds")] {
+        for file in std::fs::read_dir(folder).unwrap().map(|f| f.unwrap().path()) {
+            if file.extension().is_some_and(|e| e == "job") {
+                let bytes = std::fs::read(&file).unwrap();
+                let answer = check_read(&mut random, &bytes);
+                if answer.is_ok() {
+                    check_own_bytes(&mut random, &bytes);
+                }
+                seen.add(answer);
+            }
+        }
+    }
+    println!("{seen:?}");
+    assert!(seen.accepted >= 12 && (2..=6).all(|i| seen.refusals[i] > 0), "{seen:?}");
+}
+
+/// Each number that a job may have, written and read.
+#[test]
+fn every_number_in_range() {
+    let mut random = Random::new(seed());
+    let mut visits = 0;
+    for first in (1..=65_535).step_by(512) {
+        let mut record = Record { posts: 1, stops: 512, ..Record::ZEROS };
+        for i in 0..512 {
+            record.visits[i] = (first + i as u64).min(65_535);
+            visits = visits.max(record.visits[i]);
+            let x = (first as i64 + i as i64) % 40_001 - 20_000;
+            (record.stop_x[i], record.stop_y[i]) = (x, -x);
+        }
+        for i in 0..64 {
+            (record.post_x[i], record.post_y[i]) = (-record.stop_x[i], record.stop_x[i]);
+        }
+        record.area = [record.stop_x[0].min(0), -20_000, record.stop_x[0].max(0), 20_000];
+        check_own_bytes(&mut random, &record.text());
+    }
+    assert_eq!(visits, 65_535);
+    let mut record = Record { posts: 1, stops: 1, ..Record::ZEROS };
+    litter(&mut random, &mut record, NEVER);
+    record.visits[0] = 1;
+    for rounds in 0..=1_000 {
+        record.rounds = rounds;
+        record.posts = rounds % 64 + 1;
+        record.stops = rounds % 512 + 1;
+        check_own_bytes(&mut random, &record.text());
+    }
+}
+
+#[test]
+fn the_longest_job_has_14_080_bytes() {
+    let mut random = Random::new(seed());
+    let low = -20_000;
+    let record = Record {
+        area: [low; 4],
+        posts: 64,
+        post_x: [low; 64],
+        post_y: [low; 64],
+        stops: 512,
+        stop_x: [low; 512],
+        stop_y: [low; 512],
+        visits: [65_535; 512],
+        rounds: 1_000,
+    };
+    let bytes = check_write(&mut random, &record, 14_080).unwrap();
+    assert_eq!(bytes.len(), 14_080);
+    assert_eq!(check_write(&mut random, &record, 14_079), Err(Refusal { number: 8, line: 0 }));
+    assert!(check_read(&mut random, &bytes) == Ok(record));
+    check_own_bytes(&mut random, &bytes);
+}
+
+// ---- records of any numbers
+
+#[test]
+fn records_are_written_or_refused_as_the_reference_says() {
+    let mut random = Random::new(seed());
+    let mut seen = Seen::default();
+    for i in 0..24_000 {
+        let ends = pick(&mut random, &[1, 2, 30, NEVER]);
+        let mut record = valid(&mut random, ends);
+        if i % 8 == 0 {
+            // what 4, 5 and 6 are about
+            let corner = random.range(0, 3) as usize;
+            record.area.swap(corner, (corner + random.range(0, 1) as usize * 2) % 4);
+            record.posts = pick(&mut random, &[0, 1, record.posts]);
+            record.stops = pick(&mut random, &[0, 1, record.stops]);
+        }
+        for _ in 0..i % 4 {
+            replace(&mut random, &mut record);
+        }
+        let length = record.text().len();
+        let room = pick(&mut random, &[length, length, length - 1, 0, length + 1, length + 100]);
+        seen.add(check_write(&mut random, &record, room));
+    }
+    assert!(seen.has(2..=8, 200) && seen.accepted > 2_000);
+}
+
+#[test]
+fn records_of_any_numbers_are_written_or_refused_as_the_reference_says() {
+    let mut random = Random::new(seed());
+    let mut seen = Seen::default();
+    for _ in 0..8_000 {
+        let ends = pick(&mut random, &[1, 3, 20, 100, 1_000, 10_000, NEVER]);
+        let record = drawn(&mut random, ends);
+        let length = record.text().len();
+        let room = pick(&mut random, &[length, length, length - 1, 0, length + 1, length + 100]);
+        seen.add(check_write(&mut random, &record, room));
+    }
+    assert!(seen.has(2..=8, 50) && seen.accepted > 500);
+}
+
+/// Each number of the longest lists in turn, alone.
+#[test]
+fn every_number_of_a_full_record_is_looked_at() {
+    let mut random = Random::new(seed());
+    let record = Record { posts: 64, stops: 512, visits: [1; 512], ..Record::ZEROS };
+    let mut refused = |record: Record, refusal: Refusal| assert_eq!(check_write(&mut random, &record, 14_080), Err(refusal));
+    let columns: [(fn(&mut Record, usize) -> &mut i64, usize, i64); 4] = [
+        (|r, i| &mut r.post_x[i], 64, 3),
+        (|r, i| &mut r.post_y[i], 64, 3),
+        (|r, i| &mut r.stop_x[i], 512, 68),
+        (|r, i| &mut r.stop_y[i], 512, 68),
+    ];
+    for (number_of, count, first) in columns {
+        for i in 0..count {
+            for (value, number) in [(20_001, 3), (-20_001, 3), ((1 << 32) + 1, 2), (i64::MIN, 2)] {
+                let mut record = record.clone();
+                *number_of(&mut record, i) = value;
+                refused(record, Refusal { number, line: first + i as i64 });
+            }
+        }
+    }
+    for i in 0..512 {
+        for (value, number) in [(0, 3), (65_536, 3), (65_537, 3), (1_000_000_000, 2), ((1 << 32) + 1, 2), ((1 << 63) + 1, 2)] {
+            let mut record = record.clone();
+            record.visits[i] = value;
+            refused(record, Refusal { number, line: 68 + i as i64 });
+        }
+    }
+}
+
+/// Files longer than any job may be: 1 is not given for them.
+#[test]
+fn files_of_more_than_16_384_bytes() {
+    let mut random = Random::new(seed());
+    for (x, y, visits, number) in [
+        (i64::MIN, i64::MIN, u64::MAX, 2),
+        (i64::MAX, i64::MIN, 1 << 63, 2),
+        (-1_000_000_000, 0, 10_000_000_000_000_000_000, 2),
+        (-999_999_999, -999_999_999, 999_999_999, 3),
+    ] {
+        let mut record = Record { posts: 64, stops: 512, visits: [1; 512], ..Record::ZEROS };
+        for good in (0..512).rev() {
+            // from this stop on
+            (record.stop_x[good], record.stop_y[good], record.visits[good]) = (x, y, visits);
+            if good % 37 == 0 || good > 500 {
+                let room = record.text().len() - good % 2;
+                assert_eq!(check_write(&mut random, &record, room), Err(Refusal { number, line: 68 + good as i64 }));
+            }
+        }
+        let length = record.text().len();
+        assert!(length > 16_384 && read(&record.text()) == Err(Refusal { number: 1, line: 0 }), "{length}");
+        // the posts, then the area as well
+        (record.post_x, record.post_y) = ([x; 64], [y; 64]);
+        assert_eq!(check_write(&mut random, &record, 40_000), Err(Refusal { number, line: 3 }));
+        record.area = [x; 4];
+        assert_eq!(check_write(&mut random, &record, 40_000), Err(Refusal { number, line: 1 }));
+        record.rounds = u64::MAX;
+        assert_eq!(check_write(&mut random, &record, 0), Err(Refusal { number, line: 1 }));
+    }
+}
+
+#[test]
+fn counts_beyond_the_arrays() {
+    let mut random = Random::new(seed());
+    let mut seen = Seen::default();
+    for n in [0, 1, 64, 65, 512, 513, 999_999_999, 1_000_000_000, 1 << 32, (1 << 32) + 1, i64::MAX as u64, 1 << 63, u64::MAX] {
+        let number = if n < 1_000_000_000 { 3 } else { 2 };
+        let mut record = valid(&mut random, NEVER);
+        record.posts = n;
+        let want = check_write(&mut random, &record, 14_080);
+        if n > 64 {
+            assert_eq!(want, Err(Refusal { number, line: 2 }));
+        }
+        seen.add(want);
+        let mut record = valid(&mut random, NEVER);
+        record.stops = n;
+        let want = check_write(&mut random, &record, 14_080);
+        if n > 512 {
+            assert_eq!(want, Err(Refusal { number, line: 3 + record.posts as i64 }));
+        }
+        seen.add(want);
+        let mut record = valid(&mut random, 1);
+        record.rounds = n;
+        let want = check_write(&mut random, &record, 14_080);
+        if n > 1_000 {
+            assert_eq!(want, Err(Refusal { number, line: 4 + (record.posts + record.stops) as i64 }));
+        }
+        seen.add(want);
+    }
+    assert_eq!((seen.accepted, seen.refusals), (12, [0, 0, 18, 7, 0, 1, 1, 0, 0]));
+}
+
+#[test]
+fn lists_of_other_lengths_get_nothing() {
+    let mut random = Random::new(seed());
+    let record = Record::of(&read(CASE_A.as_bytes()).unwrap());
+    let (coordinates, naturals) = record.lists();
+    assert_eq!((coordinates.len(), naturals.len()), (1_156, 514));
+    for (c, n) in [(1_155, 514), (1_157, 514), (1_156, 513), (1_156, 515), (0, 514), (1_156, 0), (0, 0), (514, 1_156), (2_312, 1_028)] {
+        let mut lists = (coordinates.clone(), naturals.clone());
+        lists.0.resize(c, 0);
+        lists.1.resize(n, 0);
+        let job = pick(&mut random, &[CASE_A, "", "area=1,1,0,0\n"]);
+        for which in [0, 1, 2, 3, u64::MAX] {
+            let mut out = [7; 200];
+            assert_eq!(trial::write(&lists.0, &lists.1, 10, &mut out, which), LEAST);
+            assert_eq!(out, [7; 200]);
+            let mut after = lists.clone();
+            assert_eq!(trial::read(job.as_bytes(), &mut after.0, &mut after.1, which), LEAST);
+            assert!(after == lists);
+        }
+    }
+}
+
+// ---- the order of refusals
+
+/// A record of two posts and three stops: line 1 is the area's, 3 and 4 are posts, 6 to 8 stops, 9 the rounds.
+fn small() -> Record {
+    Record::of(
+        &read(b"area=-5,-6,7,8\nposts=2\npost=1,-2\npost=3,4\nstops=3\nstop=5,6,7\nstop=-8,9,10\nstop=0,0,65535\nrounds=1000\n").unwrap(),
+    )
+}
+
+/// The numbers of a line of `small`.
+fn line_of(record: &mut Record, line: usize) -> (Vec<&mut i64>, Vec<&mut u64>) {
+    match line {
+        1 => (record.area.iter_mut().collect(), vec![]),
+        2 => (vec![], vec![&mut record.posts]),
+        3 | 4 => (vec![&mut record.post_x[line - 3], &mut record.post_y[line - 3]], vec![]),
+        5 => (vec![], vec![&mut record.stops]),
+        6..=8 => (vec![&mut record.stop_x[line - 6], &mut record.stop_y[line - 6]], vec![&mut record.visits[line - 6]]),
+        _ => (vec![], vec![&mut record.rounds]),
+    }
+}
+
+/// Number i of a line of `small` spoiled, for refusal 2 or 3. False if the line has no such number.
+fn spoil(random: &mut Random, record: &mut Record, line: usize, i: usize, refusal: i64) -> bool {
+    let (coordinates, naturals) = line_of(record, line);
+    let z = if refusal == 2 { [1_000_000_000, -1_000_000_000, i64::MIN, i64::MAX] } else { [20_001, -20_001, 999_999_999, -999_999_999] };
+    let n = if refusal == 2 { [1_000_000_000, 1 << 32, 1 << 63, u64::MAX] } else { [65_536, 65_537, 1_000_000, 999_999_999] };
+    let (z, n) = (pick(random, &z), pick(random, &n));
+    let count = coordinates.len();
+    if let Some(number) = coordinates.into_iter().nth(i) {
+        *number = z;
+    } else if let Some(number) = naturals.into_iter().nth(i - count) {
+        *number = n;
+    } else {
+        return false;
+    }
+    true
+}
+
+#[test]
+fn in_one_line_2_comes_before_3() {
+    let mut random = Random::new(seed());
+    let mut pairs = 0;
+    for line in 1..=9 {
+        for i in 0..4 {
+            let mut record = small();
+            if !spoil(&mut random, &mut record, line, i, 3) {
+                continue;
+            }
+            assert_eq!(check_write(&mut random, &record, 500), Err(Refusal { number: 3, line: line as i64 }));
+            for j in (0..4).filter(|&j| j != i) {
+                let mut record = record.clone();
+                if spoil(&mut random, &mut record, line, j, 2) {
+                    assert_eq!(check_write(&mut random, &record, 500), Err(Refusal { number: 2, line: line as i64 }));
+                    pairs += 1;
+                }
+            }
+        }
+    }
+    // 12 of the area's, 2 of each post's, 6 of each stop's
+    assert_eq!(pairs, 34);
+}
+
+#[test]
+fn an_earlier_line_comes_before_a_later_one() {
+    let mut random = Random::new(seed());
+    for first in 1..=9 {
+        for second in first + 1..=9 {
+            for (number, other) in [(2, 2), (2, 3), (3, 2), (3, 3)] {
+                for empty in [false, true] {
+                    let mut record = small();
+                    if empty && first > 1 {
+                        record.area.swap(1, 3);
+                    }
+                    assert!(spoil(&mut random, &mut record, first, 0, number) && spoil(&mut random, &mut record, second, 0, other));
+                    let room = if empty { 0 } else { 500 };
+                    assert_eq!(check_write(&mut random, &record, room), Err(Refusal { number, line: first as i64 }));
+                }
+            }
+        }
+    }
+}
+
+#[test]
+fn a_count_out_of_range_comes_before_its_list() {
+    let mut random = Random::new(seed());
+    for item in [i64::MIN, 20_001, 5] {
+        for (count, number) in [(65, 3), (513, 3), (999_999_999, 3), (1_000_000_000, 2), (u64::MAX, 2)] {
+            let mut record = Record { posts: count, post_x: [item; 64], ..small() };
+            assert_eq!(check_write(&mut random, &record, 500), Err(Refusal { number, line: 2 }));
+            record = Record { stops: count.max(513), stop_y: [item; 512], ..small() };
+            assert_eq!(check_write(&mut random, &record, 500), Err(Refusal { number, line: 5 }));
+            record.rounds = 1_001;
+            assert_eq!(check_write(&mut random, &record, 500), Err(Refusal { number, line: 5 }));
+        }
+    }
+}
+
+/// Every selection of faults: the first of them in the order is told.
+#[test]
+fn two_and_three_then_4_5_6_8() {
+    let mut random = Random::new(seed());
+    let mut seen = Seen::default();
+    for faults in 0..1 << 7 {
+        let has = |i: u32| faults >> i & 1 == 1;
+        let mut record = small();
+        let (x, y) = (has(0), has(1));
+        if x {
+            record.area.swap(0, 2);
+        }
+        if y {
+            record.area.swap(1, 3);
+        }
+        if has(2) {
+            record.posts = 0;
+        }
+        if has(3) {
+            record.stops = 0;
+        }
+        let last = 4 + (record.posts + record.stops) as i64;
+        let rounds = if has(5) { Some((2, 1_000_000_000)) } else { has(6).then_some((3, 1_001)) };
+        if let Some((_, n)) = rounds {
+            record.rounds = n;
+        }
+        let want = match rounds {
+            Some((number, _)) => Some((number, last)),
+            None if x || y => Some((4, 0)),
+            None if has(2) => Some((5, 0)),
+            None if has(3) => Some((6, 0)),
+            None => has(4).then_some((8, 0)),
+        };
+        let room = record.text().len() - has(4) as usize;
+        let got = check_write(&mut random, &record, room);
+        assert_eq!(got.as_ref().err().copied(), want.map(|(number, line)| Refusal { number, line }), "{faults:b}");
+        seen.add(got);
+    }
+    assert!(seen.has(2..=8, 1) && seen.accepted == 1);
+}
+
+// ---- what is saved
+
+#[test]
+fn numbers_behind_the_lists_are_left_out() {
+    let mut random = Random::new(seed());
+    let mut littered = 0;
+    for _ in 0..3_000 {
+        let ends = pick(&mut random, &[1, 2, 30, NEVER]);
+        let record = valid(&mut random, ends);
+        let clean = without_litter(&record);
+        let bytes = written(&record).unwrap();
+        assert!(written(&clean).as_ref() == Some(&bytes));
+        assert!(check_read(&mut random, &bytes).as_ref() == Ok(&clean));
+        littered += (record != clean) as usize;
+    }
+    assert!(littered > 2_000, "{littered}");
+}
+
+#[test]
+fn different_records_are_written_in_different_bytes() {
+    let mut random = Random::new(seed());
+    let (mut pairs, mut same_length) = (0, 0);
+    for _ in 0..8_000 {
+        let record = valid(&mut random, NEVER);
+        let mut other = record.clone();
+        alter(&mut random, &mut other);
+        // the other's area may be an empty one
+        let (bytes, Some(others)) = (written(&record).unwrap(), written(&other)) else {
+            continue;
+        };
+        assert!(bytes != others, "{}", text(&bytes));
+        assert!(check_read(&mut random, &bytes) == Ok(without_litter(&record)));
+        assert!(check_read(&mut random, &others) == Ok(without_litter(&other)));
+        pairs += 1;
+        same_length += (bytes.len() == others.len()) as usize;
+    }
+    println!("{pairs} pairs, {same_length} of the same length");
+    assert!(pairs > 6_000 && same_length > 1_000);
+}
