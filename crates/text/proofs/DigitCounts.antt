@@ -74,6 +74,17 @@ length-one n h = ap length (spellNat-one n h)
 pub length-more : (n : ℕ) → 10 ≤ n → n < 10 ^ 20 → length (spellNat n) ≡ length (spellNat (n / 10)) + 1
 length-more n h k = ap length (spellNat-more n h k) ∙ length-append (spellNat (n / 10)) ((48 + n % 10) ∷ [])
 
+-- the digits apart from the last five
+pub length-beyond : (n : ℕ) → 100000 ≤ n → n < 10 ^ 20 → length (spellNat n) ≡ length (spellNat (n / 100000)) + 5
+length-beyond n h k =
+    let e : n / 10 / 10 / 10 / 10 / 10 ≡ n / 100000 = omega arith in
+    let one = length-more n (omega arith) k in
+    let two = length-more (n / 10) (omega arith) (omega arith) in
+    let three = length-more (n / 10 / 10) (omega arith) (omega arith) in
+    let four = length-more (n / 10 / 10 / 10) (omega arith) (omega arith) in
+    let five = length-more (n / 10 / 10 / 10 / 10) (omega arith) (omega arith) in
+    rw (← e) (omega (arith, one, two, three, four, five))
+
 pub length-spellNat : (n : ℕ) → length (spellNat n) ≤ 20
 unfolding spellNat
 length-spellNat n = length-decimal 20 n

@@ -1,2 +1,3 @@
+pub mod DigitLaws
 pub mod IntLaws
 pub mod WrittenLaws

@@ -1,13 +1,13 @@
 -- Bytes put over a part of a buffer: the length stays, and one part after another is their join.
 -- Assumes nothing.
 use mathlib.Core.Path.{_≡_, refl, sym, ap, _∙_}
-use Prim.Native.Nat.{ℕ, _+_, _≤_, _<_}
+use Prim.Native.Nat.{ℕ, suc, _+_, _≤_, _<_}
 use native.Mathlib.Nat.{zero-add, add-zero, add-assoc}
 use native.Mathlib.Numerals.{add-one}
 use native.Mathlib.Omega.{arith}
 use mathlib.Core.List.{List, [], _∷_, _++_, append-assoc, append-nil}
 use lib.ListN.{length, take, drop, set, getD, length-append, length-drop, take-append-drop}
-use lib.Seq.{take-at, drop-at, drop-drop, length-take-le, set-split, take-suc, take-all}
+use lib.Seq.{take-at, drop-at, drop-drop, length-take-le, set-at, set-split, take-suc, take-all}
 use Rattle.write.specs.Written.{overwritten, written, Wrote}
 
 -- what stands before the end of the new bytes
@@ -27,6 +27,16 @@ written-nil out at = rw (append-nil, add-zero) (take-append-drop at out)
 pub written-one : (out : List ℕ) (at b : ℕ) → at < length out → written out at (b ∷ []) ≡ set out at b
 unfolding written
 written-one out at b h = rw (append-assoc, add-one) (sym (set-split out at b h))
+
+-- a store before what was written
+pub written-before : (out : List ℕ) (at b : ℕ) (bs : List ℕ) → at < length out → set (written out (at + 1) bs) at b ≡ written out at (b ∷ bs)
+unfolding written
+written-before out at b bs h =
+    let one : take (at + 1) out ≡ take at out ++ (getD out at 0 ∷ []) = rw add-one (take-suc out at 0 h) in
+    let same : at + 1 + length bs ≡ at + suc (length bs) = omega arith in
+    rw (one, same, append-assoc (take at out) (getD out at 0 ∷ []) bs, append-assoc (take at out) (getD out at 0 ∷ bs) (drop (at + suc (length bs)) out))
+    (set-at (take at out) (getD out at 0) (bs ++ drop (at + suc (length bs)) out) b at (length-take-le at out (omega arith))
+    ∙ sym (append-assoc (take at out) (b ∷ bs) (drop (at + suc (length bs)) out)))
 
 -- bytes, and then bytes from where those end
 pub written-append : (out : List ℕ) (at : ℕ) (a b : List ℕ) → at ≤ length out → written (written out at a) (at + length a) b ≡ written out at (a ++ b)

@@ -5,7 +5,7 @@ ghost use mathlib.Core.Path.{_≡_};
 ghost use lib.ListN.{length};
 ghost use lib.IntN.{natAbs};
 ghost use Rattle.text.specs.Decimal.{spellNat, spellInt};
-ghost use Rattle.write.specs.Written.{Wrote};
+ghost use Rattle.write.specs.Written.{fromOn, Wrote};
 
 pub fn put(out: &mut [u8], at: usize, s: &[u8]) -> usize
     requires { ⌜ at + length (now s) ≤ length (now out) ⌝ }
@@ -19,33 +19,45 @@ pub fn put(out: &mut [u8], at: usize, s: &[u8]) -> usize
     at + i
 }
 
-// The decimal digits of `n`, the first ones by a call of itself.
-pub fn put_nat(out: &mut [u8], at: usize, n: u64) -> usize
-    requires { ⌜ at + length (spellNat n) ≤ length (now out) ⌝ }
-    ensures { λ r. ⌜ Wrote (now (out .entry)) at (spellNat n) (now (out .exit)) r ⌝ }
+// 1 where `n` is `least` or more, 0 below.
+fn from_on(n: u64, least: u64) -> usize
+    ensures { λ r. ⌜ r ≡ fromOn n least ⌝ }
+    ensures { λ r. ⌜ r ≤ 1 ⌝ }
 {
-    if n < 10 {
-        out[at] = b'0' + n as u8;
-        at + 1
-    } else {
-        let last = put_nat(out, at, n / 10);
-        out[last] = b'0' + (n % 10) as u8;
-        last + 1
-    }
+    if n < least { 0 } else { 1 }
 }
 
-// How many decimal digits `n` has.
+// How many decimal digits `n` has. Up to five are counted without a branch.
 pub fn nat_len(n: u64) -> usize
     ensures { λ r. ⌜ r ≡ length (spellNat n) ⌝ }
     ensures { λ r. ⌜ r ≤ 20 ⌝ }
 {
-    let mut rest = n;
-    let mut len = 1;
+    if n < 100000 {
+        return 1 + from_on(n, 10) + from_on(n, 100) + from_on(n, 1000) + from_on(n, 10000);
+    }
+    let mut rest = n / 100000;
+    let mut len = 6;
     while 10 <= rest {
         rest = rest / 10;
         len += 1;
     }
     len
+}
+
+// The decimal digits of `n`, from the last one to the first.
+pub fn put_nat(out: &mut [u8], at: usize, n: u64) -> usize
+    requires { ⌜ at + length (spellNat n) ≤ length (now out) ⌝ }
+    ensures { λ r. ⌜ Wrote (now (out .entry)) at (spellNat n) (now (out .exit)) r ⌝ }
+{
+    let len = nat_len(n);
+    let mut rest = n;
+    let mut i = len;
+    while 0 < i {
+        i -= 1;
+        out[at + i] = b'0' + (rest % 10) as u8;
+        rest = rest / 10;
+    }
+    at + len
 }
 
 // The absolute value, that of i64::MIN too.
