@@ -129,5 +129,5 @@ module _ {out₀ : List ℕ} {at : ℕ} where
           left = front;
         }
 
-    pub stored-all : i ≡ 0 → Wrote out₀ at ds out (at + length ds)
-    stored-all e = record { next = refl; text = s .text ∙ rw (e, add-zero) }
+    pub stored-all : (end : ℕ) → i ≡ 0 → end ≡ at + length ds → Wrote out₀ at ds out end
+    stored-all end e next = record { next = next; text = s .text ∙ rw (e, add-zero) }

@@ -31,7 +31,7 @@ returns-2 : tie.Need-returns-2
 returns-2 c =
     let d = c .before .before in
     write-short _ _ (d .before .before .check .ensures) (sized (d .before .before .before .before)) (d .enum-told .given .1) _ _ (c .before .length .ensures)
-    (c .if1 .taken)
+    (omega (arith, c .if1 .taken))
 
 put-requires : tie.Need-put-requires
 put-requires c κs =

@@ -47,7 +47,7 @@ same-length : tie.Need-same-length Inv-loop μ-loop
 same-length c = c .before .loop .inv .long
 
 returns : tie.Need-returns Inv-loop μ-loop
-returns c = rw (c .before .before .nat-len .ensures .0) (stored-all (c .before .loop .inv) (c .before .before .before .before .pre) (omega arith))
+returns c = stored-all (c .before .loop .inv) (c .before .before .before .before .pre) _ (omega arith) (omega (arith, c .before .before .nat-len .ensures .0))
 
 pub put-nat-spec : {M : Type 1} → statement M
 put-nat-spec =
