@@ -1,63 +1,59 @@
+-- `trial_calls::records::copy_naturals` meets its contract: after i turns the first i numbers are copied.
+-- Assumes nothing.
+use mathlib.Core.Path.{sym}
+use Prim.Native.Nat.{_-_}
 use native.Mathlib.Omega.{arith}
-use lib.ListN.{length-set}
+use lib.ListN.{drop}
+use lib.Seq.{getD-drop}
+use Rattle.deck.proofs.CopyLaws.{Copied, copied-none, copied-more, copied-all}
+use Rattle.trial_calls.proofs.RecordLaws.{rest-long}
 use Rattle.trial_calls.proofs.records.copy_naturals.Statement.{statement}
 use Rattle.trial_calls.proofs.records.copy_naturals.Tie as tie
-use Rattle.trial_calls.proofs.records.copy_naturals.Reads as reads
-use Rattle.trial_calls.proofs.records.copy_naturals.Lts as lts
 
 abbrev Inv-loop : tie.InvT-loop
-Inv-loop from start to₀ at n i₀ to i = ?
+Inv-loop from start to₀ at n i₀ to i = Copied to₀ at (drop start from) n to i
 
 abbrev μ-loop : tie.MeasureT-loop
-μ-loop from start to₀ at n i₀ to i = ?
+μ-loop from start to₀ at n i₀ to i = n - i
 
--- src/records.rt:32:5
 loop-holds : tie.Need-loop-holds Inv-loop μ-loop
-loop-holds c = ?
+loop-holds c = copied-none _ _ _ _
 
--- src/records.rt:33:27
 add-to : tie.Need-add-to Inv-loop μ-loop
 add-to c = omega arith
 
--- src/records.rt:33:22
 mul-to : tie.Need-mul-to Inv-loop μ-loop
 mul-to c = omega arith
 
--- src/records.rt:33:22
 shared-slice-read-to : tie.Need-shared-slice-read-to Inv-loop μ-loop
 shared-slice-read-to c = omega arith
 
--- src/records.rt:33:12
 add-to-2 : tie.Need-add-to-2 Inv-loop μ-loop
 add-to-2 c = omega arith
 
--- src/records.rt:33:9
 mul-to-2 : tie.Need-mul-to-2 Inv-loop μ-loop
 mul-to-2 c = omega arith
 
--- src/records.rt:33:9
 slice-write-to : tie.Need-slice-write-to Inv-loop μ-loop
 slice-write-to c = omega arith
 
--- src/records.rt:34:9
 add-i : tie.Need-add-i Inv-loop μ-loop
 add-i c = omega arith
 
--- src/records.rt:32:5
 loop-less : tie.Need-loop-less Inv-loop μ-loop
 loop-less c = omega arith
 
--- src/records.rt:32:5
 loop-again : tie.Need-loop-again Inv-loop μ-loop
-loop-again c = ?
+loop-again c =
+    let s = c .before .before .before in
+    copied-more _ _ _ _ _ _ (s .pre .1) (rest-long (s .args .start) (s .args .n) (s .args .from .now) (s .pre .0)) (c .before .before .loop .inv)
+    (c .before .loop-test .taken) (sym (getD-drop (s .args .start) (s .args .from .now) (c .before .before .loop .i) 0))
 
--- src/records.rt:27:1
 same-length : tie.Need-same-length Inv-loop μ-loop
-same-length c = simp length-set
+same-length c = c .before .loop .inv .long
 
--- src/records.rt:27:1
 returns : tie.Need-returns Inv-loop μ-loop
-returns c = ?
+returns c = copied-all _ _ _ _ (c .before .loop .inv) (c .loop-test .left)
 
 pub copy-naturals-spec : {M : Type 1} → statement M
 copy-naturals-spec =

@@ -1,24 +1,21 @@
+-- `trial_calls::records::count_figure` meets its contract: each number is found by its place.
+-- Assumes nothing.
 use borrow.Author.Needs.{needs}
+use Rattle.trial_calls.proofs.RecordLaws.{count-itself, no-refusal-told, no-count-figure}
 use Rattle.trial_calls.proofs.records.count_figure.Statement.{statement}
 use Rattle.trial_calls.proofs.records.count_figure.Tie as tie
-use Rattle.trial_calls.proofs.records.count_figure.Reads as reads
-use Rattle.trial_calls.proofs.records.count_figure.Lts as lts
 
--- src/records.rt:102:16
 cast-result : tie.Need-cast-result
 cast-result c = search needs
 
--- src/records.rt:102:9
 returns : tie.Need-returns
-returns c = ?
+returns c = count-itself (c .before .args .n) (c .before .args .which) (c .before .pre) (c .if1 .taken)
 
--- src/records.rt:105:9
 returns-2 : tie.Need-returns-2
-returns-2 c = ?
+returns-2 c = let s = c .before .before in no-refusal-told (s .args .n) (s .args .which) (c .before .if1 .left) (c .if2 .taken)
 
--- src/records.rt:97:1
 returns-3 : tie.Need-returns-3
-returns-3 c = ?
+returns-3 c = let s = c .before .before in no-count-figure (s .args .n) (s .args .which) (c .if2 .left)
 
 pub count-figure-spec : {M : Type 1} → statement M
 count-figure-spec = tie.close (tie.spec cast-result returns returns-2 returns-3)

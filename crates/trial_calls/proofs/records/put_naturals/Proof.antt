@@ -1,30 +1,38 @@
-use lib.ListN.{length-set}
+-- `trial_calls::records::put_naturals` meets its contract: the two counts come first, and the visits behind them.
+-- Assumes nothing.
+use mathlib.Core.Path.{_∙_}
+use native.Mathlib.Omega.{arith}
 use borrow.Author.Needs.{needs}
+use Rattle.deck.specs.DeckOf.{Sized}
+use Rattle.trial_calls.proofs.RecordLaws.{two-put-length, naturals-put}
 use Rattle.trial_calls.proofs.records.put_naturals.Statement.{statement}
 use Rattle.trial_calls.proofs.records.put_naturals.Tie as tie
-use Rattle.trial_calls.proofs.records.put_naturals.Reads as reads
-use Rattle.trial_calls.proofs.records.put_naturals.Lts as lts
-use Rattle.trial_calls.proofs.records.copy_naturals.Reads as copy-naturals-reads
 
--- src/records.rt:91:5
+sized : (c : tie.Start) → Sized (c .args .t1)
+sized c = record { post-x = search needs; post-y = search needs; stop-x = search needs; stop-y = search needs; visits = search needs }
+
 slice-write-naturals : tie.Need-slice-write-naturals
 slice-write-naturals c = search needs
 
--- src/records.rt:92:5
 slice-write-naturals-2 : tie.Need-slice-write-naturals-2
 slice-write-naturals-2 c = search needs
 
--- src/records.rt:93:5
 copy-naturals-requires : tie.Need-copy-naturals-requires
-copy-naturals-requires c κs = ?
+copy-naturals-requires c κs =
+    let s = c .before .before .before .before .before in (
+      omega (arith, sized s .visits),
+      omega (arith, s .pre, two-put-length (s .args .naturals .now) (s .args .t1 .posts) (s .args .t1 .stops)),
+    )
 
--- src/records.rt:87:1
 same-length : tie.Need-same-length
-same-length c = simp length-set
+same-length c =
+    let s = c .before .before .before .before .before .before .before .before in
+    c .before .before .copy-naturals .kept .1 .1 .0 ∙ two-put-length (s .args .naturals .now) (s .args .t1 .posts) (s .args .t1 .stops)
 
--- src/records.rt:87:1
 returns : tie.Need-returns
-returns c = ?
+returns c =
+    let s = c .before .before .before .before .before .before .before .before in
+    naturals-put (s .args .t1) (sized s) (s .args .naturals .now) (s .pre) (c .before .before .copy-naturals .ensures)
 
 pub put-naturals-spec : {M : Type 1} → statement M
 put-naturals-spec =

@@ -1,72 +1,87 @@
+-- `trial_calls::records::trial_write` meets its contract: the bytes written and the line of a refusal are few,
+-- so that each is a signed number.
+-- Assumes nothing.
+use mathlib.Core.Path.{sym, ap, _∙_}
+use mir.Syntax.{w64}
+use mir.ValLaws.{toZ-ofZ}
 use borrow.Author.Needs.{needs}
+use Rattle.calls.specs.declared.Written.{Written}
+use Rattle.calls.specs.Answers.{writtenAnswer}
+use Rattle.trial_calls.specs.Records.{countFigure}
+use Rattle.trial_calls.proofs.RecordLaws.{write-few-coordinates, write-few-naturals, write-is, bytes-few, write-line, no-count, refusal-count}
 use Rattle.trial_calls.proofs.records.trial_write.Statement.{statement}
 use Rattle.trial_calls.proofs.records.trial_write.Tie as tie
-use Rattle.trial_calls.proofs.records.trial_write.Reads as reads
-use Rattle.trial_calls.proofs.records.trial_write.Lts as lts
-use Rattle.siting.proofs.write.Reads as write-reads
-use Rattle.trial.proofs.refusal_figure.Reads as refusal-figure-reads
-use Rattle.trial_calls.proofs.records.count_figure.Reads as count-figure-reads
-use Rattle.trial_calls.proofs.records.deck_from.Reads as deck-from-reads
 
--- src/records.rt:147:9
 returns : tie.Need-returns
-returns c = ?
+returns c = let s = c .before .before .before in write-few-coordinates (s .args .coordinates .now) (s .args .naturals .now) _ _ _ (c .if1 .taken)
 
--- src/records.rt:150:9
 returns-2 : tie.Need-returns-2
-returns-2 c = ?
+returns-2 c = let s = c .before .before .before .before in write-few-naturals (s .args .coordinates .now) (s .args .naturals .now) _ _ _ (c .before .if1 .left) (c .if2 .taken)
 
--- src/records.rt:152:32
 deck-from-requires : tie.Need-deck-from-requires
 deck-from-requires c κs = search needs
 
--- src/records.rt:152:9
 write-requires : tie.Need-write-requires
 write-requires c κs = search needs
 
--- src/records.rt:154:24
 enum-known-answer : tie.Need-enum-known-answer
 enum-known-answer c = search needs
 
--- src/records.rt:154:34
 count-figure-requires : tie.Need-count-figure-requires
-count-figure-requires c κs = ?
+count-figure-requires c κs = 
+    let write = c .before .before .before .before .before in
+    let made = write .before .before in
+    let s = made .before .before .before .before .before in
+    bytes-few (s .args .coordinates .now) (s .args .naturals .now) _ _ _ (made .deck-from .ensures) (write .write .result) _ (write .write .ensures) (made .before .before .if1 .left) (made .before .if2 .left) _
+    (c .before .answer .given .1)
 
--- src/records.rt:155:26
 enum-known-answer-2 : tie.Need-enum-known-answer-2
 enum-known-answer-2 c = search needs
 
--- src/records.rt:157:17
 same-length : tie.Need-same-length
 same-length c = search needs
 
--- src/records.rt:157:17
 returns-3 : tie.Need-returns-3
-returns-3 c = ?
+returns-3 c = 
+    let write = c .before .before .before .before .before .before in
+    let made = write .before .before in
+    let s = made .before .before .before .before .before in
+    write-is (s .args .coordinates .now) (s .args .naturals .now) _ _ _ (made .deck-from .ensures) (write .write .result) _ (write .write .ensures) (made .before .before .if1 .left) (made .before .if2 .left) (s .args .which)
+    (no-count (c .before .before .answer2 .given .0 .0) (ap writtenAnswer (c .before .before .answer2 .given .1)) (s .args .which) (c .if3 .taken))
 
--- src/records.rt:159:40
 sub-refusal-figure : tie.Need-sub-refusal-figure
 sub-refusal-figure c = search needs
 
--- src/records.rt:159:13
 refusal-figure-requires : tie.Need-refusal-figure-requires
-refusal-figure-requires c κs = ?
+refusal-figure-requires c κs = 
+    let write = c .before .before .before .before .before .before in
+    let made = write .before .before in
+    let s = made .before .before .before .before .before in
+    write-line (s .args .coordinates .now) (s .args .naturals .now) _ _ _ (made .deck-from .ensures) (write .write .result) _ (write .write .ensures) (made .before .before .if1 .left) (made .before .if2 .left) _
+    (c .before .before .answer2 .given .1)
 
--- src/records.rt:141:1
 same-length-2 : tie.Need-same-length-2
 same-length-2 c = search needs
 
--- src/records.rt:141:1
 returns-4 : tie.Need-returns-4
-returns-4 c = ?
+returns-4 c = 
+    let write = c .before .before .before .before .before .before in
+    let made = write .before .before in
+    let s = made .before .before .before .before .before in
+    write-is (s .args .coordinates .now) (s .args .naturals .now) _ _ _ (made .deck-from .ensures) (write .write .result) _ (write .write .ensures) (made .before .before .if1 .left) (made .before .if2 .left) (s .args .which)
+    (toZ-ofZ w64 _ (record { sfits = c .count-figure .ok }) ∙ c .count-figure .ensures ∙ sym (ap (λ (w : Written). countFigure (s .args .which) (writtenAnswer w)) (c .before .before .answer .given .1)))
 
--- src/records.rt:141:1
 same-length-3 : tie.Need-same-length-3
 same-length-3 c = search needs
 
--- src/records.rt:141:1
 returns-5 : tie.Need-returns-5
-returns-5 c = ?
+returns-5 c = 
+    let write = c .before .before .before .before .before .before .before in
+    let made = write .before .before in
+    let s = made .before .before .before .before .before in
+    write-is (s .args .coordinates .now) (s .args .naturals .now) _ _ _ (made .deck-from .ensures) (write .write .result) _ (write .write .ensures) (made .before .before .if1 .left) (made .before .if2 .left) (s .args .which)
+    (toZ-ofZ w64 _ (record { sfits = c .refusal-figure .ok }) ∙ c .refusal-figure .ensures
+    ∙ refusal-count (c .before .before .before .answer2 .given .0 .0) (ap writtenAnswer (c .before .before .before .answer2 .given .1)) (s .args .which) (c .before .if3 .left))
 
 pub trial-write-spec : {M : Type 1} → statement M
 trial-write-spec =
