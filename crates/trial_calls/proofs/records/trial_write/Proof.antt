@@ -36,7 +36,7 @@ count-figure-requires c κs =
     let write = c .before .before .before .before .before in
     let made = write .before .before in
     let s = made .before .before .before .before .before in
-    bytes-few (s .args .coordinates .now) (s .args .naturals .now) _ _ _ (made .deck-from .ensures) (write .write .result) _
+    bytes-few (s .args .coordinates .now) (s .args .naturals .now) (s .args .rounds) _ _ (made .deck-from .ensures) (write .write .result) _
     (write .write .ensures) (made .before .before .if1 .left) (made .before .if2 .left) _
     (c .before .answer .given .1)
 
@@ -52,7 +52,7 @@ returns-3 c =
     let write = c .before .before .before .before .before .before in
     let made = write .before .before in
     let s = made .before .before .before .before .before in
-    write-is (s .args .coordinates .now) (s .args .naturals .now) _ _ _ (made .deck-from .ensures) (write .write .result) _
+    write-is (s .args .coordinates .now) (s .args .naturals .now) (s .args .rounds) _ _ (made .deck-from .ensures) (write .write .result) _
     (write .write .ensures) (made .before .before .if1 .left) (made .before .if2 .left) (s .args .which)
     (no-count (refused .given .0 .0) (ap writtenAnswer (refused .given .1)) (s .args .which) (c .if3 .taken))
 
@@ -64,7 +64,7 @@ refusal-figure-requires c κs =
     let write = c .before .before .before .before .before .before in
     let made = write .before .before in
     let s = made .before .before .before .before .before in
-    write-line (s .args .coordinates .now) (s .args .naturals .now) _ _ _ (made .deck-from .ensures) (write .write .result) _
+    write-line (s .args .coordinates .now) (s .args .naturals .now) (s .args .rounds) _ _ (made .deck-from .ensures) (write .write .result) _
     (write .write .ensures) (made .before .before .if1 .left) (made .before .if2 .left) _
     (c .before .before .answer2 .given .1)
 
@@ -76,7 +76,7 @@ returns-4 c =
     let write = c .before .before .before .before .before .before in
     let made = write .before .before in
     let s = made .before .before .before .before .before in
-    write-is (s .args .coordinates .now) (s .args .naturals .now) _ _ _ (made .deck-from .ensures) (write .write .result) _
+    write-is (s .args .coordinates .now) (s .args .naturals .now) (s .args .rounds) _ _ (made .deck-from .ensures) (write .write .result) _
     (write .write .ensures) (made .before .before .if1 .left) (made .before .if2 .left) (s .args .which)
     (toZ-ofZ w64 _ (record { sfits = c .count-figure .ok }) ∙ c .count-figure .ensures
     ∙ sym (ap (λ (w : Written). countFigure (s .args .which) (writtenAnswer w)) (c .before .before .answer .given .1)))
@@ -90,7 +90,7 @@ returns-5 c =
     let write = c .before .before .before .before .before .before .before in
     let made = write .before .before in
     let s = made .before .before .before .before .before in
-    write-is (s .args .coordinates .now) (s .args .naturals .now) _ _ _ (made .deck-from .ensures) (write .write .result) _
+    write-is (s .args .coordinates .now) (s .args .naturals .now) (s .args .rounds) _ _ (made .deck-from .ensures) (write .write .result) _
     (write .write .ensures) (made .before .before .if1 .left) (made .before .if2 .left) (s .args .which)
     (toZ-ofZ w64 _ (record { sfits = c .refusal-figure .ok }) ∙ c .refusal-figure .ensures
     ∙ refusal-count (refused .given .0 .0) (ap writtenAnswer (refused .given .1)) (s .args .which) (c .before .if3 .left))
