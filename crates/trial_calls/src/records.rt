@@ -110,7 +110,12 @@ fn count_figure(n: u64, which: u64) -> i64
 // Of the reading call's answer: the rounds, the number of the refusal and its line (0 for none); the least number where there is no such
 // figure. The record's numbers are put into the two lists. The least number, and nothing put, where they are not as long as a record's.
 #[no_mangle]
-pub extern "C" fn trial_read(job: &[u8], coordinates: &mut [i64], naturals: &mut [u64], which: u64) -> i64
+pub extern "C" fn trial_read(
+    job: &[u8],
+    coordinates: &mut [i64],
+    naturals: &mut [u64],
+    which: u64,
+) -> i64
     ensures { λ r. ⌜ record { result = r; coordinates = now (coordinates .exit); naturals = now (naturals .exit) }
         ≡ trialRead (now (job .entry)) (now (coordinates .entry)) (now (naturals .entry)) which ⌝ }
 {
@@ -139,7 +144,13 @@ pub extern "C" fn trial_read(job: &[u8], coordinates: &mut [i64], naturals: &mut
 // Of the writing call's answer for the record that has these numbers: the bytes written, the number of the refusal and its line (0 for
 // none); the least number where there is no such figure, or where the lists are not as long as a record's.
 #[no_mangle]
-pub extern "C" fn trial_write(coordinates: &[i64], naturals: &[u64], rounds: u64, out: &mut [u8], which: u64) -> i64
+pub extern "C" fn trial_write(
+    coordinates: &[i64],
+    naturals: &[u64],
+    rounds: u64,
+    out: &mut [u8],
+    which: u64,
+) -> i64
     ensures { λ r. ⌜ record { result = r; out = now (out .exit) }
         ≡ trialWrite (now (coordinates .entry)) (now (naturals .entry)) rounds (now (out .entry)) which ⌝ }
 {

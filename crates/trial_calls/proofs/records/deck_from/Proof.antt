@@ -64,8 +64,9 @@ returns c =
     let py = sx .before .before .before in
     let px = py .before .before .before in
     let s = px .before .before .before in
-    deck-made (s .args .coordinates .now) (s .args .naturals .now) (fitting _ (words .before .before .before .t20 .given)) (fitting _ (words .before .before .t22 .given))
-    (fitting _ (words .before .t24 .given)) (fitting _ (words .t26 .given)) refl refl (px .copy .ensures) (py .copy2 .ensures) (sx .copy3 .ensures)
+    deck-made (s .args .coordinates .now) (s .args .naturals .now) (fitting _ (words .before .before .before .t20 .given))
+    (fitting _ (words .before .before .t22 .given)) (fitting _ (words .before .t24 .given)) (fitting _ (words .t26 .given)) refl refl
+    (px .copy .ensures) (py .copy2 .ensures) (sx .copy3 .ensures)
     (sy .copy4 .ensures) (visits .copy-naturals .ensures)
 
 pub deck-from-spec : {M : Type 1} → statement M

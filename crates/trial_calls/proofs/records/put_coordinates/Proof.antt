@@ -57,12 +57,14 @@ four-long : (c : tie.Start) → length (set (set (set (set (c .args .coordinates
 four-long c = four-put-length (c .args .coordinates .now) _ _ _ _ ∙ c .pre
 
 copy-requires : tie.Need-copy-requires
-copy-requires c κs = 
+copy-requires c κs =
     let s = c .before .before .before .before .before .before .before .before in (omega (arith, sized s .post-x), omega (arith, four-long s))
 
 copy-requires-2 : tie.Need-copy-requires-2
-copy-requires-2 c κs = 
-    let s = c .before .before .before .before .before .before .before .before .before .before .before .before .before .before in (omega (arith, sized s .post-y), omega (arith, c .before .before .before .before .before .copy .kept .1 .1 .0, four-long s))
+copy-requires-2 c κs =
+    let one = c .before .before .before .before .before in
+    let s = one .before .before .before .before .before .before .before .before .before in
+    (omega (arith, sized s .post-y), omega (arith, one .copy .kept .1 .1 .0, four-long s))
 
 copy-requires-3 : tie.Need-copy-requires-3
 copy-requires-3 c κs =
