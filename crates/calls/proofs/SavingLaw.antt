@@ -1,13 +1,12 @@
 -- What the calls `read` and `write` are held to.
 -- Assumes nothing.
 use mathlib.Core.Path.{_≡_, refl, sym, ap, ap₂, subst, subst₂, _∙_}
-use mathlib.Core.Logic.{_↔_, ⊎-elim}
+use mathlib.Core.Logic.{⊎-elim}
 use mathlib.Core.List.{List, map}
 use Prim.Native.Nat.{ℕ, _≤_, _<_}
 use native.Mathlib.Omega.{arith}
 use lib.Arith.{le→nltb}
 use lib.Dec.{ltb, ltb→lt, lt→ltb, nltb→le}
-use lib.IntN.{pos}
 use lib.ListN.{length, take, drop, length-append, length-drop, length-map}
 use lib.Seq.{take-at, drop-at}
 use Rattle.numbers.specs.Padded.{padded}
@@ -21,16 +20,16 @@ use Rattle.refusal.specs.Refusal.{numberOf, lineOf}
 use Rattle.refusal.specs.declared.Refusal.{Refusal}
 use Rattle.refusal.specs.declared.Refusal.the-variants.{ShortOutput}
 use Rattle.job.specs.Format.{Job, Result, refused, accepted, readText, readJob}
-use Rattle.job.specs.Spelling.{spell, Writable, Allowed}
+use Rattle.job.specs.Spelling.{spell, Allowed}
 use Rattle.job.specs.Meaning.{TextCondition}
 use Rattle.job.specs.File.{heldJob, fileText}
 use Rattle.job.proofs.JobLaws.{most-posts, most-stops}
 use Rattle.job.proofs.Meaning.{refused-law, spelling-law, allowed-text}
 use Rattle.job.proofs.RefusalLaws.{text-number}
 use Rattle.job_check.specs.LineFaults.{refusalIn}
-use Rattle.job_check.proofs.FileFaults.{FileIs, file-is, file-spelled}
+use Rattle.job_check.proofs.FileFaults.{file-is, file-spelled}
 use Rattle.write.specs.Written.{overwritten}
-use Rattle.calls.specs.Answers.{AnswerOf, gives, refuses, refusal}
+use Rattle.calls.specs.Answers.{gives, refuses, refusal}
 use Rattle.calls.specs.ReadCall.{Read, readAs, readCall}
 use Rattle.calls.specs.WriteCall.{Saved, notSaved, savedAs, writeCall}
 use Rattle.calls.specs.SavingLaw.{ReadLaw, Saveable, WriteApplies, in-file, short-output, WrittenLaw, WriteLaw}

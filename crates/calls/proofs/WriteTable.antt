@@ -1,8 +1,6 @@
 -- The rows of specs/WriteTable.antt, by computation.
 -- Assumes nothing.
 use mathlib.Core.Path.{refl}
-use lib.ListN.{replicate}
-use Rattle.deck.specs.DeckOf.{deckRecord}
 use Rattle.calls.specs.ReadCall.{readCall}
 use Rattle.calls.specs.WriteCall.{writeCall}
 use Rattle.calls.specs.WriteTable.{WriteTable}

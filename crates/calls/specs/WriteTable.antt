@@ -1,6 +1,6 @@
 -- Document 02, card 1: rows of the calls `write` and `read`, from a record's numbers and an output to all that the call answers and leaves.
 -- Assumes nothing.
-use Prim.Native.Nat.{ℕ, _-_}
+use Prim.Native.Nat.{ℕ}
 use mathlib.Core.Path.{_≡_}
 use mathlib.Core.List.{List, [], _∷_, _++_, map}
 use lib.IntN.{ℤ, pos, negsuc, negℤ}
@@ -87,7 +87,8 @@ pub record WriteTable : Type 0 where
   pub stop-y-long : map (λ z. saved (withStop (pos 8, z, 1))) (pos nine ∷ pos ten ∷ leastWord ∷ []) ≡ (3, 6) ∷ (2, 6) ∷ (2, 6) ∷ []
   pub visits : map (λ v. saved (withStop (pos 8, pos 12, v))) (0 ∷ 65536 ∷ nine ∷ ten ∷ mostNatural ∷ [])
       ≡ (3, 6) ∷ (3, 6) ∷ (3, 6) ∷ (2, 6) ∷ (2, 6) ∷ []
-  pub area-long : map (λ z. saved (withArea (pos 2 ∷ pos 2 ∷ pos 8 ∷ z ∷ []))) (pos nine ∷ pos ten ∷ mostWord ∷ []) ≡ (3, 1) ∷ (2, 1) ∷ (2, 1) ∷ []
+  pub area-long : map (λ z. saved (withArea (pos 2 ∷ pos 2 ∷ pos 8 ∷ z ∷ []))) (pos nine ∷ pos ten ∷ mostWord ∷ [])
+      ≡ (3, 1) ∷ (2, 1) ∷ (2, 1) ∷ []
   -- 2 before 3 in a line, wherever they stand
   pub form-first : map saved (withStop (pos 20001, pos ten, 1) ∷ withStop (pos ten, pos 20001, 1) ∷ withStop (pos 20001, pos 12, ten)
       ∷ withArea (pos 20001 ∷ pos 2 ∷ pos 8 ∷ pos ten ∷ []) ∷ []) ≡ (2, 6) ∷ (2, 6) ∷ (2, 6) ∷ (2, 1) ∷ []
@@ -99,8 +100,8 @@ pub record WriteTable : Type 0 where
   pub first-post : saved (counting 64 (pos 20001, pos 0) mostNatural (pos 0, pos 0, 0)) ≡ (3, 3)
   pub first-stop : saved (counting 64 (pos 0, pos 0) 512 (pos 0, pos 20001, 1)) ≡ (3, 68)
   -- rounds, behind 64 posts and 512 stops
-  pub rounds-beyond : map (λ n. savedWith n (counting 64 (pos 0, pos 0) 512 (pos 0, pos 0, 1))) (1000 ∷ 1001 ∷ nine ∷ ten ∷ mostNatural ∷ [])
-      ≡ (0, 0) ∷ (3, 580) ∷ (3, 580) ∷ (2, 580) ∷ (2, 580) ∷ []
+  pub rounds-beyond : map (λ n. savedWith n (counting 64 (pos 0, pos 0) 512 (pos 0, pos 0, 1)))
+      (1000 ∷ 1001 ∷ nine ∷ ten ∷ mostNatural ∷ []) ≡ (0, 0) ∷ (3, 580) ∷ (3, 580) ∷ (2, 580) ∷ (2, 580) ∷ []
   -- 4, 5 and 6 once every line is right, and 8 after all others
   pub empty-area : map (λ area. saved (withArea area)) ((pos 8 ∷ pos 2 ∷ pos 2 ∷ pos 8 ∷ []) ∷ (pos 2 ∷ pos 8 ∷ pos 8 ∷ pos 2 ∷ []) ∷ [])
       ≡ replicate 2 (4, 0)
@@ -109,8 +110,8 @@ pub record WriteTable : Type 0 where
   pub four-before-five : saved (recordOf (pos 1 ∷ []) 0 [] 0 []) ≡ (4, 0)
   pub three-before-four : savedWith 1001 (withArea (pos 8 ∷ pos 2 ∷ pos 2 ∷ pos 8 ∷ [])) ≡ (3, 7)
   pub others-before-eight : map (λ deck. numberAndLine (writeCall deck 10 [] .answer))
-      (withStop (pos ten, pos 12, 1) ∷ withStop (pos 20001, pos 12, 1) ∷ withArea (pos 8 ∷ []) ∷ counting 0 (pos 0, pos 0) 0 (pos 0, pos 0, 0)
-      ∷ counting 1 (pos 0, pos 0) 0 (pos 0, pos 0, 0) ∷ withArea square ∷ [])
+      (withStop (pos ten, pos 12, 1) ∷ withStop (pos 20001, pos 12, 1) ∷ withArea (pos 8 ∷ [])
+      ∷ counting 0 (pos 0, pos 0) 0 (pos 0, pos 0, 0) ∷ counting 1 (pos 0, pos 0) 0 (pos 0, pos 0, 0) ∷ withArea square ∷ [])
       ≡ (2, 6) ∷ (3, 6) ∷ (4, 0) ∷ (5, 0) ∷ (6, 0) ∷ (8, 0) ∷ []
   -- a file of more than 16,384 bytes gets 2 at a line, and not 1
   pub large-file : saved (counting 64 (pos 0, pos 0) 512 (leastWord, leastWord, mostNatural)) ≡ (2, 68)

@@ -90,7 +90,13 @@ module _ (deck : Deck) (columns : DeckColumns deck) where
   places-long = omega (arith, places-length (deck .«stop_x») (deck .«stop_y»), columns .sized .stop-x, columns .sized .stop-y)
 
   stops-long : length (allStops deck) ≡ 512
-  stops-long = omega (arith, stops-length (deck .«stop_x») (deck .«stop_y») (deck .visits), columns .sized .stop-x, columns .sized .stop-y, columns .sized .visits)
+  stops-long = omega (
+    arith,
+    stops-length (deck .«stop_x») (deck .«stop_y») (deck .visits),
+    columns .sized .stop-x,
+    columns .sized .stop-y,
+    columns .sized .visits,
+  )
 
   stops-at : (i : ℕ) (d : Stop) → i < 512 → getD (allStops deck) i d ≡ stopAt deck i
   stops-at i d h = stops-in (deck .«stop_x») (deck .«stop_y») (deck .visits) i d (omega (arith, columns .sized .stop-x)) (omega (arith, columns .sized .stop-y))
@@ -115,10 +121,12 @@ module _ (deck : Deck) (columns : DeckColumns deck) where
     some-post = omega (arith, range .some-posts, length-take (deck .posts) (places (deck .«post_x») (deck .«post_y»)))
 
     pub stop-x-range : CoordinatesInRange (deck .«stop_x») (deck .stops)
-    stop-x-range = record { count = omega (arith, columns .stops, columns .sized .stop-x); range = λ i h. let r = stop-range i h .place .x-range in omega arith }
+    stop-x-range =
+        record { count = omega (arith, columns .stops, columns .sized .stop-x); range = λ i h. let r = stop-range i h .place .x-range in omega arith }
 
     pub stop-y-range : CoordinatesInRange (deck .«stop_y») (deck .stops)
-    stop-y-range = record { count = omega (arith, columns .stops, columns .sized .stop-y); range = λ i h. let r = stop-range i h .place .y-range in omega arith }
+    stop-y-range =
+        record { count = omega (arith, columns .stops, columns .sized .stop-y); range = λ i h. let r = stop-range i h .place .y-range in omega arith }
 
     pub visits-in-range : VisitsInRange (deck .visits) (deck .stops)
     visits-in-range = record { count = omega (arith, columns .stops, columns .sized .visits); range = λ i h. stop-range i h .most-visits }

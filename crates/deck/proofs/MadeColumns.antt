@@ -84,7 +84,8 @@ module _ (deck : Deck) (columns : DeckColumns deck) where
     x-put = ea ∙ put-column [] 0 1536 (deck .stops) (deck .«stop_x») refl (columns .stops) (omega (arith, columns .stops, columns .sized .stop-x))
 
     y-put : b ≡ x ++ y ++ replicate 1024 (pos 0)
-    y-put = eb ∙ rw x-put (put-column x 512 1024 (deck .stops) (deck .«stop_y») (long _) (columns .stops) (omega (arith, columns .stops, columns .sized .stop-y)))
+    y-put = eb ∙ rw x-put
+        (put-column x 512 1024 (deck .stops) (deck .«stop_y») (long _) (columns .stops) (omega (arith, columns .stops, columns .sized .stop-y)))
 
     put : c ≡ x ++ y ++ visits ++ replicate 512 (pos 0)
     put =

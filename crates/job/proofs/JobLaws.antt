@@ -3,7 +3,7 @@
 use mathlib.Core.Path.{_≡_, refl, sym, ap, subst, _∙_}
 use mathlib.Core.List.{List, [], _∷_, _++_, map, map-map, map-id, flatMap, List·Memᴰ, List·Memᴰ·head, List·Memᴰ·tail, List·Memᴰ·not-nil, Memᴰ·map}
 use mathlib.Core.List.{Memᴰ·append-left, Memᴰ·append-right}
-use Prim.Native.Nat.{ℕ, _+_, _*_, _≤_}
+use Prim.Native.Nat.{ℕ, _+_, _≤_}
 use native.Mathlib.Omega.{arith}
 use lib.Dec.{T}
 use lib.IntN.{ℤ, pos}
@@ -13,7 +13,6 @@ use Rattle.numbers.proofs.Members.{each-cons, each-append, each-map}
 use Rattle.query.specs.Place.{Place}
 use Rattle.query.specs.Deck.{Stop, plain, Deck}
 use Rattle.query.specs.Range.{RectInRange, PlaceInRange, StopInRange}
-use Rattle.text.specs.Ascii.{bytes}
 use Rattle.job_line.specs.Kinds.{Kind, area, posts, post, stops, stop, rounds, row, inRanges}
 use Rattle.job_line.specs.OneLine.{got, line}
 use Rattle.job.specs.Reader.{repeated, end}

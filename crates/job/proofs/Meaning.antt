@@ -127,7 +127,8 @@ allowed-read bytes job short e a = read-short bytes short ∙ allowed-text bytes
 
 -- ---- the laws
 pub accepted-law : (bytes : List ℕ) (job : Job) → AcceptedLaw bytes job
-accepted-law bytes job = record { exactly = (λ e. subst (λ (r : Result). SaysSized r bytes) e (read-says bytes), λ c. allowed-read bytes job (c .0) (c .1) (c .2)) }
+accepted-law bytes job =
+    record { exactly = (λ e. subst (λ (r : Result). SaysSized r bytes) e (read-says bytes), λ c. allowed-read bytes job (c .0) (c .1) (c .2)) }
 
 pub refused-law : (bytes : List ℕ) (why : Refusal) → RefusedLaw bytes why
 refused-law bytes why = record {

@@ -5,12 +5,12 @@ use mathlib.Core.Bool.{Bool, true, false, not, cond, _&&_}
 use mathlib.Core.Logic.{_⊎_, inl, inr, ⊎-elim}
 use mathlib.Core.List.{List, [], _∷_, _++_, map, flatMap, List·Memᴰ, List·Memᴰ·head, List·Memᴰ·tail, List·Memᴰ·not-nil, Memᴰ·append-right}
 use mathlib.Core.Option.{Option, none, some}
-use Prim.Native.Nat.{ℕ, zero, suc, _+_, _^_, _≤_, _<_, min}
+use Prim.Native.Nat.{ℕ, zero, suc, _+_, _≤_, _<_}
 use native.Mathlib.Omega.{arith}
 use lib.Dec.{T, ltb, eqb, ltb→lt, nltb→le, eqb·suc-zero}
-use lib.IntN.{ℤ, pos, natAbs}
-use lib.ListN.{length, take, replicate, length-take}
-use Rattle.numbers.proofs.Truth.{test, holds, fails, and-left, and-right}
+use lib.IntN.{ℤ, natAbs}
+use lib.ListN.{length, replicate, length-take}
+use Rattle.numbers.proofs.Truth.{test, holds, fails}
 use Rattle.numbers.proofs.Members.{each-cons}
 use Rattle.numbers.specs.Lists.{nonEmpty}
 use Rattle.query.specs.Place.{Place}
@@ -30,7 +30,7 @@ use Rattle.job.proofs.Faults.{Faults, bad-form, bad-value, further, allDue}
 use Rattle.job.proofs.Meaning.{text-fault, text-checked, text-accepted}
 use Rattle.refusal.specs.declared.Refusal.{Refusal}
 use Rattle.refusal.specs.declared.Refusal.the-variants.{Malformed, OutOfRange, EmptyArea, NoPosts, NoStops}
-use Rattle.job_check.specs.LineFaults.{short, allShort, numbersFault, lineFault, orElse, firstFault, partsFault, refusalIn}
+use Rattle.job_check.specs.LineFaults.{allShort, numbersFault, lineFault, orElse, firstFault, partsFault, refusalIn}
 
 -- ---- one line
 short-or-long : (ns : List ℤ) → (T (allShort ns) × Within ns) ⊎ (T (not (allShort ns)) × SomeLong ns)
@@ -107,18 +107,20 @@ lines-fine (l ∷ ls) n e = each-cons InRanges (go (line-is n l)) (lines-fine ls
   where
     orElse-some : (why : Refusal) → lineFault n l ≡ some why → {C : Type 0} → C
     orElse-some why p = none-some (sym e ∙ ap (λ (o : Option Refusal). orElse o (firstFault (n + 1) ls)) p)
+
     go : LineIs n l → T (inRanges (row (l .kind) .ranges) (l .numbers))
     go (long p s) = orElse-some (Malformed n) p
     go (beyond p w t) = orElse-some (OutOfRange n) p
     go (fine p w t) = t
+
     rest : LineIs n l → firstFault (n + 1) ls ≡ none
     rest (long p s) = orElse-some (Malformed n) p
     rest (beyond p w t) = orElse-some (OutOfRange n) p
     rest (fine p w t) = sym (ap (λ (o : Option Refusal). orElse o (firstFault (n + 1) ls)) p) ∙ e
 
 -- so many lines of a kind that makes no others due
-many-follow : {A : Type 0} (k : Kind) (numbersOf : A → List ℤ) → ((a : A) → length (numbersOf a) ≡ length (row k .ranges)) → ((ns : List ℤ) → dueAfter k ns ≡ [])
-    → (xs : List A) (count : ℕ) → length xs ≡ count → (due : List Kind) (ls : List JobLine) → Follows due ls
+many-follow : {A : Type 0} (k : Kind) (numbersOf : A → List ℤ) → ((a : A) → length (numbersOf a) ≡ length (row k .ranges))
+    → ((ns : List ℤ) → dueAfter k ns ≡ []) → (xs : List A) (count : ℕ) → length xs ≡ count → (due : List Kind) (ls : List JobLine) → Follows due ls
     → Follows (replicate count k ++ due) (map (λ a. record { kind = k; numbers = numbersOf a }) xs ++ ls)
 unfolding Follows
 many-follow k numbersOf as-many alone [] zero e due ls f = f
@@ -173,9 +175,21 @@ module _ (deck : Deck) (rounds-held : ℕ) (sized : Sized deck) where
 
   file-follows : Follows allDue (fileLines deck rounds-held)
   unfolding Follows
-  file-follows = (refl, refl, λ t. (refl, refl, λ p. many-follow post (λ p. postLine p .numbers) (λ a. refl) (λ ns. refl) (deckOf deck .posts) (deck .posts)
-      (posts-held (count-range 64 (deck .posts) .0 p)) (stops ∷ rounds ∷ []) _ (refl, refl, λ q. many-follow stop (λ s. stopLine s .numbers) (λ a. refl)
-      (λ ns. refl) (deckOf deck .stops) (deck .stops) (stops-held (count-range 512 (deck .stops) .0 q)) (rounds ∷ []) _ (refl, refl, λ r. refl))))
+  file-follows = (
+    refl,
+    refl,
+    λ t. (
+      refl,
+      refl,
+      λ p. many-follow post (λ p. postLine p .numbers) (λ a. refl) (λ ns. refl) (deckOf deck .posts) (deck .posts)
+          (posts-held (count-range 64 (deck .posts) .0 p)) (stops ∷ rounds ∷ []) _ (
+            refl,
+            refl,
+            λ q. many-follow stop (λ s. stopLine s .numbers) (λ a. refl)
+                (λ ns. refl) (deckOf deck .stops) (deck .stops) (stops-held (count-range 512 (deck .stops) .0 q)) (rounds ∷ []) _ (refl, refl, λ r. refl),
+          ),
+    ),
+  )
 
   lines-held : deck .posts ≤ 64 → deck .stops ≤ 512 → fileLines deck rounds-held ≡ linesOf (heldJob deck rounds-held)
   lines-held p s = ap₂ (λ (p s : ℕ). linesCounting p s (heldJob deck rounds-held)) (sym (posts-held p)) (sym (stops-held s))
@@ -198,11 +212,12 @@ module _ (deck : Deck) (rounds-held : ℕ) (sized : Sized deck) where
       let each = lines-fine (fileLines deck rounds-held) 1 e in
       let p : deck .posts ≤ 64 = count-range 64 (deck .posts) .0 (each _ (List·Memᴰ·tail (List·Memᴰ·head refl))) in
       let s : deck .stops ≤ 512 = count-range 512 (deck .stops) .0
-          (each _ (List·Memᴰ·tail (List·Memᴰ·tail (Memᴰ·append-right (map postLine (deckOf deck .posts)) (List·Memᴰ·head refl))))) in
+      (each _ (List·Memᴰ·tail (List·Memᴰ·tail (Memᴰ·append-right (map postLine (deckOf deck .posts)) (List·Memᴰ·head refl))))) in
       record {
         posts-few = p;
         stops-few = s;
-        writable = record { plain-axis = plain-held; in-ranges = subst (λ (ls : List JobLine). (l : JobLine) → List·Memᴰ l ls → InRanges l) (lines-held p s) each };
+        writable =
+            record { plain-axis = plain-held; in-ranges = subst (λ (ls : List JobLine). (l : JobLine) → List·Memᴰ l ls → InRanges l) (lines-held p s) each };
         spelled = file-spelled p s;
       }
 
@@ -247,7 +262,7 @@ module _ (deck : Deck) (rounds-held : ℕ) (sized : Sized deck) where
       held (accepted job) p f =
           let (spelt, allowed) = text-accepted _ job p in
           let same : job ≡ heldJob deck rounds-held = checked-same (heldJob deck rounds-held) job
-              (sym (text-checked _ (heldJob deck rounds-held) (f .spelled) (f .writable)) ∙ p) in
+          (sym (text-checked _ (heldJob deck rounds-held) (f .spelled) (f .writable)) ∙ p) in
           record { few-posts = f .posts-few; few-stops = f .stops-few; text = f .spelled; allowed = subst Allowed same allowed; read = p ∙ ap accepted same }
 
       go : (o : Option Refusal) → firstFault 1 (fileLines deck rounds-held) ≡ o → FileIs

@@ -7,7 +7,7 @@ use lib.ListN.{take}
 use Rattle.deck.specs.DeckOf.{places, stopsOf}
 use Rattle.text.specs.Ascii.{comma}
 use Rattle.text.specs.Decimal.{spellInt}
-use Rattle.job.specs.Spelling.{JobLine, postLine, stopLine, spellLine}
+use Rattle.job.specs.Spelling.{postLine, stopLine, spellLine}
 
 -- a number and the byte behind it; two numbers, each with its byte
 abbrev pub numberText : ℤ → ℕ → List ℕ

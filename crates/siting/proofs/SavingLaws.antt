@@ -3,7 +3,7 @@
 use Prim.Native.Nat.{ℕ, _≤_, _<_}
 use mathlib.Core.Path.{_≡_, refl, sym, ap, ap₂, _∙_}
 use mathlib.Core.List.{List}
-use mathlib.Core.Option.{Option, none, some}
+use mathlib.Core.Option.{some}
 use native.Mathlib.Omega.{arith}
 use lib.ListN.{length}
 use Rattle.deck.specs.DeckOf.{Sized}
@@ -18,10 +18,10 @@ use Rattle.job_check.specs.LineFaults.{refusalIn, checkedAs}
 use Rattle.job_check.specs.declared.Checked.{Checked}
 use Rattle.job_check.specs.declared.Checked.the-variants.{Fine, Refused}
 use Rattle.job_check.proofs.FileFaults.{FileIs, file-is}
-use Rattle.write.specs.Written.{overwritten, Overwrote}
+use Rattle.write.specs.Written.{Overwrote}
 use Rattle.calls.specs.Answers.{gives, refusal, readAnswer}
 use Rattle.calls.specs.ReadCall.{Read, readAs, readCall}
-use Rattle.calls.specs.WriteCall.{Saved, writeCall}
+use Rattle.calls.specs.WriteCall.{writeCall}
 use Rattle.calls.proofs.SavingLaw.{file-refused, file-short, file-written}
 
 -- ---- read

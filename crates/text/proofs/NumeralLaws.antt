@@ -14,7 +14,8 @@ use lib.Seq.{drop-append-seam}
 use Rattle.numbers.proofs.Truth.{and-left, and-right, and-fails-left, holds, cond-ind, cond-false}
 use Rattle.text.specs.Numeral.{digits, valueOf, isNatural, natural, negative, number}
 use Rattle.text.specs.Decimal.{spellNat, spellInt}
-use Rattle.text.proofs.DecimalLaws.{DigitsOf, decimal-all, decimal-digits, digits-append, digits-first, digits-rest, digits-twice, decimal-value, value-less}
+use Rattle.text.proofs.DecimalLaws.{DigitsOf, decimal-all, decimal-digits, digits-append, digits-first, digits-rest, digits-twice, decimal-value}
+use Rattle.text.proofs.DecimalLaws.{value-less}
 use Rattle.text.proofs.DigitCounts.{length-decimal-from, length-spellNat-below}
 
 -- ---- the form of a number that is not negative
@@ -130,7 +131,8 @@ natural-long bs h = not-T (isNatural (digits bs)) (λ t. let (some-digit, short,
 number-long : (bs : List ℕ) → 10 ≤ length (digits bs) → number bs ≡ none
 unfolding number natural digits
 number-long [] h = refl
-number-long (b ∷ bs) h = cond-false (eqb b 45) _ _ (not-T (eqb b 45) (λ u. let k = subst (λ (c : ℕ). 10 ≤ length (digits (c ∷ bs))) (eqb→eq b 45 u) h in omega arith))
+number-long (b ∷ bs) h =
+    cond-false (eqb b 45) _ _ (not-T (eqb b 45) (λ u. let k = subst (λ (c : ℕ). 10 ≤ length (digits (c ∷ bs))) (eqb→eq b 45 u) h in omega arith))
     ∙ cond-false (isNatural (digits (b ∷ bs))) _ _ (natural-long (b ∷ bs) h)
 
 digits-long : (n : ℕ) (rest : List ℕ) → 10 ^ 9 ≤ n → 10 ≤ length (digits (spellNat n ++ rest))

@@ -33,13 +33,21 @@ find-lines-requires : tie.Need-find-lines-requires
 find-lines-requires c κs =
     let f = c .before .before .before .before .before in
     let s = f .before .before .before .before .before .before .before in
-    record { within = s .pre .stops; coords-full = omega (arith, held s .sized .stop-x, s .pre .stops); flags-full = omega (arith, flags-long f, s .pre .stops) }
+    record {
+      within = s .pre .stops;
+      coords-full = omega (arith, held s .sized .stop-x, s .pre .stops);
+      flags-full = omega (arith, flags-long f, s .pre .stops);
+    }
 
 find-lines-requires-2 : tie.Need-find-lines-requires-2
 find-lines-requires-2 c κs =
     let f = c .before .before .before .before .before .before .before .before .before .before .before in
     let s = f .before .before .before .before .before .before .before in
-    record { within = s .pre .stops; coords-full = omega (arith, held s .sized .stop-y, s .pre .stops); flags-full = omega (arith, flags-long f, s .pre .stops) }
+    record {
+      within = s .pre .stops;
+      coords-full = omega (arith, held s .sized .stop-y, s .pre .stops);
+      flags-full = omega (arith, flags-long f, s .pre .stops);
+    }
 
 returns : tie.Need-returns
 returns c =
