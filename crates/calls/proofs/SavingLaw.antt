@@ -1,7 +1,7 @@
 -- What the calls `read` and `write` are held to.
 -- Assumes nothing.
 use mathlib.Core.Path.{_≡_, refl, sym, ap, ap₂, subst, subst₂, _∙_}
-use mathlib.Core.Logic.{⊎-elim}
+use mathlib.Core.Logic.{_≢_, ⊎-elim}
 use mathlib.Core.List.{List, map}
 use Prim.Native.Nat.{ℕ, _≤_, _<_}
 use native.Mathlib.Omega.{arith}
@@ -130,6 +130,14 @@ module _ (deck : Deck) (rounds : ℕ) (out : List ℕ) (sized : Sized deck) wher
   applied why (in-file c) = answer-of (file-refused deck rounds out why (refused-law (fileText deck rounds) why .exactly-in-text .1 c))
   applied _ (short-output s h) = answer-of (short-ends s h)
 
+  as-read : (why : Refusal) → why ≢ ShortOutput → writeCall deck rounds out .answer ≡ refusal why → readText (fileText deck rounds) ≡ refused why
+  as-read why apart e = go ends
+    where
+      go : Ends → readText (fileText deck rounds) ≡ refused why
+      go (refuses-file w r p) = r ∙ ap refused (same-refusal w why (sym (answer-of p) ∙ e))
+      go (too-short s h p) = absurd (apart (sym (same-refusal ShortOutput why (sym (answer-of p) ∙ e))))
+      go (writes s h p) = absurd (not-refused _ _ _ (sym (answer-of p) ∙ e))
+
   module _ (number line : ℕ) (e : writeCall deck rounds out .answer ≡ refuses number line) where
     listed : (why : Refusal) × (number ≡ numberOf why) × (line ≡ lineOf why)
     listed = go ends
@@ -195,6 +203,7 @@ module _ (deck : Deck) (rounds : ℕ) (out : List ℕ) (sized : Sized deck) wher
   pub write-law : WriteLaw deck rounds out
   write-law = record {
     refused-exactly = λ why. (applies deck rounds out sized why, applied deck rounds out sized why);
+    refused-as-read = λ why apart. (as-read deck rounds out sized why apart, λ r. answer-of deck rounds out sized (file-refused deck rounds out why r));
     refused-listed = listed deck rounds out sized;
     never-1 = λ line e. let h = from-two deck rounds out sized 1 line e in absurd (omega arith);
     refused-out = unchanged deck rounds out sized;

@@ -12,7 +12,7 @@ use Rattle.deck.specs.declared.Deck.{Deck}
 use Rattle.refusal.specs.Refusal.{numberOf, lineOf}
 use Rattle.refusal.specs.declared.Refusal.{Refusal}
 use Rattle.refusal.specs.declared.Refusal.the-variants.{ShortOutput}
-use Rattle.job.specs.Format.{Job, accepted, readJob}
+use Rattle.job.specs.Format.{Job, refused, accepted, readText, readJob}
 use Rattle.job.specs.Spelling.{spell, Allowed}
 use Rattle.job.specs.Meaning.{TextCondition, Condition}
 use Rattle.job.specs.File.{heldJob, fileText}
@@ -60,8 +60,11 @@ pub record WrittenLaw (deck : Deck) (rounds : ℕ) (out : List ℕ) (n : ℕ) : 
       take n (writeCall deck rounds out .out) ≡ take m (writeCall other more lent .out) → heldJob deck rounds ≡ heldJob other more
 
 pub record WriteLaw (deck : Deck) (rounds : ℕ) (out : List ℕ) : Type 0 where
-  -- each refusal exactly under its condition, and no other number and line; nothing lent is changed
+  -- each refusal exactly under its condition, those but for 8 exactly where reading the file's text gives them, and no other number and
+  -- line; nothing lent is changed
   pub refused-exactly : (why : Refusal) → (writeCall deck rounds out .answer ≡ refusal why) ↔ WriteApplies deck rounds out why
+  pub refused-as-read : (why : Refusal) → why ≢ ShortOutput → (writeCall deck rounds out .answer ≡ refusal why)
+      ↔ (readText (fileText deck rounds) ≡ refused why)
   pub refused-listed : (number line : ℕ) → writeCall deck rounds out .answer ≡ refuses number line → (why : Refusal)
       × (number ≡ numberOf why) × (line ≡ lineOf why)
   pub never-1 : (line : ℕ) → writeCall deck rounds out .answer ≢ refuses 1 line

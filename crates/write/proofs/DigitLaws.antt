@@ -2,7 +2,7 @@
 -- Assumes nothing.
 use mathlib.Core.Path.{_≡_, refl, sym, ap, _∙_}
 use mathlib.Core.Logic.{⊎-elim}
-use mathlib.Core.List.{List, [], _∷_, _++_, append-assoc}
+use mathlib.Core.List.{List, [], _∷_, _++_}
 use Prim.Native.Nat.{ℕ, zero, suc, _+_, _/_, _%_, _^_, _≤_, _<_}
 use native.Mathlib.Nat.{add-zero, pow-suc}
 use native.Mathlib.Numerals.{add-one}
@@ -16,7 +16,7 @@ use Rattle.text.specs.Decimal.{decimal, spellNat}
 use Rattle.text.proofs.DecimalLaws.{decimal-small, decimal-large}
 use Rattle.text.proofs.DigitCounts.{length-one, length-more}
 use Rattle.write.specs.Written.{fromOn, written, Wrote}
-use Rattle.write.proofs.WrittenLaws.{length-written, written-nil, written-before}
+use Rattle.write.proofs.WrittenLaws.{written-nil, written-before}
 
 -- ---- how many there are
 pub below-is : (n least : ℕ) → n < least → fromOn n least ≡ 0
