@@ -2,7 +2,6 @@
 -- Assumes nothing.
 use mathlib.Core.Path.{_≡_, refl, ap, _∙_}
 use Prim.Native.Nat.{ℕ, _+_, _≤_}
-use native.Mathlib.Nat.{zero-add}
 use native.Mathlib.Omega.{arith}
 use mathlib.Core.List.{List, [], _∷_, _++_, map, flatMap, append-assoc, append-nil}
 use lib.IntN.{pos}
@@ -10,8 +9,8 @@ use lib.ListN.{length, take, length-append}
 use Rattle.numbers.proofs.Joined.{flatMap-append}
 use Rattle.text.specs.Ascii.{bytes, comma, newline}
 use Rattle.text.specs.Decimal.{spellNat, spellInt}
-use Rattle.write.specs.Written.{Overwrote, Wrote}
-use Rattle.write.proofs.WrittenLaws.{written-front, wrote-kept}
+use Rattle.write.specs.Written.{Wrote}
+use Rattle.write.proofs.WrittenLaws.{wrote-kept}
 use Rattle.deck.specs.declared.Deck.{Deck}
 use Rattle.deck.specs.DeckOf.{places, stopsOf}
 use Rattle.job_line.specs.Kinds.{posts, stops, rounds}
@@ -115,7 +114,3 @@ pub part-room : {out mid : List ℕ} {end : ℕ} (before part : List ℕ) → Wr
     end + length part ≤ length mid
 part-room before part w h =
     let room = length-append before part in omega (arith, w .next, room, wrote-kept w (omega (arith, room)))
-
--- all written from the start on
-pub filled : {out after : List ℕ} {end : ℕ} (text : List ℕ) → Wrote out 0 text after end → Overwrote out text after end
-filled {out} text w = record { number = w .next ∙ zero-add (length text); content = w .text ∙ written-front out text }

@@ -1,4 +1,4 @@
--- The texts of lines in the parts that the functions write, their lengths, and one more line.
+-- The texts of lines: one line more in a loop over a list, the parts that the functions write, and their lengths.
 -- Assumes nothing.
 use mathlib.Core.Path.{_≡_, refl, sym, ap, _∙_}
 use Prim.Native.Nat.{ℕ, zero, suc, _+_, _≤_, _<_}
@@ -22,24 +22,56 @@ use Rattle.job_line.specs.Kinds.{Kind, row, endOf}
 use Rattle.job.specs.Spelling.{JobLine, areaLine, countLine, postLine, stopLine, spellNumbers, spellLine}
 use Rattle.job_file.specs.Texts.{numberText, placeText, postText, stopText, postTexts, stopTexts}
 
--- ---- lists
--- what the first n of a list spell, for one more and for fewer of them
-module _ {A B : Type 0} (f : B → List ℕ) (g : A → B) where
-  one : (b : B) → flatMap f (b ∷ []) ≡ f b
+-- ---- lines of a list, one after another
+module _ {A : Type 0} (g : A → JobLine) where
+  -- those of its first n elements
+  abbrev texts : List A → ℕ → List ℕ
+  texts l n = flatMap spellLine (map g (take n l))
+
+  one : (j : JobLine) → flatMap spellLine (j ∷ []) ≡ spellLine j
   unfolding flatMap
-  one b = append-nil (f b)
+  one j = append-nil (spellLine j)
 
-  texts-more : (l : List A) (i : ℕ) (d : A) → i < length l → flatMap f (map g (take (i + 1) l)) ≡ flatMap f (map g (take i l)) ++ f (g (getD l i d))
-  texts-more l i d h =
-      let e : take (i + 1) l ≡ take i l ++ (getD l i d ∷ []) = rw add-one (take-suc l i d h) in
-      rw (e, map-append g (take i l) (getD l i d ∷ []), flatMap-append f (map g (take i l)) (g (getD l i d) ∷ []), one (g (getD l i d)))
-
-  texts-fewer : (k n : ℕ) (l : List A) → k ≤ n → length (flatMap f (map g (take k l))) ≤ length (flatMap f (map g (take n l)))
+  texts-fewer : (k n : ℕ) (l : List A) → k ≤ n → length (texts l k) ≤ length (texts l n)
   unfolding flatMap
   texts-fewer zero n l h = omega arith
   texts-fewer (suc k) n [] h = omega arith
   texts-fewer (suc k) zero (x ∷ xs) h = absurd (omega arith)
   texts-fewer (suc k) (suc n) (x ∷ xs) h = simp length-append (omega (arith, texts-fewer k n xs (omega arith)))
+
+  pub texts-none : (l : List A) → texts l 0 ≡ []
+  unfolding flatMap
+  texts-none l = refl
+
+  -- the text of the line of element i
+  pub record LineText (l : List A) (i : ℕ) (text : List ℕ) : Type 0 where
+    pub within : i < length l
+    pub other : A
+    pub is : text ≡ spellLine (g (getD l i other))
+
+  -- a turn of a loop: the line counted, the room for it, and the line written behind the others
+  module _ {l : List A} {i : ℕ} {text : List ℕ} (t : LineText l i text) where
+    texts-more : texts l (i + 1) ≡ texts l i ++ text
+    texts-more =
+        let e : take (i + 1) l ≡ take i l ++ (getD l i (t .other) ∷ []) = rw add-one (take-suc l i (t .other) (t .within)) in
+        rw (
+          e,
+          map-append g (take i l) (getD l i (t .other) ∷ []),
+          flatMap-append spellLine (map g (take i l)) (g (getD l i (t .other)) ∷ []),
+          one (g (getD l i (t .other))),
+          ← t .is,
+        )
+
+    pub line-counted : length (texts l (i + 1)) ≡ length (texts l i) + length text
+    line-counted = ap length texts-more ∙ length-append (texts l i) text
+
+    pub line-room : {out mid : List ℕ} {start at n room : ℕ} → Wrote out start (texts l i) mid at → i < n → start + length (texts l n) ≤ room →
+        at + length text ≤ room
+    line-room {n = n} w h room = omega (arith, w .next, room, line-counted, texts-fewer (i + 1) n l (omega arith))
+
+    pub line-wrote : {out mid after : List ℕ} {start at end : ℕ} → Wrote out start (texts l i) mid at → Wrote mid at text after end → start ≤ length out →
+        Wrote out start (texts l (i + 1)) after end
+    line-wrote v w h = rw texts-more (wrote-both v w h)
 
 -- ---- one line
 line-text : (l : JobLine) → spellLine l ≡ row (l .kind) .key ++ spellNumbers (l .numbers)
@@ -115,85 +147,27 @@ length-stop x y v = omega (
   ap length (spelled-pos v),
 )
 
--- ---- no line, and one more
-pub posts-none : (xs ys : List ℤ) → postTexts xs ys 0 ≡ []
-unfolding flatMap
-posts-none xs ys = refl
+-- ---- the lines of posts and stops, whose numbers the code has
+module _ {x y : ℤ} {i : ℕ} (xs ys : List ℤ) (ex : x ≡ getD xs i (pos 0)) (ey : y ≡ getD ys i (pos 0)) (g : i < length xs) (h : i < length ys) where
+  pub post-line : LineText postLine (places xs ys) i (postText x y)
+  post-line = record {
+    within = omega (arith, places-length xs ys);
+    other = placeAt xs ys i;
+    is = rw (ex, ey, places-at xs ys i (placeAt xs ys i) g h);
+  }
 
-pub stops-none : (xs ys : List ℤ) (vs : List ℕ) → stopTexts xs ys vs 0 ≡ []
-unfolding flatMap
-stops-none xs ys vs = refl
+  pub post-counted : {len r : ℕ} → len ≡ length (postTexts xs ys i) → r ≡ length (spellInt x) + length (spellInt y) + 2 →
+      len + (5 + r) ≡ length (postTexts xs ys (i + 1))
+  post-counted e f = omega (arith, e, f, line-counted postLine post-line, length-post x y)
 
-posts-more : (xs ys : List ℤ) (i : ℕ) → i < length xs → i < length ys →
-    postTexts xs ys (i + 1) ≡ postTexts xs ys i ++ postText (getD xs i (pos 0)) (getD ys i (pos 0))
-posts-more xs ys i g h = texts-more spellLine postLine (places xs ys) i (placeAt xs ys i) (omega (arith, places-length xs ys))
-    ∙ ap (λ (p : Place). postTexts xs ys i ++ spellLine (postLine p)) (places-at xs ys i (placeAt xs ys i) g h)
+  module _ (vs : List ℕ) (k : i < length vs) where
+    pub stop-line : LineText stopLine (stopsOf (places xs ys) vs) i (stopText x y (getD vs i 0))
+    stop-line = record {
+      within = omega (arith, stops-length xs ys vs);
+      other = stopIn xs ys vs i;
+      is = rw (ex, ey, stops-in xs ys vs i (stopIn xs ys vs i) g h k);
+    }
 
-stops-more : (xs ys : List ℤ) (vs : List ℕ) (i : ℕ) → i < length xs → i < length ys → i < length vs →
-    stopTexts xs ys vs (i + 1) ≡ stopTexts xs ys vs i ++ stopText (getD xs i (pos 0)) (getD ys i (pos 0)) (getD vs i 0)
-stops-more xs ys vs i g h k = texts-more spellLine stopLine (stopsOf (places xs ys) vs) i (stopIn xs ys vs i) (omega (arith, stops-length xs ys vs))
-    ∙ ap (λ (s : Stop). stopTexts xs ys vs i ++ spellLine (stopLine s)) (stops-in xs ys vs i (stopIn xs ys vs i) g h k)
-
--- a turn of a loop over lengths
-pub post-counted : {len r i : ℕ} {x y : ℤ} (xs ys : List ℤ) → len ≡ length (postTexts xs ys i) → x ≡ getD xs i (pos 0) → y ≡ getD ys i (pos 0) →
-    r ≡ length (spellInt x) + length (spellInt y) + 2 → i < length xs → i < length ys → len + (5 + r) ≡ length (postTexts xs ys (i + 1))
-post-counted {i = i} {x = x} {y = y} xs ys e ex ey er g h = omega (
-  arith,
-  e,
-  er,
-  ap length (posts-more xs ys i g h),
-  length-append (postTexts xs ys i) (postText (getD xs i (pos 0)) (getD ys i (pos 0))),
-  length-post (getD xs i (pos 0)) (getD ys i (pos 0)),
-  ap (λ (z : ℤ). length (spellInt z)) ex,
-  ap (λ (z : ℤ). length (spellInt z)) ey,
-)
-
-pub stop-counted : {len r s i : ℕ} {x y : ℤ} (xs ys : List ℤ) (vs : List ℕ) → len ≡ length (stopTexts xs ys vs i) → x ≡ getD xs i (pos 0) →
-    y ≡ getD ys i (pos 0) → r ≡ length (spellInt x) + length (spellInt y) + 2 → s ≡ length (spellNat (getD vs i 0)) →
-    i < length xs → i < length ys → i < length vs → len + (5 + r + s + 1) ≡ length (stopTexts xs ys vs (i + 1))
-stop-counted {i = i} {x = x} {y = y} xs ys vs e ex ey er es g h k = omega (
-  arith,
-  e,
-  er,
-  es,
-  ap length (stops-more xs ys vs i g h k),
-  length-append (stopTexts xs ys vs i) (stopText (getD xs i (pos 0)) (getD ys i (pos 0)) (getD vs i 0)),
-  length-stop (getD xs i (pos 0)) (getD ys i (pos 0)) (getD vs i 0),
-  ap (λ (z : ℤ). length (spellInt z)) ex,
-  ap (λ (z : ℤ). length (spellInt z)) ey,
-)
-
--- a turn of a loop that writes: the room for its line, and what is written behind it
-pub post-room : {out mid : List ℕ} {start at i n room : ℕ} {x y : ℤ} (xs ys : List ℤ) → Wrote out start (postTexts xs ys i) mid at →
-    x ≡ getD xs i (pos 0) → y ≡ getD ys i (pos 0) → i < length xs → i < length ys → i < n → start + length (postTexts xs ys n) ≤ room →
-    at + length (postText x y) ≤ room
-post-room {i = i} {n = n} xs ys w ex ey g h k room = rw (ex, ey) (omega (
-  arith,
-  w .next,
-  room,
-  ap length (posts-more xs ys i g h),
-  length-append (postTexts xs ys i) (postText (getD xs i (pos 0)) (getD ys i (pos 0))),
-  texts-fewer spellLine postLine (i + 1) n (places xs ys) (omega arith),
-))
-
-pub post-wrote : {out mid after : List ℕ} {start at end i : ℕ} {x y : ℤ} (xs ys : List ℤ) → Wrote out start (postTexts xs ys i) mid at →
-    Wrote mid at (postText x y) after end → x ≡ getD xs i (pos 0) → y ≡ getD ys i (pos 0) → i < length xs → i < length ys → start ≤ length out →
-    Wrote out start (postTexts xs ys (i + 1)) after end
-post-wrote {i = i} xs ys v w ex ey g h k = rw (posts-more xs ys i g h, ← ex, ← ey) (wrote-both v w k)
-
-pub stop-room : {out mid : List ℕ} {start at i n room : ℕ} {x y : ℤ} (xs ys : List ℤ) (vs : List ℕ) → Wrote out start (stopTexts xs ys vs i) mid at →
-    x ≡ getD xs i (pos 0) → y ≡ getD ys i (pos 0) → i < length xs → i < length ys → i < length vs → i < n →
-    start + length (stopTexts xs ys vs n) ≤ room → at + length (stopText x y (getD vs i 0)) ≤ room
-stop-room {i = i} {n = n} xs ys vs w ex ey g h l k room = rw (ex, ey) (omega (
-  arith,
-  w .next,
-  room,
-  ap length (stops-more xs ys vs i g h l),
-  length-append (stopTexts xs ys vs i) (stopText (getD xs i (pos 0)) (getD ys i (pos 0)) (getD vs i 0)),
-  texts-fewer spellLine stopLine (i + 1) n (stopsOf (places xs ys) vs) (omega arith),
-))
-
-pub stop-wrote : {out mid after : List ℕ} {start at end i : ℕ} {x y : ℤ} (xs ys : List ℤ) (vs : List ℕ) → Wrote out start (stopTexts xs ys vs i) mid at →
-    Wrote mid at (stopText x y (getD vs i 0)) after end → x ≡ getD xs i (pos 0) → y ≡ getD ys i (pos 0) → i < length xs → i < length ys → i < length vs →
-    start ≤ length out → Wrote out start (stopTexts xs ys vs (i + 1)) after end
-stop-wrote {i = i} xs ys vs v w ex ey g h l k = rw (stops-more xs ys vs i g h l, ← ex, ← ey) (wrote-both v w k)
+    pub stop-counted : {len r s : ℕ} → len ≡ length (stopTexts xs ys vs i) → r ≡ length (spellInt x) + length (spellInt y) + 2 →
+        s ≡ length (spellNat (getD vs i 0)) → len + (5 + r + s + 1) ≡ length (stopTexts xs ys vs (i + 1))
+    stop-counted e f m = omega (arith, e, f, m, line-counted stopLine stop-line, length-stop x y (getD vs i 0))

@@ -2,7 +2,6 @@
 -- Assumes nothing.
 use mathlib.Core.Path.{_≡_, refl, sym, ap, _∙_}
 use Prim.Native.Nat.{ℕ, _+_, _≤_, _<_, _^_, zero-le}
-use native.Mathlib.Nat.{zero-add}
 use native.Mathlib.Omega.{arith}
 use mathlib.Core.List.{List, [], _∷_, _++_, flatten, append-assoc, append-nil}
 use mathlib.Core.Option.{Option, none, some}
@@ -16,7 +15,7 @@ use Rattle.text.specs.Numeral.{digits, natural}
 use Rattle.write.specs.Written.{Overwrote, Wrote}
 use Rattle.text.proofs.NumeralLaws.{natural-spelled}
 use Rattle.text.proofs.DigitCounts.{length-spellNat, length-spellNat-below, length-spellInt, length-spellInt-below}
-use Rattle.write.proofs.WrittenLaws.{written-front, wrote-both}
+use Rattle.write.proofs.WrittenLaws.{wrote-both, wrote-front}
 use Rattle.refusal.specs.Refusal.{numberOf}
 use Rattle.refusal.specs.declared.Refusal.{Refusal}
 use Rattle.refusal.proofs.Numbers.{number-most}
@@ -120,9 +119,6 @@ pub length-int-part : (key : List ℕ) (z : ℤ) → length (key ++ spellInt z) 
 length-int-part key z = omega (arith, length-append key (spellInt z), length-spellInt z)
 
 -- ---- a text written from the start on
-pub filled : {out after : List ℕ} {end : ℕ} (text : List ℕ) → Wrote out 0 text after end → Overwrote out text after end
-filled {out} text w = record { number = w .next ∙ zero-add (length text); content = w .text ∙ written-front out text }
-
 pub report-filled :
     {out m₁ m₂ m₃ m₄ after : List ℕ} {e₁ e₂ e₃ e₄ end : ℕ} (f : Figures) →
     Wrote out 0 (statePart (f .state)) m₁ e₁ →
@@ -132,7 +128,7 @@ pub report-filled :
     Wrote m₄ e₄ (bytes "\n") after end →
     Overwrote out (reportText f) after end
 report-filled f s p c r n =
-    filled (reportText f) (rw report-parts (wrote-both (wrote-both (wrote-both (wrote-both s p zero-le) c zero-le) r zero-le) n zero-le))
+    wrote-front (reportText f) (rw report-parts (wrote-both (wrote-both (wrote-both (wrote-both s p zero-le) c zero-le) r zero-le) n zero-le))
 
 pub refusal-filled :
     {out m₁ m₂ after : List ℕ} {e₁ e₂ end number line : ℕ} (n l : ℕ) →
@@ -143,4 +139,4 @@ pub refusal-filled :
     Wrote m₂ e₂ (bytes "\n") after end →
     Overwrote out (refusalText number line) after end
 refusal-filled {number = number} {line = line} n l p q v w e =
-    filled (refusalText number line) (rw (refusal-parts, ← p, ← q) (wrote-both (wrote-both v w zero-le) e zero-le))
+    wrote-front (refusalText number line) (rw (refusal-parts, ← p, ← q) (wrote-both (wrote-both v w zero-le) e zero-le))

@@ -8,7 +8,7 @@ use native.Mathlib.Omega.{arith}
 use mathlib.Core.List.{List, [], _∷_, _++_, append-assoc, append-nil}
 use lib.ListN.{length, take, drop, set, getD, length-append, length-drop, take-append-drop}
 use lib.Seq.{take-at, drop-at, drop-drop, length-take-le, set-at, set-split, take-suc, take-all}
-use Rattle.write.specs.Written.{overwritten, written, Wrote}
+use Rattle.write.specs.Written.{overwritten, written, Overwrote, Wrote}
 
 -- what stands before the end of the new bytes
 length-head : (out : List ℕ) (at : ℕ) (bs : List ℕ) → at ≤ length out → length (take at out ++ bs) ≡ at + length bs
@@ -70,6 +70,10 @@ wrote-both {out} {a} {mid} {b} {after} {at} {place} {end} v w h = record {
   next = omega (arith, v .next, w .next, length-append a b);
   text = w .text ∙ rw (v .text, v .next) (written-append out at a b h);
 }
+
+-- all of a text, from the start on
+pub wrote-front : {out after : List ℕ} {end : ℕ} (text : List ℕ) → Wrote out 0 text after end → Overwrote out text after end
+wrote-front {out} text w = record { number = w .next ∙ zero-add (length text); content = w .text ∙ written-front out text }
 
 -- two parts behind what was written
 pub wrote-pair : {out front mid after : List ℕ} {at place end : ℕ} (a b : List ℕ) → Wrote out at front mid place →

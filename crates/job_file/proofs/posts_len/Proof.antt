@@ -7,7 +7,9 @@ use lib.ListN.{length}
 use mir.Syntax.{w64}
 use mir.ValLaws.{toZ-ofZ}
 use Rattle.job_file.specs.Texts.{postTexts}
-use Rattle.job_file.proofs.TextLaws.{posts-none, post-counted}
+use Rattle.job_file.proofs.TextLaws.{texts-none, post-counted}
+use Rattle.deck.specs.DeckOf.{places}
+use Rattle.job.specs.Spelling.{postLine}
 use Rattle.job_file.proofs.posts_len.Statement.{statement}
 use Rattle.job_file.proofs.posts_len.Tie as tie
 
@@ -18,7 +20,7 @@ abbrev μ-loop : tie.MeasureT-loop
 μ-loop xs ys n len₀ i₀ len i = n - i
 
 loop-holds : tie.Need-loop-holds Inv-loop μ-loop
-loop-holds c = (omega arith, sym (ap length (posts-none (c .args .xs .now) (c .args .ys .now))), omega arith)
+loop-holds c = (omega arith, sym (ap length (texts-none postLine (places (c .args .xs .now) (c .args .ys .now)))), omega arith)
 
 mul-place-len : tie.Need-mul-place-len Inv-loop μ-loop
 mul-place-len c = omega arith
@@ -51,9 +53,9 @@ loop-again : tie.Need-loop-again Inv-loop μ-loop
 loop-again c =
     let s = c .before .before .before .before .before .args in (
       omega arith,
-      post-counted (s .xs .now) (s .ys .now) (c .before .before .before .before .loop .inv .1)
-          (toZ-ofZ w64 _ (record { sfits = c .before .before .place-len-arg .given }))
-          (toZ-ofZ w64 _ (record { sfits = c .before .place-len-arg2 .given })) (c .place-len .ensures .0) (omega arith) (omega arith),
+      post-counted (s .xs .now) (s .ys .now) (toZ-ofZ w64 _ (record { sfits = c .before .before .place-len-arg .given }))
+          (toZ-ofZ w64 _ (record { sfits = c .before .place-len-arg2 .given })) (omega arith) (omega arith)
+          (c .before .before .before .before .loop .inv .1) (c .place-len .ensures .0),
       omega arith,
     )
 

@@ -12,10 +12,10 @@ use mir.Val.{SFits, toZ, ofZ}
 use mir.ValLaws.{toZ-ofZ}
 use Rattle.text.specs.Ascii.{bytes, comma, newline}
 use Rattle.write.specs.Written.{Wrote}
-use Rattle.write.proofs.WrittenLaws.{wrote-kept, wrote-both}
+use Rattle.write.proofs.WrittenLaws.{wrote-kept, wrote-both, wrote-front}
 use Rattle.job.specs.File.{fileText}
 use Rattle.job_file.specs.Texts.{placeText, postTexts, stopTexts}
-use Rattle.job_file.proofs.FileLaws.{countPart, front₁, front₂, front₃, front₄, front₅, front₆, front₇, file-parts, Fronts, fronts, part-room, filled}
+use Rattle.job_file.proofs.FileLaws.{countPart, front₁, front₂, front₃, front₄, front₅, front₆, front₇, file-parts, Fronts, fronts, part-room}
 use Rattle.job_file.proofs.put.Statement.{statement}
 use Rattle.job_file.proofs.put.Tie as tie
 
@@ -207,7 +207,7 @@ same-length c =
     wrote-kept (wrote-file (c .before .before)) (omega (arith, s .pre .2))
 
 returns : tie.Need-returns
-returns c = filled _ (wrote-file (c .before .before))
+returns c = wrote-front _ (wrote-file (c .before .before))
 
 pub put-spec : {M : Type 1} → statement M
 put-spec =

@@ -9,7 +9,9 @@ use mir.ValLaws.{toZ-ofZ}
 use Rattle.write.specs.Written.{Wrote}
 use Rattle.write.proofs.WrittenLaws.{wrote-nothing}
 use Rattle.job_file.specs.Texts.{postTexts}
-use Rattle.job_file.proofs.TextLaws.{posts-none, post-room, post-wrote}
+use Rattle.job_file.proofs.TextLaws.{texts-none, line-room, line-wrote, post-line}
+use Rattle.deck.specs.DeckOf.{places}
+use Rattle.job.specs.Spelling.{postLine}
 use Rattle.job_file.proofs.put_posts.Statement.{statement}
 use Rattle.job_file.proofs.put_posts.Tie as tie
 
@@ -22,7 +24,7 @@ abbrev μ-loop : tie.MeasureT-loop
 loop-holds : tie.Need-loop-holds Inv-loop μ-loop
 loop-holds c =
     let s = c .before .args in
-    (omega arith, omega arith, rw (posts-none (s .xs .now) (s .ys .now)) (wrote-nothing (s .out .now) (s .start) (s .start) (omega arith)))
+    (omega arith, omega arith, rw (texts-none postLine (places (s .xs .now) (s .ys .now))) (wrote-nothing (s .out .now) (s .start) (s .start) (omega arith)))
 
 mul-put-post : tie.Need-mul-put-post Inv-loop μ-loop
 mul-put-post c = omega arith
@@ -40,9 +42,10 @@ put-post-requires : tie.Need-put-post-requires Inv-loop μ-loop
 put-post-requires c κs =
     let s = c .before .before .before .before .before .before in
     let l = c .before .before .before .before .loop .inv in
-    post-room {n = s .args .n} (s .args .xs .now) (s .args .ys .now) (l .2)
-    (toZ-ofZ w64 _ (record { sfits = c .before .put-post-arg2 .given })) (toZ-ofZ w64 _ (record { sfits = c .put-post-arg3 .given }))
-    (omega arith) (omega arith) (omega arith) (omega (arith, s .pre, l .1))
+    line-room postLine
+    (post-line (s .args .xs .now) (s .args .ys .now) (toZ-ofZ w64 _ (record { sfits = c .before .put-post-arg2 .given }))
+    (toZ-ofZ w64 _ (record { sfits = c .put-post-arg3 .given })) (omega arith) (omega arith))
+    {n = s .args .n} (l .2) (omega arith) (omega (arith, s .pre, l .1))
 
 add-i : tie.Need-add-i Inv-loop μ-loop
 add-i c = omega arith
@@ -56,10 +59,11 @@ loop-again c =
     let l = c .before .before .before .before .before .before .before .loop .inv in (
       omega arith,
       c .before .before .put-post .kept .0 ∙ l .1,
-      post-wrote (s .args .xs .now) (s .args .ys .now) (l .2) (c .before .before .put-post .ensures)
+      line-wrote postLine
+          (post-line (s .args .xs .now) (s .args .ys .now)
           (toZ-ofZ w64 _ (record { sfits = c .before .before .before .before .put-post-arg2 .given }))
-          (toZ-ofZ w64 _ (record { sfits = c .before .before .before .put-post-arg3 .given }))
-          (omega arith) (omega arith) (omega (arith, s .pre)),
+          (toZ-ofZ w64 _ (record { sfits = c .before .before .before .put-post-arg3 .given })) (omega arith) (omega arith))
+          (l .2) (c .before .before .put-post .ensures) (omega (arith, s .pre)),
     )
 
 same-length : tie.Need-same-length Inv-loop μ-loop

@@ -9,7 +9,9 @@ use mir.ValLaws.{toZ-ofZ}
 use Rattle.write.specs.Written.{Wrote}
 use Rattle.write.proofs.WrittenLaws.{wrote-nothing}
 use Rattle.job_file.specs.Texts.{stopTexts}
-use Rattle.job_file.proofs.TextLaws.{stops-none, stop-room, stop-wrote}
+use Rattle.deck.specs.DeckOf.{places, stopsOf}
+use Rattle.job.specs.Spelling.{stopLine}
+use Rattle.job_file.proofs.TextLaws.{texts-none, line-room, line-wrote, stop-line}
 use Rattle.job_file.proofs.put_stops.Statement.{statement}
 use Rattle.job_file.proofs.put_stops.Tie as tie
 
@@ -22,7 +24,7 @@ abbrev μ-loop : tie.MeasureT-loop
 loop-holds : tie.Need-loop-holds Inv-loop μ-loop
 loop-holds c =
     let s = c .before .before .args in
-    (omega arith, omega arith, rw (stops-none (s .xs .now) (s .ys .now) (s .visits .now)) (wrote-nothing (s .out .now) (s .start) (s .start) (omega arith)))
+    (omega arith, omega arith, rw (texts-none stopLine (stopsOf (places (s .xs .now) (s .ys .now)) (s .visits .now))) (wrote-nothing (s .out .now) (s .start) (s .start) (omega arith)))
 
 mul-put-stop : tie.Need-mul-put-stop Inv-loop μ-loop
 mul-put-stop c = omega arith
@@ -46,9 +48,10 @@ put-stop-requires : tie.Need-put-stop-requires Inv-loop μ-loop
 put-stop-requires c κs =
     let s = c .before .before .before .before .before .before .before .before in
     let l = c .before .before .before .before .before .loop .inv in
-    stop-room {n = s .args .n} (s .args .xs .now) (s .args .ys .now) (s .args .visits .now) (l .2)
-    (toZ-ofZ w64 _ (record { sfits = c .before .before .put-stop-arg2 .given })) (toZ-ofZ w64 _ (record { sfits = c .before .put-stop-arg3 .given }))
-    (omega arith) (omega arith) (omega arith) (omega arith) (omega (arith, s .pre, l .1))
+    line-room stopLine
+    (stop-line (s .args .xs .now) (s .args .ys .now) (toZ-ofZ w64 _ (record { sfits = c .before .before .put-stop-arg2 .given }))
+    (toZ-ofZ w64 _ (record { sfits = c .before .put-stop-arg3 .given })) (omega arith) (omega arith) (s .args .visits .now) (omega arith))
+    {n = s .args .n} (l .2) (omega arith) (omega (arith, s .pre, l .1))
 
 add-i : tie.Need-add-i Inv-loop μ-loop
 add-i c = omega arith
@@ -62,10 +65,12 @@ loop-again c =
     let l = c .before .before .before .before .before .before .before .before .loop .inv in (
       omega arith,
       c .before .before .put-stop .kept .0 ∙ l .1,
-      stop-wrote (s .args .xs .now) (s .args .ys .now) (s .args .visits .now) (l .2) (c .before .before .put-stop .ensures)
+      line-wrote stopLine
+          (stop-line (s .args .xs .now) (s .args .ys .now)
           (toZ-ofZ w64 _ (record { sfits = c .before .before .before .before .before .put-stop-arg2 .given }))
           (toZ-ofZ w64 _ (record { sfits = c .before .before .before .before .put-stop-arg3 .given }))
-          (omega arith) (omega arith) (omega arith) (omega (arith, s .pre)),
+          (omega arith) (omega arith) (s .args .visits .now) (omega arith))
+          (l .2) (c .before .before .put-stop .ensures) (omega (arith, s .pre)),
     )
 
 same-length : tie.Need-same-length Inv-loop μ-loop

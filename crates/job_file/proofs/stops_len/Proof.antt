@@ -7,7 +7,9 @@ use lib.ListN.{length}
 use mir.Syntax.{w64}
 use mir.ValLaws.{toZ-ofZ}
 use Rattle.job_file.specs.Texts.{stopTexts}
-use Rattle.job_file.proofs.TextLaws.{stops-none, stop-counted}
+use Rattle.job_file.proofs.TextLaws.{texts-none, stop-counted}
+use Rattle.deck.specs.DeckOf.{places, stopsOf}
+use Rattle.job.specs.Spelling.{stopLine}
 use Rattle.job_file.proofs.stops_len.Statement.{statement}
 use Rattle.job_file.proofs.stops_len.Tie as tie
 
@@ -18,7 +20,9 @@ abbrev μ-loop : tie.MeasureT-loop
 μ-loop xs ys visits n len₀ i₀ len i = n - i
 
 loop-holds : tie.Need-loop-holds Inv-loop μ-loop
-loop-holds c = (omega arith, sym (ap length (stops-none (c .before .args .xs .now) (c .before .args .ys .now) (c .before .args .visits .now))), omega arith)
+loop-holds c =
+    let s = c .before .args in
+    (omega arith, sym (ap length (texts-none stopLine (stopsOf (places (s .xs .now) (s .ys .now)) (s .visits .now)))), omega arith)
 
 mul-place-len : tie.Need-mul-place-len Inv-loop μ-loop
 mul-place-len c = omega arith
@@ -66,11 +70,9 @@ loop-again : tie.Need-loop-again Inv-loop μ-loop
 loop-again c =
     let s = c .before .before .before .before .before .before .before .before .args in (
       omega arith,
-      stop-counted (s .xs .now) (s .ys .now) (s .visits .now) (c .before .before .before .before .before .before .loop .inv .1)
-          (toZ-ofZ w64 _ (record { sfits = c .before .before .before .before .place-len-arg .given }))
-          (toZ-ofZ w64 _ (record { sfits = c .before .before .before .place-len-arg2 .given }))
-          (c .before .before .place-len .ensures .0) (c .nat-len .ensures .0)
-          (omega arith) (omega arith) (omega arith),
+      stop-counted (s .xs .now) (s .ys .now) (toZ-ofZ w64 _ (record { sfits = c .before .before .before .before .place-len-arg .given }))
+          (toZ-ofZ w64 _ (record { sfits = c .before .before .before .place-len-arg2 .given })) (omega arith) (omega arith) (s .visits .now) (omega arith)
+          (c .before .before .before .before .before .before .loop .inv .1) (c .before .before .place-len .ensures .0) (c .nat-len .ensures .0),
       omega arith,
     )
 
