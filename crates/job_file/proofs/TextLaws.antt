@@ -9,8 +9,7 @@ use lib.IntN.{ℤ, pos}
 use lib.ListN.{length, getD, take, length-append}
 use lib.Seq.{take-suc}
 use Rattle.numbers.proofs.Joined.{flatMap-append}
-use Rattle.query.specs.Place.{Place, Rect}
-use Rattle.query.specs.Deck.{Stop}
+use Rattle.query.specs.Place.{Rect}
 use Rattle.text.specs.Ascii.{bytes, comma, newline}
 use Rattle.text.specs.Decimal.{spellNat, spellInt}
 use Rattle.write.specs.Written.{Wrote}

@@ -23,8 +23,12 @@ abbrev μ-loop : tie.MeasureT-loop
 
 loop-holds : tie.Need-loop-holds Inv-loop μ-loop
 loop-holds c =
-    let s = c .before .before .args in
-    (omega arith, omega arith, rw (texts-none stopLine (stopsOf (places (s .xs .now) (s .ys .now)) (s .visits .now))) (wrote-nothing (s .out .now) (s .start) (s .start) (omega arith)))
+    let s = c .before .before .args in (
+      omega arith,
+      omega arith,
+      rw (texts-none stopLine (stopsOf (places (s .xs .now) (s .ys .now)) (s .visits .now)))
+          (wrote-nothing (s .out .now) (s .start) (s .start) (omega arith)),
+    )
 
 mul-put-stop : tie.Need-mul-put-stop Inv-loop μ-loop
 mul-put-stop c = omega arith
