@@ -15,7 +15,8 @@ use Rattle.numbers.proofs.Truth.{test, cond-true, cond-false}
 use Rattle.text.specs.Decimal.{decimal, spellNat}
 use Rattle.text.proofs.DecimalLaws.{decimal-small, decimal-large}
 use Rattle.text.proofs.DigitCounts.{length-one, length-more}
-use Rattle.write.specs.Written.{fromOn, written, Wrote}
+use Rattle.write.specs.Digits.{fromOn}
+use Rattle.write.specs.Written.{written, Wrote}
 use Rattle.write.proofs.WrittenLaws.{written-nil, written-before}
 
 -- ---- how many there are

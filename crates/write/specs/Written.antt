@@ -2,8 +2,6 @@
 -- Assumes nothing.
 use mathlib.Core.Path.{_≡_}
 use Prim.Native.Nat.{ℕ, _+_}
-use mathlib.Core.Bool.{cond}
-use lib.Dec.{ltb}
 use mathlib.Core.List.{List, _++_}
 use lib.ListN.{length, take, drop}
 
@@ -24,7 +22,3 @@ written out at bs = take at out ++ bs ++ drop (at + length bs) out
 pub record Wrote (out : List ℕ) (at : ℕ) (bs after : List ℕ) (end : ℕ) : Type 0 where
   pub next : end ≡ at + length bs
   pub text : after ≡ written out at bs
-
--- what a test of the code counts
-unfoldable pub fromOn : ℕ → ℕ → ℕ
-fromOn n least = cond (ltb n least) 0 1

@@ -5,7 +5,8 @@ ghost use mathlib.Core.Path.{_≡_};
 ghost use lib.ListN.{length};
 ghost use lib.IntN.{natAbs};
 ghost use Rattle.text.specs.Decimal.{spellNat, spellInt};
-ghost use Rattle.write.specs.Written.{fromOn, Wrote};
+ghost use Rattle.write.specs.Digits.{fromOn};
+ghost use Rattle.write.specs.Written.{Wrote};
 
 pub fn put(out: &mut [u8], at: usize, s: &[u8]) -> usize
     requires { ⌜ at + length (now s) ≤ length (now out) ⌝ }
