@@ -2,7 +2,7 @@
 -- Assumes nothing.
 use mathlib.Core.Path.{_≡_, refl, sym, ap, ap₂, subst, subst₂, _∙_}
 use mathlib.Core.Logic.{_≢_, ⊎-elim}
-use mathlib.Core.List.{List, map}
+use mathlib.Core.List.{List, map, flatMap}
 use Prim.Native.Nat.{ℕ, _≤_, _<_}
 use native.Mathlib.Omega.{arith}
 use lib.Arith.{le→nltb}
@@ -20,14 +20,14 @@ use Rattle.refusal.specs.Refusal.{numberOf, lineOf}
 use Rattle.refusal.specs.declared.Refusal.{Refusal}
 use Rattle.refusal.specs.declared.Refusal.the-variants.{ShortOutput}
 use Rattle.job.specs.Format.{Job, Result, refused, accepted, readText, readJob}
-use Rattle.job.specs.Spelling.{spell, Allowed}
-use Rattle.job.specs.Meaning.{TextCondition}
+use Rattle.job.specs.Spelling.{linesCounting, spellLine, spell, Allowed}
+use Rattle.job.specs.Meaning.{TextCondition, Condition, too-long, in-text}
 use Rattle.job.specs.File.{heldJob, fileText}
 use Rattle.job.proofs.JobLaws.{most-posts, most-stops}
 use Rattle.job.proofs.Meaning.{refused-law, spelling-law, allowed-text}
 use Rattle.job.proofs.RefusalLaws.{text-number}
 use Rattle.job_check.specs.LineFaults.{refusalIn}
-use Rattle.job_check.proofs.FileFaults.{file-is, file-spelled}
+use Rattle.job_check.proofs.FileFaults.{file-is, file-spelled, file-line}
 use Rattle.write.specs.Written.{overwritten}
 use Rattle.calls.specs.Answers.{gives, refuses, refusal}
 use Rattle.calls.specs.ReadCall.{Read, readAs, readCall}
@@ -85,19 +85,19 @@ module _ (deck : Deck) (rounds : ℕ) (out : List ℕ) (sized : Sized deck) wher
     writes : Saveable deck rounds → length (spell (heldJob deck rounds)) ≤ length out → writeCall deck rounds out
         ≡ record { answer = gives (length (spell (heldJob deck rounds))); out = overwritten (spell (heldJob deck rounds)) out } → Ends
 
-  saveable-read : Saveable deck rounds → readText (fileText deck rounds) ≡ accepted (heldJob deck rounds)
-  saveable-read s = allowed-text (fileText deck rounds) (heldJob deck rounds) (file-spelled deck rounds sized (s .few-posts) (s .few-stops)) (s .allowed)
-
   module _ (s : Saveable deck rounds) where
     same-text : fileText deck rounds ≡ spell (heldJob deck rounds)
     same-text = file-spelled deck rounds sized (s .few-posts) (s .few-stops)
 
+    saveable-read : readText (fileText deck rounds) ≡ accepted (heldJob deck rounds)
+    saveable-read = allowed-text (fileText deck rounds) (heldJob deck rounds) same-text (s .allowed)
+
     short-ends : length out < length (spell (heldJob deck rounds)) → writeCall deck rounds out ≡ notSaved ShortOutput out
-    short-ends h = file-short deck rounds out (heldJob deck rounds) (saveable-read s) (rw same-text h)
+    short-ends h = file-short deck rounds out (heldJob deck rounds) saveable-read (rw same-text h)
 
     written-ends : length (spell (heldJob deck rounds)) ≤ length out → writeCall deck rounds out
         ≡ record { answer = gives (length (spell (heldJob deck rounds))); out = overwritten (spell (heldJob deck rounds)) out }
-    written-ends h = file-written deck rounds out (heldJob deck rounds) (saveable-read s) (rw same-text h)
+    written-ends h = file-written deck rounds out (heldJob deck rounds) saveable-read (rw same-text h)
         ∙ ap (λ (text : List ℕ). record { answer = gives (length text); out = overwritten text out }) same-text
 
   ends : Ends
@@ -155,6 +155,14 @@ module _ (deck : Deck) (rounds : ℕ) (out : List ℕ) (sized : Sized deck) wher
         go (too-short s h p) = let q = same-number _ _ _ _ (sym e ∙ answer-of p) in omega arith
         go (writes s h p) = absurd (not-refused _ _ _ (sym (answer-of p) ∙ e))
 
+    few-lines : line ≤ 580
+    few-lines = go ends
+      where
+        go : Ends → line ≤ 580
+        go (refuses-file w r p) = let q = same-line _ _ _ _ (sym e ∙ answer-of p) in omega (arith, file-line deck rounds sized w r)
+        go (too-short s h p) = let q = same-line _ _ _ _ (sym e ∙ answer-of p) in omega arith
+        go (writes s h p) = absurd (not-refused _ _ _ (sym (answer-of p) ∙ e))
+
     unchanged : writeCall deck rounds out .out ≡ out
     unchanged = go ends
       where
@@ -162,6 +170,21 @@ module _ (deck : Deck) (rounds : ℕ) (out : List ℕ) (sized : Sized deck) wher
         go (refuses-file w r p) = ap (λ (r : Saved). r .out) p
         go (too-short s h p) = ap (λ (r : Saved). r .out) p
         go (writes s h p) = absurd (not-refused _ _ _ (sym (answer-of p) ∙ e))
+
+  -- what reading the file answers, unless that is 1
+  as-file : (number line : ℕ) → readCall (fileText deck rounds) .answer ≡ refuses number line → number ≢ 1 →
+      writeCall deck rounds out .answer ≡ refuses number line
+  as-file number line e apart = go (readJob (fileText deck rounds)) refl
+    where
+      found : (why : Refusal) → refusal {A = ℕ} why ≡ refuses number line → Condition (fileText deck rounds) why →
+          writeCall deck rounds out .answer ≡ refuses number line
+      found _ q (too-long h) = absurd (apart (sym (same-number {A = ℕ} _ _ _ _ q)))
+      found why q (in-text short c) = answer-of (file-refused deck rounds out why (refused-law (fileText deck rounds) why .exactly-in-text .1 c)) ∙ q
+
+      go : (r : Result) → readJob (fileText deck rounds) ≡ r → writeCall deck rounds out .answer ≡ refuses number line
+      go (refused why) p = found why (sym (ap (λ (r : Read). r .answer) (read-refused (fileText deck rounds) why p)) ∙ e)
+          (refused-law (fileText deck rounds) why .exactly .0 p)
+      go (accepted j) p = absurd (not-refused _ _ _ (sym (ap (λ (r : Read). r .answer) (read-given (fileText deck rounds) j p)) ∙ e))
 
   -- ---- what is written
   saveable : (n : ℕ) → writeCall deck rounds out .answer ≡ gives n → Saveable deck rounds × (length (spell (heldJob deck rounds)) ≤ length out)
@@ -183,6 +206,16 @@ module _ (deck : Deck) (rounds : ℕ) (out : List ℕ) (sized : Sized deck) wher
     front-is = ap₂ (λ (k : ℕ) (l : List ℕ). take k l) count-is left ∙ front-taken (spell (heldJob deck rounds)) out
 
 -- ---- the laws
+-- a file by what it is made of
+textFor : Query.Deck → ℕ → ℕ → ℕ → List ℕ
+textFor d rounds p s = flatMap spellLine (linesCounting p s (record { deck = d; rounds = rounds }))
+
+same-file : (other deck : Deck) (rounds : ℕ) (out : List ℕ) → deckOf other ≡ deckOf deck → other .posts ≡ deck .posts → other .stops ≡ deck .stops →
+    writeCall other rounds out ≡ writeCall deck rounds out
+unfolding writeCall fileText textFor
+same-file other deck rounds out held p s =
+    λ i. savedAs (readText (textFor (held i) rounds (p i) (s i))) (textFor (held i) rounds (p i) (s i)) out
+
 module _ (deck : Deck) (rounds : ℕ) (out : List ℕ) (sized : Sized deck) where
   written-law : (n : ℕ) → writeCall deck rounds out .answer ≡ gives n → WrittenLaw deck rounds out n
   written-law n e =
@@ -205,14 +238,18 @@ module _ (deck : Deck) (rounds : ℕ) (out : List ℕ) (sized : Sized deck) wher
     refused-exactly = λ why. (applies deck rounds out sized why, applied deck rounds out sized why);
     refused-as-read = λ why apart. (as-read deck rounds out sized why apart, λ r. answer-of deck rounds out sized (file-refused deck rounds out why r));
     refused-listed = listed deck rounds out sized;
+    as-its-file = as-file deck rounds out sized;
+    few-lines = few-lines deck rounds out sized;
     never-1 = λ line e. let h = from-two deck rounds out sized 1 line e in absurd (omega arith);
     refused-out = unchanged deck rounds out sized;
     written-exactly = (
       λ w. saveable deck rounds out sized (w .0) (w .1),
       λ s. (length (spell (heldJob deck rounds)), answer-of deck rounds out sized (written-ends deck rounds out sized (s .0) (s .1))),
     );
+    file = same-text deck rounds out sized;
     given = written-ends deck rounds out sized;
     written = written-law;
+    same-file = λ other. same-file other deck rounds out;
   }
 
 column-sized : {A B : Type 0} (f : A → B) (z : B) (size : ℕ) (xs : List A) → length xs ≤ size → length (padded size z (map f xs)) ≡ size
@@ -246,6 +283,10 @@ module _ (j : Job) (a : Allowed j) where
       ≡ record { answer = gives (length (spell k)); out = overwritten (spell k) out }) record-held
       (written-ends (deckRecord (j .deck)) (j .rounds) out record-sized record-saveable) h
 
+empty-sized : Sized (deckRecord emptyDeck)
+unfolding deckRecord
+empty-sized = record { post-x = refl; post-y = refl; stop-x = refl; stop-y = refl; visits = refl }
+
 module _ (job : List ℕ) where
   refused-read : (why : Refusal) → readCall job .answer ≡ refusal why → readJob job ≡ refused why
   refused-read why f = go (readJob job) refl
@@ -253,6 +294,30 @@ module _ (job : List ℕ) where
       go : (r : Result) → readJob job ≡ r → readJob job ≡ refused why
       go (refused w) e = e ∙ ap refused (same-refusal w why (sym (ap (λ (r : Read). r .answer) (read-refused job w e)) ∙ f))
       go (accepted j) e = absurd (not-refused (j .rounds) (numberOf why) (lineOf why) (sym (ap (λ (r : Read). r .answer) (read-given job j e)) ∙ f))
+
+  read-answer : {r : Read} → readCall job ≡ r → readCall job .answer ≡ r .answer
+  read-answer e = ap (λ (r : Read). r .answer) e
+
+  read-listed : (number line : ℕ) → readCall job .answer ≡ refuses number line → (why : Refusal) × (number ≡ numberOf why) × (line ≡ lineOf why)
+  read-listed number line f = go (readJob job) refl
+    where
+      go : (r : Result) → readJob job ≡ r → (why : Refusal) × (number ≡ numberOf why) × (line ≡ lineOf why)
+      go (refused w) e = let q = sym f ∙ read-answer (read-refused job w e) in (w, same-number _ _ _ _ q, same-line _ _ _ _ q)
+      go (accepted j) e = absurd (not-refused (j .rounds) number line (sym (read-answer (read-given job j e)) ∙ f))
+
+  pub read-accepted : (rounds : ℕ) → readCall job .answer ≡ gives rounds → (j : Job) × (readJob job ≡ accepted j) × (rounds ≡ j .rounds)
+  read-accepted rounds f = go (readJob job) refl
+    where
+      go : (r : Result) → readJob job ≡ r → (j : Job) × (readJob job ≡ accepted j) × (rounds ≡ j .rounds)
+      go (refused w) e = absurd (not-refused rounds (numberOf w) (lineOf w) (sym f ∙ read-answer (read-refused job w e)))
+      go (accepted j) e = (j, e, same-given _ _ (sym f ∙ read-answer (read-given job j e)))
+
+  read-sized : Sized (readCall job .deck)
+  read-sized = go (readJob job) refl
+    where
+      go : (r : Result) → readJob job ≡ r → Sized (readCall job .deck)
+      go (refused w) e = subst Sized (sym (ap (λ (r : Read). r .deck) (read-refused job w e))) empty-sized
+      go (accepted j) e = subst Sized (sym (ap (λ (r : Read). r .deck) (read-given job j e))) (record-sized j (read-exactly job j .0 e .1))
 
   refused-zeros : (number line : ℕ) → readCall job .answer ≡ refuses number line → readCall job .deck ≡ deckRecord emptyDeck
   refused-zeros number line f = go (readJob job) refl
@@ -266,29 +331,30 @@ module _ (job : List ℕ) where
 
   own-bytes : (rounds : ℕ) (out : List ℕ) → readCall job .answer ≡ gives rounds → length job ≤ length out →
       writeCall (readCall job .deck) rounds out ≡ record { answer = gives (length job); out = overwritten job out }
-  own-bytes rounds out f h = go (readJob job) refl
+  own-bytes rounds out f h =
+      let (j, e, same) = read-accepted rounds f in
+      let (spelt, a) = read-exactly job j .0 e in
+      let known = record-written j a out (subst (λ (l : List ℕ). length l ≤ length out) spelt h) in
+      subst₂ (λ (k : ℕ) (l : List ℕ). Written (readCall job .deck) k l) (sym same) (sym spelt)
+      (subst (λ (d : Deck). Written d (j .rounds) (spell j)) (sym (ap (λ (r : Read). r .deck) (read-given job j e))) known)
     where
       Written : Deck → ℕ → List ℕ → Type 0
       Written deck rounds text = writeCall deck rounds out ≡ record { answer = gives (length text); out = overwritten text out }
-
-      go : (r : Result) → readJob job ≡ r → Written (readCall job .deck) rounds job
-      go (refused w) e = absurd (not-refused rounds (numberOf w) (lineOf w) (sym f ∙ ap (λ (r : Read). r .answer) (read-refused job w e)))
-      go (accepted j) e =
-          let (spelt, a) = read-exactly job j .0 e in
-          let g = read-given job j e in
-          let same : rounds ≡ j .rounds = same-given _ _ (sym f ∙ ap (λ (r : Read). r .answer) g) in
-          let known = record-written j a out (subst (λ (l : List ℕ). length l ≤ length out) spelt h) in
-          subst₂ (λ (k : ℕ) (l : List ℕ). Written (readCall job .deck) k l) (sym same) (sym spelt)
-          (subst (λ (d : Deck). Written d (j .rounds) (spell j)) (sym (ap (λ (r : Read). r .deck) g)) known)
 
   pub read-law : ReadLaw job
   read-law = record {
     refused-exactly = λ why. (
       λ f. refused-law job why .exactly .0 (refused-read why f),
-      λ c. ap (λ (r : Read). r .answer) (read-refused job why (refused-law job why .exactly .1 c)),
+      λ c. read-answer (read-refused job why (refused-law job why .exactly .1 c)),
     );
+    refused-listed = read-listed;
     refused-deck = refused-zeros;
+    given-exactly = λ rounds. (
+      read-accepted rounds,
+      λ w. let (j, e, same) = w in read-answer (read-given job j e) ∙ ap (λ (n : ℕ). gives n) (sym same),
+    );
     given = read-given job;
     held = read-held;
+    sized = read-sized;
     own-bytes = own-bytes;
   }

@@ -14,7 +14,7 @@ use Rattle.refusal.specs.declared.Refusal.{Refusal}
 use Rattle.refusal.specs.declared.Refusal.the-variants.{ShortOutput}
 use Rattle.job.specs.Format.{Job, refused, accepted, readText, readJob}
 use Rattle.job.specs.Spelling.{spell, Allowed}
-use Rattle.job.specs.Meaning.{TextCondition, Condition}
+use Rattle.job.specs.Meaning.{longestJob, TextCondition, Condition}
 use Rattle.job.specs.File.{heldJob, fileText}
 use Rattle.write.specs.Written.{overwritten}
 use Rattle.calls.specs.Answers.{gives, refuses, refusal}
@@ -23,12 +23,16 @@ use Rattle.calls.specs.WriteCall.{writeCall}
 
 -- ---- reading
 pub record ReadLaw (job : List ℕ) : Type 0 where
-  -- the refusals are those of reading, each exactly under its condition; the record is then all zeros
+  -- the refusals are those of reading, each exactly under its condition, and no other number and line; the record is then all zeros
   pub refused-exactly : (why : Refusal) → (readCall job .answer ≡ refusal why) ↔ Condition job why
+  pub refused-listed : (number line : ℕ) → readCall job .answer ≡ refuses number line → (why : Refusal)
+      × (number ≡ numberOf why) × (line ≡ lineOf why)
   pub refused-deck : (number line : ℕ) → readCall job .answer ≡ refuses number line → readCall job .deck ≡ deckRecord emptyDeck
-  -- an accepted job is read as the record of its deck, which holds that deck
+  -- an accepted job, and no other, is read as the record of its deck, which holds that deck
+  pub given-exactly : (rounds : ℕ) → (readCall job .answer ≡ gives rounds) ↔ ((j : Job) × (readJob job ≡ accepted j) × (rounds ≡ j .rounds))
   pub given : (j : Job) → readJob job ≡ accepted j → readCall job ≡ record { answer = gives (j .rounds); deck = deckRecord (j .deck) }
   pub held : (j : Job) → readJob job ≡ accepted j → deckOf (readCall job .deck) ≡ j .deck
+  pub sized : Sized (readCall job .deck)
   -- 02 "an accepted job that is read and saved comes out in its own bytes"
   pub own-bytes : (rounds : ℕ) (out : List ℕ) → readCall job .answer ≡ gives rounds → length job ≤ length out →
       writeCall (readCall job .deck) rounds out ≡ record { answer = gives (length job); out = overwritten job out }
@@ -54,24 +58,32 @@ pub record WrittenLaw (deck : Deck) (rounds : ℕ) (out : List ℕ) (n : ℕ) : 
   pub reads-back : readJob (take n (writeCall deck rounds out .out)) ≡ accepted (heldJob deck rounds)
   pub reads-back-record : readCall (take n (writeCall deck rounds out .out))
       ≡ record { answer = gives rounds; deck = deckRecord (deckOf deck) }
-  pub longest : n ≤ 14080
+  pub longest : n ≤ longestJob
   -- who writes the same bytes holds the same deck and rounds
   pub one-job : (other : Deck) (more : ℕ) (lent : List ℕ) (m : ℕ) → Sized other → writeCall other more lent .answer ≡ gives m →
       take n (writeCall deck rounds out .out) ≡ take m (writeCall other more lent .out) → heldJob deck rounds ≡ heldJob other more
 
 pub record WriteLaw (deck : Deck) (rounds : ℕ) (out : List ℕ) : Type 0 where
-  -- each refusal exactly under its condition, those but for 8 exactly where reading the file's text gives them, and no other number and
-  -- line; nothing lent is changed
+  -- each refusal exactly under its condition, and no other number and line
   pub refused-exactly : (why : Refusal) → (writeCall deck rounds out .answer ≡ refusal why) ↔ WriteApplies deck rounds out why
-  pub refused-as-read : (why : Refusal) → why ≢ ShortOutput → (writeCall deck rounds out .answer ≡ refusal why)
-      ↔ (readText (fileText deck rounds) ≡ refused why)
   pub refused-listed : (number line : ℕ) → writeCall deck rounds out .answer ≡ refuses number line → (why : Refusal)
       × (number ≡ numberOf why) × (line ≡ lineOf why)
+  -- those but for 8 exactly where reading the file's text gives them; so what reading the file answers, unless that is 1
+  pub refused-as-read : (why : Refusal) → why ≢ ShortOutput → (writeCall deck rounds out .answer ≡ refusal why)
+      ↔ (readText (fileText deck rounds) ≡ refused why)
+  pub as-its-file : (number line : ℕ) → readCall (fileText deck rounds) .answer ≡ refuses number line → number ≢ 1 →
+      writeCall deck rounds out .answer ≡ refuses number line
   pub never-1 : (line : ℕ) → writeCall deck rounds out .answer ≢ refuses 1 line
+  pub few-lines : (number line : ℕ) → writeCall deck rounds out .answer ≡ refuses number line → line ≤ 580
+  -- nothing lent is changed by a refusal
   pub refused-out : (number line : ℕ) → writeCall deck rounds out .answer ≡ refuses number line → writeCall deck rounds out .out ≡ out
-  -- it is written exactly where the reader accepts its file and there is room, and then as the spelling of its job
+  -- it is written exactly where the reader accepts its file and there is room, and then as the spelling of its job, which its file is
   pub written-exactly : ((n : ℕ) × (writeCall deck rounds out .answer ≡ gives n)) ↔ (Saveable deck rounds
       × (length (spell (heldJob deck rounds)) ≤ length out))
+  pub file : Saveable deck rounds → fileText deck rounds ≡ spell (heldJob deck rounds)
   pub given : Saveable deck rounds → length (spell (heldJob deck rounds)) ≤ length out → writeCall deck rounds out
       ≡ record { answer = gives (length (spell (heldJob deck rounds))); out = overwritten (spell (heldJob deck rounds)) out }
   pub written : (n : ℕ) → writeCall deck rounds out .answer ≡ gives n → WrittenLaw deck rounds out n
+  -- a record with the same counts that holds the same deck is written alike, whatever stands behind its lists
+  pub same-file : (other : Deck) → deckOf other ≡ deckOf deck → other .posts ≡ deck .posts → other .stops ≡ deck .stops →
+      writeCall other rounds out ≡ writeCall deck rounds out

@@ -85,6 +85,29 @@ stopAt deck i = stopIn (deck .«stop_x») (deck .«stop_y») (deck .visits) i
 abbrev allStops : Deck → List Stop
 allStops deck = stopsOf (places (deck .«stop_x») (deck .«stop_y»)) (deck .visits)
 
+-- how many posts and stops a record holds
+module _ (deck : Deck) (sized : Sized deck) where
+  pub posts-counted : length (deckOf deck .posts) ≡ min (deck .posts) 64
+  unfolding deckOf
+  posts-counted = omega (
+    arith,
+    length-take (deck .posts) (places (deck .«post_x») (deck .«post_y»)),
+    places-length (deck .«post_x») (deck .«post_y»),
+    sized .post-x,
+    sized .post-y,
+  )
+
+  pub stops-counted : length (deckOf deck .stops) ≡ min (deck .stops) 512
+  unfolding deckOf
+  stops-counted = omega (
+    arith,
+    length-take (deck .stops) (allStops deck),
+    stops-length (deck .«stop_x») (deck .«stop_y») (deck .visits),
+    sized .stop-x,
+    sized .stop-y,
+    sized .visits,
+  )
+
 module _ (deck : Deck) (columns : DeckColumns deck) where
   places-long : length (places (deck .«stop_x») (deck .«stop_y»)) ≡ 512
   places-long = omega (arith, places-length (deck .«stop_x») (deck .«stop_y»), columns .sized .stop-x, columns .sized .stop-y)

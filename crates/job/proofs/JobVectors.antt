@@ -7,4 +7,4 @@ use Rattle.job.specs.JobVectors.{JobVectors}
 
 pub vectors : JobVectors
 unfolding readJob bytes
-vectors = record { case-A = refl; rounds-1000 = refl }
+vectors = record { case-A = refl; case-B = refl; rounds-1000 = refl }

@@ -19,10 +19,14 @@ use Rattle.refusal.specs.declared.Refusal.the-variants.{TooLong, Malformed, Out
 pub record AcceptedLaw (bytes : List ℕ) (job : Job) : Type 0 where
   pub exactly : (readJob bytes ≡ accepted job) ↔ ((length bytes ≤ sizeLimit) × (bytes ≡ spell job) × Allowed job)
 
--- no two allowed jobs are spelled alike, and every allowed job's spelling fits the size limit: it has at most 14,080 bytes
+-- the bytes of the longest job that is allowed
+abbrev pub longestJob : ℕ
+longestJob = 14080
+
+-- no two allowed jobs are spelled alike, and every allowed job's spelling fits the size limit
 pub record SpellingLaw (job : Job) : Type 0 where
   pub fits : Allowed job → length (spell job) ≤ sizeLimit
-  pub longest : Allowed job → length (spell job) ≤ 14080
+  pub longest : Allowed job → length (spell job) ≤ longestJob
   pub one-job : (other : Job) → Allowed job → Allowed other → spell job ≡ spell other → job ≡ other
 
 -- ---- refusals

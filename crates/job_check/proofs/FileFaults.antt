@@ -4,21 +4,20 @@ use mathlib.Core.Path.{_≡_, refl, sym, ap, ap₂, subst, _∙_}
 use mathlib.Core.Bool.{Bool, true, false, not, cond, _&&_}
 use mathlib.Core.Logic.{_⊎_, inl, inr, ⊎-elim}
 use mathlib.Core.List.{List, [], _∷_, _++_, map, flatMap, List·Memᴰ, List·Memᴰ·head, List·Memᴰ·tail, List·Memᴰ·not-nil, Memᴰ·append-right}
-use mathlib.Core.Option.{Option, none, some}
+use mathlib.Core.Option.{Option, none, some, Option·none-ne-some, Option·some-injective}
 use Prim.Native.Nat.{ℕ, zero, suc, _+_, _≤_, _<_}
 use native.Mathlib.Omega.{arith}
 use lib.Dec.{T, ltb, eqb, ltb→lt, nltb→le, eqb·suc-zero}
 use lib.IntN.{ℤ, natAbs}
-use lib.ListN.{length, replicate, length-take}
+use lib.ListN.{length, replicate, length-append, length-map}
 use Rattle.numbers.proofs.Truth.{test, holds, fails}
 use Rattle.numbers.proofs.Members.{each-cons}
 use Rattle.numbers.specs.Lists.{nonEmpty}
-use Rattle.query.specs.Place.{Place}
+use Rattle.query.specs.Place.{Place, Rect}
 use Rattle.query.specs.Deck.{Stop, plain}
-use Rattle.deck.specs.DeckOf.{Sized, places, stopsOf, deckOf}
+use Rattle.deck.specs.DeckOf.{Sized, deckOf}
 use Rattle.deck.specs.declared.Deck.{Deck}
-use Rattle.deck.proofs.ClosestLaws.{places-length}
-use Rattle.deck.proofs.DeckLaws.{stops-length}
+use Rattle.deck.proofs.DeckLaws.{posts-counted, stops-counted}
 use Rattle.job_line.specs.Kinds.{Kind, area, posts, post, stops, stop, rounds, row, inRanges}
 use Rattle.job.specs.Format.{Job, Result, refused, accepted, emptyArea, checked, readText}
 use Rattle.job.specs.Spelling.{JobLine, postLine, stopLine, linesCounting, linesOf, spellLine, spell, Writable, Allowed}
@@ -28,6 +27,7 @@ use Rattle.job.proofs.FormLaws.{SomeLong, Fitting, Within, form-spells, form-lo
 use Rattle.job.proofs.RangeLaws.{count-range}
 use Rattle.job.proofs.Faults.{Faults, bad-form, bad-value, further, allDue}
 use Rattle.job.proofs.Meaning.{text-fault, text-checked, text-accepted}
+use Rattle.refusal.specs.Refusal.{lineOf}
 use Rattle.refusal.specs.declared.Refusal.{Refusal}
 use Rattle.refusal.specs.declared.Refusal.the-variants.{Malformed, OutOfRange, EmptyArea, NoPosts, NoStops}
 use Rattle.job_check.specs.LineFaults.{allShort, numbersFault, lineFault, orElse, firstFault, partsFault, refusalIn}
@@ -66,10 +66,10 @@ Follows (k ∷ due) (l ∷ ls) = (k ≡ l .kind) × (length (l .numbers) ≡ len
     × (T (inRanges (row (l .kind) .ranges) (l .numbers)) → Follows (dueAfter (l .kind) (l .numbers) ++ due) ls)
 
 none-some : {C : Type 0} {why : Refusal} → _≡_ {A = Option Refusal} none (some why) → C
-none-some e = absurd (let z : _≡_ {A = ℕ} 0 1 = cc in omega arith)
+none-some {why = why} e = absurd (Option·none-ne-some why e)
 
 some-same : {a b : Refusal} → _≡_ {A = Option Refusal} (some a) (some b) → a ≡ b
-some-same e = cc
+some-same {a} {b} e = Option·some-injective a b e
 
 -- a line and the text behind it, by what its numbers come to
 module _ (due : List Kind) (n : ℕ) (l : JobLine) (ls : List JobLine) (why : Refusal) (as-many : length (l .numbers) ≡ length (row (l .kind) .ranges)) where
@@ -95,6 +95,20 @@ lines-fault due [] n why f e = none-some e
 lines-fault [] (l ∷ ls) n why f e = absurd f
 lines-fault (k ∷ due) (l ∷ ls) n why f e = subst (λ (k : Kind). Faults (k ∷ due) n (flatMap spellLine (l ∷ ls)) why) (sym (f .0))
     (line-fault due n l ls why (f .1) (line-is n l) (λ t. lines-fault (dueAfter (l .kind) (l .numbers) ++ due) ls (n + 1) why (f .2 t)) e)
+
+-- the line of a fault is one of them
+fault-line : (n : ℕ) (ls : List JobLine) (why : Refusal) → firstFault n ls ≡ some why → lineOf why < n + length ls
+unfolding firstFault
+fault-line n [] why e = none-some e
+fault-line n (l ∷ ls) why e = go (line-is n l) (fault-line (n + 1) ls why)
+  where
+    or-else : {o : Option Refusal} → lineFault n l ≡ o → orElse o (firstFault (n + 1) ls) ≡ some why
+    or-else p = sym (ap (λ (o : Option Refusal). orElse o (firstFault (n + 1) ls)) p) ∙ e
+
+    go : LineIs n l → (firstFault (n + 1) ls ≡ some why → lineOf why < n + 1 + length ls) → lineOf why < n + length (l ∷ ls)
+    go (long p s) later = omega (arith, ap lineOf (some-same (or-else p)))
+    go (beyond p w t) later = omega (arith, ap lineOf (some-same (or-else p)))
+    go (fine p w t) later = omega (arith, later (or-else p))
 
 -- lines without a fault
 InRanges : JobLine → Type 0
@@ -132,6 +146,17 @@ many-follow k numbersOf as-many alone (x ∷ xs) (suc count) e due ls f = (
   λ t. rw (alone (numbersOf x)) (many-follow k numbersOf as-many alone xs count (omega arith) due ls f),
 )
 
+-- refusals 4 to 6 have no line
+parts-line : (r : Rect) (p s : ℕ) (why : Refusal) → partsFault r p s ≡ some why → lineOf why ≡ 0
+unfolding partsFault
+parts-line r p s why = go (emptyArea r) (eqb p 0) (eqb s 0)
+  where
+    go : (b c d : Bool) → cond b (some EmptyArea) (cond c (some NoPosts) (cond d (some NoStops) none)) ≡ some why → lineOf why ≡ 0
+    go true c d f = ap lineOf (sym (some-same f))
+    go false true d f = ap lineOf (sym (some-same f))
+    go false false true f = ap lineOf (sym (some-same f))
+    go false false false f = none-some f
+
 -- a job that passes refusals 4 to 6 is the one that was looked at
 checked-same : (held job : Job) → checked held ≡ accepted job → job ≡ held
 unfolding checked
@@ -149,25 +174,10 @@ checked-same held job = go (emptyArea (held .deck .area)) (nonEmpty (held .deck 
 -- ---- the file of a record
 module _ (deck : Deck) (rounds-held : ℕ) (sized : Sized deck) where
   posts-held : deck .posts ≤ 64 → length (deckOf deck .posts) ≡ deck .posts
-  unfolding deckOf
-  posts-held h = omega (
-    arith,
-    length-take (deck .posts) (places (deck .«post_x») (deck .«post_y»)),
-    places-length (deck .«post_x») (deck .«post_y»),
-    sized .post-x,
-    sized .post-y,
-  )
+  posts-held h = omega (arith, posts-counted deck sized)
 
   stops-held : deck .stops ≤ 512 → length (deckOf deck .stops) ≡ deck .stops
-  unfolding deckOf
-  stops-held h = omega (
-    arith,
-    length-take (deck .stops) (stopsOf (places (deck .«stop_x») (deck .«stop_y»)) (deck .visits)),
-    stops-length (deck .«stop_x») (deck .«stop_y») (deck .visits),
-    sized .stop-x,
-    sized .stop-y,
-    sized .visits,
-  )
+  stops-held h = omega (arith, stops-counted deck sized)
 
   plain-held : deckOf deck .axis ≡ plain
   unfolding deckOf
@@ -244,6 +254,18 @@ module _ (deck : Deck) (rounds-held : ℕ) (sized : Sized deck) where
           refusalIn (readText (fileText deck rounds-held)) ≡ orElse o (partsFault (deckOf deck .area) (deck .posts) (deck .stops))
       go (some why) e = ap refusalIn (text-fault _ why (lines-fault allDue (fileLines deck rounds-held) 1 why file-follows e))
       go none e = let f = all-fine e in ap refusalIn (text-checked _ (heldJob deck rounds-held) (f .spelled) (f .writable)) ∙ parts-is f
+
+  -- at a line of the file, of which there are at most 580
+  lines-few : length (fileLines deck rounds-held) ≤ 580
+  lines-few = simp (length-append, length-map) (omega (arith, posts-counted deck sized, stops-counted deck sized))
+
+  pub file-line : (why : Refusal) → readText (fileText deck rounds-held) ≡ refused why → lineOf why ≤ 580
+  file-line why e = go (firstFault 1 (fileLines deck rounds-held)) refl (sym file-fault ∙ ap refusalIn e)
+    where
+      go : (o : Option Refusal) → firstFault 1 (fileLines deck rounds-held) ≡ o →
+          orElse o (partsFault (deckOf deck .area) (deck .posts) (deck .stops)) ≡ some why → lineOf why ≤ 580
+      go (some found) p f = omega (arith, fault-line 1 (fileLines deck rounds-held) why (p ∙ f), lines-few)
+      go none p f = omega (arith, parts-line (deckOf deck .area) (deck .posts) (deck .stops) why f)
 
   -- and where it finds no fault: the job that is held, whose file has the record's own counts
   pub record FileIs : Type 0 where

@@ -1,14 +1,14 @@
 -- Numbers of at most nine digits, and the fault of one line by tests of its numbers.
 -- Assumes nothing.
-use mathlib.Core.Path.{_≡_, refl, sym, ap, subst, _∙_}
+use mathlib.Core.Path.{_≡_, refl, sym, ap, _∙_}
 use mathlib.Core.Bool.{Bool, true, false, _&&_}
 use mathlib.Core.List.{List, [], _∷_}
-use mathlib.Core.Option.{Option, none, some}
+use mathlib.Core.Option.{Option, none, some, Option·none-ne-some}
 use mathlib.Core.Logic.{⊎-elim}
 use Prim.Native.Nat.{ℕ, suc, _≤_, _<_}
 use native.Mathlib.Omega.{arith}
 use borrow.Author.Tests.{ltb-true, ltb-false, lt-ltb, le-ltb}
-use lib.Dec.{T, ltb, ltb→lt, nltb→le}
+use lib.Dec.{ltb, ltb→lt, nltb→le}
 use lib.IntN.{ℤ, pos, negsuc}
 use lib.Signed.{ltZ}
 use mir.Syntax.{w64}
@@ -140,12 +140,8 @@ module _ (most n line : ℕ) where
     count-in within = in-range _ line (pos n ∷ []) (short-one (pos n) ∙ natural-short n h) (count-within most (pos n) tt within)
 
 -- one without a fault
-abbrev there : Option Refusal → Bool
-there none = false
-there (some why) = true
-
 some-none : {why : Refusal} → some why ≡ none → ⊥
-some-none e = subst (λ (o : Option Refusal). T (there o)) e tt
+some-none {why} e = Option·none-ne-some why (sym e)
 
 pub count-most : (most n line : ℕ) {found : Option Refusal} → found ≡ numbersFault (upTo most ∷ []) line (pos n ∷ []) → found ≡ none → n ≤ most
 count-most most n line e fine = ⊎-elim (λ t. absurd (beyond (ltb→lt most n t))) (λ t. nltb→le most n t) (test (ltb most n))

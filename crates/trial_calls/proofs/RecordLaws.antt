@@ -4,47 +4,31 @@ use Prim.Native.Nat.{ℕ, zero, suc, _+_, _-_, _≤_, _<_}
 use mathlib.Core.Path.{_≡_, refl, sym, ap, _∙_}
 use mathlib.Core.Bool.{Bool, true, false, cond}
 use mathlib.Core.Logic.{_≢_}
-use mathlib.Core.List.{List, [], _∷_, _++_, map, append-nil, append-assoc}
-use mathlib.Core.Option.{Option, none, some}
+use mathlib.Core.List.{List, [], _∷_, _++_, append-nil, append-assoc}
 use native.Mathlib.Omega.{arith}
-use lib.Dec.{eqb}
 use lib.IntN.{ℤ, pos}
-use lib.ListN.{length, getD, take, drop, set, replicate, length-set, length-take, length-drop, length-append, length-map, length-replicate, drop-of-length-le}
+use lib.ListN.{length, getD, take, drop, set, replicate, length-set, length-drop, length-replicate, drop-of-length-le}
 use lib.Seq.{paste, take-all, take-paste, length-paste, length-take-le}
 use mir.Syntax.{w64}
 use mir.Val.{toZ}
 use mir.ValLaws.{toZ-pos}
 use borrow.Author.Tests.{eq-eqb, ne-eqb}
-use Rattle.query.specs.Place.{Rect}
-use Rattle.deck.specs.DeckOf.{Sized, places, stopsOf, deckOf}
+use Rattle.deck.specs.DeckOf.{Sized}
 use Rattle.deck.specs.declared.Deck.{Deck}
-use Rattle.deck.proofs.ClosestLaws.{places-length}
-use Rattle.deck.proofs.DeckLaws.{stops-length}
 use Rattle.refusal.specs.Refusal.{numberOf, lineOf}
 use Rattle.refusal.specs.declared.Refusal.{Refusal}
-use Rattle.refusal.specs.declared.Refusal.the-variants.{EmptyArea, NoPosts, NoStops}
-use Rattle.job.specs.Format.{Result, refused, accepted, emptyArea, readJob}
-use Rattle.job.specs.Spelling.{JobLine, postLine, stopLine}
-use Rattle.job.specs.Meaning.{TextCondition}
-use Rattle.job.specs.File.{fileLines, fileText}
 use Rattle.job.specs.declared.Outcome.{Outcome}
 use Rattle.job.specs.declared.Outcome.the-variants as Outcome
-use Rattle.job.proofs.Meaning.{refused-law}
 use Rattle.job.proofs.JobLaws.{most-rounds}
 use Rattle.job.proofs.RefusalLaws.{condition-line}
-use Rattle.job_check.specs.LineFaults.{allShort, lineFault, orElse, firstFault, partsFault, refusalIn}
-use Rattle.job_check.proofs.ShortLaws.{malformed, out-of-range, in-range}
-use Rattle.job_check.proofs.FirstFault.{fault-none, fault-more}
-use Rattle.job_check.proofs.FileFaults.{file-fault}
 use Rattle.calls.specs.declared.Written.{Written}
 use Rattle.calls.specs.declared.Written.the-variants as Written
 use Rattle.calls.specs.Answers.{AnswerOf, gives, refusal, readAnswer, writtenAnswer}
 use Rattle.calls.specs.ReadCall.{Read, readCall}
 use Rattle.calls.specs.WriteCall.{Saved, writeCall}
-use Rattle.calls.specs.SavingLaw.{WriteApplies, in-file, short-output, WriteLaw}
-use Rattle.calls.proofs.AnswerLaws.{same-given, not-refused}
+use Rattle.calls.specs.SavingLaw.{WriteLaw}
 use Rattle.calls.proofs.Demands.{read-exactly}
-use Rattle.calls.proofs.SavingLaw.{read-given, read-refused, read-law, write-law}
+use Rattle.calls.proofs.SavingLaw.{read-law, write-law}
 use Rattle.trial.specs.Trial.{least, refusalNumbers}
 use Rattle.trial.proofs.NumberLaws.{number-at}
 use Rattle.trial_calls.specs.Records.{coordinatesOf, naturalsOf, isRecord, deckFrom, countNumbers, countFigure, readInto, trialRead, wroteFrom}
@@ -231,108 +215,12 @@ module _ (job : List ℕ) (outcome : Outcome) (deck : Deck) (e : record { answer
 
   -- the rounds of an accepted job are few, and so is the line of a refusal
   pub rounds-few : (n : ℕ) → outcome ≡ Outcome.Accepted n → n ≤ 20000
-  rounds-few n a = go (readJob job) refl
-    where
-      found : readCall job .answer ≡ gives n
-      found = answer-is ∙ ap readAnswer a
-
-      go : (r : Result) → readJob job ≡ r → n ≤ 20000
-      go (refused why) g = absurd (not-refused n (numberOf why) (lineOf why) (sym found ∙ ap (λ (r : Read). r .answer) (read-refused job why g)))
-      go (accepted j) g = omega (
-        arith,
-        same-given n (j .rounds) (sym found ∙ ap (λ (r : Read). r .answer) (read-given job j g)),
-        most-rounds (read-exactly job j .0 g .1 .writable),
-      )
+  rounds-few n a =
+      let (j, g, same) = read-law job .given-exactly n .0 (answer-is ∙ ap readAnswer a) in
+      omega (arith, same, most-rounds (read-exactly job j .0 g .1 .writable))
 
   pub read-line : (why : Refusal) → outcome ≡ Outcome.Refused why → lineOf why ≤ 16385
   read-line why a = condition-line job why (read-law job .refused-exactly why .0 (answer-is ∙ ap readAnswer a))
-
--- ---- the line of a record's file that has the first fault
-some-same : {a b : Refusal} → _≡_ {A = Option Refusal} (some a) (some b) → a ≡ b
-some-same e = cc
-
-none-some : {C : Type 0} {why : Refusal} → _≡_ {A = Option Refusal} none (some why) → C
-none-some e = absurd (let z : _≡_ {A = ℕ} 0 1 = cc in omega arith)
-
-by-test : {b : Bool} {C : Type 0} → (b ≡ false → C) → (b ≡ true → C) → C
-by-test {b = true} f t = t refl
-by-test {b = false} f t = f refl
-
-number-found : (n : ℕ) (l : JobLine) (why : Refusal) → lineFault n l ≡ some why → n ≡ lineOf why
-number-found n l why e = go (allShort (l .numbers)) refl
-  where
-    go : (b : Bool) → allShort (l .numbers) ≡ b → n ≡ lineOf why
-    go false long = ap lineOf (some-same (malformed _ n (l .numbers) long ∙ e))
-    go true short = by-test (λ out. ap lineOf (some-same (out-of-range _ n (l .numbers) short out ∙ e)))
-        (λ within. none-some (in-range _ n (l .numbers) short within ∙ e))
-
-fault-line : (n : ℕ) (ls : List JobLine) (why : Refusal) → firstFault n ls ≡ some why → lineOf why ≤ n + length ls
-fault-line n [] why e = none-some (sym (fault-none n) ∙ e)
-fault-line n (l ∷ ls) why e = go (lineFault n l) refl (sym (fault-more n l ls) ∙ e) (fault-line (n + 1) ls why)
-  where
-    go : (o : Option Refusal) → lineFault n l ≡ o → orElse o (firstFault (n + 1) ls) ≡ some why →
-        (firstFault (n + 1) ls ≡ some why → lineOf why ≤ n + 1 + length ls) → lineOf why ≤ n + length (l ∷ ls)
-    go none found f later = omega (arith, later f)
-    go (some w) found f later = omega (arith, number-found n l why (found ∙ f))
-
-parts-line : (r : Rect) (p s : ℕ) (why : Refusal) → partsFault r p s ≡ some why → lineOf why ≤ 0
-unfolding partsFault
-parts-line r p s why = go (emptyArea r) (eqb p 0) (eqb s 0)
-  where
-    go : (b c d : Bool) → cond b (some EmptyArea) (cond c (some NoPosts) (cond d (some NoStops) none)) ≡ some why → lineOf why ≤ 0
-    go true c d f = omega (arith, ap lineOf (some-same f))
-    go false true d f = omega (arith, ap lineOf (some-same f))
-    go false false true f = omega (arith, ap lineOf (some-same f))
-    go false false false f = none-some f
-
-lines-count : (ls ps ss : List JobLine) (a b c d : JobLine) → ls ≡ a ∷ b ∷ (ps ++ (c ∷ (ss ++ (d ∷ [])))) → length ls ≡ 4 + length ps + length ss
-lines-count ls ps ss a b c d e = omega (arith, ap length e, length-append ps (c ∷ (ss ++ (d ∷ []))), length-append ss (d ∷ []))
-
-module _ (deck : Deck) (rounds : ℕ) (sized : Sized deck) where
-  posts-few : length (deckOf deck .posts) ≤ 64
-  unfolding deckOf
-  posts-few = omega (
-    arith,
-    length-take (deck .posts) (places (deck .«post_x») (deck .«post_y»)),
-    places-length (deck .«post_x») (deck .«post_y»),
-    sized .post-x,
-    sized .post-y,
-  )
-
-  stops-few : length (deckOf deck .stops) ≤ 512
-  unfolding deckOf
-  stops-few = omega (
-    arith,
-    length-take (deck .stops) (stopsOf (places (deck .«stop_x») (deck .«stop_y»)) (deck .visits)),
-    stops-length (deck .«stop_x») (deck .«stop_y») (deck .visits),
-    sized .stop-x,
-    sized .stop-y,
-    sized .visits,
-  )
-
-  lines-few : length (fileLines deck rounds) ≤ 580
-  lines-few = omega (
-    arith,
-    lines-count (fileLines deck rounds) (map postLine (deckOf deck .posts)) (map stopLine (deckOf deck .stops)) _ _ _ _ refl,
-    posts-few,
-    stops-few,
-    length-map (deckOf deck .posts) postLine,
-    length-map (deckOf deck .stops) stopLine,
-  )
-
-  file-line : (why : Refusal) → TextCondition (fileText deck rounds) why → lineOf why ≤ 16385
-  file-line why c = go (firstFault 1 (fileLines deck rounds)) refl
-      (sym (file-fault deck rounds sized) ∙ ap refusalIn (refused-law (fileText deck rounds) why .exactly-in-text .1 c))
-    where
-      go : (o : Option Refusal) → firstFault 1 (fileLines deck rounds) ≡ o →
-          orElse o (partsFault (deckOf deck .area) (deck .posts) (deck .stops)) ≡ some why → lineOf why ≤ 16385
-      go (some found) e f = omega (arith, fault-line 1 (fileLines deck rounds) why (e ∙ f), lines-few)
-      go none e f = omega (arith, parts-line (deckOf deck .area) (deck .posts) (deck .stops) why f)
-
-  -- of every refusal that writing gives
-  pub applied-line : (out : List ℕ) (why : Refusal) → WriteApplies deck rounds out why → lineOf why ≤ 16385
-  applied-line out why (in-file c) = file-line why c
-  applied-line out _ (short-output s h) = omega arith
 
 -- ---- the call `write`, by the case of its answer
 module _ (zs : List ℤ) (ns : List ℕ) (rounds : ℕ) (out : List ℕ) (deck : Deck) (d : deck ≡ deckFrom zs ns) (answer : Written) (out′ : List ℕ)
@@ -356,4 +244,4 @@ module _ (zs : List ℤ) (ns : List ℕ) (rounds : ℕ) (out : List ℕ) (deck :
   bytes-few n a = omega (arith, law .written n (written-is ∙ ap writtenAnswer a) .longest)
 
   pub write-line : (why : Refusal) → answer ≡ Written.Refused why → lineOf why ≤ 16385
-  write-line why a = applied-line (deckFrom zs ns) rounds (deck-sized zs ns h k) out why (law .refused-exactly why .0 (written-is ∙ ap writtenAnswer a))
+  write-line why a = omega (arith, law .few-lines (numberOf why) (lineOf why) (written-is ∙ ap writtenAnswer a))
