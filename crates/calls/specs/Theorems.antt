@@ -36,8 +36,9 @@ pub record Theorems : Type 0 where
   -- what document 01 works out
   pub refusal-table : RefusalTable
   pub case-A : CaseA
-  pub write-table : WriteTable
   pub job-vectors : JobVectors
   pub report-vectors : ReportVectors
+  -- rows of the calls of document 02
+  pub write-table : WriteTable
   -- the rules, for every deck and every number of rounds
   pub rules : QueryTheorems

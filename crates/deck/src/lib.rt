@@ -30,7 +30,7 @@ pub struct Rect {
     pub yhi: i64,
 }
 
-// A deck, one array a field. The first `posts` and `stops` elements of the arrays count; the others are 0.
+// A deck, one array a field. The first `posts` and `stops` elements of the arrays count; in a record that reading made the others are 0.
 pub struct Deck {
     pub xlo: i64,
     pub ylo: i64,

@@ -85,7 +85,7 @@ readingResult (got job n bs) = checked job
 abbrev pub sizeLimit : ℕ
 sizeLimit = 16384
 
--- 01 "line by line from the top ..; then 4 to" 6, for text of any size
+-- 01 "line by line from the top ..; then 4 to 8", of which 4 to 6 are found in the text, whatever its size
 abbrev pub readText : List ℕ → Result
 readText bytes = readingResult (jobLines 1 bytes)
 

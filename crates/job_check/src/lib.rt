@@ -160,7 +160,7 @@ fn all_stops<'a>(xs: &'a [i64], ys: &'a [i64], visits: &'a [u64], n: usize, line
 // ---- the file
 
 // Refusals 4, 5 and 6, in this order.
-fn parts(a: Rect, posts: usize, stops: usize) -> Checked
+fn missing_part(a: Rect, posts: usize, stops: usize) -> Checked
     ensures { λ r. ⌜ checkedAs r ≡ partsFault (areaOf (areaNumbers a)) posts stops ⌝ }
 {
     if job::empty_area(a) {
@@ -202,5 +202,5 @@ pub fn check(deck: Deck, rounds: u64) -> Checked
         Checked::Fine => {}
         Checked::Refused(why) => return Checked::Refused(why),
     }
-    parts(area, deck.posts, deck.stops)
+    missing_part(area, deck.posts, deck.stops)
 }

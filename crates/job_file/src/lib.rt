@@ -52,7 +52,7 @@ fn stops_len<'a>(xs: &'a [i64], ys: &'a [i64], visits: &'a [u64], n: usize) -> u
 }
 
 // How many bytes the file takes.
-pub fn length(deck: Deck, rounds: u64) -> usize
+pub fn file_len(deck: Deck, rounds: u64) -> usize
     requires { ⌜ (deck .posts ≤ 64) × (deck .stops ≤ 512) ⌝ }
     ensures { λ r. ⌜ r ≡ length (fileText deck rounds) ⌝ }
 {
@@ -68,7 +68,7 @@ pub fn length(deck: Deck, rounds: u64) -> usize
 // ---- one line
 
 // A number and the byte behind it.
-fn put_int(out: &mut [u8], at: usize, z: i64, end: u8) -> usize
+fn put_int_end(out: &mut [u8], at: usize, z: i64, end: u8) -> usize
     requires { ⌜ at + length (numberText z end) ≤ length (now out) ⌝ }
     ensures { λ r. ⌜ Wrote (now (out .entry)) at (numberText z end) (now (out .exit)) r ⌝ }
 {
@@ -77,7 +77,7 @@ fn put_int(out: &mut [u8], at: usize, z: i64, end: u8) -> usize
     next + 1
 }
 
-fn put_nat(out: &mut [u8], at: usize, n: u64, end: u8) -> usize
+fn put_nat_end(out: &mut [u8], at: usize, n: u64, end: u8) -> usize
     requires { ⌜ at + length (numberText (pos n) end) ≤ length (now out) ⌝ }
     ensures { λ r. ⌜ Wrote (now (out .entry)) at (numberText (pos n) end) (now (out .exit)) r ⌝ }
 {
@@ -91,8 +91,8 @@ fn put_place(out: &mut [u8], at: usize, x: i64, y: i64, end: u8) -> usize
     requires { ⌜ at + length (placeText x y end) ≤ length (now out) ⌝ }
     ensures { λ r. ⌜ Wrote (now (out .entry)) at (placeText x y end) (now (out .exit)) r ⌝ }
 {
-    let next = put_int(out, at, x, b',');
-    put_int(out, next, y, end)
+    let next = put_int_end(out, at, x, b',');
+    put_int_end(out, next, y, end)
 }
 
 // `posts=n`, `stops=n`, `rounds=n`: a number behind `key`.
@@ -101,7 +101,7 @@ fn put_count(out: &mut [u8], at: usize, key: &[u8], n: u64) -> usize
     ensures { λ r. ⌜ Wrote (now (out .entry)) at (now (key .entry) ++ numberText (pos n) newline) (now (out .exit)) r ⌝ }
 {
     let next = write::put(out, at, key);
-    put_nat(out, next, n, b'\n')
+    put_nat_end(out, next, n, b'\n')
 }
 
 // `post=x,y`
@@ -120,7 +120,7 @@ fn put_stop(out: &mut [u8], at: usize, x: i64, y: i64, visits: u64) -> usize
 {
     let next = write::put(out, at, b"stop=");
     let next = put_place(out, next, x, y, b',');
-    put_nat(out, next, visits, b'\n')
+    put_nat_end(out, next, visits, b'\n')
 }
 
 // ---- many lines
@@ -166,7 +166,7 @@ fn put_stops<'a>(
 // ---- the file
 
 // The bytes of the file at the start of `out`, and how many they are.
-pub fn put(deck: Deck, rounds: u64, out: &mut [u8]) -> usize
+pub fn put_file(deck: Deck, rounds: u64, out: &mut [u8]) -> usize
     requires { ⌜ (deck .posts ≤ 64) × (deck .stops ≤ 512) × (length (fileText deck rounds) ≤ length (now out)) ⌝ }
     ensures { λ n. ⌜ Overwrote (now (out .entry)) (fileText deck rounds) (now (out .exit)) n ⌝ }
 {

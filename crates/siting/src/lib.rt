@@ -169,10 +169,10 @@ pub fn write(deck: Deck, rounds: u64, out: &mut [u8]) -> Written
         Checked::Fine => {}
         Checked::Refused(why) => return Written::Refused(why),
     }
-    if out.len() < job_file::length(deck, rounds) {
+    if out.len() < job_file::file_len(deck, rounds) {
         return Written::Refused(Refusal::ShortOutput);
     }
-    Written::Bytes(job_file::put(deck, rounds, out))
+    Written::Bytes(job_file::put_file(deck, rounds, out))
 }
 
 // What the program prints for its input.

@@ -15,20 +15,20 @@ use Rattle.numbers.proofs.Truth.{test, cond-true, cond-false}
 use Rattle.text.specs.Decimal.{decimal, spellNat}
 use Rattle.text.proofs.DecimalLaws.{decimal-small, decimal-large}
 use Rattle.text.proofs.DigitCounts.{length-one, length-more}
-use Rattle.write.specs.Digits.{fromOn}
+use Rattle.write.specs.Digits.{atLeast}
 use Rattle.write.specs.Written.{written, Wrote}
 use Rattle.write.proofs.WrittenLaws.{written-nil, written-before}
 
 -- ---- how many there are
-pub below-is : (n least : ℕ) → n < least → fromOn n least ≡ 0
-unfolding fromOn
+pub below-is : (n least : ℕ) → n < least → atLeast n least ≡ 0
+unfolding atLeast
 below-is n least h = cond-true (ltb n least) _ _ (lt→ltb n least h)
 
-pub from-is : (n least : ℕ) → least ≤ n → fromOn n least ≡ 1
-unfolding fromOn
+pub from-is : (n least : ℕ) → least ≤ n → atLeast n least ≡ 1
+unfolding atLeast
 from-is n least h = cond-false (ltb n least) _ _ (le→nltb n least h)
 
-pub length-few : (n : ℕ) → n < 100000 → 1 + fromOn n 10 + fromOn n 100 + fromOn n 1000 + fromOn n 10000 ≡ length (spellNat n)
+pub length-few : (n : ℕ) → n < 100000 → 1 + atLeast n 10 + atLeast n 100 + atLeast n 1000 + atLeast n 10000 ≡ length (spellNat n)
 length-few n h = below 10 (λ k. rw (below-is n 10 k, below-is n 100 (omega arith), below-is n 1000 (omega arith), below-is n 10000 (omega arith))
     (omega (arith, length-one n k))) (λ k. below 100 (λ l. rw (from-is n 10 k, below-is n 100 l, below-is n 1000 (omega arith), below-is n 10000 (omega arith))
     (omega (arith, length-more n k (omega arith), length-one (n / 10) (omega arith))))

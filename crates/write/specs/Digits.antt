@@ -4,6 +4,6 @@ use Prim.Native.Nat.{ℕ}
 use mathlib.Core.Bool.{cond}
 use lib.Dec.{ltb}
 
--- 1 from `least` on, 0 below
-unfoldable pub fromOn : ℕ → ℕ → ℕ
-fromOn n least = cond (ltb n least) 0 1
+-- 1 where n is `least` or more, else 0
+unfoldable pub atLeast : ℕ → ℕ → ℕ
+atLeast n least = cond (ltb n least) 0 1

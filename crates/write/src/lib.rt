@@ -5,7 +5,7 @@ ghost use mathlib.Core.Path.{_≡_};
 ghost use lib.ListN.{length};
 ghost use lib.IntN.{natAbs};
 ghost use Rattle.text.specs.Decimal.{spellNat, spellInt};
-ghost use Rattle.write.specs.Digits.{fromOn};
+ghost use Rattle.write.specs.Digits.{atLeast};
 ghost use Rattle.write.specs.Written.{Wrote};
 
 pub fn put(out: &mut [u8], at: usize, s: &[u8]) -> usize
@@ -21,8 +21,8 @@ pub fn put(out: &mut [u8], at: usize, s: &[u8]) -> usize
 }
 
 // 1 where `n` is `least` or more, 0 below.
-fn from_on(n: u64, least: u64) -> usize
-    ensures { λ r. ⌜ r ≡ fromOn n least ⌝ }
+fn at_least(n: u64, least: u64) -> usize
+    ensures { λ r. ⌜ r ≡ atLeast n least ⌝ }
     ensures { λ r. ⌜ r ≤ 1 ⌝ }
 {
     if n < least { 0 } else { 1 }
@@ -34,7 +34,7 @@ pub fn nat_len(n: u64) -> usize
     ensures { λ r. ⌜ r ≤ 20 ⌝ }
 {
     if n < 100000 {
-        return 1 + from_on(n, 10) + from_on(n, 100) + from_on(n, 1000) + from_on(n, 10000);
+        return 1 + at_least(n, 10) + at_least(n, 100) + at_least(n, 1000) + at_least(n, 10000);
     }
     let mut rest = n / 100000;
     let mut len = 6;

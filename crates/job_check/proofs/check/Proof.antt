@@ -124,8 +124,8 @@ returns-4 c =
     (ap checkedAs (n .before .enum-told3 .given .1)) (n .count-line .ensures)
     (ap checkedAs (c .before .why4 .given .1))
 
-parts-requires : tie.Need-parts-requires
-parts-requires c κs = search needs
+missing-part-requires : tie.Need-missing-part-requires
+missing-part-requires c κs = search needs
 
 returns-5 : tie.Need-returns-5
 returns-5 c =
@@ -138,7 +138,7 @@ returns-5 c =
     (ap checkedAs (p .before .before .before .before .before .before .enum-told .given .1)) (p .all-posts .ensures)
     (ap checkedAs (t .before .before .before .before .before .before .before .before .enum-told2 .given .1)) (t .all-stops .ensures)
     (ap checkedAs (n .before .enum-told3 .given .1)) (n .count-line .ensures)
-    (ap checkedAs (c .before .enum-told4 .given .1)) (c .parts .ensures)
+    (ap checkedAs (c .before .enum-told4 .given .1)) (c .missing-part .ensures)
 
 pub check-spec : {M : Type 1} → statement M
 check-spec =
@@ -163,5 +163,5 @@ check-spec =
     enum-told-4
     enum-known-why-4
     returns-4
-    parts-requires
+    missing-part-requires
     returns-5)

@@ -14,8 +14,8 @@ put-requires : tie.Need-put-requires
 put-requires c κs =
     let s = c .before .before .before in omega (arith, s .pre, length-append (s .args .key .now) (numberText (pos (s .args .n)) newline))
 
-put-nat-requires : tie.Need-put-nat-requires
-put-nat-requires c κs =
+put-nat-end-requires : tie.Need-put-nat-end-requires
+put-nat-end-requires c κs =
     let s = c .before .before .before .before .before .before .before in
     omega (
       arith,
@@ -31,7 +31,7 @@ same-length c = search needs
 returns : tie.Need-returns
 returns c =
     let s = c .before .before .before .before .before .before .before .before .before .before in
-    wrote-both (c .before .before .before .before .before .before .put .ensures) (c .before .before .put-nat .ensures) (omega (arith, s .pre))
+    wrote-both (c .before .before .before .before .before .before .put .ensures) (c .before .before .put-nat-end .ensures) (omega (arith, s .pre))
 
 pub put-count-spec : {M : Type 1} → statement M
-put-count-spec = tie.close (tie.spec put-requires put-nat-requires same-length returns)
+put-count-spec = tie.close (tie.spec put-requires put-nat-end-requires same-length returns)

@@ -32,8 +32,8 @@ put-place-requires c κs =
       length-place (s .args .x) (s .args .y) comma,
     ))
 
-put-nat-requires : tie.Need-put-nat-requires
-put-nat-requires c κs =
+put-nat-end-requires : tie.Need-put-nat-end-requires
+put-nat-end-requires c κs =
     let s = c .before .before .before .before .before .before .before .before .before .before .before in
     let w = rw (toZ-ofZ w64 (s .args .x) (s .fits .x), toZ-ofZ w64 (s .args .y) (s .fits .y)) at (c .before .before .before .put-place .ensures) in
     omega (
@@ -61,7 +61,7 @@ returns c =
     let h : s .args .at ≤ length (s .args .out .now) = omega (arith, s .pre) in
     rw (stop-text (s .args .x) (s .args .y) (s .args .visits))
     (wrote-both (wrote-both (c .before .before .before .before .before .before .before .before .before .before .put .ensures) w h)
-    (c .before .before .put-nat .ensures) h)
+    (c .before .before .put-nat-end .ensures) h)
 
 pub put-stop-spec : {M : Type 1} → statement M
 put-stop-spec =
@@ -70,6 +70,6 @@ put-stop-spec =
     slice-aggregate-put
     put-requires
     put-place-requires
-    put-nat-requires
+    put-nat-end-requires
     same-length
     returns)

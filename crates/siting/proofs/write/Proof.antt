@@ -22,22 +22,22 @@ enum-known-why c = search needs
 returns : tie.Need-returns
 returns c = write-refused _ _ (c .before .before .before .check .ensures) _ _ (c .before .why .given .1)
 
-length-requires : tie.Need-length-requires
-length-requires c κs =
+file-len-requires : tie.Need-file-len-requires
+file-len-requires c κs =
     let f = file-fine _ _ (c .before .before .check .ensures) (sized (c .before .before .before .before)) (c .enum-told .given .1) in
     (f .few-posts, f .few-stops)
 
 returns-2 : tie.Need-returns-2
 returns-2 c =
     let d = c .before .before in
-    write-short _ _ (d .before .before .check .ensures) (sized (d .before .before .before .before)) (d .enum-told .given .1) _ _ (c .before .length .ensures)
+    write-short _ _ (d .before .before .check .ensures) (sized (d .before .before .before .before)) (d .enum-told .given .1) _ _ (c .before .file-len .ensures)
     (omega (arith, c .if1 .taken))
 
-put-requires : tie.Need-put-requires
-put-requires c κs =
+put-file-requires : tie.Need-put-file-requires
+put-file-requires c κs =
     let d = c .before .before .before in
     let f = file-fine _ _ (d .before .before .check .ensures) (sized (d .before .before .before .before)) (d .enum-told .given .1) in
-    (f .few-posts, f .few-stops, omega (arith, c .before .before .length .ensures, c .before .if1 .left))
+    (f .few-posts, f .few-stops, omega (arith, c .before .before .file-len .ensures, c .before .if1 .left))
 
 same-length : tie.Need-same-length
 same-length c = search needs
@@ -46,7 +46,7 @@ returns-3 : tie.Need-returns-3
 returns-3 c =
     let d = c .before .before .before .before .before .before in
     write-written _ _ (d .before .before .check .ensures) (sized (d .before .before .before .before)) (d .enum-told .given .1) _
-    (omega (arith, c .before .before .before .before .before .length .ensures, c .before .before .before .before .if1 .left)) (c .before .before .put .ensures)
+    (omega (arith, c .before .before .before .before .before .file-len .ensures, c .before .before .before .before .if1 .left)) (c .before .before .put-file .ensures)
 
 pub write-spec : {M : Type 1} → statement M
 write-spec =
@@ -56,8 +56,8 @@ write-spec =
     enum-told
     enum-known-why
     returns
-    length-requires
+    file-len-requires
     returns-2
-    put-requires
+    put-file-requires
     same-length
     returns-3)

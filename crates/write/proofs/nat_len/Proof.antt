@@ -17,26 +17,26 @@ Inv-loop n rest₀ len₀ rest len = (rest ≤ n) × (len + length (spellNat res
 abbrev μ-loop : tie.MeasureT-loop
 μ-loop n rest₀ len₀ rest len = rest
 
-from-on-requires : tie.Need-from-on-requires Inv-loop μ-loop
-from-on-requires c κs = search needs
+at-least-requires : tie.Need-at-least-requires Inv-loop μ-loop
+at-least-requires c κs = search needs
 
 add-result : tie.Need-add-result Inv-loop μ-loop
 add-result c = omega arith
 
-from-on-requires-2 : tie.Need-from-on-requires-2 Inv-loop μ-loop
-from-on-requires-2 c κs = search needs
+at-least-requires-2 : tie.Need-at-least-requires-2 Inv-loop μ-loop
+at-least-requires-2 c κs = search needs
 
 add-result-2 : tie.Need-add-result-2 Inv-loop μ-loop
 add-result-2 c = omega arith
 
-from-on-requires-3 : tie.Need-from-on-requires-3 Inv-loop μ-loop
-from-on-requires-3 c κs = search needs
+at-least-requires-3 : tie.Need-at-least-requires-3 Inv-loop μ-loop
+at-least-requires-3 c κs = search needs
 
 add-result-3 : tie.Need-add-result-3 Inv-loop μ-loop
 add-result-3 c = omega arith
 
-from-on-requires-4 : tie.Need-from-on-requires-4 Inv-loop μ-loop
-from-on-requires-4 c κs = search needs
+at-least-requires-4 : tie.Need-at-least-requires-4 Inv-loop μ-loop
+at-least-requires-4 c κs = search needs
 
 add-result-4 : tie.Need-add-result-4 Inv-loop μ-loop
 add-result-4 c = omega arith
@@ -48,10 +48,10 @@ returns c =
       omega (
         arith,
         few,
-        c .before .before .before .from-on .ensures .0,
-        c .before .before .from-on2 .ensures .0,
-        c .before .from-on3 .ensures .0,
-        c .from-on4 .ensures .0,
+        c .before .before .before .at-least .ensures .0,
+        c .before .before .at-least2 .ensures .0,
+        c .before .at-least3 .ensures .0,
+        c .at-least4 .ensures .0,
       ),
       omega arith,
     )
@@ -79,13 +79,13 @@ nat-len-spec =
     (tie.spec
     Inv-loop
     μ-loop
-    from-on-requires
+    at-least-requires
     add-result
-    from-on-requires-2
+    at-least-requires-2
     add-result-2
-    from-on-requires-3
+    at-least-requires-3
     add-result-3
-    from-on-requires-4
+    at-least-requires-4
     add-result-4
     returns
     loop-holds

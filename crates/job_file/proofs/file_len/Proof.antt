@@ -1,4 +1,4 @@
--- `job_file::length` meets its contract: the lengths of the lines are those of the file's parts.
+-- `job_file::file_len` meets its contract: the lengths of the lines are those of the file's parts.
 -- Assumes nothing.
 use mathlib.Core.Path.{_≡_}
 use Prim.Native.Nat.{ℕ, _+_, _≤_}
@@ -11,8 +11,8 @@ use mir.Val.{SFits, toZ, ofZ}
 use mir.ValLaws.{toZ-ofZ}
 use Rattle.text.specs.Decimal.{spellInt}
 use Rattle.job_file.proofs.FileLaws.{length-file}
-use Rattle.job_file.proofs.length.Statement.{statement}
-use Rattle.job_file.proofs.length.Tie as tie
+use Rattle.job_file.proofs.file_len.Statement.{statement}
+use Rattle.job_file.proofs.file_len.Tie as tie
 
 -- the calls that the end stands behind, and the start
 abbrev at-stops : tie.After-nat-len3 → tie.After-stops-len
@@ -118,8 +118,8 @@ returns c =
       c .nat-len3 .ensures .0,
     )
 
-pub length-spec : {M : Type 1} → statement M
-length-spec =
+pub file-len-spec : {M : Type 1} → statement M
+file-len-spec =
     tie.close
     (tie.spec
     posts-len-requires

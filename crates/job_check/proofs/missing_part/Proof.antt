@@ -1,9 +1,9 @@
--- `job_check::parts` meets its contract.
+-- `job_check::missing_part` meets its contract.
 -- Assumes nothing.
 use borrow.Author.Needs.{needs}
 use Rattle.job_check.proofs.FirstFault.{empty-refused, no-posts, no-stops, parts-there}
-use Rattle.job_check.proofs.parts.Statement.{statement}
-use Rattle.job_check.proofs.parts.Tie as tie
+use Rattle.job_check.proofs.missing_part.Statement.{statement}
+use Rattle.job_check.proofs.missing_part.Tie as tie
 
 empty-area-requires : tie.Need-empty-area-requires
 empty-area-requires c κs = search needs
@@ -20,5 +20,5 @@ returns-3 c = no-stops _ _ _ (c .before .before .before .empty-area .ensures) (c
 returns-4 : tie.Need-returns-4
 returns-4 c = parts-there _ _ _ (c .before .before .before .empty-area .ensures) (c .before .before .if1 .left) (c .before .if2 .left) (c .if3 .left)
 
-pub parts-spec : {M : Type 1} → statement M
-parts-spec = tie.close (tie.spec empty-area-requires returns returns-2 returns-3 returns-4)
+pub missing-part-spec : {M : Type 1} → statement M
+missing-part-spec = tie.close (tie.spec empty-area-requires returns returns-2 returns-3 returns-4)

@@ -1,4 +1,4 @@
--- `job_file::put_nat` meets its contract: the number, and a byte behind it.
+-- `job_file::put_nat_end` meets its contract: the number, and a byte behind it.
 -- Assumes nothing.
 use mathlib.Core.Path.{ap}
 use native.Mathlib.Omega.{arith}
@@ -7,8 +7,8 @@ use lib.ListN.{length}
 use borrow.Author.Needs.{needs}
 use Rattle.write.proofs.WrittenLaws.{wrote-byte}
 use Rattle.job_file.proofs.TextLaws.{spelled-pos, length-number}
-use Rattle.job_file.proofs.put_nat.Statement.{statement}
-use Rattle.job_file.proofs.put_nat.Tie as tie
+use Rattle.job_file.proofs.put_nat_end.Statement.{statement}
+use Rattle.job_file.proofs.put_nat_end.Tie as tie
 
 put-nat-requires : tie.Need-put-nat-requires
 put-nat-requires c κs =
@@ -49,5 +49,5 @@ returns c =
     (omega (arith, s .pre, w .next, length-number (pos (s .args .n)) (s .args .end), ap length (spelled-pos (s .args .n))))
     (c .before .before .put-nat .kept .0))
 
-pub put-nat-spec : {M : Type 1} → statement M
-put-nat-spec = tie.close (tie.spec put-nat-requires slice-write-out add-result same-length returns)
+pub put-nat-end-spec : {M : Type 1} → statement M
+put-nat-end-spec = tie.close (tie.spec put-nat-requires slice-write-out add-result same-length returns)

@@ -1,4 +1,4 @@
--- `job_file::put` meets its contract: the parts of the file one after another, each with room for it where there is room for the file.
+-- `job_file::put_file` meets its contract: the parts of the file one after another, each with room for it where there is room for the file.
 -- Assumes nothing.
 use mathlib.Core.Path.{_≡_}
 use Prim.Native.Nat.{ℕ, zero-le}
@@ -16,8 +16,8 @@ use Rattle.write.proofs.WrittenLaws.{wrote-kept, wrote-both, wrote-front}
 use Rattle.job.specs.File.{fileText}
 use Rattle.job_file.specs.Texts.{placeText, postTexts, stopTexts}
 use Rattle.job_file.proofs.FileLaws.{countPart, front₁, front₂, front₃, front₄, front₅, front₆, front₇, file-parts, Fronts, fronts, part-room}
-use Rattle.job_file.proofs.put.Statement.{statement}
-use Rattle.job_file.proofs.put.Tie as tie
+use Rattle.job_file.proofs.put_file.Statement.{statement}
+use Rattle.job_file.proofs.put_file.Tie as tie
 
 -- a place that was read back from its bits
 back : {out after : List ℕ} {at end : ℕ} (x y : ℤ) (last : ℕ) → SFits w64 x → SFits w64 y →
@@ -209,8 +209,8 @@ same-length c =
 returns : tie.Need-returns
 returns c = wrote-front _ (wrote-file (c .before .before))
 
-pub put-spec : {M : Type 1} → statement M
-put-spec =
+pub put-file-spec : {M : Type 1} → statement M
+put-file-spec =
     tie.close
     (tie.spec
     slice-aggregate-put

@@ -1,4 +1,4 @@
--- `job_file::put_int` meets its contract: the number, and a byte behind it.
+-- `job_file::put_int_end` meets its contract: the number, and a byte behind it.
 -- Assumes nothing.
 use native.Mathlib.Omega.{arith}
 use borrow.Author.Needs.{needs}
@@ -6,8 +6,8 @@ use mir.Syntax.{w64}
 use mir.ValLaws.{toZ-ofZ}
 use Rattle.write.proofs.WrittenLaws.{wrote-byte}
 use Rattle.job_file.proofs.TextLaws.{length-number}
-use Rattle.job_file.proofs.put_int.Statement.{statement}
-use Rattle.job_file.proofs.put_int.Tie as tie
+use Rattle.job_file.proofs.put_int_end.Statement.{statement}
+use Rattle.job_file.proofs.put_int_end.Tie as tie
 
 put-int-requires : tie.Need-put-int-requires
 put-int-requires c κs =
@@ -35,5 +35,5 @@ returns c =
     let w = rw (toZ-ofZ w64 (s .args .z) (s .fits .z)) at (c .before .before .put-int .ensures) in
     wrote-byte (s .args .end) w (omega (arith, s .pre, w .next, length-number (s .args .z) (s .args .end))) (c .before .before .put-int .kept .0)
 
-pub put-int-spec : {M : Type 1} → statement M
-put-int-spec = tie.close (tie.spec put-int-requires slice-write-out add-result same-length returns)
+pub put-int-end-spec : {M : Type 1} → statement M
+put-int-end-spec = tie.close (tie.spec put-int-requires slice-write-out add-result same-length returns)
