@@ -46,7 +46,8 @@ returns-3 : tie.Need-returns-3
 returns-3 c =
     let d = c .before .before .before .before .before .before in
     write-written _ _ (d .before .before .check .ensures) (sized (d .before .before .before .before)) (d .enum-told .given .1) _
-    (omega (arith, c .before .before .before .before .before .file-len .ensures, c .before .before .before .before .if1 .left)) (c .before .before .put-file .ensures)
+    (omega (arith, c .before .before .before .before .before .file-len .ensures, c .before .before .before .before .if1 .left))
+    (c .before .before .put-file .ensures)
 
 pub write-spec : {M : Type 1} → statement M
 write-spec =
