@@ -8,9 +8,17 @@ use lib.ListN.{length, take}
 use Rattle.numbers.specs.Padded.{padded}
 use Rattle.query.specs.Place.{Place}
 use Rattle.query.specs.Deck as Query
-use Rattle.query.specs.Deck.{Stop, plain}
+use Rattle.query.specs.Deck.{Stop}
+use Rattle.deck.specs.declared.AxisCosts.{AxisCosts}
 use Rattle.deck.specs.declared.Deck.{Deck}
 use Rattle.query.specs.Range.{postsLimit, stopsLimit}
+
+-- axis costs of document 02 that a record of the code holds, and the record that holds axis costs
+abbrev pub costsOf : AxisCosts → Query.AxisCosts
+costsOf c = record { a = c .a; b = c .b }
+
+abbrev pub costsRecord : Query.AxisCosts → AxisCosts
+costsRecord c = record { a = c .a; b = c .b }
 
 unfoldable pub places : List ℤ → List ℤ → List Place
 unfolding zipWith
@@ -32,7 +40,7 @@ pub record Sized (deck : Deck) : Type 0 where
 unfoldable pub deckOf : Deck → Query.Deck
 unfolding places stopsOf
 deckOf deck = record {
-  axis = plain;
+  axis = costsOf (deck .axis);
   area = record { xlo = deck .xlo; ylo = deck .ylo; xhi = deck .xhi; yhi = deck .yhi };
   posts = take (deck .posts) (places (deck .«post_x») (deck .«post_y»));
   stops = take (deck .stops) (stopsOf (places (deck .«stop_x») (deck .«stop_y»)) (deck .visits));
@@ -42,6 +50,7 @@ deckOf deck = record {
 unfoldable pub deckRecord : Query.Deck → Deck
 unfolding padded
 deckRecord deck = record {
+  axis = costsRecord (deck .axis);
   xlo = deck .area .xlo;
   ylo = deck .area .ylo;
   xhi = deck .area .xhi;
@@ -57,4 +66,9 @@ deckRecord deck = record {
 
 -- the deck whose record is all zeros
 abbrev pub emptyDeck : Query.Deck
-emptyDeck = record { axis = plain; area = record { xlo = pos 0; ylo = pos 0; xhi = pos 0; yhi = pos 0 }; posts = []; stops = [] }
+emptyDeck = record {
+  axis = record { a = 0; b = 0 };
+  area = record { xlo = pos 0; ylo = pos 0; xhi = pos 0; yhi = pos 0 };
+  posts = [];
+  stops = [];
+}

@@ -1,11 +1,12 @@
--- Objects as the code holds them: four columns in one array, x, y, visits and near, of which the first so many rows count.
+-- What pricing needs as the code holds it, in one array: four columns of objects, x, y, visits and near, of which the first so many rows
+-- count, and the two axis costs behind them.
 -- Assumes nothing.
 use Prim.Native.Nat.{ℕ, zero, suc, _+_}
 use mathlib.Core.List.{List, [], _∷_, _++_, map}
 use lib.IntN.{ℤ, pos, natAbs}
 use lib.ListN.{getD}
 use Rattle.numbers.specs.Padded.{padded}
-use Rattle.query.specs.Deck.{plain}
+use Rattle.query.specs.Deck.{AxisCosts}
 use Rattle.query.specs.Range.{stopsLimit}
 use Rattle.deck.specs.Objects.{Object, Pricing}
 
@@ -14,10 +15,15 @@ unfoldable pub column : (Object → ℤ) → List Object → List ℤ
 unfolding padded
 column number objects = padded stopsLimit (pos 0) (map number objects)
 
-unfoldable pub columnsOf : List Object → List ℤ
+unfoldable pub objectColumns : List Object → List ℤ
 unfolding column
-columnsOf objects = column (λ s. s .at .x) objects ++ column (λ s. s .at .y) objects ++ column (λ s. pos (s .visits)) objects
+objectColumns objects = column (λ s. s .at .x) objects ++ column (λ s. s .at .y) objects ++ column (λ s. pos (s .visits)) objects
     ++ column (λ s. pos (s .near)) objects
+
+-- and the axis costs behind them
+unfoldable pub columnsOf : Pricing → List ℤ
+unfolding objectColumns
+columnsOf P = objectColumns (P .objects) ++ (pos (P .axis .a) ∷ pos (P .axis .b) ∷ [])
 
 -- the object in row i, and those in the first n rows
 abbrev pub objectAt : List ℤ → ℕ → Object
@@ -31,6 +37,10 @@ unfoldable pub objectsIn : List ℤ → ℕ → List Object
 objectsIn columns zero = []
 objectsIn columns (suc n) = objectsIn columns n ++ objectAt columns n ∷ []
 
--- what pricing needs, as the first n rows have it
+-- the axis costs
+abbrev pub axisIn : List ℤ → AxisCosts
+axisIn columns = record { a = natAbs (getD columns 2048 (pos 0)); b = natAbs (getD columns 2049 (pos 0)) }
+
+-- what pricing needs, with the objects of the first n rows
 abbrev pub pricingIn : List ℤ → ℕ → Pricing
-pricingIn columns n = record { axis = plain; objects = objectsIn columns n }
+pricingIn columns n = record { axis = axisIn columns; objects = objectsIn columns n }

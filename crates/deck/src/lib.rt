@@ -30,8 +30,15 @@ pub struct Rect {
     pub yhi: i64,
 }
 
+// What a tenth costs in x and in y.
+pub struct AxisCosts {
+    pub a: u64,
+    pub b: u64,
+}
+
 // A deck, one array a field. The first `posts` and `stops` elements of the arrays count; in a record that reading made the others are 0.
 pub struct Deck {
+    pub axis: AxisCosts,
     pub xlo: i64,
     pub ylo: i64,
     pub xhi: i64,

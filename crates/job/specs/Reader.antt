@@ -1,8 +1,12 @@
 -- Reading line by line, one reader of a line after another.
 -- Assumes nothing.
 use Prim.Native.Nat.{ℕ, zero, suc}
+use mathlib.Core.Bool.{cond}
 use mathlib.Core.List.{List, [], _∷_, _++_}
-use Rattle.job_line.specs.OneLine.{Reading, fault, got, Reader}
+use lib.IntN.{ℤ}
+use Rattle.text.specs.TextReading.{startsWith}
+use Rattle.job_line.specs.Kinds.{Row}
+use Rattle.job_line.specs.OneLine.{Reading, fault, got, Reader, line}
 use Rattle.refusal.specs.declared.Refusal.the-variants.{Malformed}
 
 abbrev pub andThen : {A B : Type 0} → Reading A → (A → Reader B) → Reading B
@@ -28,6 +32,11 @@ repeated zero one read = return read
 repeated (suc n) one read = do
   a ← one
   repeated n one (read ++ (a ∷ []))
+
+-- a line that may be missing: it is there where the text goes on with its key. Numbers that stand for it where it is not
+unfoldable pub optional : Row → List ℤ → Reader (List ℤ)
+unfolding startsWith line
+optional row missing n bs = cond (startsWith (row .key) bs) (line row n bs) (got missing n bs)
 
 -- 01 "Nothing follows"
 unfoldable pub end : Reader (Unit {0})

@@ -1,18 +1,18 @@
--- Document 01, "Job and report": the lines of a job in one table, and the form and the ranges that a line has by its row.
+-- Document 01, "Job and report", and document 02, card 2: the lines of a job in one table, and the form and the ranges that a line has by its row.
 -- Assumes nothing.
 use Prim.Native.Nat.{ℕ}
 use mathlib.Core.Bool.{Bool, true, false, _&&_}
 use mathlib.Core.List.{List, [], _∷_}
 use lib.IntN.{ℤ, pos, negℤ}
 use Rattle.numbers.specs.Integer.{between}
-use Rattle.query.specs.Range.{coordinateLimit, postsLimit, stopsLimit, visitsLimit, roundsLimit}
+use Rattle.query.specs.Range.{coordinateLimit, postsLimit, stopsLimit, visitsLimit, roundsLimit, axisCostLimit}
 use Rattle.text.specs.Ascii.{bytes, comma, newline}
 use Rattle.job_line.specs.Form.{Form, _>>=_, _>>_, return, key, field}
 
 -- ---- the table
 -- the kinds of lines
 pub data Kind : Type 0 where
-  area posts post stops stop rounds : Kind
+  area axis posts post stops stop rounds : Kind
 
 -- the numbers from low to high, both included
 pub record Range : Type 0 where
@@ -27,6 +27,10 @@ coordinates = record { low = negℤ (pos coordinateLimit); high = pos coordinate
 abbrev pub visits : Range
 visits = record { low = pos 1; high = pos visitsLimit }
 
+-- 02 card 2, "each 1 to 9"
+abbrev pub axisCosts : Range
+axisCosts = record { low = pos 1; high = pos axisCostLimit }
+
 -- 01 "posts may be written 0 to 64 and stops 0 to 512"; "Rounds: 0 to 1,000"
 abbrev pub upTo : ℕ → Range
 upTo most = record { low = pos 0; high = pos most }
@@ -36,9 +40,10 @@ pub record Row : Type 0 where
   pub key : List ℕ
   pub ranges : List Range
 
--- 01 `area=xlo,ylo,xhi,yhi`, `posts=n`, `post=x,y`, `stops=n`, `stop=x,y,visits`, `rounds=n`
+-- 01 `area=xlo,ylo,xhi,yhi`, 02 `axis=a,b`, 01 `posts=n`, `post=x,y`, `stops=n`, `stop=x,y,visits`, `rounds=n`
 abbrev pub row : Kind → Row
 row area = record { key = bytes "area="; ranges = coordinates ∷ coordinates ∷ coordinates ∷ coordinates ∷ [] }
+row axis = record { key = bytes "axis="; ranges = axisCosts ∷ axisCosts ∷ [] }
 row posts = record { key = bytes "posts="; ranges = upTo postsLimit ∷ [] }
 row post = record { key = bytes "post="; ranges = coordinates ∷ coordinates ∷ [] }
 row stops = record { key = bytes "stops="; ranges = upTo stopsLimit ∷ [] }

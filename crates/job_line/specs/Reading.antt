@@ -11,10 +11,13 @@ use Rattle.job_line.specs.Form.{field}
 use Rattle.job_line.specs.Kinds.{Row, upTo}
 use Rattle.job_line.specs.OneLine.{Reading, fault, got, line}
 use Rattle.refusal.specs.declared.Refusal.{Refusal}
+use Rattle.deck.specs.declared.AxisCosts.{AxisCosts}
 use Rattle.deck.specs.declared.Rect.{Rect}
 use Rattle.job_line.specs.declared.Place.{Place}
 use Rattle.job_line.specs.declared.AreaLine.{AreaLine}
 use Rattle.job_line.specs.declared.AreaLine.the-variants as A
+use Rattle.job_line.specs.declared.AxisLine.{AxisLine}
+use Rattle.job_line.specs.declared.AxisLine.the-variants as X
 use Rattle.job_line.specs.declared.CountLine.{CountLine}
 use Rattle.job_line.specs.declared.CountLine.the-variants as C
 use Rattle.job_line.specs.declared.PostLine.{PostLine}
@@ -31,6 +34,9 @@ pub record FieldAt (s : List ℕ) (at end : ℕ) (r : ParsedNumber) : Type 0 whe
 abbrev pub areaNumbers : Rect → List ℤ
 areaNumbers a = a .xlo ∷ a .ylo ∷ a .xhi ∷ a .yhi ∷ []
 
+abbrev pub costNumbers : AxisCosts → List ℤ
+costNumbers c = pos (c .a) ∷ pos (c .b) ∷ []
+
 abbrev pub placeNumbers : Place → List ℤ
 placeNumbers p = p .x ∷ p .y ∷ []
 
@@ -42,6 +48,10 @@ pub data LineAnswer : Type 0 where
 abbrev pub areaAnswer : AreaLine → LineAnswer
 areaAnswer (A.Read a next) = read (areaNumbers a) next
 areaAnswer (A.Refused why) = refused why
+
+abbrev pub axisAnswer : AxisLine → LineAnswer
+axisAnswer (X.Read c next) = read (costNumbers c) next
+axisAnswer (X.Refused why) = refused why
 
 abbrev pub countAnswer : CountLine → LineAnswer
 countAnswer (C.Read count next) = read (pos count ∷ []) next

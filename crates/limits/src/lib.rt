@@ -15,6 +15,8 @@ pub const MOST_VISITS: i64 = 65535;
 
 pub const MOST_ROUNDS: usize = 1000;
 
+pub const MOST_AXIS_COST: u64 = 9;
+
 // The most posts, stops, and lines of an axis: one for each stop and the two edges.
 pub const POSTS: usize = 64;
 
@@ -22,14 +24,19 @@ pub const STOPS: usize = 512;
 
 pub const LINES: usize = STOPS + 2;
 
-// The columns of all objects in one array, and where those of y, visits and near start; that of x is the first.
-pub const COLUMNS: usize = 4 * STOPS;
+// The columns of all objects in one array with the axis costs behind them, and where those of y, visits and near start; that of x is the
+// first. Where the two axis costs stand.
+pub const COLUMNS: usize = 4 * STOPS + 2;
 
 pub const Y_COLUMN: usize = STOPS;
 
 pub const VISITS_COLUMN: usize = 2 * STOPS;
 
 pub const NEAR_COLUMN: usize = 3 * STOPS;
+
+pub const X_COST: usize = 4 * STOPS;
+
+pub const Y_COST: usize = 4 * STOPS + 1;
 
 // The most live cells, the numbers of each in the cell space, and the costs of its corners.
 pub const CELLS: usize = MOST_ROUNDS + 1;

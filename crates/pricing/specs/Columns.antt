@@ -9,7 +9,7 @@ use lib.Signed.{ltZ, _≤ℤ_}
 use lib.ListN.{length, getD}
 use Rattle.numbers.specs.Integer.{dist}
 use Rattle.query.specs.Place.{Rect, NonEmpty}
-use Rattle.query.specs.Range.{RectInRange, travelLimit, loadLimit, costLimit, stopsLimit, visitsLimit}
+use Rattle.query.specs.Range.{RectInRange, travelLimit, loadLimit, costLimit, stopsLimit, visitsLimit, axisCostLimit}
 use Rattle.deck.specs.Ranges.{Near180000}
 
 -- one row of the columns
@@ -20,13 +20,20 @@ pub record ObjectInRange (x y visits near : ℤ) : Type 0 where
   pub near-some : pos 0 ≤ℤ near
   pub near-range : natAbs near ≤ travelLimit
 
--- columns of 512 rows each, of which the first n count
+-- an axis cost in the array, from 1 to 9
+pub record CostInRange (c : ℤ) : Type 0 where
+  pub some : pos 1 ≤ℤ c
+  pub most : natAbs c ≤ axisCostLimit
+
+-- columns of 512 rows each, of which the first n count, and two axis costs
 pub record Priceable (columns : List ℤ) (n : ℕ) : Type 0 where
   pub count : n ≤ stopsLimit
-  pub long : length columns ≡ 2048
+  pub long : length columns ≡ 2050
   pub row : (i : ℕ) → i < stopsLimit
       → ObjectInRange (getD columns i (pos 0)) (getD columns (512 + i) (pos 0)) (getD columns (1024 + i) (pos 0))
       (getD columns (1536 + i) (pos 0))
+  pub x-cost : CostInRange (getD columns 2048 (pos 0))
+  pub y-cost : CostInRange (getD columns 2049 (pos 0))
 
 -- a rectangle in range that has a point
 pub record Ranged (r : Rect) : Type 0 where

@@ -1,4 +1,4 @@
--- The figures of document 01 over axis costs and objects.
+-- The figures of document 01 over axis costs and objects, which are at scaled places: travel is plain travel between scaled places.
 -- Assumes nothing.
 use Prim.Native.Nat.{ℕ, _*_, min}
 use mathlib.Core.Bool.{Bool, cond}
@@ -7,14 +7,15 @@ use lib.Dec.{ltb}
 use Rattle.numbers.specs.Lists.{sumOf, keep}
 use Rattle.numbers.specs.Padded.{padded}
 use Rattle.query.specs.Place.{Place, Rect}
+use Rattle.query.specs.Deck.{plain}
 use Rattle.query.specs.Travel.{travel}
 use Rattle.query.specs.Reach.{closestPoint}
 use Rattle.query.specs.Range.{stopsLimit}
-use Rattle.deck.specs.Objects.{Object, Pricing}
+use Rattle.deck.specs.Objects.{scaledPlace, scaledRect, Object, Pricing}
 
 unfoldable pub costOf : Pricing → Place → ℕ
 unfolding sumOf travel
-costOf P p = sumOf (λ s. s .visits * min (s .near) (travel (P .axis) (s .at) p)) (P .objects)
+costOf P p = sumOf (λ s. s .visits * min (s .near) (travel plain (s .at) (scaledPlace (P .axis) p))) (P .objects)
 
 unfoldable pub beforeOf : Pricing → ℕ
 unfolding sumOf
@@ -22,7 +23,7 @@ beforeOf P = sumOf (λ s. s .visits * s .near) (P .objects)
 
 unfoldable pub reaches : Pricing → Rect → Object → Bool
 unfolding travel closestPoint
-reaches P r s = ltb (travel (P .axis) (s .at) (closestPoint r (s .at))) (s .near)
+reaches P r s = ltb (travel plain (s .at) (closestPoint (scaledRect (P .axis) r) (s .at))) (s .near)
 
 unfoldable pub loadOf : Pricing → Rect → ℕ
 unfolding sumOf keep reaches

@@ -8,7 +8,6 @@ use lib.ListN.{length}
 use Rattle.numbers.specs.Padded.{padded}
 use Rattle.query.specs.Place.{NonEmpty, x-axis, y-axis}
 use Rattle.query.specs.Deck as Query
-use Rattle.query.specs.Deck.{plain}
 use Rattle.query.specs.Lines.{lines}
 use Rattle.query.specs.Problem as QueryProblem
 use Rattle.query.specs.Range.{InRange, postsLimit, stopsLimit}
@@ -16,7 +15,7 @@ use Rattle.deck.specs.declared.Deck.{Deck}
 use Rattle.deck.specs.declared.Rect.{Rect}
 use Rattle.deck.specs.DeckOf.{deckOf}
 use Rattle.deck.specs.Rectangle.{rectOf, rectRecord}
-use Rattle.deck.specs.Objects.{objectsOf}
+use Rattle.deck.specs.Objects.{pricingOf}
 use Rattle.deck.specs.ObjectColumns.{columnsOf, pricingIn}
 use Rattle.lines.specs.LineRecord.{gridOf}
 use Rattle.problem.specs.declared.Problem.{Problem}
@@ -26,13 +25,13 @@ use Rattle.problem.specs.ObjectProblem.{objectProblem}
 abbrev pub problemOf : List ℤ → ℕ → List ℤ → List ℤ → Rect → QueryProblem.Problem
 problemOf columns n v h area = objectProblem (pricingIn columns n) (gridOf v h) (rectOf area)
 
--- the record of a deck's problem: its area, the columns of its objects and its lines
+-- the record of a deck's problem: its area, the columns of its objects with its axis costs, and its lines
 unfoldable pub problemRecord : Query.Deck → Problem
-unfolding objectsOf columnsOf lines padded
+unfolding columnsOf lines padded
 problemRecord deck = record {
   area = rectRecord (deck .area);
   count = length (deck .stops);
-  columns = columnsOf (objectsOf deck);
+  columns = columnsOf (pricingOf deck);
   nv = length (lines deck x-axis);
   v = padded 514 (pos 0) (lines deck x-axis);
   nh = length (lines deck y-axis);
@@ -49,10 +48,9 @@ pub record Solvable (deck : Deck) : Type 0 where
 -- the parts of the problem of some deck in range that has an area
 pub record Prepared (columns : List ℤ) (n : ℕ) (v h : List ℤ) (area : Rect) : Type 0 where
   pub deck : Query.Deck
-  pub axis : deck .axis ≡ plain
   pub range : InRange deck
   pub full : NonEmpty (deck .area)
-  pub columns-are : columns ≡ columnsOf (objectsOf deck)
+  pub columns-are : columns ≡ columnsOf (pricingOf deck)
   pub count-is : n ≡ length (deck .stops)
   pub vertical-are : v ≡ lines deck x-axis
   pub horizontal-are : h ≡ lines deck y-axis

@@ -8,7 +8,7 @@ use Rattle.query.specs.Deck.{AxisCosts, Deck}
 use Rattle.query.specs.Cost.{cost}
 use Rattle.query.specs.Reach.{load}
 
--- 01 "width + height", each weighed by its axis cost
+-- 01 "width + height", 02 card 2 "a × width + b × height"
 unfoldable pub span : AxisCosts → Rect → ℕ
 unfolding dist
 span axis r = axis .a * dist (r .xlo) (r .xhi) + axis .b * dist (r .ylo) (r .yhi)

@@ -9,7 +9,7 @@ pub record Stop : Type 0 where
   pub at : Place
   pub visits : ℕ
 
--- what a tenth of a millimetre costs along x and along y. In document 01 both are 1 (`plain`)
+-- 02 card 2 "axis=a,b": what a tenth costs in x and in y. In document 01 both are 1 (`plain`)
 pub record AxisCosts : Type 0 where
   pub a : ℕ
   pub b : ℕ

@@ -32,6 +32,10 @@ visitsLimit = 65535
 abbrev pub roundsLimit : ℕ
 roundsLimit = 1000
 
+-- 02 card 2, "each 1 to 9"
+abbrev pub axisCostLimit : ℕ
+axisCostLimit = 9
+
 pub record PlaceInRange (p : Place) : Type 0 where
   pub x-range : natAbs (p .x) ≤ coordinateLimit
   pub y-range : natAbs (p .y) ≤ coordinateLimit
@@ -45,10 +49,10 @@ pub record StopInRange (stop : Stop) : Type 0 where
   pub some-visits : 1 ≤ stop .visits
   pub most-visits : stop .visits ≤ visitsLimit
 
--- the ranges of a deck, with axis costs from 1 to 9
+-- the ranges of a deck
 pub record InRange (deck : Deck) : Type 0 where
   pub axis-some : (1 ≤ deck .axis .a) × (1 ≤ deck .axis .b)
-  pub axis-most : (deck .axis .a ≤ 9) × (deck .axis .b ≤ 9)
+  pub axis-most : (deck .axis .a ≤ axisCostLimit) × (deck .axis .b ≤ axisCostLimit)
   pub area : RectInRange (deck .area)
   pub posts : (p : Place) → List·Memᴰ p (deck .posts) → PlaceInRange p
   pub some-posts : 1 ≤ length (deck .posts)

@@ -8,7 +8,7 @@ use Rattle.numbers.specs.Lists.{leastBy}
 use Rattle.query.specs.Place.{Place}
 use Rattle.query.specs.Deck.{AxisCosts, Stop, Deck}
 
--- 01 "travel", 000 the L1 distance d: |x difference| + |y difference|, each weighed by its axis cost
+-- 01 "travel", 02 card 2 "a × x difference + b × y difference", 000 the L1 distance d, with each axis weighed
 unfoldable pub travel : AxisCosts → Place → Place → ℕ
 unfolding dist
 travel axis p q = axis .a * dist (p .x) (q .x) + axis .b * dist (p .y) (q .y)
