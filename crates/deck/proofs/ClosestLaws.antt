@@ -2,7 +2,7 @@
 -- Assumes nothing.
 use mathlib.Core.Path.{_≡_, refl, sym, ap, _∙_}
 use mathlib.Core.Bool.{Bool, true, false, cond}
-use mathlib.Core.List.{List, [], _∷_, _++_, zipWith, map}
+use mathlib.Core.List.{List, [], _∷_, _++_, zipWith, map, map-map}
 use Prim.Native.Nat.{ℕ, zero, suc, _+_, _^_, _≤_, _<_, min}
 use native.Mathlib.Numerals.{add-one}
 use native.Mathlib.Omega.{arith}
@@ -16,13 +16,15 @@ use mir.Val.{SFits, toZ, ofZ}
 use mir.ValLaws.{toZ-ofZ, toZ-pos}
 use Rattle.numbers.specs.Lists.{leastBy}
 use Rattle.numbers.proofs.Truth.{cond-ind}
+use Rattle.numbers.proofs.Joined.{map-each}
 use Rattle.query.specs.Place.{Place}
 use Rattle.query.specs.Deck.{AxisCosts, plain}
 use Rattle.query.specs.Travel.{travel, closest}
 use Rattle.deck.specs.DeckOf.{places}
+use Rattle.deck.specs.Objects.{scaledPlace}
 use Rattle.deck.specs.Ranges.{CoordinatesInRange, Near180000}
 use Rattle.deck.proofs.WordLaws.{coordinate}
-use Rattle.deck.proofs.TravelLaws.{far, travel-plain, place-word}
+use Rattle.deck.proofs.TravelLaws.{far, travel-plain, travel-scaled, place-word}
 use Rattle.deck.proofs.CopyLaws.{Copied, copied-more, copied-before}
 
 -- ---- two lists side by side
@@ -88,6 +90,16 @@ closest-one : (axis : AxisCosts) (p q : Place) → closest axis p (q ∷ []) ≡
 unfolding closest leastBy
 closest-one axis p q = refl
 
+-- by scaled places
+pub closest-scaled : (c : AxisCosts) (p : Place) (posts : List Place) → closest c p posts ≡ closest plain (scaledPlace c p) (map (scaledPlace c) posts)
+unfolding closest
+closest-scaled c p [] = refl
+closest-scaled c p (post ∷ posts) = rw (
+  travel-scaled c p post,
+  map-each (travel c p) (λ q. travel plain (scaledPlace c p) (scaledPlace c q)) posts (λ q m. travel-scaled c p q),
+  ← map-map (travel plain (scaledPlace c p)) (scaledPlace c) posts,
+)
+
 -- one of two natural numbers as a word
 picked : (b : Bool) (m n : ℕ) → ofZ w32 (cond b (pos m) (pos n)) ≡ cond b m n
 picked true m n = refl
@@ -145,7 +157,7 @@ post-range gx gy j h = record { x-range = gx .range j h; y-range = gy .range j h
 
 -- ---- columns whose last one is filled, a number for each place of the first two
 module _ (columns : List ℤ) (n : ℕ) (gx : CoordinatesInRange columns n) (gy : CoordinatesInRange (drop 512 columns) n)
-    (few : n ≤ 512) (long : length columns ≡ 2048) where
+    (few : n ≤ 512) (long : length columns ≡ 2050) where
   module _ {s to : List ℤ} {i : ℕ} (so-far : Copied columns 1536 s n to i) (h : i < n) where
     x-kept : getD to i (pos 0) ≡ getD columns i (pos 0)
     x-kept = copied-before columns 1536 s n so-far (omega arith) i (pos 0) (omega arith)

@@ -10,7 +10,7 @@ use lib.ListN.{length, getD, take, length-append, length-map, List·getD-append,
 use lib.Seq.{getD-append-add, take-suc, take-length}
 use Rattle.numbers.proofs.Padded.{padded-length, padded-at}
 use Rattle.deck.specs.Objects.{Object}
-use Rattle.deck.specs.ObjectColumns.{column, columnsOf, objectAt, objectsIn}
+use Rattle.deck.specs.ObjectColumns.{column, objectColumns, columnsOf, objectAt, objectsIn, axisIn}
 
 -- ---- the first rows of any columns
 pub objectsIn-none : (columns : List ℤ) → objectsIn columns 0 ≡ []
@@ -74,11 +74,11 @@ module _ (objects : List Object) (few : length objects ≤ 512) where
   abbrev near : List ℤ
   near = column (λ s. pos (s .near)) objects
 
-  columns-are : columnsOf objects ≡ x ++ y ++ visits ++ near
-  unfolding columnsOf
+  columns-are : objectColumns objects ≡ x ++ y ++ visits ++ near
+  unfolding objectColumns
   columns-are = refl
 
-  pub columns-length : length (columnsOf objects) ≡ 2048
+  pub columns-length : length (objectColumns objects) ≡ 2048
   columns-length =
       rw columns-are
       (omega (
@@ -90,16 +90,16 @@ module _ (objects : List Object) (few : length objects ≤ 512) where
 
   -- each row, by column
   module _ (i : ℕ) (h : i < 512) where
-    pub x-row : getD (columnsOf objects) i (pos 0) ≡ getD (column (λ s. s .at .x) objects) i (pos 0)
+    pub x-row : getD (objectColumns objects) i (pos 0) ≡ getD (column (λ s. s .at .x) objects) i (pos 0)
     x-row = rw columns-are (first-row x y visits near (column-length _) (column-length _) (column-length _) i h)
 
-    pub y-row : getD (columnsOf objects) (512 + i) (pos 0) ≡ getD (column (λ s. s .at .y) objects) i (pos 0)
+    pub y-row : getD (objectColumns objects) (512 + i) (pos 0) ≡ getD (column (λ s. s .at .y) objects) i (pos 0)
     y-row = rw columns-are (second-row x y visits near (column-length _) (column-length _) (column-length _) i h)
 
-    pub visits-row : getD (columnsOf objects) (1024 + i) (pos 0) ≡ getD (column (λ s. pos (s .visits)) objects) i (pos 0)
+    pub visits-row : getD (objectColumns objects) (1024 + i) (pos 0) ≡ getD (column (λ s. pos (s .visits)) objects) i (pos 0)
     visits-row = rw columns-are (third-row x y visits near (column-length _) (column-length _) (column-length _) i h)
 
-    pub near-row : getD (columnsOf objects) (1536 + i) (pos 0) ≡ getD (column (λ s. pos (s .near)) objects) i (pos 0)
+    pub near-row : getD (objectColumns objects) (1536 + i) (pos 0) ≡ getD (column (λ s. pos (s .near)) objects) i (pos 0)
     near-row = rw columns-are (fourth-row x y visits near (column-length _) (column-length _) (column-length _) i)
 
   -- row i is object i
@@ -110,7 +110,7 @@ module _ (objects : List Object) (few : length objects ≤ 512) where
       padded-at 512 (pos 0) (map number objects) i (omega (arith, length-map objects number))
       ∙ ap (getD (map number objects) i) (sym e) ∙ List·getD-map number objects i nothing
 
-  pub row-object : (i : ℕ) → i < length objects → objectAt (columnsOf objects) i ≡ getD objects i nothing
+  pub row-object : (i : ℕ) → i < length objects → objectAt (objectColumns objects) i ≡ getD objects i nothing
   row-object i h =
       let l : i < 512 = omega arith in
       rw (
@@ -124,10 +124,10 @@ module _ (objects : List Object) (few : length objects ≤ 512) where
         number-at (λ s. pos (s .near)) refl i h,
       )
 
-  columns-front : (n : ℕ) → n ≤ length objects → objectsIn (columnsOf objects) n ≡ take n objects
+  columns-front : (n : ℕ) → n ≤ length objects → objectsIn (objectColumns objects) n ≡ take n objects
   unfolding objectsIn
   columns-front zero h = refl
   columns-front (suc n) h = rw (columns-front n (omega arith), row-object n (omega arith)) (sym (take-suc objects n nothing (omega arith)))
 
-  pub columns-objects : objectsIn (columnsOf objects) (length objects) ≡ objects
+  pub columns-objects : objectsIn (objectColumns objects) (length objects) ≡ objects
   columns-objects = columns-front (length objects) (omega arith) ∙ take-length objects

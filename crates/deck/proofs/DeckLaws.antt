@@ -8,16 +8,18 @@ use lib.IntN.{ℤ, pos}
 use lib.ListN.{length, getD, take, length-take, length-map}
 use Rattle.query.specs.Place.{Place}
 use Rattle.query.specs.Deck as Query
-use Rattle.query.specs.Deck.{Stop, AxisCosts, plain}
-use Rattle.query.specs.Travel.{near}
+use Rattle.query.specs.Deck.{AxisCosts, Stop, plain}
+use Rattle.query.specs.Travel.{closest, near}
 use Rattle.query.specs.Range.{InRange, StopInRange, PlaceInRange}
+use Rattle.numbers.specs.Integer.{times}
 use Rattle.numbers.specs.Padded.{padded}
 use Rattle.deck.specs.declared.Deck.{Deck}
 use Rattle.deck.specs.DeckOf.{Sized, places, stopsOf, deckOf, deckRecord}
-use Rattle.deck.specs.Objects.{Object, objectsOf}
-use Rattle.deck.specs.Ranges.{CoordinatesInRange, VisitsInRange}
-use Rattle.deck.specs.ObjectColumns.{columnsOf}
-use Rattle.deck.proofs.ClosestLaws.{zip-length, zip-at, placeAt, places-length, places-at, nearBy}
+use Rattle.deck.specs.Objects.{scaledPlace, Object, objectsOf}
+use Rattle.deck.specs.Ranges.{CoordinatesUpTo, VisitsInRange}
+use Rattle.deck.specs.ObjectColumns.{objectColumns}
+use Rattle.deck.specs.ObjectColumns as Columns
+use Rattle.deck.proofs.ClosestLaws.{zip-length, zip-at, placeAt, places-length, places-at, nearBy, closest-scaled}
 
 -- ---- lists
 take-member : {A : Type 0} (d : A) (l : List A) (n i : ℕ) → i < n → i < length l → List·Memᴰ (getD l i d) (take n l)
@@ -59,6 +61,13 @@ places-x xs ys e = zip-first placeOf (λ (p : Place). p .x) (λ x. x) (λ x y. r
 places-y : (xs ys : List ℤ) → length xs ≡ length ys → map (λ (p : Place). p .y) (places xs ys) ≡ ys
 unfolding places
 places-y xs ys e = zip-second placeOf (λ (p : Place). p .y) (λ y. y) (λ x y. refl) xs ys e ∙ map-id ys
+
+-- ---- scaled places
+scaled-places : (c : AxisCosts) (xs ys : List ℤ) → map (scaledPlace c) (places xs ys) ≡ places (map (times (c .a)) xs) (map (times (c .b)) ys)
+unfolding places zipWith
+scaled-places c [] ys = refl
+scaled-places c (x ∷ xs) [] = refl
+scaled-places c (x ∷ xs) (y ∷ ys) = ap (λ (l : List Place). scaledPlace c (placeOf x y) ∷ l) (scaled-places c xs ys)
 
 -- ---- the columns of a deck's record
 pub record DeckColumns (deck : Deck) : Type 0 where
@@ -139,86 +148,118 @@ module _ (deck : Deck) (columns : DeckColumns deck) where
         (omega (arith, columns .posts, columns .sized .post-y))) at (take-member (placeAt [] [] 0) (places (deck .«post_x») (deck .«post_y»)) (deck .posts) i h
         (omega (arith, columns .posts, places-length (deck .«post_x») (deck .«post_y»), columns .sized .post-x, columns .sized .post-y))))
 
+    pub x-cost : (1 ≤ deck .axis .a) × (deck .axis .a ≤ 9)
+    unfolding deckOf
+    x-cost = (range .axis-some .0, range .axis-most .0)
+
+    pub y-cost : (1 ≤ deck .axis .b) × (deck .axis .b ≤ 9)
+    unfolding deckOf
+    y-cost = (range .axis-some .1, range .axis-most .1)
+
     pub some-post : 1 ≤ deck .posts
     unfolding deckOf
     some-post = omega (arith, range .some-posts, length-take (deck .posts) (places (deck .«post_x») (deck .«post_y»)))
 
-    pub stop-x-range : CoordinatesInRange (deck .«stop_x») (deck .stops)
-    stop-x-range =
-        record { count = omega (arith, columns .stops, columns .sized .stop-x); range = λ i h. let r = stop-range i h .place .x-range in omega arith }
+    pub stop-x-range : CoordinatesUpTo 20000 (deck .«stop_x») (deck .stops)
+    stop-x-range = record { count = omega (arith, columns .stops, columns .sized .stop-x); range = λ i h. stop-range i h .place .x-range }
 
-    pub stop-y-range : CoordinatesInRange (deck .«stop_y») (deck .stops)
-    stop-y-range =
-        record { count = omega (arith, columns .stops, columns .sized .stop-y); range = λ i h. let r = stop-range i h .place .y-range in omega arith }
+    pub stop-y-range : CoordinatesUpTo 20000 (deck .«stop_y») (deck .stops)
+    stop-y-range = record { count = omega (arith, columns .stops, columns .sized .stop-y); range = λ i h. stop-range i h .place .y-range }
 
     pub visits-in-range : VisitsInRange (deck .visits) (deck .stops)
     visits-in-range = record { count = omega (arith, columns .stops, columns .sized .visits); range = λ i h. stop-range i h .most-visits }
 
-    pub post-x-range : CoordinatesInRange (deck .«post_x») (deck .posts)
-    post-x-range = record { count = omega (arith, columns .posts, columns .sized .post-x); range = λ i h. let r = post-in-range i h .x-range in omega arith }
+    pub post-x-range : CoordinatesUpTo 20000 (deck .«post_x») (deck .posts)
+    post-x-range = record { count = omega (arith, columns .posts, columns .sized .post-x); range = λ i h. post-in-range i h .x-range }
 
-    pub post-y-range : CoordinatesInRange (deck .«post_y») (deck .posts)
-    post-y-range = record { count = omega (arith, columns .posts, columns .sized .post-y); range = λ i h. let r = post-in-range i h .y-range in omega arith }
+    pub post-y-range : CoordinatesUpTo 20000 (deck .«post_y») (deck .posts)
+    post-y-range = record { count = omega (arith, columns .posts, columns .sized .post-y); range = λ i h. post-in-range i h .y-range }
+
+  -- ---- the coordinates of the deck's stops
+  by-place : {D : Type 0} (g : Stop → D) (h : Place → D) → ((p : Place) (v : ℕ) → g (stopOf p v) ≡ h p) →
+      map g (allStops deck) ≡ map h (places (deck .«stop_x») (deck .«stop_y»))
+  unfolding stopsOf
+  by-place g h e = zip-first stopOf g h e (places (deck .«stop_x») (deck .«stop_y»)) (deck .visits) (omega (arith, places-long, columns .sized .visits))
+
+  stop-of : {D : Type 0} (g : Stop → D) → map g (deckOf deck .stops) ≡ take (deck .stops) (map g (allStops deck))
+  unfolding deckOf
+  stop-of g = map-take g (deck .stops) (allStops deck)
+
+  pub stops-x : map (λ (s : Stop). s .at .x) (deckOf deck .stops) ≡ take (deck .stops) (deck .«stop_x»)
+  stops-x = stop-of (λ (s : Stop). s .at .x) ∙ rw (
+    by-place (λ (s : Stop). s .at .x) (λ (p : Place). p .x) (λ p v. refl),
+    places-x (deck .«stop_x») (deck .«stop_y») (omega (arith, columns .sized .stop-x, columns .sized .stop-y)),
+  )
+
+  pub stops-y : map (λ (s : Stop). s .at .y) (deckOf deck .stops) ≡ take (deck .stops) (deck .«stop_y»)
+  stops-y = stop-of (λ (s : Stop). s .at .y) ∙ rw (
+    by-place (λ (s : Stop). s .at .y) (λ (p : Place). p .y) (λ p v. refl),
+    places-y (deck .«stop_x») (deck .«stop_y») (omega (arith, columns .sized .stop-x, columns .sized .stop-y)),
+  )
 
   -- ---- the record of the deck's objects
   pub objects-length : length (objectsOf (deckOf deck)) ≡ deck .stops
   unfolding objectsOf deckOf
   objects-length = rw length-map (omega (arith, length-take (deck .stops) (allStops deck), stops-long, columns .stops))
 
-  column : {D : Type 0} (g : Object → D) → map g (objectsOf (deckOf deck)) ≡ take (deck .stops)
-      (map (λ stop. g (record { at = stop .at; visits = stop .visits; near = near (deckOf deck) stop })) (allStops deck))
-  unfolding objectsOf deckOf
-  column g = rw (map-map, map-take)
+  column : {D : Type 0} (g : Object → D) → map g (objectsOf (deckOf deck)) ≡
+      map (λ stop. g (record { at = scaledPlace (deckOf deck .axis) (stop .at); visits = stop .visits; near = near (deckOf deck) stop }))
+      (deckOf deck .stops)
+  unfolding objectsOf
+  column g = rw map-map
 
-  by-place : {D : Type 0} (g : Stop → D) (h : Place → D) → ((p : Place) (v : ℕ) → g (stopOf p v) ≡ h p) →
-      map g (allStops deck) ≡ map h (places (deck .«stop_x») (deck .«stop_y»))
-  unfolding stopsOf
-  by-place g h e = zip-first stopOf g h e (places (deck .«stop_x») (deck .«stop_y»)) (deck .visits) (omega (arith, places-long, columns .sized .visits))
+  x-column : map (λ (s : Object). s .at .x) (objectsOf (deckOf deck)) ≡ take (deck .stops) (map (times (deck .axis .a)) (deck .«stop_x»))
+  unfolding deckOf
+  x-column = column (λ (s : Object). s .at .x) ∙ sym (map-map (times (deck .axis .a)) (λ (s : Stop). s .at .x) (deckOf deck .stops))
+      ∙ ap (map (times (deck .axis .a))) stops-x ∙ map-take (times (deck .axis .a)) (deck .stops) (deck .«stop_x»)
 
-  pub x-column : map (λ (s : Object). s .at .x) (objectsOf (deckOf deck)) ≡ take (deck .stops) (deck .«stop_x»)
-  x-column = rw (
-    column (λ (s : Object). s .at .x),
-    by-place (λ (s : Stop). s .at .x) (λ (p : Place). p .x) (λ p v. refl),
-    places-x (deck .«stop_x») (deck .«stop_y») (omega (arith, columns .sized .stop-x, columns .sized .stop-y)),
-  )
-
-  pub y-column : map (λ (s : Object). s .at .y) (objectsOf (deckOf deck)) ≡ take (deck .stops) (deck .«stop_y»)
-  y-column = rw (
-    column (λ (s : Object). s .at .y),
-    by-place (λ (s : Stop). s .at .y) (λ (p : Place). p .y) (λ p v. refl),
-    places-y (deck .«stop_x») (deck .«stop_y») (omega (arith, columns .sized .stop-x, columns .sized .stop-y)),
-  )
+  y-column : map (λ (s : Object). s .at .y) (objectsOf (deckOf deck)) ≡ take (deck .stops) (map (times (deck .axis .b)) (deck .«stop_y»))
+  unfolding deckOf
+  y-column = column (λ (s : Object). s .at .y) ∙ sym (map-map (times (deck .axis .b)) (λ (s : Stop). s .at .y) (deckOf deck .stops))
+      ∙ ap (map (times (deck .axis .b))) stops-y ∙ map-take (times (deck .axis .b)) (deck .stops) (deck .«stop_y»)
 
   visits-column : map (λ (s : Object). pos (s .visits)) (objectsOf (deckOf deck)) ≡ take (deck .stops) (map pos (deck .visits))
   unfolding stopsOf
   visits-column =
       rw (
         column (λ (s : Object). pos (s .visits)),
+        stop-of (λ (s : Stop). pos (s .visits)),
         zip-second stopOf (λ (s : Stop). pos (s .visits)) pos (λ p v. refl) (places (deck .«stop_x») (deck .«stop_y»)) (deck .visits)
             (omega (arith, places-long, columns .sized .visits)),
       )
 
-  near-is : (p : Place) (v : ℕ) → pos (near (deckOf deck) (stopOf p v)) ≡ nearBy (deck .«post_x») (deck .«post_y») (deck .posts) p
+  -- near, by scaled posts
+  abbrev pub nearScaled : Place → ℤ
+  nearScaled = nearBy (map (times (deck .axis .a)) (deck .«post_x»)) (map (times (deck .axis .b)) (deck .«post_y»)) (deck .posts)
+
+  near-is : (p : Place) (v : ℕ) → pos (near (deckOf deck) (stopOf p v)) ≡ nearScaled (scaledPlace (deckOf deck .axis) p)
   unfolding near deckOf
-  near-is p v = refl
+  near-is p v = ap pos (closest-scaled (deckOf deck .axis) p (take (deck .posts) (places (deck .«post_x») (deck .«post_y»)))
+      ∙ ap (closest plain (scaledPlace (deckOf deck .axis) p)) (map-take (scaledPlace (deckOf deck .axis)) (deck .posts) _
+      ∙ ap (take (deck .posts)) (scaled-places (deckOf deck .axis) (deck .«post_x») (deck .«post_y»))))
 
   near-column : map (λ (s : Object). pos (s .near)) (objectsOf (deckOf deck)) ≡
-      take (deck .stops) (map (nearBy (deck .«post_x») (deck .«post_y») (deck .posts)) (places (deck .«stop_x») (deck .«stop_y»)))
+      take (deck .stops)
+      (map nearScaled (places (map (times (deck .axis .a)) (deck .«stop_x»)) (map (times (deck .axis .b)) (deck .«stop_y»))))
+  unfolding deckOf
   near-column =
-      rw (
-        column (λ (s : Object). pos (s .near)),
-        by-place (λ (s : Stop). pos (near (deckOf deck) s)) (nearBy (deck .«post_x») (deck .«post_y») (deck .posts)) near-is,
-      )
+      column (λ (s : Object). pos (s .near)) ∙ stop-of (λ (s : Stop). pos (near (deckOf deck) s))
+      ∙ ap (take (deck .stops))
+      (by-place (λ (s : Stop). pos (near (deckOf deck) s)) (λ (p : Place). nearScaled (scaledPlace (deckOf deck .axis) p)) near-is
+      ∙ sym (map-map nearScaled (scaledPlace (deckOf deck .axis)) (places (deck .«stop_x») (deck .«stop_y»)))
+      ∙ ap (map nearScaled) (scaled-places (deckOf deck .axis) (deck .«stop_x») (deck .«stop_y»)))
 
-  -- the columns of the objects are those of the record
-  pub record-columns : columnsOf (objectsOf (deckOf deck)) ≡
-      padded 512 (pos 0) (take (deck .stops) (deck .«stop_x»)) ++ padded 512 (pos 0) (take (deck .stops) (deck .«stop_y»))
+  -- the columns of the objects are those of the record, scaled
+  pub record-columns : objectColumns (objectsOf (deckOf deck)) ≡
+      padded 512 (pos 0) (take (deck .stops) (map (times (deck .axis .a)) (deck .«stop_x»)))
+      ++ padded 512 (pos 0) (take (deck .stops) (map (times (deck .axis .b)) (deck .«stop_y»)))
       ++ padded 512 (pos 0) (take (deck .stops) (map pos (deck .visits)))
-      ++ padded 512 (pos 0) (take (deck .stops) (map (nearBy (deck .«post_x») (deck .«post_y») (deck .posts)) (places (deck .«stop_x») (deck .«stop_y»))))
-  unfolding columnsOf
+      ++ padded 512 (pos 0) (take (deck .stops)
+      (map nearScaled (places (map (times (deck .axis .a)) (deck .«stop_x»)) (map (times (deck .axis .b)) (deck .«stop_y»)))))
+  unfolding objectColumns Columns.column
   record-columns = rw (x-column, y-column, visits-column, near-column)
 
--- ---- the record of a deck holds it, but for axis costs, which no record has
+-- ---- the record of a deck holds it
 front-places : (ps : List Place) (xs ys : List ℤ) → take (length ps) (places (map (λ p. p .x) ps ++ xs) (map (λ p. p .y) ps ++ ys)) ≡ ps
 unfolding places
 front-places [] xs ys = refl
@@ -230,9 +271,6 @@ unfolding places stopsOf
 front-stops [] xs ys vs = refl
 front-stops (s ∷ ss) xs ys vs = ap (λ (l : List Stop). s ∷ l) (front-stops ss xs ys vs)
 
-held-plain : (deck : Query.Deck) → deckOf (deckRecord deck) ≡ record { axis = plain; area = deck .area; posts = deck .posts; stops = deck .stops }
+pub held-deck : (deck : Query.Deck) → deckOf (deckRecord deck) ≡ deck
 unfolding deckOf deckRecord padded
-held-plain deck = rw (front-places, front-stops)
-
-pub held-deck : (deck : Query.Deck) → deck .axis ≡ plain → deckOf (deckRecord deck) ≡ deck
-held-deck deck e = held-plain deck ∙ ap (λ (a : AxisCosts). record { axis = a; area = deck .area; posts = deck .posts; stops = deck .stops }) (sym e)
+held-deck deck = rw (front-places, front-stops)

@@ -1,4 +1,5 @@
 pub mod WordLaws
+pub mod ScaleLaws
 pub mod TravelLaws
 pub mod ClosestLaws
 pub mod CopyLaws

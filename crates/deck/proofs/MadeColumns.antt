@@ -1,12 +1,13 @@
 -- The columns of a deck's objects, as they are made: posts and stops are copied, and near is found of the copies.
 -- Assumes nothing.
 use mathlib.Core.Path.{_≡_, refl, sym, ap, _∙_}
-use mathlib.Core.List.{List, [], _++_, map, append-assoc, append-nil}
+use mathlib.Core.List.{List, [], _∷_, _++_, map, append-assoc}
 use Prim.Native.Nat.{ℕ, _≤_}
 use native.Mathlib.Omega.{arith}
 use lib.IntN.{ℤ, pos}
-use lib.ListN.{length, getD, take, drop, replicate, length-append, length-map, length-take, length-drop, length-replicate}
-use lib.Seq.{paste, length-paste, take-at, length-take-le, getD-take, take-append-le, drop-at}
+use lib.ListN.{length, getD, take, drop, set, replicate, length-append, length-map, length-take, length-drop, length-replicate}
+use lib.Seq.{paste, set-at, length-paste, take-at, length-take-le, getD-take, take-append-le, drop-at}
+use Rattle.numbers.specs.Integer.{times}
 use Rattle.numbers.specs.Padded.{padded}
 use Rattle.numbers.proofs.Padded.{padded-length, padded-front}
 use Rattle.query.specs.Place.{Place}
@@ -15,12 +16,15 @@ use Rattle.query.specs.Travel.{closest}
 use Rattle.query.specs.Range.{InRange}
 use Rattle.deck.specs.declared.Deck.{Deck}
 use Rattle.deck.specs.DeckOf.{places, deckOf}
-use Rattle.deck.specs.Objects.{objectsOf}
-use Rattle.deck.specs.ObjectColumns.{columnsOf}
+use Rattle.deck.specs.Objects.{objectsOf, pricingOf}
+use Rattle.deck.specs.ObjectColumns.{objectColumns, columnsOf}
 use Rattle.deck.specs.Ranges.{CoordinatesInRange}
 use Rattle.deck.proofs.CopyLaws.{put-column}
 use Rattle.deck.proofs.ClosestLaws.{places-front, places-length, nearBy}
-use Rattle.deck.proofs.DeckLaws.{DeckColumns, map-take, stop-x-range, stop-y-range, post-x-range, post-y-range, record-columns}
+use Rattle.deck.proofs.DeckLaws.{DeckColumns, map-take, x-cost, y-cost, stop-x-range, stop-y-range, post-x-range, post-y-range, objects-length}
+use Rattle.deck.proofs.DeckLaws.{record-columns}
+use Rattle.deck.proofs.ScaleLaws.{scaled-range}
+use Rattle.deck.proofs.ColumnLaws.{columns-length}
 
 -- a column with the same first numbers
 front-range : (us xs : List ℤ) (n : ℕ) → take n us ≡ take n xs → n ≤ length us → CoordinatesInRange xs n → CoordinatesInRange us n
@@ -38,6 +42,26 @@ near-front k n px py us vs qx qy xs ys a b c d =
     (ap (λ (posts : List Place). map (λ p. pos (closest plain p posts)) (take n (places xs ys))) (places-front k px py qx qy a b))
     ∙ map-take (nearBy qx qy k) n (places xs ys)
 
+-- two numbers put behind others, where 0 was
+costs-put : (xs : List ℤ) (u v : ℤ) → length xs ≡ 2048 → set (set (xs ++ replicate 2 (pos 0)) 2048 u) 2049 v ≡ xs ++ (u ∷ v ∷ [])
+costs-put xs u v e = rw (set-at xs (pos 0) (pos 0 ∷ []) u 2048 e) (
+  ap (λ (l : List ℤ). set l 2049 v) (sym (append-assoc xs (u ∷ []) (pos 0 ∷ [])))
+  ∙ set-at (xs ++ (u ∷ [])) (pos 0) [] v 2049 (omega (arith, length-append xs (u ∷ [])))
+  ∙ append-assoc xs (u ∷ []) (v ∷ []))
+
+-- the columns of a record, scaled
+abbrev sx : Deck → List ℤ
+sx deck = map (times (deck .axis .a)) (deck .«stop_x»)
+
+abbrev sy : Deck → List ℤ
+sy deck = map (times (deck .axis .b)) (deck .«stop_y»)
+
+abbrev qx : Deck → List ℤ
+qx deck = map (times (deck .axis .a)) (deck .«post_x»)
+
+abbrev qy : Deck → List ℤ
+qy deck = map (times (deck .axis .b)) (deck .«post_y»)
+
 module _ (deck : Deck) (columns : DeckColumns deck) where
   abbrev padded-column : List ℤ → List ℤ
   padded-column xs = padded 512 (pos 0) (take (deck .stops) xs)
@@ -48,17 +72,23 @@ module _ (deck : Deck) (columns : DeckColumns deck) where
   front : (xs : List ℤ) → deck .stops ≤ length xs → take (deck .stops) (padded-column xs) ≡ take (deck .stops) xs
   front xs h = ap (λ (m : ℕ). take m (padded-column xs)) (sym (length-take-le (deck .stops) xs h)) ∙ padded-front 512 (pos 0) (take (deck .stops) xs)
 
+  x-long : length (sx deck) ≡ 512
+  x-long = length-map (deck .«stop_x») (times (deck .axis .a)) ∙ columns .sized .stop-x
+
+  y-long : length (sy deck) ≡ 512
+  y-long = length-map (deck .«stop_y») (times (deck .axis .b)) ∙ columns .sized .stop-y
+
   abbrev x : List ℤ
-  x = padded-column (deck .«stop_x»)
+  x = padded-column (sx deck)
 
   abbrev y : List ℤ
-  y = padded-column (deck .«stop_y»)
+  y = padded-column (sy deck)
 
   abbrev visits : List ℤ
   visits = padded-column (map pos (deck .visits))
 
   two : length (x ++ y) ≡ 1024
-  two = omega (arith, length-append x y, long (deck .«stop_x»), long (deck .«stop_y»))
+  two = omega (arith, length-append x y, long (sx deck), long (sy deck))
 
   three : length (x ++ y ++ visits) ≡ 1536
   three = omega (arith, length-append (x ++ y) visits, two, long (map pos (deck .visits)))
@@ -78,69 +108,87 @@ module _ (deck : Deck) (columns : DeckColumns deck) where
             ∙ length-replicate 64 (pos 0))
 
   -- x, y and visits of the stops, one behind another
-  module _ {a b c : List ℤ} (ea : a ≡ paste (replicate 2048 (pos 0)) 0 (deck .«stop_x») (deck .stops))
-      (eb : b ≡ paste a 512 (deck .«stop_y») (deck .stops)) (ec : c ≡ paste b 1024 (map pos (deck .visits)) (deck .stops)) where
-    x-put : a ≡ x ++ replicate 1536 (pos 0)
-    x-put = ea ∙ put-column [] 0 1536 (deck .stops) (deck .«stop_x») refl (columns .stops) (omega (arith, columns .stops, columns .sized .stop-x))
+  module _ {a b c : List ℤ} (ea : a ≡ paste (replicate 2050 (pos 0)) 0 (sx deck) (deck .stops))
+      (eb : b ≡ paste a 512 (sy deck) (deck .stops)) (ec : c ≡ paste b 1024 (map pos (deck .visits)) (deck .stops)) where
+    x-put : a ≡ x ++ replicate 1538 (pos 0)
+    x-put = ea ∙ put-column [] 0 1538 (deck .stops) (sx deck) refl (columns .stops) (omega (arith, columns .stops, x-long))
 
-    y-put : b ≡ x ++ y ++ replicate 1024 (pos 0)
+    y-put : b ≡ x ++ y ++ replicate 1026 (pos 0)
     y-put = eb ∙ rw x-put
-        (put-column x 512 1024 (deck .stops) (deck .«stop_y») (long _) (columns .stops) (omega (arith, columns .stops, columns .sized .stop-y)))
+        (put-column x 512 1026 (deck .stops) (sy deck) (long _) (columns .stops) (omega (arith, columns .stops, y-long)))
 
-    put : c ≡ x ++ y ++ visits ++ replicate 512 (pos 0)
+    put : c ≡ x ++ y ++ visits ++ replicate 514 (pos 0)
     put =
         ec
         ∙ rw y-put
-        (put-column (x ++ y) 1024 512 (deck .stops) (map pos (deck .visits)) two (columns .stops)
+        (put-column (x ++ y) 1024 514 (deck .stops) (map pos (deck .visits)) two (columns .stops)
         (omega (arith, columns .stops, columns .sized .visits, length-map {B = ℤ} (deck .visits) pos)))
 
-    pub put-length : length c ≡ 2048
-    put-length = rw put (omega (arith, length-append (x ++ y ++ visits) (replicate 512 (pos 0)), three, length-replicate 512 (pos 0)))
+    pub put-length : length c ≡ 2050
+    put-length = rw put (omega (arith, length-append (x ++ y ++ visits) (replicate 514 (pos 0)), three, length-replicate 514 (pos 0)))
 
-    x-front : take (deck .stops) c ≡ take (deck .stops) (deck .«stop_x»)
+    x-front : take (deck .stops) c ≡ take (deck .stops) (sx deck)
     x-front =
         rw put
         (take-append-le (deck .stops) (x ++ y ++ visits) _ (omega (arith, three, columns .stops))
         ∙ take-append-le (deck .stops) (x ++ y) visits (omega (arith, two, columns .stops))
-        ∙ take-append-le (deck .stops) x y (omega (arith, long (deck .«stop_x»), columns .stops))
-        ∙ front (deck .«stop_x») (omega (arith, columns .stops, columns .sized .stop-x)))
+        ∙ take-append-le (deck .stops) x y (omega (arith, long (sx deck), columns .stops))
+        ∙ front (sx deck) (omega (arith, columns .stops, x-long)))
 
-    y-front : take (deck .stops) (drop 512 c) ≡ take (deck .stops) (deck .«stop_y»)
+    y-front : take (deck .stops) (drop 512 c) ≡ take (deck .stops) (sy deck)
     y-front =
         rw (
           put,
-          append-assoc (x ++ y) visits (replicate 512 (pos 0)),
-          append-assoc x y (visits ++ replicate 512 (pos 0)),
-          drop-at x (y ++ (visits ++ replicate 512 (pos 0))) 512 (long _),
+          append-assoc (x ++ y) visits (replicate 514 (pos 0)),
+          append-assoc x y (visits ++ replicate 514 (pos 0)),
+          drop-at x (y ++ (visits ++ replicate 514 (pos 0))) 512 (long _),
         )
-        (take-append-le (deck .stops) y _ (omega (arith, long (deck .«stop_y»), columns .stops))
-        ∙ front (deck .«stop_y») (omega (arith, columns .stops, columns .sized .stop-y)))
+        (take-append-le (deck .stops) y _ (omega (arith, long (sy deck), columns .stops))
+        ∙ front (sy deck) (omega (arith, columns .stops, y-long)))
 
     module _ (range : InRange (deckOf deck)) where
       pub x-copied : CoordinatesInRange c (deck .stops)
-      x-copied = front-range c _ (deck .stops) x-front (omega (arith, put-length, columns .stops)) (stop-x-range deck columns range)
+      x-copied = front-range c _ (deck .stops) x-front (omega (arith, put-length, columns .stops))
+          (scaled-range _ _ _ (x-cost deck columns range .1) (stop-x-range deck columns range))
 
       pub y-copied : CoordinatesInRange (drop 512 c) (deck .stops)
       y-copied =
           front-range (drop 512 c) _ (deck .stops) y-front (omega (arith, length-drop 512 c, put-length, columns .stops))
-          (stop-y-range deck columns range)
+          (scaled-range _ _ _ (y-cost deck columns range .1) (stop-y-range deck columns range))
 
-      -- near put behind them
-      pub made-columns : {px py d : List ℤ} → px ≡ paste (replicate 64 (pos 0)) 0 (deck .«post_x») (deck .posts) →
-          py ≡ paste (replicate 64 (pos 0)) 0 (deck .«post_y») (deck .posts) →
-          d ≡ paste c 1536 (map (nearBy px py (deck .posts)) (places c (drop 512 c))) (deck .stops) → d ≡ columnsOf (objectsOf (deckOf deck))
-      made-columns {px} {py} {d} ex ey ed =
-          ed
-          ∙ ap (λ (l : List ℤ). paste l 1536 nears (deck .stops)) put
-          ∙ put-column (x ++ y ++ visits) 1536 0 (deck .stops) nears three (columns .stops) count
-          ∙ append-nil _
-          ∙ ap (λ (l : List ℤ). x ++ y ++ visits ++ padded 512 (pos 0) l)
-          (near-front (deck .posts) (deck .stops) px py c (drop 512 c) _ _ _ _ (post-front (post-x-range deck columns range) ex)
-          (post-front (post-y-range deck columns range) ey) x-front y-front)
-          ∙ sym (record-columns deck columns)
-        where
-          nears : List ℤ
-          nears = map (nearBy px py (deck .posts)) (places c (drop 512 c))
+      module _ {px py : List ℤ} (ex : px ≡ paste (replicate 64 (pos 0)) 0 (qx deck) (deck .posts))
+          (ey : py ≡ paste (replicate 64 (pos 0)) 0 (qy deck) (deck .posts)) where
+        pub post-x-copied : CoordinatesInRange px (deck .posts)
+        post-x-copied = post-copied (scaled-range _ _ _ (x-cost deck columns range .1) (post-x-range deck columns range)) ex
 
-          count : deck .stops ≤ length nears
-          count = omega (arith, length-map (places c (drop 512 c)) (nearBy px py (deck .posts)), places-length c (drop 512 c), x-copied .count, y-copied .count)
+        pub post-y-copied : CoordinatesInRange py (deck .posts)
+        post-y-copied = post-copied (scaled-range _ _ _ (y-cost deck columns range .1) (post-y-range deck columns range)) ey
+
+        -- near put behind them
+        near-put : {d : List ℤ} → d ≡ paste c 1536 (map (nearBy px py (deck .posts)) (places c (drop 512 c))) (deck .stops) →
+            d ≡ objectColumns (objectsOf (deckOf deck)) ++ replicate 2 (pos 0)
+        near-put {d} ed =
+            ed
+            ∙ ap (λ (l : List ℤ). paste l 1536 nears (deck .stops)) put
+            ∙ put-column (x ++ y ++ visits) 1536 2 (deck .stops) nears three (columns .stops) count
+            ∙ ap (λ (l : List ℤ). x ++ y ++ visits ++ padded 512 (pos 0) l ++ replicate 2 (pos 0))
+            (near-front (deck .posts) (deck .stops) px py c (drop 512 c) _ _ _ _
+            (post-front (scaled-range _ _ _ (x-cost deck columns range .1) (post-x-range deck columns range)) ex)
+            (post-front (scaled-range _ _ _ (y-cost deck columns range .1) (post-y-range deck columns range)) ey) x-front y-front)
+            ∙ ap (λ (l : List ℤ). l ++ replicate 2 (pos 0)) (sym (record-columns deck columns))
+          where
+            nears : List ℤ
+            nears = map (nearBy px py (deck .posts)) (places c (drop 512 c))
+
+            count : deck .stops ≤ length nears
+            count =
+                omega (arith, length-map (places c (drop 512 c)) (nearBy px py (deck .posts)), places-length c (drop 512 c), x-copied .count, y-copied .count)
+
+        -- the costs behind all
+        pub made-columns : {d : List ℤ} {u v : ℤ} → d ≡ paste c 1536 (map (nearBy px py (deck .posts)) (places c (drop 512 c))) (deck .stops) →
+            u ≡ pos (deck .axis .a) → v ≡ pos (deck .axis .b) → set (set d 2048 u) 2049 v ≡ columnsOf (pricingOf (deckOf deck))
+        unfolding columnsOf deckOf
+        made-columns {d} {u} {v} ed eu ev =
+            (λ i. set (set (near-put ed i) 2048 (eu i)) 2049 (ev i))
+            ∙ costs-put (objectColumns (objectsOf (deckOf deck))) (pos (deck .axis .a)) (pos (deck .axis .b))
+            (columns-length (objectsOf (deckOf deck)) (omega (arith, objects-length deck columns, columns .stops)))

@@ -11,9 +11,11 @@ use mir.Val.{SFits, toZ, ofZ}
 use mir.ValLaws.{toZ-ofZ}
 use Rattle.numbers.specs.Integer.{dist}
 use Rattle.numbers.proofs.Distance.{dist-most}
+use Rattle.numbers.proofs.Scaling.{dist-scale}
 use Rattle.query.specs.Place.{Place}
-use Rattle.query.specs.Deck.{plain}
+use Rattle.query.specs.Deck.{AxisCosts, plain}
 use Rattle.query.specs.Travel.{travel}
+use Rattle.deck.specs.Objects.{scaledPlace}
 use Rattle.deck.specs.Ranges.{Near180000}
 use Rattle.deck.proofs.WordLaws.{sum-is, coordinate, narrowed}
 
@@ -23,6 +25,10 @@ far ux uy vx vy = dist ux vx + dist uy vy
 pub travel-plain : (p q : Place) → travel plain p q ≡ far (p .x) (p .y) (q .x) (q .y)
 unfolding travel
 travel-plain p q = omega arith
+
+pub travel-scaled : (c : AxisCosts) (p q : Place) → travel c p q ≡ travel plain (scaledPlace c p) (scaledPlace c q)
+unfolding travel
+travel-scaled c p q = omega (arith, dist-scale (c .a) (p .x) (q .x), dist-scale (c .b) (p .y) (q .y))
 
 pub place-word : {x y : ℤ} → Near180000 x y → Near180000 (toZ w32 (ofZ w32 x)) (toZ w32 (ofZ w32 y))
 place-word {x} {y} h = rw (coordinate x (h .x-range), coordinate y (h .y-range)) h

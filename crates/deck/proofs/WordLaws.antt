@@ -34,7 +34,7 @@ coordinate z h = toZ-ofZ w32 z (word-fits w32 z (omega arith))
 
 -- a coordinate that a 64-bit word is narrowed to
 module _ (z : ℤ) (h : natAbs z ≤ 180000) where
-  wide : toZ w64 (ofZ w64 z) ≡ z
+  pub wide : toZ w64 (ofZ w64 z) ≡ z
   wide = toZ-ofZ w64 z (word-fits w64 z (omega arith))
 
   pub narrow-fits : SFits w32 (toZ w64 (ofZ w64 z))

@@ -2,21 +2,21 @@
 -- Assumes nothing.
 use Prim.Native.Nat.{ℕ}
 use mathlib.Core.List.{List, map}
-use lib.IntN.{pos, _*ℤ_}
+use Rattle.numbers.specs.Integer.{times}
 use Rattle.query.specs.Place.{Place, Rect}
 use Rattle.query.specs.Deck.{AxisCosts, Deck}
 use Rattle.query.specs.Travel.{near}
 
 -- a place and a rectangle with their coordinates multiplied by the axis costs. Travel is the plain travel between scaled places
 abbrev pub scaledPlace : AxisCosts → Place → Place
-scaledPlace c p = record { x = pos (c .a) *ℤ p .x; y = pos (c .b) *ℤ p .y }
+scaledPlace c p = record { x = times (c .a) (p .x); y = times (c .b) (p .y) }
 
 abbrev pub scaledRect : AxisCosts → Rect → Rect
 scaledRect c r = record {
-  xlo = pos (c .a) *ℤ r .xlo;
-  ylo = pos (c .b) *ℤ r .ylo;
-  xhi = pos (c .a) *ℤ r .xhi;
-  yhi = pos (c .b) *ℤ r .yhi;
+  xlo = times (c .a) (r .xlo);
+  ylo = times (c .b) (r .ylo);
+  xhi = times (c .a) (r .xhi);
+  yhi = times (c .b) (r .yhi);
 }
 
 -- 000 an object of O: a stop, with its weight o.w (`visits`) and dNN(o, S) (`near`). The sites S of 000 are the posts

@@ -4,23 +4,32 @@ use limits::NEAR_COLUMN;
 use limits::POSTS;
 use limits::STOPS;
 use limits::VISITS_COLUMN;
+use limits::X_COST;
 use limits::Y_COLUMN;
+use limits::Y_COST;
 ghost use mathlib.Core.Path.{_≡_};
 ghost use mathlib.Core.Bool.{cond};
 ghost use mathlib.Core.List.{map};
 ghost use Prim.Native.Nat.{_+_, _≤_};
-ghost use lib.IntN.{pos};
+ghost use lib.IntN.{pos, natAbs};
 ghost use lib.Signed.{ltZ};
 ghost use lib.ListN.{length, take, drop};
 ghost use lib.Seq.{paste};
-ghost use Rattle.numbers.specs.Integer.{dist};
+ghost use Rattle.numbers.specs.Integer.{dist, times};
 ghost use Rattle.query.specs.Deck.{plain};
 ghost use Rattle.query.specs.Travel.{closest};
 ghost use Rattle.query.specs.Range.{InRange};
 ghost use Rattle.deck.specs.DeckOf.{places, deckOf};
-ghost use Rattle.deck.specs.Objects.{objectsOf};
+ghost use Rattle.deck.specs.Objects.{pricingOf};
 ghost use Rattle.deck.specs.ObjectColumns.{columnsOf};
-ghost use Rattle.deck.specs.Ranges.{Near180000, CoordinatesInRange, VisitsInRange};
+ghost use Rattle.deck.specs.Ranges.{
+  Near180000,
+  CostInRange,
+  Scaled,
+  CoordinatesUpTo,
+  CoordinatesInRange,
+  VisitsInRange,
+};
 
 // A rectangle, its edges included.
 pub struct Rect {
@@ -68,14 +77,22 @@ pub fn travelled(ux: i32, uy: i32, vx: i32, vy: i32) -> i32
     apart(ux, vx) + apart(uy, vy)
 }
 
-// The first n coordinates of a column, copied into an array from a place on.
-fn copy_coordinates(from: &[i64], to: &mut [i32], at: usize, n: usize)
-    requires { ⌜ CoordinatesInRange (now from) n × (at + n ≤ length (now to)) ⌝ }
-    ensures { λ r. ⌜ now (to .exit) ≡ paste (now (to .entry)) at (now (from .entry)) n ⌝ }
+// A coordinate multiplied by an axis cost.
+pub fn scaled(k: i32, v: i64) -> i32
+    requires { ⌜ CostInRange k × (natAbs v ≤ 20000) ⌝ }
+    ensures { λ r. ⌜ Scaled k v r ⌝ }
+{
+    k * v as i32
+}
+
+// The first n coordinates of a column, multiplied by an axis cost, put into an array from a place on.
+fn copy_coordinates(from: &[i64], k: i32, to: &mut [i32], at: usize, n: usize)
+    requires { ⌜ CoordinatesUpTo 20000 (now from) n × CostInRange k × (at + n ≤ length (now to)) ⌝ }
+    ensures { λ r. ⌜ now (to .exit) ≡ paste (now (to .entry)) at (map (times (natAbs k)) (now (from .entry))) n ⌝ }
 {
     let mut i: usize = 0;
     while i < n {
-        to[at + i] = from[i] as i32;
+        to[at + i] = scaled(k, from[i]);
         i = i + 1;
     }
 }
@@ -118,7 +135,7 @@ fn near_of<'a>(px: &'a [i32], py: &'a [i32], k: usize, x: i32, y: i32) -> i32
 // The near of the first n stops, put into the last column. Their places are in the first two.
 fn put_nears<'a>(columns: &mut [i32], n: usize, px: &'a [i32], py: &'a [i32], k: usize)
     requires { ⌜ (1 ≤ k) × CoordinatesInRange (now px) k × CoordinatesInRange (now py) k × CoordinatesInRange (now columns) n
-        × CoordinatesInRange (drop 512 (now columns)) n × (n ≤ 512) × (length (now columns) ≡ 2048) ⌝ }
+        × CoordinatesInRange (drop 512 (now columns)) n × (n ≤ 512) × (length (now columns) ≡ 2050) ⌝ }
     ensures { λ r. ⌜ now (columns .exit)
         ≡ paste (now (columns .entry)) 1536
         (map (λ p. pos (closest plain p (take k (places (now (px .entry)) (now (py .entry))))))
@@ -131,21 +148,26 @@ fn put_nears<'a>(columns: &mut [i32], n: usize, px: &'a [i32], py: &'a [i32], k:
     }
 }
 
-// The columns of a deck's objects: x, y, visits and near of its stops, from 0, 512, 1,024 and 1,536 on, and 0 behind the last of each.
+// What pricing needs of a deck: the columns of its objects, scaled x and y, visits and near of its stops, from 0, 512, 1,024 and 1,536 on,
+// with 0 behind the last of each, and the axis costs behind them.
 pub fn columns_of(deck: Deck) -> [i32; COLUMNS]
     requires { ⌜ InRange (deckOf deck) × (deck .posts ≤ 64) × (deck .stops ≤ 512) ⌝ }
-    ensures { λ r. ⌜ r ≡ columnsOf (objectsOf (deckOf deck)) ⌝ }
+    ensures { λ r. ⌜ r ≡ columnsOf (pricingOf (deckOf deck)) ⌝ }
 {
     let n = deck.stops;
     let k = deck.posts;
+    let a = deck.axis.a as i32;
+    let b = deck.axis.b as i32;
     let mut px = [0i32; POSTS];
     let mut py = [0i32; POSTS];
-    copy_coordinates(&deck.post_x, &mut px, 0, k);
-    copy_coordinates(&deck.post_y, &mut py, 0, k);
+    copy_coordinates(&deck.post_x, a, &mut px, 0, k);
+    copy_coordinates(&deck.post_y, b, &mut py, 0, k);
     let mut columns = [0i32; COLUMNS];
-    copy_coordinates(&deck.stop_x, &mut columns, 0, n);
-    copy_coordinates(&deck.stop_y, &mut columns, Y_COLUMN, n);
+    copy_coordinates(&deck.stop_x, a, &mut columns, 0, n);
+    copy_coordinates(&deck.stop_y, b, &mut columns, Y_COLUMN, n);
     copy_visits(&deck.visits, &mut columns, VISITS_COLUMN, n);
     put_nears(&mut columns, n, &px, &py, k);
+    columns[X_COST] = a;
+    columns[Y_COST] = b;
     columns
 }

@@ -1,6 +1,7 @@
 pub mod Truth
 pub mod Integer
 pub mod Distance
+pub mod Scaling
 pub mod Ranges
 pub mod Members
 pub mod Orders

@@ -3,7 +3,7 @@
 use Prim.Native.Nat.{ℕ, suc, _+_, _/_}
 use mathlib.Core.Bool.{Bool, false, cond, _&&_}
 use lib.Dec.{eqb}
-use lib.IntN.{ℤ, pos, negsuc, negℤ, natAbs, _-ℤ_}
+use lib.IntN.{ℤ, pos, negsuc, negℤ, natAbs, _-ℤ_, _*ℤ_}
 use lib.Signed.{leZ, ltZ}
 
 -- the test of equality beside the library's `leZ` and `ltZ`
@@ -16,6 +16,10 @@ eqZ (negsuc m) (negsuc n) = eqb m n
 -- |u − v|
 unfoldable pub dist : ℤ → ℤ → ℕ
 dist u v = natAbs (u -ℤ v)
+
+-- k × z
+unfoldable pub times : ℕ → ℤ → ℤ
+times k z = pos k *ℤ z
 
 -- lo ≤ v ≤ hi
 unfoldable pub between : ℤ → ℤ → ℤ → Bool

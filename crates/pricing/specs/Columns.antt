@@ -9,8 +9,8 @@ use lib.Signed.{ltZ, _≤ℤ_}
 use lib.ListN.{length, getD}
 use Rattle.numbers.specs.Integer.{dist}
 use Rattle.query.specs.Place.{Rect, NonEmpty}
-use Rattle.query.specs.Range.{RectInRange, travelLimit, loadLimit, costLimit, stopsLimit, visitsLimit, axisCostLimit}
-use Rattle.deck.specs.Ranges.{Near180000}
+use Rattle.query.specs.Range.{RectInRange, travelLimit, loadLimit, costLimit, stopsLimit, visitsLimit}
+use Rattle.deck.specs.Ranges.{Near180000, CostInRange}
 
 -- one row of the columns
 pub record ObjectInRange (x y visits near : ℤ) : Type 0 where
@@ -19,11 +19,6 @@ pub record ObjectInRange (x y visits near : ℤ) : Type 0 where
   pub visits-range : natAbs visits ≤ visitsLimit
   pub near-some : pos 0 ≤ℤ near
   pub near-range : natAbs near ≤ travelLimit
-
--- an axis cost in the array, from 1 to 9
-pub record CostInRange (c : ℤ) : Type 0 where
-  pub some : pos 1 ≤ℤ c
-  pub most : natAbs c ≤ axisCostLimit
 
 -- columns of 512 rows each, of which the first n count, and two axis costs
 pub record Priceable (columns : List ℤ) (n : ℕ) : Type 0 where

@@ -2,8 +2,9 @@
 -- Assumes nothing.
 use native.Mathlib.Omega.{arith}
 use borrow.Author.Needs.{needs}
-use Rattle.deck.proofs.DeckLaws.{DeckColumns, some-post, stop-x-range, stop-y-range, visits-in-range, post-x-range, post-y-range}
-use Rattle.deck.proofs.MadeColumns.{post-copied, put-length, x-copied, y-copied, made-columns}
+use Rattle.deck.proofs.DeckLaws.{DeckColumns, x-cost, y-cost, some-post, stop-x-range, stop-y-range, visits-in-range, post-x-range, post-y-range}
+use Rattle.deck.proofs.MadeColumns.{post-x-copied, post-y-copied, put-length, x-copied, y-copied, made-columns}
+use Rattle.deck.proofs.ScaleLaws.{natural-word, cost-natural, cost-fits}
 use Rattle.deck.proofs.columns_of.Statement.{statement}
 use Rattle.deck.proofs.columns_of.Tie as tie
 
@@ -14,13 +15,19 @@ columns c = record {
   stops = c .pre .2;
 }
 
+cast-a : tie.Need-cast-a
+cast-a c = cost-fits _ (x-cost _ (columns c) (c .pre .0) .1)
+
+cast-b : tie.Need-cast-b
+cast-b c = cost-fits _ (y-cost _ (columns c) (c .pre .0) .1)
+
 slice-aggregate-copy-coordinates : tie.Need-slice-aggregate-copy-coordinates
 slice-aggregate-copy-coordinates c = search needs
 
 copy-coordinates-requires : tie.Need-copy-coordinates-requires
 copy-coordinates-requires c κs =
     let s = c .before .before .before .before in
-    (post-x-range _ (columns s) (s .pre .0), omega (arith, s .pre .1, s .pre .2))
+    (post-x-range _ (columns s) (s .pre .0), cost-natural _ (x-cost _ (columns s) (s .pre .0)), omega (arith, s .pre .1, s .pre .2))
 
 slice-aggregate-copy-coordinates-2 : tie.Need-slice-aggregate-copy-coordinates-2
 slice-aggregate-copy-coordinates-2 c = search needs
@@ -28,7 +35,7 @@ slice-aggregate-copy-coordinates-2 c = search needs
 copy-coordinates-requires-2 : tie.Need-copy-coordinates-requires-2
 copy-coordinates-requires-2 c κs =
     let s = c .before .before .before .before .before .before .before .before .before .before in
-    (post-y-range _ (columns s) (s .pre .0), omega (arith, s .pre .1, s .pre .2))
+    (post-y-range _ (columns s) (s .pre .0), cost-natural _ (y-cost _ (columns s) (s .pre .0)), omega (arith, s .pre .1, s .pre .2))
 
 slice-aggregate-copy-coordinates-3 : tie.Need-slice-aggregate-copy-coordinates-3
 slice-aggregate-copy-coordinates-3 c = search needs
@@ -36,7 +43,7 @@ slice-aggregate-copy-coordinates-3 c = search needs
 copy-coordinates-requires-3 : tie.Need-copy-coordinates-requires-3
 copy-coordinates-requires-3 c κs =
     let s = c .before .before .before .before .before .before .before .before .before .before .before .before .before .before .before .before in
-    (stop-x-range _ (columns s) (s .pre .0), omega (arith, s .pre .1, s .pre .2))
+    (stop-x-range _ (columns s) (s .pre .0), cost-natural _ (x-cost _ (columns s) (s .pre .0)), omega (arith, s .pre .1, s .pre .2))
 
 slice-aggregate-copy-coordinates-4 : tie.Need-slice-aggregate-copy-coordinates-4
 slice-aggregate-copy-coordinates-4 c = search needs
@@ -45,7 +52,7 @@ copy-coordinates-requires-4 : tie.Need-copy-coordinates-requires-4
 copy-coordinates-requires-4 c κs =
     let later = c .before .before .before .before .before .before .before .before .before .before .before in
     let s = later .before .before .before .before .before .before .before .before .before .before .before in
-    (stop-y-range _ (columns s) (s .pre .0), omega (arith, s .pre .1, s .pre .2))
+    (stop-y-range _ (columns s) (s .pre .0), cost-natural _ (y-cost _ (columns s) (s .pre .0)), omega (arith, s .pre .1, s .pre .2))
 
 slice-aggregate-copy-visits : tie.Need-slice-aggregate-copy-visits
 slice-aggregate-copy-visits c = search needs
@@ -72,15 +79,27 @@ put-nears-requires c κs =
     let x = y .before .before .before .before .before .before in
     let py = x .before .before .before .before .before .before in
     let px = py .before .before .before .before .before .before in
-    let s = px .before .before .before .before .before in (
+    let s = px .before .before .before .before .before in
+    let a = x-cost _ (columns s) (s .pre .0) .1 in
+    let b = y-cost _ (columns s) (s .pre .0) .1 in
+    let eu = rw (natural-word _ a) at (px .copy-coordinates .ensures) in
+    let ev = rw (natural-word _ b) at (py .copy-coordinates2 .ensures) in
+    let ex = rw (natural-word _ a) at (x .copy-coordinates3 .ensures) in
+    let ey = rw (natural-word _ b) at (y .copy-coordinates4 .ensures) in (
       some-post _ (columns s) (s .pre .0),
-      post-copied _ (columns s) (post-x-range _ (columns s) (s .pre .0)) (px .copy-coordinates .ensures),
-      post-copied _ (columns s) (post-y-range _ (columns s) (s .pre .0)) (py .copy-coordinates2 .ensures),
-      x-copied _ (columns s) (x .copy-coordinates3 .ensures) (y .copy-coordinates4 .ensures) (visits .copy-visits .ensures) (s .pre .0),
-      y-copied _ (columns s) (x .copy-coordinates3 .ensures) (y .copy-coordinates4 .ensures) (visits .copy-visits .ensures) (s .pre .0),
+      post-x-copied _ (columns s) ex ey (visits .copy-visits .ensures) (s .pre .0) eu ev,
+      post-y-copied _ (columns s) ex ey (visits .copy-visits .ensures) (s .pre .0) eu ev,
+      x-copied _ (columns s) ex ey (visits .copy-visits .ensures) (s .pre .0),
+      y-copied _ (columns s) ex ey (visits .copy-visits .ensures) (s .pre .0),
       s .pre .2,
-      put-length _ (columns s) (x .copy-coordinates3 .ensures) (y .copy-coordinates4 .ensures) (visits .copy-visits .ensures),
+      put-length _ (columns s) ex ey (visits .copy-visits .ensures),
     )
+
+array-set-from-columns : tie.Need-array-set-from-columns
+array-set-from-columns c = search needs
+
+array-set-from-columns-2 : tie.Need-array-set-from-columns-2
+array-set-from-columns-2 c = search needs
 
 returns : tie.Need-returns
 returns c =
@@ -90,13 +109,20 @@ returns c =
     let py = x .before .before .before .before .before .before in
     let px = py .before .before .before .before .before .before in
     let s = px .before .before .before .before .before in
-    made-columns _ (columns s) (x .copy-coordinates3 .ensures) (y .copy-coordinates4 .ensures) (visits .copy-visits .ensures) (s .pre .0)
-    (px .copy-coordinates .ensures) (py .copy-coordinates2 .ensures) (c .before .put-nears .ensures)
+    let a = x-cost _ (columns s) (s .pre .0) .1 in
+    let b = y-cost _ (columns s) (s .pre .0) .1 in
+    let eu = rw (natural-word _ a) at (px .copy-coordinates .ensures) in
+    let ev = rw (natural-word _ b) at (py .copy-coordinates2 .ensures) in
+    let ex = rw (natural-word _ a) at (x .copy-coordinates3 .ensures) in
+    let ey = rw (natural-word _ b) at (y .copy-coordinates4 .ensures) in
+    made-columns _ (columns s) ex ey (visits .copy-visits .ensures) (s .pre .0) eu ev (c .before .put-nears .ensures) (natural-word _ a) (natural-word _ b)
 
 pub columns-of-spec : {M : Type 1} → statement M
 columns-of-spec =
     tie.close
     (tie.spec
+    cast-a
+    cast-b
     slice-aggregate-copy-coordinates
     copy-coordinates-requires
     slice-aggregate-copy-coordinates-2
@@ -111,4 +137,6 @@ columns-of-spec =
     slice-aggregate-put-nears-2
     slice-aggregate-put-nears-3
     put-nears-requires
+    array-set-from-columns
+    array-set-from-columns-2
     returns)
