@@ -5,11 +5,11 @@ use mathlib.Core.List.{List, [], _∷_, _++_, map}
 use Prim.Native.Nat.{ℕ, zero, suc, _+_, _≤_, _<_}
 use native.Mathlib.Numerals.{add-one}
 use native.Mathlib.Omega.{arith}
-use lib.IntN.{ℤ, pos}
+use lib.IntN.{ℤ, pos, natAbs}
 use lib.ListN.{length, getD, take, length-append, length-map, List·getD-append, List·getD-map}
 use lib.Seq.{getD-append-add, take-suc, take-length}
 use Rattle.numbers.proofs.Padded.{padded-length, padded-at}
-use Rattle.deck.specs.Objects.{Object}
+use Rattle.deck.specs.Objects.{Object, Pricing}
 use Rattle.deck.specs.ObjectColumns.{column, objectColumns, columnsOf, objectAt, objectsIn, axisIn}
 
 -- ---- the first rows of any columns
@@ -90,19 +90,19 @@ module _ (objects : List Object) (few : length objects ≤ 512) where
 
   -- each row, by column
   module _ (i : ℕ) (h : i < 512) where
-    pub x-row : getD (objectColumns objects) i (pos 0) ≡ getD (column (λ s. s .at .x) objects) i (pos 0)
-    x-row = rw columns-are (first-row x y visits near (column-length _) (column-length _) (column-length _) i h)
+    x-of : getD (objectColumns objects) i (pos 0) ≡ getD x i (pos 0)
+    x-of = rw columns-are (first-row x y visits near (column-length _) (column-length _) (column-length _) i h)
 
-    pub y-row : getD (objectColumns objects) (512 + i) (pos 0) ≡ getD (column (λ s. s .at .y) objects) i (pos 0)
-    y-row = rw columns-are (second-row x y visits near (column-length _) (column-length _) (column-length _) i h)
+    y-of : getD (objectColumns objects) (512 + i) (pos 0) ≡ getD y i (pos 0)
+    y-of = rw columns-are (second-row x y visits near (column-length _) (column-length _) (column-length _) i h)
 
-    pub visits-row : getD (objectColumns objects) (1024 + i) (pos 0) ≡ getD (column (λ s. pos (s .visits)) objects) i (pos 0)
-    visits-row = rw columns-are (third-row x y visits near (column-length _) (column-length _) (column-length _) i h)
+    visits-of : getD (objectColumns objects) (1024 + i) (pos 0) ≡ getD visits i (pos 0)
+    visits-of = rw columns-are (third-row x y visits near (column-length _) (column-length _) (column-length _) i h)
 
-    pub near-row : getD (objectColumns objects) (1536 + i) (pos 0) ≡ getD (column (λ s. pos (s .near)) objects) i (pos 0)
-    near-row = rw columns-are (fourth-row x y visits near (column-length _) (column-length _) (column-length _) i)
+    near-of : getD (objectColumns objects) (1536 + i) (pos 0) ≡ getD near i (pos 0)
+    near-of = rw columns-are (fourth-row x y visits near (column-length _) (column-length _) (column-length _) i)
 
-  -- row i is object i
+  -- object i in its columns
   number-at : (number : Object → ℤ) → number nothing ≡ pos 0 → (i : ℕ) → i < length objects →
       getD (column number objects) i (pos 0) ≡ number (getD objects i nothing)
   unfolding column
@@ -110,7 +110,42 @@ module _ (objects : List Object) (few : length objects ≤ 512) where
       padded-at 512 (pos 0) (map number objects) i (omega (arith, length-map objects number))
       ∙ ap (getD (map number objects) i) (sym e) ∙ List·getD-map number objects i nothing
 
-  pub row-object : (i : ℕ) → i < length objects → objectAt (objectColumns objects) i ≡ getD objects i nothing
+-- ---- what pricing needs in one array
+module _ (P : Pricing) (few : length (P .objects) ≤ 512) where
+  abbrev costs : List ℤ
+  costs = pos (P .axis .a) ∷ pos (P .axis .b) ∷ []
+
+  whole : columnsOf P ≡ objectColumns (P .objects) ++ costs
+  unfolding columnsOf
+  whole = refl
+
+  pub pricing-length : length (columnsOf P) ≡ 2050
+  pricing-length = rw whole (omega (arith, length-append (objectColumns (P .objects)) costs, columns-length (P .objects) few))
+
+  before-costs : (i : ℕ) → i < 2048 → getD (columnsOf P) i (pos 0) ≡ getD (objectColumns (P .objects)) i (pos 0)
+  before-costs i h = rw whole (List·getD-append (objectColumns (P .objects)) costs (pos 0) i (omega (arith, columns-length (P .objects) few)))
+
+  pub x-cost-at : getD (columnsOf P) 2048 (pos 0) ≡ pos (P .axis .a)
+  x-cost-at = rw whole (behind (objectColumns (P .objects)) costs 2048 0 (columns-length (P .objects) few))
+
+  pub y-cost-at : getD (columnsOf P) 2049 (pos 0) ≡ pos (P .axis .b)
+  y-cost-at = rw whole (behind (objectColumns (P .objects)) costs 2048 1 (columns-length (P .objects) few))
+
+  module _ (i : ℕ) (h : i < 512) where
+    pub x-row : getD (columnsOf P) i (pos 0) ≡ getD (column (λ s. s .at .x) (P .objects)) i (pos 0)
+    x-row = before-costs i (omega arith) ∙ x-of (P .objects) few i h
+
+    pub y-row : getD (columnsOf P) (512 + i) (pos 0) ≡ getD (column (λ s. s .at .y) (P .objects)) i (pos 0)
+    y-row = before-costs (512 + i) (omega arith) ∙ y-of (P .objects) few i h
+
+    pub visits-row : getD (columnsOf P) (1024 + i) (pos 0) ≡ getD (column (λ s. pos (s .visits)) (P .objects)) i (pos 0)
+    visits-row = before-costs (1024 + i) (omega arith) ∙ visits-of (P .objects) few i h
+
+    pub near-row : getD (columnsOf P) (1536 + i) (pos 0) ≡ getD (column (λ s. pos (s .near)) (P .objects)) i (pos 0)
+    near-row = before-costs (1536 + i) (omega arith) ∙ near-of (P .objects) few i h
+
+  -- row i is object i
+  row-object : (i : ℕ) → i < length (P .objects) → objectAt (columnsOf P) i ≡ getD (P .objects) i nothing
   row-object i h =
       let l : i < 512 = omega arith in
       rw (
@@ -118,16 +153,19 @@ module _ (objects : List Object) (few : length objects ≤ 512) where
         y-row i l,
         visits-row i l,
         near-row i l,
-        number-at (λ s. s .at .x) refl i h,
-        number-at (λ s. s .at .y) refl i h,
-        number-at (λ s. pos (s .visits)) refl i h,
-        number-at (λ s. pos (s .near)) refl i h,
+        number-at (P .objects) few (λ s. s .at .x) refl i h,
+        number-at (P .objects) few (λ s. s .at .y) refl i h,
+        number-at (P .objects) few (λ s. pos (s .visits)) refl i h,
+        number-at (P .objects) few (λ s. pos (s .near)) refl i h,
       )
 
-  columns-front : (n : ℕ) → n ≤ length objects → objectsIn (objectColumns objects) n ≡ take n objects
+  columns-front : (n : ℕ) → n ≤ length (P .objects) → objectsIn (columnsOf P) n ≡ take n (P .objects)
   unfolding objectsIn
   columns-front zero h = refl
-  columns-front (suc n) h = rw (columns-front n (omega arith), row-object n (omega arith)) (sym (take-suc objects n nothing (omega arith)))
+  columns-front (suc n) h = rw (columns-front n (omega arith), row-object n (omega arith)) (sym (take-suc (P .objects) n nothing (omega arith)))
 
-  pub columns-objects : objectsIn (objectColumns objects) (length objects) ≡ objects
-  columns-objects = columns-front (length objects) (omega arith) ∙ take-length objects
+  pub columns-objects : objectsIn (columnsOf P) (length (P .objects)) ≡ P .objects
+  columns-objects = columns-front (length (P .objects)) (omega arith) ∙ take-length (P .objects)
+
+  pub columns-axis : axisIn (columnsOf P) ≡ P .axis
+  columns-axis = λ i. record { a = natAbs (x-cost-at i); b = natAbs (y-cost-at i) }
