@@ -1,7 +1,7 @@
 -- Rows, places and rectangles as words: those of a row hold its numbers, and so do 32-bit words that a place or a rectangle is narrowed to.
 -- Assumes nothing.
-use mathlib.Core.Path.{_≡_, refl}
-use Prim.Native.Nat.{_+_, _^_, _≤_, _<_}
+use mathlib.Core.Path.{_≡_, refl, sym, ap, subst, _∙_}
+use Prim.Native.Nat.{_+_, _*_, _^_, _≤_, _<_}
 use native.Mathlib.Omega.{arith}
 use lib.Dec.{T}
 use lib.IntN.{ℤ, pos, negsuc, natAbs, _-ℤ_}
@@ -9,19 +9,21 @@ use lib.Signed.{nonNeg, _≤ℤ_}
 use mir.Syntax.{w32, w64}
 use mir.Val.{SFits, Fits, toZ, ofZ}
 use mir.ValLaws.{toZ-ofZ}
-use Rattle.numbers.specs.Integer.{dist}
+use Rattle.numbers.specs.Integer.{dist, times}
 use Rattle.numbers.proofs.Integer.{order, sub-nat, dist-nat}
 use Rattle.numbers.proofs.Distance.{dist-most}
+use Rattle.numbers.proofs.Scaling.{scale-most, dist-scale, scale-le}
 use Rattle.numbers.proofs.Words.{word-fits, natural-fits, natural-is, natural-cast}
 use Rattle.numbers.proofs.WordTests.{back}
 use Rattle.query.specs.Place.{Rect}
-use Rattle.query.specs.Deck.{plain}
+use Rattle.query.specs.Deck.{AxisCosts}
 use Rattle.query.specs.Bound.{span}
-use Rattle.query.specs.Range.{PlaceInRange, RectInRange, travelLimit}
-use Rattle.deck.specs.Ranges.{Near180000}
-use Rattle.deck.proofs.WordLaws.{narrow-fits, narrowed}
-use Rattle.deck.proofs.TravelLaws.{narrow, narrow-place}
-use Rattle.pricing.specs.Columns.{ObjectInRange, Ranged, EdgesInRange, Figure}
+use Rattle.query.specs.Range.{PlaceInRange, travelLimit}
+use Rattle.deck.specs.Ranges.{Near180000, CostInRange, Scaled}
+use Rattle.deck.specs.Objects.{scaledPlace, scaledRect}
+use Rattle.deck.proofs.ScaleLaws.{scaled-word}
+use Rattle.pricing.specs.Columns.{ObjectInRange, Ranged, EdgesInRange, edgesRect, EdgesOf, Figure}
+use Rattle.pricing.specs.declared.Edges.{Edges}
 
 -- a number as a 32-bit word holds it
 abbrev pub word : ℤ → ℤ
@@ -66,82 +68,119 @@ module _ {x y visits near : ℤ} (row : ObjectInRange x y visits near) where
   pub near-wide : Fits w64 (natAbs (word near))
   near-wide = rw near-word (omega (arith, row .near-range))
 
--- ---- a place and a rectangle, narrowed from 64-bit words
-pub coordinate-fits : (z : ℤ) → natAbs z ≤ 20000 → SFits w32 (back z)
-coordinate-fits z h = narrow-fits z (omega arith)
+-- ---- a place and a rectangle, scaled
+module _ {k : ℤ} (cost : CostInRange k) where
+  pub cost-back : word k ≡ k
+  cost-back = number-word k (omega (arith, cost .most))
 
-pub coordinate-narrow : (z : ℤ) → natAbs z ≤ 20000 → narrow z ≡ z
-coordinate-narrow z h = narrowed z (omega arith)
+  pub scaled-by : {r : ℤ} (v : ℤ) → natAbs v ≤ 20000 → Scaled (word k) (back v) r → word r ≡ times (natAbs k) v
+  scaled-by {r} v h e = scaled-word v h e ∙ ap (λ (z : ℤ). times (natAbs z) v) cost-back
 
-pub place-narrow : (x y : ℤ) → PlaceInRange (record { x = x; y = y }) → Near180000 (narrow x) (narrow y)
-place-narrow x y h = narrow-place x y (omega arith) (omega arith)
+  pub scaled-small : (v : ℤ) → natAbs v ≤ 20000 → natAbs (times (natAbs k) v) ≤ 180000
+  scaled-small v h = scale-most (natAbs k) 9 20000 v (cost .most) h
 
-pub rect-narrow : (r : Rect) → RectInRange r
-    → record { xlo = narrow (r .xlo); ylo = narrow (r .ylo); xhi = narrow (r .xhi); yhi = narrow (r .yhi) } ≡ r
-rect-narrow r h = rw (
-  coordinate-narrow (r .xlo) (h .low-corner .x-range),
-  coordinate-narrow (r .ylo) (h .low-corner .y-range),
-  coordinate-narrow (r .xhi) (h .high-corner .x-range),
-  coordinate-narrow (r .yhi) (h .high-corner .y-range),
-)
+module _ {k l : ℤ} (across : CostInRange k) (deep : CostInRange l) where
+  pub place-scaled : (x y : ℤ) → PlaceInRange (record { x = x; y = y }) → Near180000 (times (natAbs k) x) (times (natAbs l) y)
+  place-scaled x y h = record { x-range = scaled-small across x (h .x-range); y-range = scaled-small deep y (h .y-range) }
 
-pub edges-narrow : (r : Rect) → Ranged r → EdgesInRange (narrow (r .xlo)) (narrow (r .ylo)) (narrow (r .xhi)) (narrow (r .yhi))
-edges-narrow r h =
-    let low = h .range .low-corner in
-    let high = h .range .high-corner in
-    record {
-      low = narrow-place (r .xlo) (r .ylo) (omega (arith, low)) (omega (arith, low));
-      high = narrow-place (r .xhi) (r .yhi) (omega (arith, high)) (omega (arith, high));
-      across = rw (coordinate-narrow (r .xlo) (low .x-range), coordinate-narrow (r .xhi) (high .x-range)) (h .full .across);
-      deep = rw (coordinate-narrow (r .ylo) (low .y-range), coordinate-narrow (r .yhi) (high .y-range)) (h .full .deep);
+  -- as words
+  module _ {x y u v : ℤ} (h : PlaceInRange (record { x = x; y = y })) (eu : Scaled (word k) (back x) u) (ev : Scaled (word l) (back y) v) where
+    pub place-words : record { x = word u; y = word v } ≡ scaledPlace (record { a = natAbs k; b = natAbs l }) (record { x = x; y = y })
+    place-words = λ i. record { x = scaled-by across x (h .x-range) eu i; y = scaled-by deep y (h .y-range) ev i }
+
+    pub place-near : Near180000 (word u) (word v)
+    place-near = rw (scaled-by across x (h .x-range) eu, scaled-by deep y (h .y-range) ev) (place-scaled x y h)
+
+  module _ {r : Rect} (h : Ranged r) where
+    edges-scaled : EdgesInRange (times (natAbs k) (r .xlo)) (times (natAbs l) (r .ylo)) (times (natAbs k) (r .xhi)) (times (natAbs l) (r .yhi))
+    edges-scaled = record {
+      low = place-scaled (r .xlo) (r .ylo) (h .range .low-corner);
+      high = place-scaled (r .xhi) (r .yhi) (h .range .high-corner);
+      across = scale-le (natAbs k) (r .xlo) (r .xhi) (h .full .across);
+      deep = scale-le (natAbs l) (r .ylo) (r .yhi) (h .full .deep);
     }
 
--- ---- a side of a rectangle, and both
-module _ (lo hi : ℤ) (g : natAbs lo ≤ 20000) (h : natAbs hi ≤ 20000) (k : lo ≤ℤ hi) where
-  side-is : back hi -ℤ back lo ≡ pos (dist lo hi)
-  side-is =
-      rw (toZ-ofZ w64 hi (word-fits w64 hi (omega arith)), toZ-ofZ w64 lo (word-fits w64 lo (omega arith)))
-      (omega (arith, order, sub-nat hi lo, dist-nat lo hi))
+    pub made-edges : {t u v w : ℤ} → Scaled (word k) (back (r .xlo)) t → Scaled (word l) (back (r .ylo)) u → Scaled (word k) (back (r .xhi)) v →
+        Scaled (word l) (back (r .yhi)) w →
+        EdgesOf (record { a = natAbs k; b = natAbs l }) r (record { xlo = word t; ylo = word u; xhi = word v; yhi = word w })
+    made-edges {t} {u} {v} {w} et eu ev ew =
+        let low = h .range .low-corner in
+        let high = h .range .high-corner in
+        rw (
+          scaled-by across (r .xlo) (low .x-range) et,
+          scaled-by deep (r .ylo) (low .y-range) eu,
+          scaled-by across (r .xhi) (high .x-range) ev,
+          scaled-by deep (r .yhi) (high .y-range) ew,
+        )
+        (record { are = refl; range = edges-scaled })
 
-  side-most : dist lo hi ≤ 40000
-  side-most = omega (arith, dist-most 20000 lo hi g h)
+-- scaled edges as words
+module _ {axis : AxisCosts} {r : Rect} {e : Edges} (h : EdgesOf axis r e) where
+  edges-back : record { xlo = word (e .xlo); ylo = word (e .ylo); xhi = word (e .xhi); yhi = word (e .yhi) } ≡ edgesRect e
+  edges-back = λ i. record {
+    xlo = number-word (e .xlo) (omega (arith, h .range .low .x-range)) i;
+    ylo = number-word (e .ylo) (omega (arith, h .range .low .y-range)) i;
+    xhi = number-word (e .xhi) (omega (arith, h .range .high .x-range)) i;
+    yhi = number-word (e .yhi) (omega (arith, h .range .high .y-range)) i;
+  }
 
-  side-fits : SFits w64 (back hi -ℤ back lo)
-  side-fits = natural-fits w64 (back hi -ℤ back lo) (dist lo hi) side-is (omega (arith, side-most))
+  pub edges-are : record { xlo = word (e .xlo); ylo = word (e .ylo); xhi = word (e .xhi); yhi = word (e .yhi) } ≡ scaledRect axis r
+  edges-are = edges-back ∙ h .are
 
-  side-cast : T (nonNeg (back (back hi -ℤ back lo))) × Fits w64 (natAbs (back (back hi -ℤ back lo)))
-  side-cast = natural-cast w64 (back hi -ℤ back lo) (dist lo hi) side-is (omega (arith, side-most))
+  pub edges-words : EdgesInRange (word (e .xlo)) (word (e .ylo)) (word (e .xhi)) (word (e .yhi))
+  edges-words = subst (λ (q : Rect). EdgesInRange (q .xlo) (q .ylo) (q .xhi) (q .yhi)) (sym edges-back) (h .range)
 
-  side-value : natAbs (back (back hi -ℤ back lo)) ≡ dist lo hi
-  side-value = natural-is w64 (back hi -ℤ back lo) (dist lo hi) side-is (omega (arith, side-most))
+-- ---- a side of a scaled rectangle, and both
+module _ (lo hi : ℤ) (g : natAbs lo ≤ 180000) (h : natAbs hi ≤ 180000) (k : lo ≤ℤ hi) where
+  side-is : word hi -ℤ word lo ≡ pos (dist lo hi)
+  side-is = rw (number-word hi (omega arith), number-word lo (omega arith)) (omega (arith, order, sub-nat hi lo, dist-nat lo hi))
 
-module _ {r : Rect} (h : Ranged r) where
-  pub width-fits : SFits w64 (back (r .xhi) -ℤ back (r .xlo))
-  width-fits = side-fits (r .xlo) (r .xhi) (h .range .low-corner .x-range) (h .range .high-corner .x-range) (h .full .across)
+  side-most : dist lo hi ≤ 360000
+  side-most = omega (arith, dist-most 180000 lo hi g h)
 
-  pub width-cast : T (nonNeg (back (back (r .xhi) -ℤ back (r .xlo)))) × Fits w64 (natAbs (back (back (r .xhi) -ℤ back (r .xlo))))
-  width-cast = side-cast (r .xlo) (r .xhi) (h .range .low-corner .x-range) (h .range .high-corner .x-range) (h .full .across)
+  side-fits : SFits w32 (word hi -ℤ word lo)
+  side-fits = natural-fits w32 (word hi -ℤ word lo) (dist lo hi) side-is (omega (arith, side-most))
 
-  pub height-fits : SFits w64 (back (r .yhi) -ℤ back (r .ylo))
-  height-fits = side-fits (r .ylo) (r .yhi) (h .range .low-corner .y-range) (h .range .high-corner .y-range) (h .full .deep)
+  side-value : natAbs (word (word hi -ℤ word lo)) ≡ dist lo hi
+  side-value = natural-is w32 (word hi -ℤ word lo) (dist lo hi) side-is (omega (arith, side-most))
 
-  pub height-cast : T (nonNeg (back (back (r .yhi) -ℤ back (r .ylo)))) × Fits w64 (natAbs (back (back (r .yhi) -ℤ back (r .ylo))))
-  height-cast = side-cast (r .ylo) (r .yhi) (h .range .low-corner .y-range) (h .range .high-corner .y-range) (h .full .deep)
+  side-cast : T (nonNeg (word (word hi -ℤ word lo))) × Fits w64 (natAbs (word (word hi -ℤ word lo)))
+  side-cast = (natural-cast w32 (word hi -ℤ word lo) (dist lo hi) side-is (omega (arith, side-most)) .0, rw side-value (omega (arith, side-most)))
 
-  pub span-is : Figure (span plain r) travelLimit (natAbs (back (back (r .xhi) -ℤ back (r .xlo))) + natAbs (back (back (r .yhi) -ℤ back (r .ylo))))
+-- both, of a scaled rectangle's edges
+module _ {axis : AxisCosts} {r : Rect} {e : Edges} (h : EdgesOf axis r e) where
+  width-is : dist (e .xlo) (e .xhi) ≡ axis .a * dist (r .xlo) (r .xhi)
+  width-is = (λ i. dist (h .are i .xlo) (h .are i .xhi)) ∙ dist-scale (axis .a) (r .xlo) (r .xhi)
+
+  height-is : dist (e .ylo) (e .yhi) ≡ axis .b * dist (r .ylo) (r .yhi)
+  height-is = (λ i. dist (h .are i .ylo) (h .are i .yhi)) ∙ dist-scale (axis .b) (r .ylo) (r .yhi)
+
+  pub width-fits : SFits w32 (word (e .xhi) -ℤ word (e .xlo))
+  width-fits = side-fits (e .xlo) (e .xhi) (h .range .low .x-range) (h .range .high .x-range) (h .range .across)
+
+  pub width-cast : T (nonNeg (word (word (e .xhi) -ℤ word (e .xlo)))) × Fits w64 (natAbs (word (word (e .xhi) -ℤ word (e .xlo))))
+  width-cast = side-cast (e .xlo) (e .xhi) (h .range .low .x-range) (h .range .high .x-range) (h .range .across)
+
+  pub height-fits : SFits w32 (word (e .yhi) -ℤ word (e .ylo))
+  height-fits = side-fits (e .ylo) (e .yhi) (h .range .low .y-range) (h .range .high .y-range) (h .range .deep)
+
+  pub height-cast : T (nonNeg (word (word (e .yhi) -ℤ word (e .ylo)))) × Fits w64 (natAbs (word (word (e .yhi) -ℤ word (e .ylo))))
+  height-cast = side-cast (e .ylo) (e .yhi) (h .range .low .y-range) (h .range .high .y-range) (h .range .deep)
+
+  pub span-is : Figure (span axis r) travelLimit (natAbs (word (word (e .xhi) -ℤ word (e .xlo))) + natAbs (word (word (e .yhi) -ℤ word (e .ylo))))
   unfolding span
   span-is =
-      let low = h .range .low-corner in
-      let high = h .range .high-corner in
+      let low = h .range .low in
+      let high = h .range .high in
       rw (
-        side-value (r .xlo) (r .xhi) (low .x-range) (high .x-range) (h .full .across),
-        side-value (r .ylo) (r .yhi) (low .y-range) (high .y-range) (h .full .deep),
+        side-value (e .xlo) (e .xhi) (low .x-range) (high .x-range) (h .range .across),
+        side-value (e .ylo) (e .yhi) (low .y-range) (high .y-range) (h .range .deep),
       )
       (record {
-        is = omega arith;
+        is = omega (arith, width-is, height-is);
         within = omega (
           arith,
-          side-most (r .xlo) (r .xhi) (low .x-range) (high .x-range) (h .full .across),
-          side-most (r .ylo) (r .yhi) (low .y-range) (high .y-range) (h .full .deep),
+          side-most (e .xlo) (e .xhi) (low .x-range) (high .x-range) (h .range .across),
+          side-most (e .ylo) (e .yhi) (low .y-range) (high .y-range) (h .range .deep),
         );
       })

@@ -19,15 +19,15 @@ use Rattle.numbers.proofs.Padded.{padded-none, padded-map}
 use Rattle.query.specs.Place.{Place, Rect}
 use Rattle.query.specs.Reach.{closestPoint}
 use Rattle.query.specs.Range.{costLimit, loadLimit}
-use Rattle.deck.specs.Objects.{Object}
-use Rattle.deck.specs.ObjectColumns.{objectAt, objectsIn, pricingIn}
+use Rattle.deck.specs.Objects.{scaledPlace, scaledRect, Object}
+use Rattle.deck.specs.ObjectColumns.{objectAt, objectsIn, axisIn, pricingIn}
 use Rattle.deck.proofs.TravelLaws.{travel-plain}
 use Rattle.deck.proofs.ColumnLaws.{objectsIn-none, objectsIn-more, objectsIn-length}
-use Rattle.pricing.specs.ObjectFigures.{costOf, beforeOf, reaches, loadOf, flagsOf}
+use Rattle.pricing.specs.ObjectFigures.{costOf, beforeOf, loadOf}
 use Rattle.pricing.specs.Columns.{Priceable, ObjectInRange}
 use Rattle.pricing.proofs.ExcessLaws.{away}
 use Rattle.pricing.proofs.NarrowLaws.{word, number-word, visits-word, near-word}
-use Rattle.pricing.proofs.ObjectLaws.{paidBy, paidNow, borneBy, flagBy, costOf-sum, beforeOf-sum, loadOf-sum, flagsOf-map}
+use Rattle.pricing.proofs.ObjectLaws.{paidBy, paidNow, reachesTo, borneBy, flagBy, costOf-sum, beforeOf-sum, loadOf-sum}
 use Rattle.pricing.proofs.ColumnLaws.{Passed, passed-more, sum-most}
 
 -- a number of the columns, as a word
@@ -42,10 +42,9 @@ abbrev reached : List ℤ → ℕ → Rect → Bool
 reached columns i r =
     ltb (away (wordAt columns i) (wordAt columns (512 + i)) (r .xlo) (r .ylo) (r .xhi) (r .yhi)) (natAbs (wordAt columns (1536 + i)))
 
-reaches-away : (columns : List ℤ) (n : ℕ) (r : Rect) (s : Object)
-    → reaches (pricingIn columns n) r s ≡ ltb (away (s .at .x) (s .at .y) (r .xlo) (r .ylo) (r .xhi) (r .yhi)) (s .near)
-unfolding reaches closestPoint
-reaches-away columns n r s = rw travel-plain
+reaches-away : (r : Rect) (s : Object) → reachesTo r s ≡ ltb (away (s .at .x) (s .at .y) (r .xlo) (r .ylo) (r .xhi) (r .yhi)) (s .near)
+unfolding closestPoint
+reaches-away r s = rw travel-plain
 
 module _ {columns : List ℤ} {n : ℕ} (priceable : Priceable columns n) where
   -- ---- row i
@@ -63,7 +62,7 @@ module _ {columns : List ℤ} {n : ℕ} (priceable : Priceable columns n) where
     times : (m : ℕ) → m ≤ 720000 → natAbs (getD columns (1024 + i) (pos 0)) * m ≤ 47185200000
     times m k = omega (arith, mul-le-mul (row .visits-range) k)
 
-    pub paid-most : (p : Place) → paidBy (pricingIn columns n) p (objectAt columns i) ≤ 47185200000
+    pub paid-most : (p : Place) → paidBy p (objectAt columns i) ≤ 47185200000
     paid-most p = times _ (least _ _ (row .near-range))
       where
         least : (m t : ℕ) → m ≤ 720000 → min m t ≤ 720000
@@ -75,38 +74,38 @@ module _ {columns : List ℤ} {n : ℕ} (priceable : Priceable columns n) where
     pub paidNow-word : natAbs (wordAt columns (1024 + i)) * natAbs (wordAt columns (1536 + i)) ≡ paidNow (objectAt columns i)
     paidNow-word = rw (visits-word row, near-word row)
 
-    pub borne-most : (r : Rect) → borneBy (pricingIn columns n) r (objectAt columns i) ≤ 65535
-    borne-most r = cond-ind (λ (k : ℕ). k ≤ 65535) (reaches (pricingIn columns n) r (objectAt columns i)) (λ t. row .visits-range) (λ t. omega arith)
+    pub borne-most : (r : Rect) → borneBy r (objectAt columns i) ≤ 65535
+    borne-most r = cond-ind (λ (k : ℕ). k ≤ 65535) (reachesTo r (objectAt columns i)) (λ t. row .visits-range) (λ t. omega arith)
 
   -- ---- one more row
   module _ {sum i : ℕ} (h : i < n) (v : ℕ) where
-    pub cost-more : (p : Place) → Passed (paidBy (pricingIn columns n) p) 47185200000 columns n sum i
+    pub cost-more : (p : Place) → Passed (paidBy p) 47185200000 columns n sum i
         → v ≡ natAbs (wordAt columns (1024 + i))
         * min (natAbs (wordAt columns (1536 + i))) (dist (wordAt columns i) (p .x) + dist (wordAt columns (512 + i)) (p .y))
-        → Passed (paidBy (pricingIn columns n) p) 47185200000 columns n (sum + v) (i + 1)
+        → Passed (paidBy p) 47185200000 columns n (sum + v) (i + 1)
     cost-more p passed e =
         passed-more _ _ columns n v passed h (e ∙ rw (x-word h, y-word h, visits-word (row h), near-word (row h), travel-plain)) (paid-most h p)
 
-    pub load-more : (r : Rect) → Passed (borneBy (pricingIn columns n) r) 65535 columns n sum i
+    pub load-more : (r : Rect) → Passed (borneBy r) 65535 columns n sum i
         → v ≡ cond (reached columns i r) (natAbs (wordAt columns (1024 + i))) 0
-        → Passed (borneBy (pricingIn columns n) r) 65535 columns n (sum + v) (i + 1)
+        → Passed (borneBy r) 65535 columns n (sum + v) (i + 1)
     load-more r passed e =
         passed-more _ _ columns n v passed h (e ∙ rw (x-word h, y-word h, visits-word (row h), near-word (row h), reaches-away)) (borne-most h r)
 
   -- ---- all rows
   pub cost-most : (p : Place) → costOf (pricingIn columns n) p ≤ costLimit
-  cost-most p = rw costOf-sum (omega (arith, priceable .count, sum-most (paidBy (pricingIn columns n) p) 47185200000 columns n (λ i h. paid-most h p)))
+  cost-most p = rw costOf-sum (omega (arith, priceable .count, sum-most (paidBy (scaledPlace (axisIn columns) p)) 47185200000 columns n (λ i h. paid-most h (scaledPlace (axisIn columns) p))))
 
   pub before-most : beforeOf (pricingIn columns n) ≤ costLimit
   before-most = rw beforeOf-sum (omega (arith, priceable .count, sum-most paidNow 47185200000 columns n (λ i h. paidNow-most h)))
 
   pub load-most : (r : Rect) → loadOf (pricingIn columns n) r ≤ loadLimit
-  load-most r = rw loadOf-sum (omega (arith, priceable .count, sum-most (borneBy (pricingIn columns n) r) 65535 columns n (λ i h. borne-most h r)))
+  load-most r = rw loadOf-sum (omega (arith, priceable .count, sum-most (borneBy (scaledRect (axisIn columns) r)) 65535 columns n (λ i h. borne-most h (scaledRect (axisIn columns) r))))
 
 -- ---- which rows reach a rectangle: the flags of the first i rows of n
 pub record Flagged (columns : List ℤ) (n : ℕ) (r : Rect) (flags : List ℕ) (i : ℕ) : Type 0 where
   pub count : i ≤ n
-  pub flagged : flags ≡ padded 512 0 (map (flagBy (pricingIn columns n) r) (objectsIn columns i))
+  pub flagged : flags ≡ padded 512 0 (map (flagBy r) (objectsIn columns i))
 
 module _ (columns : List ℤ) (n : ℕ) (r : Rect) where
   pub flagged-none : Flagged columns n r (replicate 512 0) 0
@@ -116,15 +115,15 @@ module _ (columns : List ℤ) (n : ℕ) (r : Rect) where
       → v ≡ cond (reached columns i r) 1 0
       → Flagged columns n r (set flags i v) (i + 1)
   flagged-more {flags} {i} v priceable so-far h e =
-      let q : v ≡ flagBy (pricingIn columns n) r (objectAt columns i) =
+      let q : v ≡ flagBy r (objectAt columns i) =
       e ∙ rw (x-word priceable h, y-word priceable h, near-word (row priceable h), reaches-away) in
       record {
         count = omega arith;
         flagged =
             rw (q, objectsIn-more columns i)
-            (padded-map 512 0 (flagBy (pricingIn columns n) r) (objectsIn columns i) (objectAt columns i) (omega (arith, objectsIn-length columns i))
+            (padded-map 512 0 (flagBy r) (objectsIn columns i) (objectAt columns i) (omega (arith, objectsIn-length columns i))
             (omega (arith, priceable .count)) (so-far .flagged));
       }
 
-  pub flagged-all : {flags : List ℕ} {i : ℕ} → Flagged columns n r flags i → n ≤ i → flags ≡ flagsOf (pricingIn columns n) r
-  flagged-all {flags} {i} so-far h = let k : i ≡ n = omega arith in so-far .flagged ∙ rw (k, flagsOf-map)
+  pub flagged-all : {flags : List ℕ} {i : ℕ} → Flagged columns n r flags i → n ≤ i → flags ≡ padded 512 0 (map (flagBy r) (objectsIn columns n))
+  flagged-all {flags} {i} so-far h = let k : i ≡ n = omega arith in so-far .flagged ∙ rw k

@@ -1,11 +1,15 @@
-// The price of a place or a rectangle, over columns of objects: one pass each, in 32-bit columns, so that the passes can be vectorised.
+// The price of a place or a rectangle, over columns of objects at scaled places: one pass each, in 32-bit columns, so that the passes can
+// be vectorised. What is priced is scaled once, before the pass.
 use deck::Rect;
+use deck::scaled;
 use deck::travelled;
 use limits::COLUMNS;
 use limits::NEAR_COLUMN;
 use limits::STOPS;
 use limits::VISITS_COLUMN;
+use limits::X_COST;
 use limits::Y_COLUMN;
+use limits::Y_COST;
 use numbers::half_up;
 ghost use mathlib.Core.Path.{_≡_};
 ghost use mathlib.Core.Bool.{cond};
@@ -14,14 +18,31 @@ ghost use lib.Dec.{ltb};
 ghost use lib.IntN.{pos, natAbs, _-ℤ_};
 ghost use lib.Signed.{_≤ℤ_};
 ghost use Rattle.numbers.specs.Integer.{dist, clamp, halfUp};
-ghost use Rattle.query.specs.Deck.{plain};
 ghost use Rattle.query.specs.Bound as Bound;
 ghost use Rattle.query.specs.Range.{loadLimit, costLimit, travelLimit, PlaceInRange};
 ghost use Rattle.deck.specs.Ranges.{Near180000};
 ghost use Rattle.deck.specs.Rectangle.{rectOf};
-ghost use Rattle.deck.specs.ObjectColumns.{pricingIn};
+ghost use Rattle.deck.specs.ObjectColumns.{axisIn, pricingIn};
 ghost use Rattle.pricing.specs.ObjectFigures.{costOf, beforeOf, loadOf, flagsOf};
-ghost use Rattle.pricing.specs.Columns.{Priceable, Ranged, ObjectInRange, BoundInRange, EdgesInRange, excessOf, Figure};
+ghost use Rattle.pricing.specs.Columns.{
+  CostsInRange,
+  Priceable,
+  Ranged,
+  ObjectInRange,
+  BoundInRange,
+  EdgesInRange,
+  EdgesOf,
+  excessOf,
+  Figure,
+};
+
+// The edges of a rectangle, scaled.
+struct Edges {
+    xlo: i32,
+    ylo: i32,
+    xhi: i32,
+    yhi: i32,
+}
 
 // What an object pays for a post at (x, y): its visits times the smaller of its near and its travel there.
 fn paid(sx: i32, sy: i32, visits: i32, near: i32, x: i32, y: i32) -> u64
@@ -38,8 +59,8 @@ pub fn cost(columns: &[i32; COLUMNS], n: usize, x: i64, y: i64) -> u64
     requires { ⌜ Priceable (now columns) n × PlaceInRange (record { x = x; y = y }) ⌝ }
     ensures { λ r. ⌜ Figure (costOf (pricingIn (now (columns .entry)) n) (record { x = x; y = y })) costLimit r ⌝ }
 {
-    let px = x as i32;
-    let py = y as i32;
+    let px = scaled(columns[X_COST], x);
+    let py = scaled(columns[Y_COST], y);
     let mut sum: u64 = 0;
     let mut i: usize = 0;
     while i < n {
@@ -55,6 +76,21 @@ pub fn cost(columns: &[i32; COLUMNS], n: usize, x: i64, y: i64) -> u64
         i = i + 1;
     }
     sum
+}
+
+// The edges of a rectangle as the passes take them.
+fn edges_of(columns: &[i32; COLUMNS], r: Rect) -> Edges
+    requires { ⌜ CostsInRange (now columns) × Ranged (rectOf r) ⌝ }
+    ensures { λ e. ⌜ EdgesOf (axisIn (now (columns .entry))) (rectOf r) e ⌝ }
+{
+    let a = columns[X_COST];
+    let b = columns[Y_COST];
+    Edges {
+        xlo: scaled(a, r.xlo),
+        ylo: scaled(b, r.ylo),
+        xhi: scaled(a, r.xhi),
+        yhi: scaled(b, r.yhi),
+    }
 }
 
 // How far a lies above b.
@@ -99,10 +135,11 @@ pub fn load(columns: &[i32; COLUMNS], n: usize, r: Rect) -> u64
     requires { ⌜ Priceable (now columns) n × Ranged (rectOf r) ⌝ }
     ensures { λ sum. ⌜ Figure (loadOf (pricingIn (now (columns .entry)) n) (rectOf r)) loadLimit sum ⌝ }
 {
-    let xlo = r.xlo as i32;
-    let ylo = r.ylo as i32;
-    let xhi = r.xhi as i32;
-    let yhi = r.yhi as i32;
+    let e = edges_of(columns, r);
+    let xlo = e.xlo;
+    let ylo = e.ylo;
+    let xhi = e.xhi;
+    let yhi = e.yhi;
     let mut sum: u32 = 0;
     let mut i: usize = 0;
     while i < n {
@@ -138,12 +175,13 @@ pub fn before(columns: &[i32; COLUMNS], n: usize) -> u64
     sum
 }
 
-// The width and the height of a rectangle, added.
-pub fn span(r: Rect) -> u64
-    requires { ⌜ Ranged (rectOf r) ⌝ }
-    ensures { λ s. ⌜ Figure (Bound.span plain (rectOf r)) travelLimit s ⌝ }
+// The width and the height of a rectangle, each multiplied by its axis cost, added.
+pub fn span(columns: &[i32; COLUMNS], r: Rect) -> u64
+    requires { ⌜ CostsInRange (now columns) × Ranged (rectOf r) ⌝ }
+    ensures { λ s. ⌜ Figure (Bound.span (axisIn (now (columns .entry))) (rectOf r)) travelLimit s ⌝ }
 {
-    (r.xhi - r.xlo) as u64 + (r.yhi - r.ylo) as u64
+    let e = edges_of(columns, r);
+    (e.xhi - e.xlo) as u64 + (e.yhi - e.ylo) as u64
 }
 
 // The bound of a cell, from the costs of its corners, first by x and then by y: c01 is that at (xlo, yhi).
@@ -174,10 +212,11 @@ pub fn reach_flags(columns: &[i32; COLUMNS], n: usize, r: Rect) -> [u8; STOPS]
     requires { ⌜ Priceable (now columns) n × Ranged (rectOf r) ⌝ }
     ensures { λ flags. ⌜ flags ≡ flagsOf (pricingIn (now (columns .entry)) n) (rectOf r) ⌝ }
 {
-    let xlo = r.xlo as i32;
-    let ylo = r.ylo as i32;
-    let xhi = r.xhi as i32;
-    let yhi = r.yhi as i32;
+    let e = edges_of(columns, r);
+    let xlo = e.xlo;
+    let ylo = e.ylo;
+    let xhi = e.xhi;
+    let yhi = e.yhi;
     let mut flags = [0u8; STOPS];
     let mut i: usize = 0;
     while i < n {

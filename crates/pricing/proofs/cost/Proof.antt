@@ -1,29 +1,38 @@
 -- `pricing::cost` meets its contract: after i turns the sum is that of the first i rows.
 -- Assumes nothing.
-use mathlib.Core.Path.{_∙_}
+use mathlib.Core.Path.{sym, _∙_}
 use Prim.Native.Nat.{_-_}
 use native.Mathlib.Omega.{arith}
 use mir.Syntax.{w32}
 use mir.Val.{toZ}
 use Rattle.deck.specs.ObjectColumns.{pricingIn}
+use Rattle.deck.proofs.ScaleLaws.{cost-word, coordinate-word}
 use Rattle.pricing.proofs.ObjectLaws.{paidBy, costOf-sum}
 use Rattle.pricing.proofs.ColumnLaws.{Passed, passed-none, passed-all}
-use Rattle.pricing.proofs.NarrowLaws.{coordinate-fits, coordinate-narrow, place-narrow, row-word}
+use Rattle.pricing.proofs.NarrowLaws.{place-words, place-near, row-word}
 use Rattle.pricing.proofs.TurnLaws.{row, cost-more}
 use Rattle.pricing.proofs.cost.Statement.{statement}
 use Rattle.pricing.proofs.cost.Tie as tie
 
 abbrev Inv-loop : tie.InvT-loop
-Inv-loop columns n x y px py sum₀ i₀ sum i = Passed (paidBy (pricingIn columns n) (record { x = toZ w32 px; y = toZ w32 py })) 47185200000 columns n sum i
+Inv-loop columns n x y px py sum₀ i₀ sum i = Passed (paidBy (record { x = toZ w32 px; y = toZ w32 py })) 47185200000 columns n sum i
 
 abbrev μ-loop : tie.MeasureT-loop
 μ-loop columns n x y px py sum₀ i₀ sum i = n - i
 
-cast-px : tie.Need-cast-px Inv-loop μ-loop
-cast-px c = coordinate-fits (c .args .x) (c .pre .1 .x-range)
+element-copy-out-scaled : tie.Need-element-copy-out-scaled Inv-loop μ-loop
+element-copy-out-scaled c = omega (arith, c .pre .0 .costs .long)
 
-cast-py : tie.Need-cast-py Inv-loop μ-loop
-cast-py c = coordinate-fits (c .args .y) (c .pre .1 .y-range)
+scaled-requires : tie.Need-scaled-requires Inv-loop μ-loop
+scaled-requires c κs = let pre = c .before .pre in (cost-word (pre .0 .costs .x-cost), coordinate-word (c .before .args .x) (pre .1 .x-range))
+
+element-copy-out-scaled-2 : tie.Need-element-copy-out-scaled-2 Inv-loop μ-loop
+element-copy-out-scaled-2 c = omega (arith, c .before .before .pre .0 .costs .long)
+
+scaled-requires-2 : tie.Need-scaled-requires-2 Inv-loop μ-loop
+scaled-requires-2 c κs =
+    let s = c .before .before .before in
+    (cost-word (s .pre .0 .costs .y-cost), coordinate-word (s .args .y) (s .pre .1 .y-range))
 
 loop-holds : tie.Need-loop-holds Inv-loop μ-loop
 loop-holds c = passed-none _ _ _ _
@@ -64,13 +73,17 @@ element-copy-out-paid-4 c = omega arith
 paid-requires : tie.Need-paid-requires Inv-loop μ-loop
 paid-requires c κs =
     let turn = c .before .before .before .before in
-    let pre = turn .before .before .pre in
-    (row-word (row (pre .0) (turn .loop-test .taken)), place-narrow _ _ (pre .1))
+    let y = turn .before .before in
+    let x = y .before .before in
+    let pre = x .before .before .pre in (
+      row-word (row (pre .0) (turn .loop-test .taken)),
+      place-near (pre .0 .costs .x-cost) (pre .0 .costs .y-cost) (pre .1) (x .scaled .ensures) (y .scaled2 .ensures),
+    )
 
 loop-again : tie.Need-loop-again Inv-loop μ-loop
 loop-again c =
     let turn = c .before .before .before .before .before in
-    cost-more (turn .before .before .pre .0) (turn .loop-test .taken) _ _ (turn .before .loop .inv) (c .paid .ensures)
+    cost-more (turn .before .before .before .before .before .before .pre .0) (turn .loop-test .taken) _ _ (turn .before .loop .inv) (c .paid .ensures)
 
 add-sum : tie.Need-add-sum Inv-loop μ-loop
 add-sum c = let next = loop-again c in omega arith
@@ -83,11 +96,13 @@ loop-less c = omega arith
 
 returns : tie.Need-returns Inv-loop μ-loop
 returns c =
-    let s = c .before .before in
-    let pre = s .pre in
+    let y = c .before .before in
+    let x = y .before .before in
+    let pre = x .before .before .pre in
     let all = passed-all _ _ _ _ (c .before .loop .inv) (c .loop-test .left) in
+    let at = place-words (pre .0 .costs .x-cost) (pre .0 .costs .y-cost) (pre .1) (x .scaled .ensures) (y .scaled2 .ensures) in
     record {
-      is = all .0 ∙ rw (coordinate-narrow (s .args .x) (pre .1 .x-range), coordinate-narrow (s .args .y) (pre .1 .y-range), costOf-sum);
+      is = all .0 ∙ rw at (sym (costOf-sum (pricingIn (x .before .before .args .columns .now) (x .before .before .args .n)) _));
       within = omega (arith, all .1, pre .0 .count);
     }
 
@@ -97,8 +112,10 @@ cost-spec =
     (tie.spec
     Inv-loop
     μ-loop
-    cast-px
-    cast-py
+    element-copy-out-scaled
+    scaled-requires
+    element-copy-out-scaled-2
+    scaled-requires-2
     loop-holds
     mul-paid
     element-copy-out-paid

@@ -1,35 +1,24 @@
 -- `pricing::load` meets its contract: after i turns the sum is that of the first i rows.
 -- Assumes nothing.
-use mathlib.Core.Path.{_∙_}
+use mathlib.Core.Path.{sym, _∙_}
 use Prim.Native.Nat.{_-_}
 use native.Mathlib.Omega.{arith}
 use Rattle.deck.specs.ObjectColumns.{pricingIn}
 use Rattle.pricing.proofs.ObjectLaws.{borneBy, loadOf-sum}
 use Rattle.pricing.proofs.ColumnLaws.{Passed, passed-none, passed-all}
-use Rattle.pricing.proofs.NarrowLaws.{coordinate-fits, rect-narrow, edges-narrow, row-word}
+use Rattle.pricing.proofs.NarrowLaws.{edges-are, edges-words, row-word}
 use Rattle.pricing.proofs.TurnLaws.{rectWords, row, load-more}
 use Rattle.pricing.proofs.load.Statement.{statement}
 use Rattle.pricing.proofs.load.Tie as tie
 
 abbrev Inv-loop : tie.InvT-loop
-Inv-loop columns n xlo ylo xhi yhi sum₀ i₀ sum i = Passed (borneBy (pricingIn columns n) (rectWords xlo ylo xhi yhi)) 65535 columns n sum i
+Inv-loop columns n xlo ylo xhi yhi sum₀ i₀ sum i = Passed (borneBy (rectWords xlo ylo xhi yhi)) 65535 columns n sum i
 
 abbrev μ-loop : tie.MeasureT-loop
 μ-loop columns n xlo ylo xhi yhi sum₀ i₀ sum i = n - i
 
-cast-xlo : tie.Need-cast-xlo Inv-loop μ-loop
-cast-xlo c = let s = c .before .before in coordinate-fits (s .args .r .xlo) (s .pre .1 .range .low-corner .x-range)
-
-cast-ylo : tie.Need-cast-ylo Inv-loop μ-loop
-cast-ylo c = let s = c .before .before .before .before in coordinate-fits (s .args .r .ylo) (s .pre .1 .range .low-corner .y-range)
-
-cast-xhi : tie.Need-cast-xhi Inv-loop μ-loop
-cast-xhi c = let s = c .before .before .before .before .before .before in coordinate-fits (s .args .r .xhi) (s .pre .1 .range .high-corner .x-range)
-
-cast-yhi : tie.Need-cast-yhi Inv-loop μ-loop
-cast-yhi c =
-    let s = c .before .before .before .before .before .before .before .before in
-    coordinate-fits (s .args .r .yhi) (s .pre .1 .range .high-corner .y-range)
+edges-of-requires : tie.Need-edges-of-requires Inv-loop μ-loop
+edges-of-requires c κs = (c .pre .0 .costs, c .pre .1)
 
 loop-holds : tie.Need-loop-holds Inv-loop μ-loop
 loop-holds c = passed-none _ _ _ _
@@ -70,14 +59,13 @@ element-copy-out-borne-4 c = omega arith
 borne-requires : tie.Need-borne-requires Inv-loop μ-loop
 borne-requires c κs =
     let turn = c .before .before .before .before in
-    let pre = turn .before .before .before .before .before .before .before .before .before .before .pre in
-    (row-word (row (pre .0) (turn .loop-test .taken)), edges-narrow _ (pre .1))
+    let edges = turn .before .before .before .before .before .before in
+    (row-word (row (edges .before .pre .0) (turn .loop-test .taken)), edges-words (edges .edges-of .ensures))
 
 loop-again : tie.Need-loop-again Inv-loop μ-loop
 loop-again c =
     let turn = c .before .before .before .before .before in
-    let pre = turn .before .before .before .before .before .before .before .before .before .before .pre in
-    load-more (pre .0) (turn .loop-test .taken) _ _ (turn .before .loop .inv) (c .borne .ensures)
+    load-more (turn .before .before .before .before .before .before .before .pre .0) (turn .loop-test .taken) _ _ (turn .before .loop .inv) (c .borne .ensures)
 
 add-sum : tie.Need-add-sum Inv-loop μ-loop
 add-sum c = let next = loop-again c in omega arith
@@ -93,9 +81,12 @@ cast-result c = omega arith
 
 returns : tie.Need-returns Inv-loop μ-loop
 returns c =
-    let pre = c .before .before .before .before .before .before .before .before .before .before .pre in
+    let edges = c .before .before .before .before .before .before in
     let all = passed-all _ _ _ _ (c .before .loop .inv) (c .loop-test .left) in
-    record { is = all .0 ∙ rw (rect-narrow _ (pre .1 .range), loadOf-sum); within = omega (arith, all .1, pre .0 .count) }
+    record {
+      is = all .0 ∙ rw (edges-are (edges .edges-of .ensures)) (sym (loadOf-sum (pricingIn (edges .before .args .columns .now) (edges .before .args .n)) _));
+      within = omega (arith, all .1, edges .before .pre .0 .count);
+    }
 
 pub load-spec : {M : Type 1} → statement M
 load-spec =
@@ -103,10 +94,7 @@ load-spec =
     (tie.spec
     Inv-loop
     μ-loop
-    cast-xlo
-    cast-ylo
-    cast-xhi
-    cast-yhi
+    edges-of-requires
     loop-holds
     mul-borne
     element-copy-out-borne

@@ -1,8 +1,11 @@
 -- `pricing::reach_flags` meets its contract: after i turns the flags of the first i rows are set.
 -- Assumes nothing.
+use mathlib.Core.Path.{sym, _∙_}
 use Prim.Native.Nat.{_-_}
 use native.Mathlib.Omega.{arith}
-use Rattle.pricing.proofs.NarrowLaws.{coordinate-fits, rect-narrow, edges-narrow, row-word}
+use Rattle.deck.specs.ObjectColumns.{pricingIn}
+use Rattle.pricing.proofs.NarrowLaws.{edges-are, edges-words, row-word}
+use Rattle.pricing.proofs.ObjectLaws.{flagsOf-map}
 use Rattle.pricing.proofs.TurnLaws.{rectWords, row, Flagged, flagged-none, flagged-more, flagged-all}
 use Rattle.pricing.proofs.reach_flags.Statement.{statement}
 use Rattle.pricing.proofs.reach_flags.Tie as tie
@@ -13,19 +16,8 @@ Inv-loop columns n xlo ylo xhi yhi flags₀ i₀ flags i = Flagged columns n (re
 abbrev μ-loop : tie.MeasureT-loop
 μ-loop columns n xlo ylo xhi yhi flags₀ i₀ flags i = n - i
 
-cast-xlo : tie.Need-cast-xlo Inv-loop μ-loop
-cast-xlo c = let s = c .before .before in coordinate-fits (s .args .r .xlo) (s .pre .1 .range .low-corner .x-range)
-
-cast-ylo : tie.Need-cast-ylo Inv-loop μ-loop
-cast-ylo c = let s = c .before .before .before .before in coordinate-fits (s .args .r .ylo) (s .pre .1 .range .low-corner .y-range)
-
-cast-xhi : tie.Need-cast-xhi Inv-loop μ-loop
-cast-xhi c = let s = c .before .before .before .before .before .before in coordinate-fits (s .args .r .xhi) (s .pre .1 .range .high-corner .x-range)
-
-cast-yhi : tie.Need-cast-yhi Inv-loop μ-loop
-cast-yhi c =
-    let s = c .before .before .before .before .before .before .before .before in
-    coordinate-fits (s .args .r .yhi) (s .pre .1 .range .high-corner .y-range)
+edges-of-requires : tie.Need-edges-of-requires Inv-loop μ-loop
+edges-of-requires c κs = (c .pre .0 .costs, c .pre .1)
 
 loop-holds : tie.Need-loop-holds Inv-loop μ-loop
 loop-holds c = flagged-none _ _ _
@@ -57,9 +49,9 @@ element-copy-out-flag-3 c = omega arith
 flag-requires : tie.Need-flag-requires Inv-loop μ-loop
 flag-requires c κs =
     let turn = c .before .before .before in
-    let pre = turn .before .before .before .before .before .before .before .before .before .before .pre in
-    let words = row-word (row (pre .0) (turn .loop-test .taken)) in
-    (words .place, words .near-some, edges-narrow _ (pre .1))
+    let edges = turn .before .before .before .before .before .before in
+    let words = row-word (row (edges .before .pre .0) (turn .loop-test .taken)) in
+    (words .place, words .near-some, edges-words (edges .edges-of .ensures))
 
 array-write-flags : tie.Need-array-write-flags Inv-loop μ-loop
 array-write-flags c = omega arith
@@ -73,13 +65,13 @@ loop-less c = omega arith
 loop-again : tie.Need-loop-again Inv-loop μ-loop
 loop-again c =
     let turn = c .before .before .before .before in
-    let pre = turn .before .before .before .before .before .before .before .before .before .before .pre in
-    flagged-more _ _ _ _ (pre .0) (turn .before .loop .inv) (turn .loop-test .taken) (c .flag .ensures)
+    flagged-more _ _ _ _ (turn .before .before .before .before .before .before .before .pre .0) (turn .before .loop .inv) (turn .loop-test .taken) (c .flag .ensures)
 
 returns : tie.Need-returns Inv-loop μ-loop
 returns c =
-    let pre = c .before .before .before .before .before .before .before .before .before .before .pre in
-    rw (← rect-narrow _ (pre .1 .range)) (flagged-all _ _ _ (c .before .loop .inv) (c .loop-test .left))
+    let edges = c .before .before .before .before .before .before in
+    flagged-all _ _ _ (c .before .loop .inv) (c .loop-test .left)
+    ∙ rw (edges-are (edges .edges-of .ensures)) (sym (flagsOf-map (pricingIn (edges .before .args .columns .now) (edges .before .args .n)) _))
 
 pub reach-flags-spec : {M : Type 1} → statement M
 reach-flags-spec =
@@ -87,10 +79,7 @@ reach-flags-spec =
     (tie.spec
     Inv-loop
     μ-loop
-    cast-xlo
-    cast-ylo
-    cast-xhi
-    cast-yhi
+    edges-of-requires
     loop-holds
     mul-flag
     element-copy-out-flag
