@@ -71,12 +71,16 @@ scale-cond : (k : ℕ) (b : Bool) (u v : ℤ) → times k (cond b u v) ≡ cond 
 scale-cond k true u v = refl
 scale-cond k false u v = refl
 
+none : (z : ℤ) → times 0 z ≡ pos 0
+none z = omega (arith, order, scale-parts 0 z)
+
 -- the closest number of a scaled range
-pub clamp-scale : (k : ℕ) (lo hi v : ℤ) → 1 ≤ k → clamp (times k lo) (times k hi) (times k v) ≡ times k (clamp lo hi v)
+pub clamp-scale : (k : ℕ) (lo hi v : ℤ) → clamp (times k lo) (times k hi) (times k v) ≡ times k (clamp lo hi v)
 unfolding clamp
-clamp-scale k lo hi v l = rw (
-  scale-test k v lo l,
-  scale-test k hi v l,
-  scale-cond k (ltZ v lo) lo (cond (ltZ hi v) hi v),
-  scale-cond k (ltZ hi v) hi v,
+clamp-scale zero lo hi v = rw (none lo, none hi, none v, none (clamp lo hi v))
+clamp-scale (suc k) lo hi v = rw (
+  scale-test (suc k) v lo (omega arith),
+  scale-test (suc k) hi v (omega arith),
+  scale-cond (suc k) (ltZ v lo) lo (cond (ltZ hi v) hi v),
+  scale-cond (suc k) (ltZ hi v) hi v,
 )

@@ -3,7 +3,7 @@
 use mathlib.Core.Path.{_≡_, refl, ap, sym, _∙_}
 use mathlib.Core.Bool.{Bool, cond}
 use mathlib.Core.List.{List, [], _∷_, map, map-map}
-use Prim.Native.Nat.{ℕ, _+_, _*_, _≤_, min}
+use Prim.Native.Nat.{ℕ, _+_, _*_, min}
 use lib.Dec.{ltb}
 use Rattle.numbers.specs.Lists.{sumOf}
 use Rattle.numbers.specs.Padded.{padded}
@@ -79,19 +79,17 @@ module _ (deck : Deck) where
   cost-law p = costOf-sum (pricingOf deck) p ∙ sum-of (paidBy (scaledPlace (deck .axis) p))
       ∙ simp (← travel-scaled (deck .axis)) (sym (cost-sum deck p))
 
-  -- axis costs of at least 1
-  module _ (some : (1 ≤ deck .axis .a) × (1 ≤ deck .axis .b)) where
-    reach-law : (r : Rect) (stop : Stop) → reachesTo (scaledRect (deck .axis) r) (objectOf stop) ≡ reach deck r stop
-    unfolding reach travelTo closestPoint
-    reach-law r stop = rw (
-      clamp-scale (deck .axis .a) (r .xlo) (r .xhi) (stop .at .x) (some .0),
-      clamp-scale (deck .axis .b) (r .ylo) (r .yhi) (stop .at .y) (some .1),
-      travel-scaled (deck .axis) (stop .at) (closestPoint r (stop .at)),
-    )
+  reach-law : (r : Rect) (stop : Stop) → reachesTo (scaledRect (deck .axis) r) (objectOf stop) ≡ reach deck r stop
+  unfolding reach travelTo closestPoint
+  reach-law r stop = rw (
+    clamp-scale (deck .axis .a) (r .xlo) (r .xhi) (stop .at .x),
+    clamp-scale (deck .axis .b) (r .ylo) (r .yhi) (stop .at .y),
+    travel-scaled (deck .axis) (stop .at) (closestPoint r (stop .at)),
+  )
 
-    pub load-law : (r : Rect) → loadOf (pricingOf deck) r ≡ load deck r
-    load-law r = loadOf-sum (pricingOf deck) r ∙ sum-of (borneBy (scaledRect (deck .axis) r)) ∙ simp (reach-law, load-sum)
+  pub load-law : (r : Rect) → loadOf (pricingOf deck) r ≡ load deck r
+  load-law r = loadOf-sum (pricingOf deck) r ∙ sum-of (borneBy (scaledRect (deck .axis) r)) ∙ simp (reach-law, load-sum)
 
-    pub flags-law : (r : Rect) → flagsOf (pricingOf deck) r ≡ padded 512 0 (map (λ stop. cond (reach deck r stop) 1 0) (deck .stops))
-    flags-law r = flagsOf-map (pricingOf deck) r
-        ∙ rw objectsOf-map (rw map-map (ap (padded 512 0) (map-each _ _ (deck .stops) (λ stop m. ap (λ (b : Bool). cond b 1 0) (reach-law r stop)))))
+  pub flags-law : (r : Rect) → flagsOf (pricingOf deck) r ≡ padded 512 0 (map (λ stop. cond (reach deck r stop) 1 0) (deck .stops))
+  flags-law r = flagsOf-map (pricingOf deck) r
+      ∙ rw objectsOf-map (rw map-map (ap (padded 512 0) (map-each _ _ (deck .stops) (λ stop m. ap (λ (b : Bool). cond b 1 0) (reach-law r stop)))))

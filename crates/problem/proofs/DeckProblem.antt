@@ -10,7 +10,6 @@ use Rattle.numbers.proofs.Padded.{padded-front}
 use Rattle.query.specs.Place as Place
 use Rattle.query.specs.Place.{x-axis, y-axis}
 use Rattle.query.specs.Deck as Query
-use Rattle.query.specs.Deck.{plain}
 use Rattle.query.specs.Bound.{span, bound}
 use Rattle.query.specs.Reach.{load}
 use Rattle.query.specs.Lines.{lines}
@@ -21,7 +20,7 @@ use Rattle.deck.specs.declared.Deck.{Deck}
 use Rattle.deck.specs.declared.Rect.{Rect}
 use Rattle.deck.specs.DeckOf.{deckOf}
 use Rattle.deck.specs.Rectangle.{rectOf}
-use Rattle.deck.specs.Objects.{Pricing, objectsOf, pricingOf}
+use Rattle.deck.specs.Objects.{Pricing, pricingOf}
 use Rattle.deck.specs.ObjectColumns.{columnsOf, pricingIn}
 use Rattle.pricing.specs.ObjectFigures.{costOf, loadOf}
 use Rattle.pricing.specs.Columns.{Priceable, Ranged}
@@ -63,7 +62,7 @@ module _ {columns : List ℤ} {n : ℕ} {v h : List ℤ} {area : Rect} (prepared
   pub prepared-priceable : Priceable columns n
   prepared-priceable =
       subst (λ (l : List ℤ). Priceable l n) (sym (prepared .columns-are))
-      (subst (Priceable (columnsOf (objectsOf deck))) (sym (prepared .count-is)) (made-priceable deck (prepared .range)))
+      (subst (Priceable (columnsOf (pricingOf deck))) (sym (prepared .count-is)) (made-priceable deck (prepared .range)))
 
   pub prepared-ranged : Ranged (rectOf area)
   prepared-ranged = subst Ranged (sym (prepared .area-is)) (record { range = prepared .range .area; full = prepared .full })
@@ -79,7 +78,7 @@ module _ {columns : List ℤ} {n : ℕ} {v h : List ℤ} {area : Rect} (prepared
   -- what pricing needs, the lines and the whole problem are the deck's
   pub prepared-pricing : pricingIn columns n ≡ pricingOf deck
   prepared-pricing =
-      (λ i. pricingIn (prepared .columns-are i) (prepared .count-is i)) ∙ made-pricing deck (prepared .range) (prepared .axis)
+      (λ i. pricingIn (prepared .columns-are i) (prepared .count-is i)) ∙ made-pricing deck (prepared .range)
 
   pub prepared-grid : gridOf v h ≡ grid deck
   unfolding grid
@@ -89,12 +88,8 @@ module _ {columns : List ℤ} {n : ℕ} {v h : List ℤ} {area : Rect} (prepared
   prepared-problem = (λ i. objectProblem (prepared-pricing i) (prepared-grid i) (prepared .area-is i)) ∙ deck-problem deck
 
 -- ---- the record of a deck's problem
-pub plain-axis : (deck : Deck) → deckOf deck .axis ≡ plain
-unfolding deckOf
-plain-axis deck = refl
-
 module _ (deck : Query.Deck) (p : Problem) (e : p ≡ problemRecord deck) where
-  pub record-columns : p .columns ≡ columnsOf (objectsOf deck)
+  pub record-columns : p .columns ≡ columnsOf (pricingOf deck)
   unfolding problemRecord
   record-columns = ap (λ (q : Problem). q .columns) e
 
@@ -127,7 +122,6 @@ abbrev pub solvable-prepared : (deck : Deck) → Solvable deck → (p : Problem)
     Prepared (p .columns) (p .count) (take (p .nv) (p .v)) (take (p .nh) (p .h)) (p .area)
 solvable-prepared deck h p e = record {
   deck = deckOf deck;
-  axis = plain-axis deck;
   range = h .range;
   full = h .full;
   columns-are = record-columns (deckOf deck) p e;

@@ -1,7 +1,7 @@
 -- What `of_deck` makes of a deck's record: the columns and the flags give the deck's lines.
 -- Assumes nothing.
-use mathlib.Core.Path.{_≡_, refl, sym, ap, subst, _∙_}
-use mathlib.Core.List.{List, map, map-map}
+use mathlib.Core.Path.{_≡_, sym, ap, subst, _∙_}
+use mathlib.Core.List.{List}
 use Prim.Native.Nat.{ℕ, _≤_}
 use lib.IntN.{ℤ, natAbs}
 use lib.ListN.{length, take, length-map}
@@ -11,9 +11,9 @@ use Rattle.query.specs.Lines.{lines}
 use Rattle.deck.specs.declared.Deck.{Deck}
 use Rattle.deck.specs.DeckOf.{deckOf}
 use Rattle.deck.specs.Rectangle.{rectRecord}
-use Rattle.deck.specs.Objects.{Object, objectsOf}
+use Rattle.deck.specs.Objects.{pricingOf}
 use Rattle.deck.specs.ObjectColumns.{columnsOf, pricingIn}
-use Rattle.deck.proofs.DeckLaws.{DeckColumns, objects-length, x-column, y-column}
+use Rattle.deck.proofs.DeckLaws.{DeckColumns, objects-length, stops-x, stops-y}
 use Rattle.pricing.specs.ObjectFigures.{flagsOf}
 use Rattle.pricing.specs.Columns.{Priceable, Ranged}
 use Rattle.pricing.proofs.ObjectLaws.{objectOf, objectsOf-map, flags-law}
@@ -30,7 +30,7 @@ module _ (deck : Deck) (held : DeckColumns deck) (h : Solvable deck) where
   stops-count : length (deckOf deck .stops) ≡ deck .stops
   stops-count = sym (length-map (deckOf deck .stops) (objectOf (deckOf deck))) ∙ ap length (sym (objectsOf-map (deckOf deck))) ∙ objects-length deck held
 
-  module _ (columns : List ℤ) (e : columns ≡ columnsOf (objectsOf (deckOf deck))) where
+  module _ (columns : List ℤ) (e : columns ≡ columnsOf (pricingOf (deckOf deck))) where
     pub columns-priceable : Priceable columns (deck .stops)
     columns-priceable = subst (λ n. Priceable columns n) stops-count (rw e (made-priceable (deckOf deck) (h .range)))
 
@@ -39,7 +39,7 @@ module _ (deck : Deck) (held : DeckColumns deck) (h : Solvable deck) where
       unfolding deckOf
       flags-are =
           f ∙ (λ i. flagsOf (pricingIn (e i) (sym stops-count i)) (deckOf deck .area))
-          ∙ ap (λ P. flagsOf P (deckOf deck .area)) (made-pricing (deckOf deck) (h .range) refl)
+          ∙ ap (λ P. flagsOf P (deckOf deck .area)) (made-pricing (deckOf deck) (h .range))
           ∙ flags-law (deckOf deck) (deckOf deck .area)
 
       flags-front : (axis : Axis) → take (deck .stops) flags ≡ reached (deckOf deck) axis
@@ -53,15 +53,11 @@ module _ (deck : Deck) (held : DeckColumns deck) (h : Solvable deck) where
           rw (g, k) (ap linesRecord (lines-marked (deckOf deck) axis coords flags (deck .stops) same (flags-front axis)))
 
   -- the columns of coordinates
-  column-of : (number : Object → ℤ) →
-      map number (objectsOf (deckOf deck)) ≡ map (λ stop. number (objectOf (deckOf deck) stop)) (deckOf deck .stops)
-  column-of number = ap (map number) (objectsOf-map (deckOf deck)) ∙ map-map _ _ (deckOf deck .stops)
-
   pub x-coordinates : take (deck .stops) (deck .«stop_x») ≡ coordinates (deckOf deck) x-axis
-  x-coordinates = sym (x-column deck held) ∙ column-of (λ s. s .at .x)
+  x-coordinates = sym (stops-x deck held)
 
   pub y-coordinates : take (deck .stops) (deck .«stop_y») ≡ coordinates (deckOf deck) y-axis
-  y-coordinates = sym (y-column deck held) ∙ column-of (λ s. s .at .y)
+  y-coordinates = sym (stops-y deck held)
 
   -- the area in words: its edges as `find_lines` gets them, and as a rectangle
   pub edges : (back (back (deck .xlo)) ≡ deckOf deck .area .xlo) × (back (back (deck .ylo)) ≡ deckOf deck .area .ylo)
@@ -84,7 +80,7 @@ module _ (deck : Deck) (held : DeckColumns deck) (h : Solvable deck) where
   area-ranged = rw area-back (record { range = h .range .area; full = h .full })
 
   -- the record
-  pub made-problem : (columns : List ℤ) → columns ≡ columnsOf (objectsOf (deckOf deck)) → (v w : Lines) → v ≡ linesRecord (lines (deckOf deck) x-axis) →
+  pub made-problem : (columns : List ℤ) → columns ≡ columnsOf (pricingOf (deckOf deck)) → (v w : Lines) → v ≡ linesRecord (lines (deckOf deck) x-axis) →
       w ≡ linesRecord (lines (deckOf deck) y-axis) → _≡_ {A = Problem} (record {
         area = record { xlo = back (deck .xlo); ylo = back (deck .ylo); xhi = back (deck .xhi); yhi = back (deck .yhi) };
         count = deck .stops;
