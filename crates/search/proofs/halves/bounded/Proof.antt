@@ -8,7 +8,7 @@ load-requires : tie.Need-load-requires
 load-requires c κs = (c .pre .0, c .pre .1)
 
 span-requires : tie.Need-span-requires
-span-requires c κs = c .before .pre .1
+span-requires c κs = let p = c .before .pre in (p .0 .costs, p .1)
 
 bound-requires : tie.Need-bound-requires
 bound-requires c κs =
