@@ -1,14 +1,14 @@
 -- Rows beside the eight marked decks: figures of small decks, each chosen so that a rule told wrongly gives another figure.
 -- The figures are those of a program written from document 01 alone; `proofs/Rows.antt` proves that the definitions give them.
 -- Assumes nothing.
-use Prim.Native.Nat.{_-_, _*_, _<_}
+use Prim.Native.Nat.{ℕ, _-_, _*_, _<_}
 use mathlib.Core.Path.{_≡_}
 use mathlib.Core.List.{[], _∷_, _++_, map}
 use lib.IntN.{pos, negsuc}
 use lib.ListN.{replicate}
 use lib.Signed.{_<ℤ_}
 use Rattle.numbers.specs.Integer.{halfUp}
-use Rattle.query.specs.Place.{x-axis, y-axis}
+use Rattle.query.specs.Place.{Place, x-axis, y-axis}
 use Rattle.query.specs.Deck.{Deck, plain}
 use Rattle.query.specs.Lines.{gaps}
 use Rattle.query.specs.Problem.{problem}
@@ -71,6 +71,31 @@ deckAxis = record {
   stops = stop 3 0 2 ∷ stop 2 4 1 ∷ [];
 }
 
+-- a narrow area: the best place is another one for each of three axis costs
+abbrev pub deckNarrow : ℕ → ℕ → Deck
+deckNarrow a b = record {
+  axis = record { a = a; b = b };
+  area = rect 1 1 3 9;
+  posts = at 4 6 ∷ [];
+  stops = stop 6 1 1 ∷ stop 2 4 1 ∷ [];
+}
+
+-- the area is deeper than wide in plain tenths, and not so by axis costs
+abbrev pub deckSide : Deck
+deckSide = record { axis = record { a = 2; b = 1 }; area = rect 0 0 3 5; posts = at 0 4 ∷ []; stops = stop 1 2 1 ∷ stop 3 0 3 ∷ [] }
+
+abbrev pub lowest : Place
+lowest = record { x = negsuc 19999; y = negsuc 19999 }
+
+-- the ends of all ranges: 64 posts and 512 stops, with the most that a place can cost, and with a bound far below 0
+abbrev pub deckEnds : Place → Place → Deck
+deckEnds post at = record {
+  axis = record { a = 9; b = 9 };
+  area = record { xlo = negsuc 19999; ylo = negsuc 19999; xhi = pos 20000; yhi = pos 20000 };
+  posts = replicate 64 post;
+  stops = replicate 512 (record { at = at; visits = 65535 });
+}
+
 pub record Rows : Type 0 where
   -- 01 "Half of 3 is 2, half of −3 is −1, half of −4 is −2"
   pub half-3 : halfUp (pos 3) ≡ pos 2
@@ -109,6 +134,14 @@ pub record Rows : Type 0 where
   pub axis-1 : figures deckAxis 1 ≡ report stopped (at 2 3) 11 (pos 4) 16 1
   pub axis-2 : figures deckAxis 2 ≡ report stopped (at 2 3) 11 (pos 5) 16 2
   pub axis : figures deckAxis 10 ≡ report done (at 3 3) 9 (pos 9) 16 5
+  pub narrow-plain : figures (deckNarrow 1 1) 10 ≡ report done (at 2 1) 7 (pos 7) 11 3
+  pub narrow-0 : figures (deckNarrow 2 1) 0 ≡ report stopped (at 3 1) 11 (pos 3) 15 0
+  pub narrow-1 : figures (deckNarrow 2 1) 1 ≡ report stopped (at 1 4) 11 (pos 6) 15 1
+  pub narrow : figures (deckNarrow 2 1) 10 ≡ report done (at 2 4) 9 (pos 9) 15 3
+  pub narrow-deep : figures (deckNarrow 1 2) 10 ≡ report done (at 3 1) 9 (pos 9) 18 3
+  pub side-1 : figures deckSide 1 ≡ report stopped (at 3 0) 4 (pos 0) 34 1
+  pub ends : figures (deckEnds lowest (at 20000 20000)) 1000 ≡ report done (at 20000 20000) 0 (pos 0) 24158822400000 0
+  pub ends-low : figures (deckEnds (at 0 1) (at 0 0)) 0 ≡ report stopped lowest 301985280 (negsuc 12079109214719) 301985280 0
   -- the cell space, with two numbers more than suffice
   pub space-A-0 : space deckA 0 7 ≡ map pos (2 ∷ 2 ∷ 8 ∷ 8 ∷ 4 ∷ 0 ∷ 0 ∷ [])
   pub space-A-1 : space deckA 1 12 ≡ map pos (4 ∷ 2 ∷ 8 ∷ 8 ∷ 4 ∷ 2 ∷ 2 ∷ 4 ∷ 8 ∷ 8 ∷ 0 ∷ 0 ∷ [])
@@ -122,4 +155,5 @@ pub record Rows : Type 0 where
   pub exhaustive-C : exhaustive (problem deckC) ≡ record { at = at 5 5; cost = 16 }
   pub exhaustive-D : exhaustive (problem deckD) ≡ record { at = at 5 0; cost = 0 }
   pub exhaustive-equal : exhaustive (problem deckEqual) ≡ record { at = at 0 3; cost = 5 }
+  pub exhaustive-narrow : exhaustive (problem (deckNarrow 2 1)) ≡ record { at = at 2 4; cost = 9 }
   pub exhaustive-axis : exhaustive (problem deckAxis) ≡ record { at = at 3 3; cost = 9 }
