@@ -7,4 +7,16 @@ use Rattle.job.specs.JobVectors.{JobVectors}
 
 pub vectors : JobVectors
 unfolding readJob bytes
-vectors = record { case-A = refl; case-B = refl; rounds-1000 = refl }
+vectors = record {
+  case-A = refl;
+  case-B = refl;
+  rounds-1000 = refl;
+  axis-2-3 = refl;
+  axis-1-1 = refl;
+  axis-missing = refl;
+  missing-2-1 = refl;
+  carried-2-3 = refl;
+  axis-twice = refl;
+  line-moved = refl;
+  line-kept = refl;
+}

@@ -1,6 +1,8 @@
--- Lines that repeat: the array that they fill, and the reading that is left.
+-- The parts of a job: the axis line, which may be missing; lines that repeat, the arrays that they fill and the reading that is left; the
+-- last line.
 -- Assumes nothing.
 use mathlib.Core.Path.{_≡_, refl, sym, ap, subst, _∙_}
+use mathlib.Core.Bool.{Bool, true, false}
 use mathlib.Core.List.{List, [], _∷_, _++_}
 use Prim.Native.Nat.{ℕ, suc, _+_, _-_, _≤_, _<_}
 use native.Mathlib.Nat.{add-zero, sub-zero}
@@ -10,21 +12,41 @@ use lib.IntN.{ℤ, pos}
 use mir.Syntax.{w64}
 use mir.Val.{SFits}
 use Rattle.numbers.proofs.Joined.{drop-next}
-use Rattle.job_line.specs.Kinds.{Kind, rounds, Row, row}
+use Rattle.job_line.specs.Kinds.{Kind, axis, rounds, Row, row}
 use Rattle.job_line.specs.OneLine.{fault, got, Reader, line}
-use Rattle.job.specs.Reader.{andThen, repeated, end}
+use Rattle.job.specs.Reader.{andThen, repeated, optional, end}
 use Rattle.numbers.proofs.Padded.{padded-none, padded-map}
-use Rattle.job_line.specs.Reading.{LineAnswer, read, refused, countAnswer, answerIn, LineAt}
+use Rattle.job_line.specs.Reading.{LineAnswer, read, refused, costNumbers, axisAnswer, countAnswer, answerIn, LineAt}
 use Rattle.job.specs.Format.{countOf, postOf, stopOf}
-use Rattle.job.specs.ManyLines.{manyLines, countedLines, PlacesHeld, StopsHeld, LinesAt, lastLine, LastAt}
+use Rattle.job.specs.ManyLines.{AxisAt, manyLines, countedLines, PlacesHeld, StopsHeld, LinesAt, lastLine, LastAt}
 use Rattle.refusal.specs.declared.Refusal.{Refusal}
 use Rattle.refusal.specs.declared.Refusal.the-variants.{Malformed}
+use Rattle.text.specs.TextReading.{Starts}
+use Rattle.deck.specs.declared.AxisCosts.{AxisCosts}
+use Rattle.job_line.specs.declared.AxisLine.{AxisLine}
+use Rattle.job_line.specs.declared.AxisLine.the-variants as X
 use Rattle.job_line.specs.declared.CountLine.{CountLine}
 use Rattle.job_line.specs.declared.CountLine.the-variants as C
 use Rattle.job.specs.declared.Next.{Next}
 use Rattle.job.specs.declared.Next.the-variants.{At, Refused}
 use Rattle.numbers.proofs.WordTests.{back, back-is}
-use Rattle.job.proofs.ReaderLaws.{Ranged, line-got}
+use Rattle.job.proofs.ReaderLaws.{optional-is, Ranged, line-got}
+
+-- ---- the axis line
+module _ {s : List ℕ} {at : ℕ} {t : Bool} (starts : Starts s at (row axis .key) t) where
+  pub axis-missing : {missing : AxisCosts} → t ≡ false → AxisAt s at missing (record { next = At at; costs = missing; line = 2 })
+  axis-missing off = record { is = rw (optional-is, ← starts .is, off); few = omega arith }
+
+  module _ (on : t ≡ true) {answer : AxisLine} (axis-at : LineAt (row axis) s at 2 (axisAnswer answer)) where
+    axis-line : (missing : AxisCosts) {r : AxisLine} → answer ≡ r → answerIn s 2 (axisAnswer r) ≡ optional (row axis) (costNumbers missing) 2 (drop at s)
+    axis-line missing e = rw (optional-is, ← starts .is, on) (subst (λ (r : AxisLine). LineAt (row axis) s at 2 (axisAnswer r)) e axis-at .is)
+
+    pub axis-read : {missing c : AxisCosts} {next : ℕ} → answer ≡ X.Read c next → AxisAt s at missing (record { next = At next; costs = c; line = 3 })
+    axis-read {missing} e = record { is = axis-line missing e; few = omega arith }
+
+    pub axis-refused : {missing : AxisCosts} {why : Refusal} → answer ≡ X.Refused why →
+        AxisAt s at missing (record { next = Refused why; costs = missing; line = 2 })
+    axis-refused {missing} e = record { is = axis-line missing e; few = omega arith }
 
 -- ---- lines that were read, and those left
 repeated-none : {A : Type 0} (one : Reader A) (done : List A) (n : ℕ) (bs : List ℕ) → repeated 0 one done n bs ≡ got done n bs

@@ -14,13 +14,13 @@ use Rattle.numbers.proofs.Truth.{and-left, and-right, and-intro}
 use Rattle.numbers.proofs.Integer.{order, abs-range}
 use Rattle.numbers.proofs.Ranges.{between-range, range-between}
 use Rattle.query.specs.Place.{Place, Rect}
-use Rattle.query.specs.Deck.{Stop}
+use Rattle.query.specs.Deck.{AxisCosts, Stop}
 use Rattle.query.specs.Range.{PlaceInRange, RectInRange, StopInRange}
 use Rattle.text.specs.Ascii.{bytes}
 use Rattle.text.specs.Decimal.{spellInt}
 use Rattle.text.proofs.DigitCounts.{length-spellNat-grows}
-use Rattle.job_line.specs.Kinds.{Kind, area, posts, post, stops, stop, rounds, Range, coordinates, upTo, row, inRange, inRanges}
-use Rattle.job.specs.Format.{areaOf, countOf, postOf, stopOf}
+use Rattle.job_line.specs.Kinds.{Kind, area, axis, posts, post, stops, stop, rounds, Range, coordinates, upTo, row, inRange, inRanges}
+use Rattle.job.specs.Format.{areaOf, axisCostsOf, axisNumbers, countOf, postOf, stopOf}
 use Rattle.job.specs.Spelling.{areaLine, postLine, stopLine, spellNumbers}
 use Rattle.job.proofs.FormLaws.{Within, Fitting, textOf}
 
@@ -55,6 +55,7 @@ Narrow (range ∷ ranges) = ((natAbs (range .low) < 10 ^ 9) × (natAbs (range .h
 
 narrow : (k : Kind) → Narrow (row k .ranges)
 narrow area = omega arith
+narrow axis = omega arith
 narrow posts = omega arith
 narrow post = omega arith
 narrow stops = omega arith
@@ -116,6 +117,7 @@ numbers-widths (range ∷ ranges) (n ∷ ns) e = simp length-append (omega (arit
 -- the longest line of each kind
 abbrev pub longest : Kind → ℕ
 longest area = 33
+longest axis = 9
 longest posts = 9
 longest post = 19
 longest stops = 10
@@ -125,6 +127,7 @@ longest rounds = 12
 longest-is : (k : Kind) → length (row k .key) + widths (row k .ranges) ≡ longest k
 unfolding bytes spellInt
 longest-is area = refl
+longest-is axis = refl
 longest-is posts = refl
 longest-is post = refl
 longest-is stops = refl
@@ -150,7 +153,7 @@ unfolding inRange
 natural-range least most (pos n) t = let (low, high) = between-range (pos least) (pos most) (pos n) t in (refl, omega (arith, order), omega (arith, order))
 natural-range least most (negsuc n) t = let (low, high) = between-range (pos least) (pos most) (negsuc n) t in absurd (omega (arith, order))
 
--- ---- what the ranges say of an area, a count, a post and a stop
+-- ---- what the ranges say of an area, of axis costs, a count, a post and a stop
 pub area-range : (r : Rect) → T (inRanges (row area .ranges) (areaLine r .numbers)) → RectInRange r
 area-range r t =
     let e = each-in (row area .ranges) (areaLine r .numbers) t in
@@ -158,6 +161,13 @@ area-range r t =
       low-corner = record { x-range = coordinate-range (r .xlo) .0 (e .0); y-range = coordinate-range (r .ylo) .0 (e .1 .0) };
       high-corner = record { x-range = coordinate-range (r .xhi) .0 (e .1 .1 .0); y-range = coordinate-range (r .yhi) .0 (e .1 .1 .1 .0) };
     }
+
+pub axis-range : (c : AxisCosts) → T (inRanges (row axis .ranges) (axisNumbers c)) → ((1 ≤ c .a) × (1 ≤ c .b)) × ((c .a ≤ 9) × (c .b ≤ 9))
+axis-range c t =
+    let e = each-in (row axis .ranges) (axisNumbers c) t in
+    let a = natural-range 1 9 (pos (c .a)) (e .0) in
+    let b = natural-range 1 9 (pos (c .b)) (e .1 .0) in
+    ((a .1, b .1), (a .2, b .2))
 
 pub count-range : (most n : ℕ) → T (inRanges (upTo most ∷ []) (pos n ∷ [])) ↔ (n ≤ most)
 unfolding inRanges
@@ -191,6 +201,14 @@ area-back ns t = go ns (each-in (row area .ranges) ns t)
     go (a ∷ b ∷ c ∷ []) e = absurd (e .1 .1 .1)
     go (a ∷ b ∷ c ∷ d ∷ []) e = refl
     go (a ∷ b ∷ c ∷ d ∷ other ∷ others) e = absurd (e .1 .1 .1 .1)
+
+pub axis-back : (ns : List ℤ) → T (inRanges (row axis .ranges) ns) → axisNumbers (axisCostsOf ns) ≡ ns
+axis-back ns t = go ns (each-in (row axis .ranges) ns t)
+  where
+    go : (ns : List ℤ) → EachIn (row axis .ranges) ns → axisNumbers (axisCostsOf ns) ≡ ns
+    go (a ∷ []) e = absurd (e .1)
+    go (a ∷ b ∷ []) e = cc (natural-range 1 9 a (e .0) .0, natural-range 1 9 b (e .1 .0) .0)
+    go (a ∷ b ∷ other ∷ others) e = absurd (e .1 .1)
 
 pub count-back : (most : ℕ) (ns : List ℤ) → T (inRanges (upTo most ∷ []) ns) → pos (countOf ns) ∷ [] ≡ ns
 count-back most ns t = go ns (each-in (upTo most ∷ []) ns t)

@@ -16,7 +16,7 @@ use Rattle.refusal.specs.declared.Refusal.{Refusal}
 use Rattle.job.specs.declared.Outcome.{Outcome}
 use Rattle.job.specs.declared.Outcome.the-variants.{Accepted, Refused}
 use Rattle.job.proofs.JobLaws.{most-posts, most-stops}
-use Rattle.job.proofs.Meaning.{accepted-law, allowed-in-range}
+use Rattle.job.proofs.Meaning.{accepted-job, allowed-in-range}
 use Rattle.deck.specs.DeckOf.{deckOf, deckRecord}
 use Rattle.deck.proofs.DeckLaws.{held-deck}
 
@@ -49,7 +49,7 @@ module _ (bytes : List ℕ) (j : Held.Job) (e : j ≡ jobRecord (readJob bytes))
     where
       go : (r : Result) → readJob bytes ≡ r → j ≡ jobRecord r → Spelt bytes
       go (refused why) p q = differ (sym (ap isAccepted f) ∙ ap (λ (k : Held.Job). isAccepted (k .outcome)) q)
-      go (accepted job) p q = record { job = job; read = p; allowed = accepted-law bytes job .exactly .0 p .2 }
+      go (accepted job) p q = record { job = job; read = p; allowed = accepted-job bytes job .0 p .2 }
 
   pub read-deck : (s : Spelt bytes) → j .deck ≡ deckRecord (s .job .deck)
   unfolding jobRecord
@@ -74,7 +74,7 @@ module _ {bytes : List ℕ} (s : Spelt bytes) where
 
   module _ (j : Held.Job) (e : j ≡ jobRecord (readJob bytes)) where
     pub read-deckOf : deckOf (j .deck) ≡ s .job .deck
-    read-deckOf = ap deckOf (read-deck bytes j e s) ∙ held-deck (s .job .deck) (s .allowed .writable .plain-axis)
+    read-deckOf = ap deckOf (read-deck bytes j e s) ∙ held-deck (s .job .deck)
 
     pub read-full : NonEmpty (deckOf (j .deck) .area)
     read-full = subst (λ (deck : Query.Deck). NonEmpty (deck .area)) (sym read-deckOf) (s .allowed .area-full)

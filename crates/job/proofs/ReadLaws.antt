@@ -5,29 +5,34 @@ use mathlib.Core.Bool.{Bool, true, false}
 use mathlib.Core.List.{List, [], _∷_, map, map-map}
 use Prim.Native.Nat.{ℕ, _+_, _≤_, _<_}
 use native.Mathlib.Omega.{arith}
-use borrow.Author.Tests.{lt-ltb, le-ltb}
+use borrow.Author.Tests.{lt-ltb}
 use lib.IntN.{ℤ, pos}
 use lib.ListN.{length, drop, length-map}
 use lib.Signed.{ltZ}
 use mir.Syntax.{w64}
 use mir.Val.{SFits}
 use Rattle.numbers.specs.Lists.{nonEmpty}
-use Rattle.job_line.specs.Kinds.{area, posts, stops, rounds, row}
+use Rattle.job_line.specs.Kinds.{area, axis, posts, stops, rounds, row}
 use Rattle.job_line.specs.OneLine.{Reading, fault, got, Reader, line}
-use Rattle.job.specs.Reader.{andThen, end}
+use Rattle.job.specs.Reader.{andThen, optional, end}
 use Rattle.job.specs.Format as Format
-use Rattle.job.specs.Format.{refused, accepted, areaOf, countOf, postOf, stopOf, jobOf, emptyArea, checked, jobLines, readingResult, readJob}
+use Rattle.job.specs.Format.{refused, accepted, areaOf, axisCostsOf, axisNumbers, countOf, postOf, stopOf, jobOf, emptyArea, checked, jobLines}
+use Rattle.job.specs.Format.{readWith, readJob}
 use Rattle.job.specs.JobRecord.{jobRecord}
 use Rattle.numbers.specs.Padded.{padded}
-use Rattle.job_line.specs.Reading.{areaNumbers, areaAnswer, countAnswer, answerIn, LineAt}
-use Rattle.job.specs.ManyLines.{postLines, stopLines, countedLines, allPosts, allStops, lastLine, nextIn, PlacesHeld, PostsHold, StopsHold, PostsAt}
-use Rattle.job.specs.ManyLines.{StopsAt, LastAt, CheckedAt}
+use Rattle.job_line.specs.Reading.{areaNumbers, costNumbers, areaAnswer, countAnswer, answerIn, LineAt}
+use Rattle.job.specs.ManyLines.{postLines, stopLines, countedLines, allPosts, allStops, lastLine, restLines, nextIn, PlacesHeld, PostsHold, StopsHold}
+use Rattle.job.specs.ManyLines.{AxisAt, PostsAt, StopsAt, LastAt, RestAt, CheckedAt}
+use Rattle.query.specs.Deck as Query
+use Rattle.deck.specs.DeckOf.{costsOf, costsRecord}
+use Rattle.deck.specs.declared.AxisCosts.{AxisCosts}
 use Rattle.deck.specs.declared.Rect.{Rect}
 use Rattle.job_line.specs.declared.AreaLine.{AreaLine}
 use Rattle.job_line.specs.declared.AreaLine.the-variants as A
 use Rattle.job_line.specs.declared.CountLine.{CountLine}
 use Rattle.job_line.specs.declared.CountLine.the-variants as C
 use Rattle.job.specs.declared.Next.the-variants.{At, Refused}
+use Rattle.job.specs.declared.Axis.{Axis}
 use Rattle.job.specs.declared.Posts.{Posts}
 use Rattle.job.specs.declared.Stops.{Stops}
 use Rattle.job.specs.declared.Job.{Job}
@@ -35,6 +40,7 @@ use Rattle.job.specs.declared.Outcome.the-variants.{Accepted}
 use Rattle.refusal.specs.declared.Refusal.{Refusal}
 use Rattle.refusal.specs.declared.Refusal.the-variants.{TooLong, EmptyArea, NoPosts, NoStops}
 use Rattle.numbers.proofs.WordTests.{back, back-is}
+use Rattle.job.proofs.Meaning.{read-short, job-with}
 
 -- ---- refusal 4
 module _ {a : Rect} (xlo : SFits w64 (a .xlo)) (ylo : SFits w64 (a .ylo)) (xhi : SFits w64 (a .xhi)) (yhi : SFits w64 (a .yhi)) where
@@ -57,10 +63,11 @@ module _ {A : Type 0} where
   some-elements (x ∷ xs) e = refl
 
 -- the job as the code makes it of its parts
-abbrev pub jobOfParts : ℤ → ℤ → ℤ → ℤ → Posts → Stops → ℕ → Job
-jobOfParts xlo ylo xhi yhi p s n = record {
+abbrev pub jobOfParts : AxisCosts → ℤ → ℤ → ℤ → ℤ → Posts → Stops → ℕ → Job
+jobOfParts costs xlo ylo xhi yhi p s n = record {
   outcome = Accepted n;
   deck = record {
+    axis = costs;
     xlo = xlo;
     ylo = ylo;
     xhi = xhi;
@@ -75,9 +82,10 @@ jobOfParts xlo ylo xhi yhi p s n = record {
   };
 }
 
-accepted-is : (a : List ℤ) (ps ss : List (List ℤ)) (n : List ℤ) → jobRecord (accepted (jobOf a ps ss n)) ≡ record {
+accepted-is : (a c : List ℤ) (ps ss : List (List ℤ)) (n : List ℤ) → jobRecord (accepted (jobOf a c ps ss n)) ≡ record {
   outcome = Accepted (countOf n);
   deck = record {
+    axis = costsRecord (axisCostsOf c);
     xlo = areaOf a .xlo;
     ylo = areaOf a .ylo;
     xhi = areaOf a .xhi;
@@ -92,12 +100,13 @@ accepted-is : (a : List ℤ) (ps ss : List (List ℤ)) (n : List ℤ) → jobRec
   };
 }
 unfolding jobRecord
-accepted-is a ps ss n = refl
+accepted-is a c ps ss n = refl
 
-parts-are : (a : Rect) (postsRead : Posts) (stopsRead : Stops) (n : ℕ) {ps ss : List (List ℤ)} → PostsHold postsRead ps → StopsHold stopsRead ss
-    → jobOfParts (a .xlo) (a .ylo) (a .xhi) (a .yhi) postsRead stopsRead n ≡ jobRecord (accepted (jobOf (areaNumbers a) ps ss (pos n ∷ [])))
-parts-are a postsRead stopsRead n {ps} {ss} p s = rw (
-  accepted-is (areaNumbers a) ps ss (pos n ∷ []),
+parts-are : (a : Rect) (c : AxisCosts) (postsRead : Posts) (stopsRead : Stops) (n : ℕ) {ps ss : List (List ℤ)} → PostsHold postsRead ps →
+    StopsHold stopsRead ss → jobOfParts c (a .xlo) (a .ylo) (a .xhi) (a .yhi) postsRead stopsRead n
+    ≡ jobRecord (accepted (jobOf (areaNumbers a) (costNumbers c) ps ss (pos n ∷ [])))
+parts-are a c postsRead stopsRead n {ps} {ss} p s = rw (
+  accepted-is (areaNumbers a) (costNumbers c) ps ss (pos n ∷ []),
   p .count-is,
   p .x-is,
   p .y-is,
@@ -122,31 +131,31 @@ module _ {A : Type 0} (f : List ℤ → A) {size count : ℕ} {x y : List ℤ} {
   none-held : count ≡ 0 → nonEmpty (map f ls) ≡ false
   none-held z = no-elements (map f ls) (length-map ls f ∙ sym (p .count-is) ∙ z)
 
-module _ {a : Rect} {postsRead : Posts} {stopsRead : Stops} (n : ℕ) {t : Bool} (is-empty : t ≡ emptyArea (areaOf (areaNumbers a))) where
-  pub checked-empty : {r : Job} → t ≡ true → r ≡ jobRecord (refused EmptyArea) → CheckedAt a postsRead stopsRead n r
+module _ {a : Rect} {c : AxisCosts} {postsRead : Posts} {stopsRead : Stops} (n : ℕ) {t : Bool} (is-empty : t ≡ emptyArea (areaOf (areaNumbers a))) where
+  pub checked-empty : {r : Job} → t ≡ true → r ≡ jobRecord (refused EmptyArea) → CheckedAt a c postsRead stopsRead n r
   unfolding checked
   checked-empty on e = record { is = λ p s. rw (← is-empty, on) e }
 
   module _ (off : t ≡ false) where
-    pub checked-no-posts : {r : Job} → postsRead .count ≡ 0 → r ≡ jobRecord (refused NoPosts) → CheckedAt a postsRead stopsRead n r
+    pub checked-no-posts : {r : Job} → postsRead .count ≡ 0 → r ≡ jobRecord (refused NoPosts) → CheckedAt a c postsRead stopsRead n r
     unfolding checked
     checked-no-posts z e = record { is = λ p s. rw (← is-empty, off, none-held postOf p z) e }
 
     module _ (some-posts : postsRead .count ≡ 0 → ⊥) where
-      pub checked-no-stops : {r : Job} → stopsRead .count ≡ 0 → r ≡ jobRecord (refused NoStops) → CheckedAt a postsRead stopsRead n r
+      pub checked-no-stops : {r : Job} → stopsRead .count ≡ 0 → r ≡ jobRecord (refused NoStops) → CheckedAt a c postsRead stopsRead n r
       unfolding checked
       checked-no-stops z e = record { is = λ p s. rw (← is-empty, off, some-held postOf p some-posts, none-held stopOf (s .places) z) e }
 
       module _ (some-stops : stopsRead .count ≡ 0 → ⊥) where
         pub checked-accepted : SFits w64 (a .xlo) → SFits w64 (a .ylo) → SFits w64 (a .xhi) → SFits w64 (a .yhi) →
-            CheckedAt a postsRead stopsRead n (jobOfParts (back (a .xlo)) (back (a .ylo)) (back (a .xhi)) (back (a .yhi)) postsRead stopsRead n)
+            CheckedAt a c postsRead stopsRead n (jobOfParts c (back (a .xlo)) (back (a .ylo)) (back (a .xhi)) (back (a .yhi)) postsRead stopsRead n)
         unfolding checked
         checked-accepted xlo ylo xhi yhi = record {
-          is = λ p s. rw (back-is xlo, back-is ylo, back-is xhi, back-is yhi) (parts-are a postsRead stopsRead n p s) ∙ ap jobRecord (job-accepted p s);
+          is = λ p s. rw (back-is xlo, back-is ylo, back-is xhi, back-is yhi) (parts-are a c postsRead stopsRead n p s) ∙ ap jobRecord (job-accepted p s);
         }
           where
             job-accepted : {ps ss : List (List ℤ)} → PostsHold postsRead ps → StopsHold stopsRead ss
-                → accepted (jobOf (areaNumbers a) ps ss (pos n ∷ [])) ≡ checked (jobOf (areaNumbers a) ps ss (pos n ∷ []))
+                → accepted (jobOf (areaNumbers a) (costNumbers c) ps ss (pos n ∷ [])) ≡ checked (jobOf (areaNumbers a) (costNumbers c) ps ss (pos n ∷ []))
             job-accepted p s = rw (← is-empty, off, some-held postOf p some-posts, some-held stopOf (s .places) some-stops)
 
 -- ---- the lines of a job, part by part
@@ -155,91 +164,125 @@ then-assoc : {A B C : Type 0} (r : Reading A) (f : A → Reader B) (g : B → Re
 then-assoc (fault why) f g = refl
 then-assoc (got a n bs) f g = refl
 
--- what follows the stops, the posts and the area
-after-stops : List ℤ → List (List ℤ) → List (List ℤ) → Reader Format.Job
-after-stops a ps ss n bs = andThen (line (row rounds) n bs) (λ k n bs. andThen (end n bs) (λ u n bs. got (jobOf a ps ss k) n bs))
+then-same : {A B : Type 0} (r : Reading A) (f g : A → Reader B) → ((a : A) (n : ℕ) (bs : List ℕ) → f a n bs ≡ g a n bs) → andThen r f ≡ andThen r g
+then-same (fault why) f g e = refl
+then-same (got a n bs) f g e = e a n bs
 
-after-posts : List ℤ → List (List ℤ) → Reader Format.Job
-after-posts a ps n bs = andThen (line (row stops) n bs) (λ k n bs. andThen (stopLines (countOf k) n bs) (after-stops a ps))
+module _ (a c : List ℤ) where
+  -- what follows the stops and the posts, in parts
+  after-stops : List (List ℤ) → List (List ℤ) → Reader Format.Job
+  after-stops ps ss n bs = andThen (lastLine n bs) (λ k n bs. got (jobOf a c ps ss k) n bs)
 
-after-area : List ℤ → Reader Format.Job
-after-area a n bs = andThen (line (row posts) n bs) (λ k n bs. andThen (postLines (countOf k) n bs) (after-posts a))
+  after-posts : List (List ℤ) → Reader Format.Job
+  after-posts ps n bs = andThen (allStops n bs) (after-stops ps)
 
-lines-are : (n : ℕ) (bs : List ℕ) → jobLines n bs ≡ andThen (line (row area) n bs) after-area
-unfolding jobLines after-area after-posts after-stops
-lines-are n bs = refl
+  rest-is : (n : ℕ) (bs : List ℕ) → restLines a c n bs ≡ andThen (allPosts n bs) after-posts
+  unfolding restLines after-posts after-stops
+  rest-is n bs = refl
 
-after-area-is : (a : List ℤ) (n : ℕ) (bs : List ℕ) → after-area a n bs ≡ andThen (allPosts n bs) (after-posts a)
-unfolding after-area countedLines
-after-area-is a n bs = then-assoc (line (row posts) n bs) (λ k. postLines (countOf k)) (after-posts a)
+  -- the same and what follows the axis costs, line by line
+  behind-stops : List (List ℤ) → List (List ℤ) → Reader Format.Job
+  behind-stops ps ss n bs = andThen (line (row rounds) n bs) (λ k n bs. andThen (end n bs) (λ u n bs. got (jobOf a c ps ss k) n bs))
 
-after-posts-is : (a : List ℤ) (ps : List (List ℤ)) (n : ℕ) (bs : List ℕ) → after-posts a ps n bs ≡ andThen (allStops n bs) (after-stops a ps)
-unfolding after-posts countedLines
-after-posts-is a ps n bs = then-assoc (line (row stops) n bs) (λ k. stopLines (countOf k)) (after-stops a ps)
+  behind-posts : List (List ℤ) → Reader Format.Job
+  behind-posts ps n bs = andThen (line (row stops) n bs) (λ k n bs. andThen (stopLines (countOf k) n bs) (behind-stops ps))
 
-after-stops-is : (a : List ℤ) (ps ss : List (List ℤ)) (n : ℕ) (bs : List ℕ) →
-    after-stops a ps ss n bs ≡ andThen (lastLine n bs) (λ k n bs. got (jobOf a ps ss k) n bs)
-unfolding after-stops lastLine
-after-stops-is a ps ss n bs = go (line (row rounds) n bs)
+  behind-axis : Reader Format.Job
+  behind-axis n bs = andThen (line (row posts) n bs) (λ k n bs. andThen (postLines (countOf k) n bs) behind-posts)
+
+  stops-same : (ps ss : List (List ℤ)) (n : ℕ) (bs : List ℕ) → behind-stops ps ss n bs ≡ after-stops ps ss n bs
+  unfolding behind-stops after-stops lastLine
+  stops-same ps ss n bs = go (line (row rounds) n bs)
+    where
+      last : (k : List ℤ) (r : Reading (Unit {0})) → andThen r (λ u n bs. got (jobOf a c ps ss k) n bs) ≡ andThen (andThen r (λ u n bs. got k n bs))
+          (λ k n bs. got (jobOf a c ps ss k) n bs)
+      last k (fault why) = refl
+      last k (got u n bs) = refl
+
+      go : (r : Reading (List ℤ)) → andThen r (λ k n bs. andThen (end n bs) (λ u n bs. got (jobOf a c ps ss k) n bs)) ≡ andThen
+          (andThen r (λ k n bs. andThen (end n bs) (λ u n bs. got k n bs))) (λ k n bs. got (jobOf a c ps ss k) n bs)
+      go (fault why) = refl
+      go (got k n bs) = last k (end n bs)
+
+  posts-same : (ps : List (List ℤ)) (n : ℕ) (bs : List ℕ) → behind-posts ps n bs ≡ after-posts ps n bs
+  unfolding behind-posts after-posts countedLines
+  posts-same ps n bs = then-assoc (line (row stops) n bs) (λ k. stopLines (countOf k)) (behind-stops ps)
+      ∙ then-same (allStops n bs) (behind-stops ps) (after-stops ps) (stops-same ps)
+
+  axis-same : (n : ℕ) (bs : List ℕ) → behind-axis n bs ≡ restLines a c n bs
+  unfolding behind-axis countedLines
+  axis-same n bs = then-assoc (line (row posts) n bs) (λ k. postLines (countOf k)) behind-posts
+      ∙ then-same (allPosts n bs) behind-posts after-posts posts-same ∙ sym (rest-is n bs)
+
+lines-are : (missing : Query.AxisCosts) (n : ℕ) (bs : List ℕ) →
+    jobLines missing n bs ≡ andThen (line (row area) n bs) (λ a n bs. andThen (optional (row axis) (axisNumbers missing) n bs) (restLines a))
+unfolding jobLines behind-axis behind-posts behind-stops
+lines-are missing n bs = then-same (line (row area) n bs) _ _
+    (λ a n bs. then-same (optional (row axis) (axisNumbers missing) n bs) (behind-axis a) (restLines a) (axis-same a))
+
+-- ---- the lines behind those of the area and the axis costs
+-- the reading that they come to
+record RestIs (s : List ℕ) (at first : ℕ) (a : Rect) (c : AxisCosts) (reading : Reading Format.Job) : Type 0 where
+  is : restLines (areaNumbers a) (costNumbers c) first (drop at s) ≡ reading
+
+module _ {s : List ℕ} {at first : ℕ} {a : Rect} {c : AxisCosts} {postsRead : Posts} (posts-at : PostsAt s (first + 1) (allPosts first (drop at s)) postsRead)
   where
-    last : (k : List ℤ) (r : Reading (Unit {0})) → andThen r (λ u n bs. got (jobOf a ps ss k) n bs) ≡ andThen (andThen r (λ u n bs. got k n bs))
-        (λ k n bs. got (jobOf a ps ss k) n bs)
-    last k (fault why) = refl
-    last k (got u n bs) = refl
+    from-posts : RestIs s at first a c (andThen (nextIn s (posts-at .lines) (first + 1 + postsRead .count) (postsRead .next))
+        (after-posts (areaNumbers a) (costNumbers c)))
+    from-posts = record { is = rw (rest-is (areaNumbers a) (costNumbers c) first (drop at s), posts-at .is) }
 
-    go : (r : Reading (List ℤ)) → andThen r (λ k n bs. andThen (end n bs) (λ u n bs. got (jobOf a ps ss k) n bs)) ≡ andThen
-        (andThen r (λ k n bs. andThen (end n bs) (λ u n bs. got k n bs))) (λ k n bs. got (jobOf a ps ss k) n bs)
-    go (fault why) = refl
-    go (got k n bs) = last k (end n bs)
-
--- ---- the whole reading
-pub read-long : (s : List ℕ) → 16384 < length s → refused TooLong ≡ readJob s
-unfolding readJob
-read-long s h = rw (lt-ltb 16384 (length s) h)
-
-read-short : (s : List ℕ) → length s ≤ 16384 → readJob s ≡ readingResult (jobLines 1 s)
-unfolding readJob
-read-short s short = rw (le-ltb 16384 (length s) short)
-
-module _ {s : List ℕ} (short : length s ≤ 16384) {area-answer : AreaLine} (area-at : LineAt (row area) s 0 1 (areaAnswer area-answer)) where
-  pub read-area : {why : Refusal} → area-answer ≡ A.Refused why → refused why ≡ readJob s
-  read-area e = rw (read-short s short, lines-are 1 s, ← subst (λ (r : AreaLine). LineAt (row area) s 0 1 (areaAnswer r)) e area-at .is)
-
-  module _ {a : Rect} {at₁ : ℕ} (area-is : area-answer ≡ A.Read a at₁) {postsRead : Posts} (posts-at : PostsAt s 3 (allPosts 2 (drop at₁ s)) postsRead) where
-    from-posts : jobLines 1 s ≡ andThen (nextIn s (posts-at .lines) (3 + postsRead .count) (postsRead .next)) (after-posts (areaNumbers a))
-    from-posts = rw (
-      lines-are 1 s,
-      ← subst (λ (r : AreaLine). LineAt (row area) s 0 1 (areaAnswer r)) area-is area-at .is,
-      after-area-is (areaNumbers a) 2 (drop at₁ s),
-      posts-at .is,
-    )
-
-    pub read-posts : {why : Refusal} → postsRead .next ≡ Refused why → refused why ≡ readJob s
-    read-posts e = rw (read-short s short, from-posts, e)
+    pub rest-posts : {why : Refusal} → postsRead .next ≡ Refused why → {r : Job} → r ≡ jobRecord (refused why) → RestAt s at first a c r
+    rest-posts e f = record { is = rw (from-posts .is, e) f }
 
     module _ {at₂ : ℕ} (posts-is : postsRead .next ≡ At at₂) {stopsRead : Stops}
-        (stops-at : StopsAt s (3 + postsRead .count + 1) (allStops (3 + postsRead .count) (drop at₂ s)) stopsRead) where
-      from-stops : jobLines 1 s ≡ andThen (nextIn s (stops-at .lines) (3 + postsRead .count + 1 + stopsRead .count) (stopsRead .next))
-          (after-stops (areaNumbers a) (posts-at .lines))
-      from-stops = rw (from-posts, posts-is, after-posts-is (areaNumbers a) (posts-at .lines) (3 + postsRead .count) (drop at₂ s), stops-at .is)
+        (stops-at : StopsAt s (first + 1 + postsRead .count + 1) (allStops (first + 1 + postsRead .count) (drop at₂ s)) stopsRead) where
+      from-stops : RestIs s at first a c (andThen (nextIn s (stops-at .lines) (first + 1 + postsRead .count + 1 + stopsRead .count) (stopsRead .next))
+          (after-stops (areaNumbers a) (costNumbers c) (posts-at .lines)))
+      unfolding after-posts
+      from-stops = record { is = rw (from-posts .is, posts-is, stops-at .is) }
 
-      pub read-stops : {why : Refusal} → stopsRead .next ≡ Refused why → refused why ≡ readJob s
-      read-stops e = rw (read-short s short, from-stops, e)
+      pub rest-stops : {why : Refusal} → stopsRead .next ≡ Refused why → {r : Job} → r ≡ jobRecord (refused why) → RestAt s at first a c r
+      rest-stops e f = record { is = rw (from-stops .is, e) f }
 
-      module _ {at₃ : ℕ} (stops-is : stopsRead .next ≡ At at₃) {last : CountLine} (last-at : LastAt s at₃ (3 + postsRead .count + 1 + stopsRead .count) last)
-        where
-          from-last : jobLines 1 s ≡ andThen (answerIn s (3 + postsRead .count + 1 + stopsRead .count) (countAnswer last))
-              (λ k n bs. got (jobOf (areaNumbers a) (posts-at .lines) (stops-at .lines) k) n bs)
-          from-last = rw (
-            from-stops,
-            stops-is,
-            after-stops-is (areaNumbers a) (posts-at .lines) (stops-at .lines) (3 + postsRead .count + 1 + stopsRead .count)
-                (drop at₃ s),
-            last-at .is,
-          )
+      module _ {at₃ : ℕ} (stops-is : stopsRead .next ≡ At at₃) {last : CountLine}
+          (last-at : LastAt s at₃ (first + 1 + postsRead .count + 1 + stopsRead .count) last) where
+        from-last : RestIs s at first a c (andThen (answerIn s (first + 1 + postsRead .count + 1 + stopsRead .count) (countAnswer last))
+            (λ k n bs. got (jobOf (areaNumbers a) (costNumbers c) (posts-at .lines) (stops-at .lines) k) n bs))
+        unfolding after-stops
+        from-last = record { is = rw (from-stops .is, stops-is, last-at .is) }
 
-          pub read-last : {why : Refusal} → last ≡ C.Refused why → refused why ≡ readJob s
-          read-last e = rw (read-short s short, from-last, e)
+        pub rest-last : {why : Refusal} → last ≡ C.Refused why → {r : Job} → r ≡ jobRecord (refused why) → RestAt s at first a c r
+        rest-last e f = record { is = rw (from-last .is, e) f }
 
-          pub read-all : {n next : ℕ} → last ≡ C.Read n next → {r : Job} → CheckedAt a postsRead stopsRead n r → r ≡ jobRecord (readJob s)
-          read-all e checked-at = rw (read-short s short, from-last, e) (checked-at .is (posts-at .hold) (stops-at .hold))
+        pub rest-all : {n next : ℕ} → last ≡ C.Read n next → {r : Job} → CheckedAt a c postsRead stopsRead n r → RestAt s at first a c r
+        rest-all e checked-at = record { is = rw (from-last .is, e) (checked-at .is (posts-at .hold) (stops-at .hold)) }
+
+-- ---- the whole reading
+pub read-long : (missing : Query.AxisCosts) (s : List ℕ) → 16384 < length s → refused TooLong ≡ readWith missing s
+unfolding readWith
+read-long missing s h = rw (lt-ltb 16384 (length s) h)
+
+module _ (missing : AxisCosts) {s : List ℕ} (short : length s ≤ 16384) {area-answer : AreaLine}
+    (area-at : LineAt (row area) s 0 1 (areaAnswer area-answer)) where
+  from-area : {r : AreaLine} → area-answer ≡ r → jobLines (costsOf missing) 1 s ≡ andThen (answerIn s 1 (areaAnswer r))
+      (λ a n bs. andThen (optional (row axis) (costNumbers missing) n bs) (restLines a))
+  from-area e = rw (lines-are (costsOf missing) 1 s, ← subst (λ (r : AreaLine). LineAt (row area) s 0 1 (areaAnswer r)) e area-at .is)
+
+  pub read-area : {why : Refusal} → area-answer ≡ A.Refused why → refused why ≡ readWith (costsOf missing) s
+  read-area e = rw (read-short (costsOf missing) s short, from-area e)
+
+  module _ {a : Rect} {at : ℕ} (area-is : area-answer ≡ A.Read a at) {axisRead : Axis} (axis-at : AxisAt s at missing axisRead) where
+    from-axis : jobLines (costsOf missing) 1 s
+        ≡ andThen (nextIn s (costNumbers (axisRead .costs)) (axisRead .line) (axisRead .next)) (restLines (areaNumbers a))
+    from-axis = rw (from-area area-is, axis-at .is)
+
+    pub read-axis : {why : Refusal} → axisRead .next ≡ Refused why → refused why ≡ readWith (costsOf missing) s
+    read-axis e = rw (read-short (costsOf missing) s short, from-axis, e)
+
+    pub read-rest : {at₂ : ℕ} → axisRead .next ≡ At at₂ → {r : Job} → RestAt s at₂ (axisRead .line) a (axisRead .costs) r →
+        r ≡ jobRecord (readWith (costsOf missing) s)
+    read-rest e rest-at = rw (read-short (costsOf missing) s short, from-axis, e) (rest-at .is)
+
+-- a missing line means 1,1
+pub read-plain : (s : List ℕ) {r : Job} → r ≡ jobRecord (readWith Query.plain s) → r ≡ jobRecord (readJob s)
+read-plain s e = rw (job-with s) e

@@ -1,20 +1,21 @@
 -- What reading line by line gives where it finds no fault: the values that the lines spell, each in its range.
 -- Assumes nothing.
 use mathlib.Core.Path.{_≡_, refl, sym, ap, _∙_}
-use mathlib.Core.Bool.{Bool, true, false, cond}
+use mathlib.Core.Bool.{Bool, true, false, not, cond}
 use mathlib.Core.List.{List, [], _∷_, _++_, append-nil, append-assoc, flatMap, List·Memᴰ, List·Memᴰ·head, List·Memᴰ·tail, List·Memᴰ·not-nil}
 use mathlib.Core.Option.{Option, none, some}
 use Prim.Native.Nat.{ℕ, zero, suc, _+_}
 use native.Mathlib.Omega.{arith}
-use lib.Dec.{T}
+use lib.Dec.{T, eqb, eqb-refl}
 use lib.IntN.{ℤ}
 use lib.ListN.{length}
 use lib.Seq.{append-snoc}
 use Rattle.numbers.proofs.Truth.{holds}
 use Rattle.numbers.proofs.Members.{each-cons}
+use Rattle.text.specs.TextReading.{startsWith}
 use Rattle.job_line.specs.OneLine.{Reading, fault, got, Reader, line, lineResult}
-use Rattle.job.specs.Reader.{andThen, _>>=_, repeated, end}
-use Rattle.job_line.specs.Kinds.{Kind, row, formOf, inRanges}
+use Rattle.job.specs.Reader.{andThen, _>>=_, repeated, optional, end}
+use Rattle.job_line.specs.Kinds.{Kind, Row, row, formOf, inRanges}
 use Rattle.job.specs.Spelling.{JobLine}
 use Rattle.refusal.specs.declared.Refusal.{Refusal}
 use Rattle.refusal.specs.declared.Refusal.the-variants.{OutOfRange}
@@ -44,6 +45,16 @@ unfolding end
 end-got n [] e = refl
 end-got n (b ∷ bs) e = not-got e
 
+pub starts-key : (ks bs : List ℕ) → startsWith ks (ks ++ bs) ≡ true
+unfolding startsWith
+starts-key [] bs = refl
+starts-key (k ∷ ks) bs = rw (holds (eqb k k) (eqb-refl k)) (starts-key ks bs)
+
+pub optional-is : (row : Row) (missing : List ℤ) (n : ℕ) (bs : List ℕ) →
+    optional row missing n bs ≡ cond (startsWith (row .key) bs) (line row n bs) (got missing n bs)
+unfolding optional
+optional-is row missing n bs = refl
+
 -- ---- lines of a kind
 module _ (k : Kind) where
   -- a line that holds these numbers
@@ -66,6 +77,30 @@ module _ (k : Kind) where
   pub line-gets : (n : ℕ) (ns : List ℤ) (rest : List ℕ) → Ranged ns → line (row k) n (textOf (row k) ns ++ rest) ≡ got ns (n + 1) rest
   unfolding line
   line-gets n ns rest t = rw (form-spells (row k) .writes ns rest (range-fits k ns t), holds (inRanges (row k .ranges) ns) t)
+
+  -- a line that may be missing: whether the text carries it, and what was read
+  pub record OptionalGot (missing : List ℤ) (bs : List ℕ) (ns : List ℤ) (rest : List ℕ) : Type 0 where
+    pub carried : Bool
+    pub text : bs ≡ cond carried (textOf (row k) ns) [] ++ rest
+    pub ranged : T carried → Ranged ns
+    pub left-out : T (not carried) → ns ≡ missing
+
+  pub optional-got : (missing : List ℤ) (n : ℕ) (bs : List ℕ) (ns : List ℤ) (m : ℕ) (rest : List ℕ) → optional (row k) missing n bs ≡ got ns m rest →
+      OptionalGot missing bs ns rest
+  optional-got missing n bs ns m rest e = go (startsWith (row k .key) bs) (sym (optional-is (row k) missing n bs) ∙ e)
+    where
+      go : (b : Bool) → cond b (line (row k) n bs) (got missing n bs) ≡ got ns m rest → OptionalGot missing bs ns rest
+      go true e = let (t, i) = line-got n bs ns m rest e in record { carried = true; text = t; ranged = λ u. i; left-out = λ u. absurd u }
+      go false e = record { carried = false; text = cc; ranged = λ u. absurd u; left-out = λ u. cc }
+
+  pub optional-gets : (carried : Bool) (missing : List ℤ) (n : ℕ) (ns : List ℤ) (rest : List ℕ) → (T carried → Ranged ns) →
+      startsWith (row k .key) rest ≡ false →
+      (m : ℕ) × (optional (row k) missing n (cond carried (textOf (row k) ns) [] ++ rest) ≡ got (cond carried ns missing) m rest)
+  optional-gets true missing n ns rest t off = (
+    n + 1,
+    rw (optional-is, append-assoc, starts-key, ← append-assoc) (line-gets n ns rest (t tt)),
+  )
+  optional-gets false missing n ns rest t off = (n, rw (optional-is, off))
 
   -- so many lines of a kind, behind those read before
   repeated-got : (count : ℕ) (read : List (List ℤ)) (n : ℕ) (bs : List ℕ) (all : List (List ℤ)) (m : ℕ) (rest : List ℕ) →

@@ -8,18 +8,19 @@ use native.Mathlib.Omega.{arith}
 use lib.IntN.{ℤ}
 use lib.ListN.{length, length-append}
 use Rattle.numbers.proofs.Joined.{flatten-snoc}
-use Rattle.job_line.specs.Kinds.{Kind, area, posts, post, stops, stop, rounds, row, formOf}
+use Rattle.job_line.specs.Kinds.{Kind, area, axis, posts, post, stops, stop, rounds, row, formOf}
 use Rattle.job.specs.Format.{refused, readJob}
 use Rattle.refusal.specs.Refusal.{numberOf, lineOf}
 use Rattle.job.specs.Meaning.{Good, top, one-more, FirstMalformed, no-form, too-much, Condition, too-long, in-text}
 use Rattle.job.specs.Meaning.{TextCondition, malformed, out-of-range, empty-area, no-posts, no-stops}
 use Rattle.refusal.specs.declared.Refusal.{Refusal}
-use Rattle.job.proofs.Meaning.{refused-law}
+use Rattle.job.proofs.Meaning.{refused-job}
 
 -- ---- the line: each line before it has a byte
 no-bytes : (k : Kind) → formOf (row k) [] ≡ none
 unfolding formOf
 no-bytes area = refl
+no-bytes axis = refl
 no-bytes posts = refl
 no-bytes post = refl
 no-bytes stops = refl
@@ -33,9 +34,9 @@ some-bytes : (k : Kind) (text : List ℕ) {r : List ℤ × List ℕ} → formOf 
 some-bytes k [] e = not-none (sym (no-bytes k) ∙ e)
 some-bytes k (b ∷ text) e = omega arith
 
-good-length : {lines : List (List ℕ)} {due : List Kind} → Good lines due → length lines ≤ length (flatten lines)
+good-length : {lines : List (List ℕ)} {rest : List ℕ} {due : List Kind} → Good lines rest due → length lines ≤ length (flatten lines)
 good-length top = omega arith
-good-length (one-more {lines} {k} {due} good text ns e t) =
+good-length (one-more {lines} {rest} {k} {due} text ns good e t) =
     let joined : flatten (lines ++ (text ∷ [])) ++ [] ≡ flatten lines ++ (text ++ []) = flatten-snoc lines text [] in
     let same = ap length joined in
     omega (
@@ -49,7 +50,7 @@ good-length (one-more {lines} {k} {due} good text ns e t) =
       same,
     )
 
-line-number : (bytes : List ℕ) (lines : List (List ℕ)) (rest : List ℕ) {due : List Kind} {n : ℕ} → length bytes ≤ 16384 → Good lines due →
+line-number : (bytes : List ℕ) (lines : List (List ℕ)) (rest : List ℕ) {due : List Kind} {n : ℕ} → length bytes ≤ 16384 → Good lines rest due →
     bytes ≡ flatten lines ++ rest → n ≡ suc (length lines) → n ≤ 16385
 line-number bytes lines rest short good split number = omega (arith, good-length good, ap length split, length-append (flatten lines) rest)
 
@@ -78,4 +79,4 @@ condition-number bytes _ (too-long h) = omega arith
 condition-number bytes why (in-text short f) = text-number bytes why f .1
 
 pub line-most : (bytes : List ℕ) (why : Refusal) → readJob bytes ≡ refused why → lineOf why ≤ 16385
-line-most bytes why e = condition-line bytes why (refused-law bytes why .exactly .0 e)
+line-most bytes why e = condition-line bytes why (refused-job bytes why .0 e)

@@ -5,14 +5,17 @@ use mathlib.Core.Path.{_≡_}
 use mathlib.Core.List.{List, [], _∷_, map}
 use lib.IntN.{ℤ, pos}
 use lib.ListN.{length, drop}
-use Rattle.job_line.specs.Kinds.{Kind, posts, post, stops, stop, rounds, row}
+use Rattle.job_line.specs.Kinds.{Kind, axis, posts, post, stops, stop, rounds, row}
 use Rattle.job_line.specs.OneLine.{Reading, fault, got, Reader, line}
-use Rattle.job.specs.Reader.{_>>=_, _>>_, return, repeated, end}
-use Rattle.job_line.specs.Reading.{areaNumbers, countAnswer, answerIn, Within}
-use Rattle.job.specs.Format.{countOf, postOf, stopOf, jobOf, checked}
+use Rattle.job.specs.Reader.{_>>=_, _>>_, return, repeated, optional, end}
+use Rattle.job_line.specs.Reading.{areaNumbers, costNumbers, countAnswer, answerIn, Within}
+use Rattle.job.specs.Format as Format
+use Rattle.job.specs.Format.{countOf, postOf, stopOf, jobOf, checked, readingResult}
 use Rattle.job.specs.JobRecord.{jobRecord}
 use Rattle.numbers.specs.Padded.{padded}
+use Rattle.deck.specs.declared.AxisCosts.{AxisCosts}
 use Rattle.deck.specs.declared.Rect.{Rect}
+use Rattle.job.specs.declared.Axis.{Axis}
 use Rattle.job.specs.declared.Job.{Job}
 use Rattle.job_line.specs.declared.CountLine.{CountLine}
 use Rattle.job.specs.declared.Next.{Next}
@@ -25,6 +28,11 @@ use Rattle.query.specs.Range.{postsLimit, stopsLimit}
 abbrev pub nextIn : {A : Type 0} → List ℕ → A → ℕ → Next → Reading A
 nextIn s a n (At at) = got a n (drop at s)
 nextIn s a n (Refused why) = fault why
+
+-- the second line of a job, which may be missing and then stands for these costs
+pub record AxisAt (s : List ℕ) (at : ℕ) (missing : AxisCosts) (r : Axis) : Type 0 where
+  pub is : nextIn s (costNumbers (r .costs)) (r .line) (r .next) ≡ optional (row axis) (costNumbers missing) 2 (drop at s)
+  pub few : r .line ≤ 3
 
 -- so many lines of a kind
 abbrev pub manyLines : Kind → ℕ → Reader (List (List ℤ))
@@ -93,7 +101,20 @@ pub record LastAt (s : List ℕ) (at n : ℕ) (r : CountLine) : Type 0 where
   pub is : answerIn s n (countAnswer r) ≡ lastLine n (drop at s)
   pub within : Within s (countAnswer r)
 
+-- the lines behind those of the area and the axis costs, whose numbers these are, and nothing behind them
+unfoldable pub restLines : List ℤ → List ℤ → Reader Format.Job
+unfolding countedLines lastLine return _>>=_
+restLines a c = do
+  ps ← allPosts
+  ss ← allStops
+  n ← lastLine
+  return (jobOf a c ps ss n)
+
+-- what they are read as, with refusals 4, 5 and 6 behind them
+pub record RestAt (s : List ℕ) (at n : ℕ) (area : Rect) (costs : AxisCosts) (r : Job) : Type 0 where
+  pub is : r ≡ jobRecord (readingResult (restLines (areaNumbers area) (costNumbers costs) n (drop at s)))
+
 -- refusals 4, 5 and 6 of what the lines hold, or the job
-pub record CheckedAt (area : Rect) (postsRead : Posts) (stopsRead : Stops) (n : ℕ) (r : Job) : Type 0 where
+pub record CheckedAt (area : Rect) (costs : AxisCosts) (postsRead : Posts) (stopsRead : Stops) (n : ℕ) (r : Job) : Type 0 where
   pub is : {ps ss : List (List ℤ)} → PostsHold postsRead ps → StopsHold stopsRead ss →
-      r ≡ jobRecord (checked (jobOf (areaNumbers area) ps ss (pos n ∷ [])))
+      r ≡ jobRecord (checked (jobOf (areaNumbers area) (costNumbers costs) ps ss (pos n ∷ [])))

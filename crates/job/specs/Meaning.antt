@@ -57,10 +57,10 @@ pub data Good : List (List ℕ) → List ℕ → List Kind → Type 0 where
 
 -- line n is the first that does not have its form, is missing, or is too much
 pub data FirstMalformed (bytes : List ℕ) (n : ℕ) : Type 0 where
-  no-form : (lines : List (List ℕ)) (rest : List ℕ) (k : Kind) (due : List Kind) → Good lines rest (k ∷ due) → bytes ≡ flatten lines ++ rest →
-      n ≡ suc (length lines) → formOf (row k) rest ≡ none → FirstMalformed bytes n
-  too-much : (lines : List (List ℕ)) (rest : List ℕ) → Good lines rest [] → bytes ≡ flatten lines ++ rest → n ≡ suc (length lines) → rest ≢ [] →
-      FirstMalformed bytes n
+  no-form : (lines : List (List ℕ)) (rest : List ℕ) (k : Kind) (due : List Kind) → Good lines rest (k ∷ due) →
+      bytes ≡ flatten lines ++ rest → n ≡ suc (length lines) → formOf (row k) rest ≡ none → FirstMalformed bytes n
+  too-much : (lines : List (List ℕ)) (rest : List ℕ) → Good lines rest [] → bytes ≡ flatten lines ++ rest → n ≡ suc (length lines) →
+      rest ≢ [] → FirstMalformed bytes n
 
 -- line n has its form and a value out of range, and every line before it has its form and ranges
 pub record FirstOutOfRange (bytes : List ℕ) (n : ℕ) : Type 0 where

@@ -1,8 +1,10 @@
 // The job format: a job's bytes are read as the deck and rounds that they spell, or refused at their first fault.
 
+use deck::AxisCosts;
 use deck::Deck;
 use deck::Rect;
 use job_line::AreaLine;
+use job_line::AxisLine;
 use job_line::CountLine;
 use job_line::PostLine;
 use job_line::StopLine;
@@ -14,10 +16,12 @@ use refusal::Refusal;
 ghost use mathlib.Core.Path.{_≡_};
 ghost use Prim.Native.Nat.{_+_, _≤_};
 ghost use lib.ListN.{drop};
+ghost use Rattle.deck.specs.DeckOf.{costsOf};
 ghost use Rattle.job_line.specs.Reading.{areaNumbers};
-ghost use Rattle.job.specs.Format.{areaOf, emptyArea, readJob, refused};
+ghost use Rattle.job.specs.Format.{areaOf, emptyArea, readWith, readJob, refused};
 ghost use Rattle.job.specs.JobRecord.{jobRecord};
-ghost use Rattle.job.specs.ManyLines.{postLines, stopLines, PostsAt, StopsAt, allPosts, allStops, LastAt, CheckedAt};
+ghost use Rattle.job.specs.ManyLines.{postLines, stopLines, allPosts, allStops};
+ghost use Rattle.job.specs.ManyLines.{AxisAt, PostsAt, StopsAt, LastAt, RestAt, CheckedAt};
 
 pub enum Outcome {
     Accepted(u64),
@@ -34,6 +38,13 @@ pub struct Job {
 enum Next {
     At(usize),
     Refused(Refusal),
+}
+
+// The axis costs, and the line where reading goes on.
+struct Axis {
+    next: Next,
+    costs: AxisCosts,
+    line: u64,
 }
 
 // The posts and stops that were read, in the first `count` elements.
@@ -53,6 +64,31 @@ struct Stops {
 }
 
 // ---- parts
+
+// The line `axis=a,b`, which is the second line where the text goes on with its key. Where it is missing, `missing` stands for it.
+fn read_axis(s: &[u8], at: usize, missing: AxisCosts) -> Axis
+    ensures { λ r. ⌜ AxisAt (now (s .entry)) at missing r ⌝ }
+{
+    if !text::starts(s, at, b"axis=") {
+        return Axis {
+            next: Next::At(at),
+            costs: missing,
+            line: 2,
+        };
+    }
+    match job_line::axis_line(s, at, 2) {
+        AxisLine::Read(costs, next) => Axis {
+            next: Next::At(next),
+            costs,
+            line: 3,
+        },
+        AxisLine::Refused(why) => Axis {
+            next: Next::Refused(why),
+            costs: missing,
+            line: 2,
+        },
+    }
+}
 
 // `count` lines `post=x,y` from line `first` on.
 fn post_lines(s: &[u8], start: usize, count: usize, first: u64) -> Posts
@@ -201,6 +237,7 @@ fn refuse(why: Refusal) -> Job
     Job {
         outcome: Outcome::Refused(why),
         deck: Deck {
+            axis: AxisCosts { a: 0, b: 0 },
             xlo: 0,
             ylo: 0,
             xhi: 0,
@@ -217,8 +254,8 @@ fn refuse(why: Refusal) -> Job
 }
 
 // Refusals 4, 5 and 6, in this order, or the job.
-fn check(area: Rect, posts: Posts, stops: Stops, rounds: u64) -> Job
-    ensures { λ r. ⌜ CheckedAt area posts stops rounds r ⌝ }
+fn check(area: Rect, costs: AxisCosts, posts: Posts, stops: Stops, rounds: u64) -> Job
+    ensures { λ r. ⌜ CheckedAt area costs posts stops rounds r ⌝ }
 {
     let empty = empty_area(area);
     let no_posts = posts.count == 0;
@@ -240,6 +277,7 @@ fn check(area: Rect, posts: Posts, stops: Stops, rounds: u64) -> Job
     Job {
         outcome: Outcome::Accepted(rounds),
         deck: Deck {
+            axis: costs,
             xlo: area.xlo,
             ylo: area.ylo,
             xhi: area.xhi,
@@ -255,33 +293,54 @@ fn check(area: Rect, posts: Posts, stops: Stops, rounds: u64) -> Job
     }
 }
 
-// A job's bytes, read line by line from the top: the deck and the rounds that they spell, or the first refusal.
-pub fn read(bytes: &[u8]) -> Job
-    ensures { λ r. ⌜ r ≡ jobRecord (readJob (now (bytes .entry))) ⌝ }
+// The lines behind those of the area and the axis costs, from line `first` on, and then refusals 4, 5 and 6.
+fn read_rest(s: &[u8], at: usize, first: u64, area: Rect, costs: AxisCosts) -> Job
+    requires { ⌜ first ≤ 3 ⌝ }
+    ensures { λ r. ⌜ RestAt (now (s .entry)) at first area costs r ⌝ }
+{
+    let posts = read_posts(s, at, first);
+    let after_posts = posts.next;
+    let at = match after_posts {
+        Next::At(at) => at,
+        Next::Refused(why) => return refuse(why),
+    };
+    let line = first + 1 + posts.count as u64;
+    let stops = read_stops(s, at, line);
+    let after_stops = stops.next;
+    let at = match after_stops {
+        Next::At(at) => at,
+        Next::Refused(why) => return refuse(why),
+    };
+    match last_line(s, at, line + 1 + stops.count as u64) {
+        CountLine::Read(rounds, _) => return check(area, costs, posts, stops, rounds as u64),
+        CountLine::Refused(why) => return refuse(why),
+    }
+}
+
+// A job's bytes, read line by line from the top: the deck and the rounds that they spell, or the first refusal. A job without an axis
+// line has the axis costs `missing`.
+pub fn read_with(bytes: &[u8], missing: AxisCosts) -> Job
+    ensures { λ r. ⌜ r ≡ jobRecord (readWith (costsOf missing) (now (bytes .entry))) ⌝ }
 {
     if JOB_BYTES < bytes.len() {
         return refuse(Refusal::TooLong);
     }
     match job_line::area_line(bytes, 0, 1) {
         AreaLine::Read(area, at) => {
-            let posts = read_posts(bytes, at, 2);
-            let after_posts = posts.next;
-            let at = match after_posts {
-                Next::At(at) => at,
+            let axis = read_axis(bytes, at, missing);
+            let after_axis = axis.next;
+            match after_axis {
+                Next::At(at) => return read_rest(bytes, at, axis.line, area, axis.costs),
                 Next::Refused(why) => return refuse(why),
-            };
-            let line = 3 + posts.count as u64;
-            let stops = read_stops(bytes, at, line);
-            let after_stops = stops.next;
-            let at = match after_stops {
-                Next::At(at) => at,
-                Next::Refused(why) => return refuse(why),
-            };
-            match last_line(bytes, at, line + 1 + stops.count as u64) {
-                CountLine::Read(rounds, _) => return check(area, posts, stops, rounds as u64),
-                CountLine::Refused(why) => return refuse(why),
             }
         }
         AreaLine::Refused(why) => return refuse(why),
     }
+}
+
+// The same, where a job without an axis line has the axis costs 1 and 1.
+pub fn read(bytes: &[u8]) -> Job
+    ensures { λ r. ⌜ r ≡ jobRecord (readJob (now (bytes .entry))) ⌝ }
+{
+    read_with(bytes, AxisCosts { a: 1, b: 1 })
 }

@@ -180,6 +180,11 @@ module _ {row : Row} {s : List ℕ} {at : ℕ} {t : Bool} (is-key : Starts s at 
   unfolding bind
   key-then on f = record { is = rw (form-is, key-on is-key on) (f .is) }
 
+-- two numbers that are not negative, by their sizes
+pub both-natural : {row : Row} {s : List ℕ} {at : ℕ} {rest : List ℕ} (x y : ℤ) → T (nonNeg x) → T (nonNeg y) →
+    FormAt row s at (some (x ∷ y ∷ [], rest)) → FormAt row s at (some (pos (natAbs x) ∷ pos (natAbs y) ∷ [], rest))
+both-natural x y t u f = rw (pos-natAbs x t, pos-natAbs y u) f
+
 module _ {row : Row} {s : List ℕ} {at n : ℕ} where
   pub malformed : FormAt row s at none → LineAt row s at n (refused (Malformed n))
   unfolding line

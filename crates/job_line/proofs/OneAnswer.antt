@@ -9,9 +9,12 @@ use lib.IntN.{ℤ, pos, natAbs}
 use lib.ListN.{length, getD, length-drop}
 use Rattle.job_line.specs.Kinds.{Row}
 use Rattle.job_line.specs.OneLine.{Reading, fault, got}
-use Rattle.job_line.specs.Reading.{LineAnswer, read, refused, areaAnswer, countAnswer, postAnswer, stopAnswer, answerIn, Within, LineAt}
+use Rattle.job_line.specs.Reading.{LineAnswer, read, refused, answerIn, Within, LineAt}
+use Rattle.job_line.specs.Reading.{areaAnswer, axisAnswer, countAnswer, postAnswer, stopAnswer}
 use Rattle.job_line.specs.declared.AreaLine.{AreaLine}
 use Rattle.job_line.specs.declared.AreaLine.the-variants as A
+use Rattle.job_line.specs.declared.AxisLine.{AxisLine}
+use Rattle.job_line.specs.declared.AxisLine.the-variants as X
 use Rattle.job_line.specs.declared.CountLine.{CountLine}
 use Rattle.job_line.specs.declared.CountLine.the-variants as C
 use Rattle.job_line.specs.declared.PostLine.{PostLine}
@@ -43,6 +46,14 @@ area-back : (r : AreaLine) → areaBack (areaAnswer r) ≡ r
 area-back (A.Read a next) = refl
 area-back (A.Refused why) = refl
 
+abbrev axisBack : LineAnswer → AxisLine
+axisBack (read ns next) = X.Read (record { a = natAbs (number ns 0); b = natAbs (number ns 1) }) next
+axisBack (refused why) = X.Refused why
+
+axis-back : (r : AxisLine) → axisBack (axisAnswer r) ≡ r
+axis-back (X.Read c next) = refl
+axis-back (X.Refused why) = refl
+
 abbrev countBack : LineAnswer → CountLine
 countBack (read ns next) = C.Read (natAbs (number ns 0)) next
 countBack (refused why) = C.Refused why
@@ -70,6 +81,9 @@ stop-back (S.Refused why) = refl
 module _ {row : Row} {s : List ℕ} {at n : ℕ} where
   pub one-area : {r r′ : AreaLine} → LineAt row s at n (areaAnswer r) → LineAt row s at n (areaAnswer r′) → r ≡ r′
   one-area {r} {r′} p q = sym (area-back r) ∙ ap areaBack (one-answer p q) ∙ area-back r′
+
+  pub one-axis : {r r′ : AxisLine} → LineAt row s at n (axisAnswer r) → LineAt row s at n (axisAnswer r′) → r ≡ r′
+  one-axis {r} {r′} p q = sym (axis-back r) ∙ ap axisBack (one-answer p q) ∙ axis-back r′
 
   pub one-count : {r r′ : CountLine} → LineAt row s at n (countAnswer r) → LineAt row s at n (countAnswer r′) → r ≡ r′
   one-count {r} {r′} p q = sym (count-back r) ∙ ap countBack (one-answer p q) ∙ count-back r′

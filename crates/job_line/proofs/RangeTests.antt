@@ -6,7 +6,7 @@ use mathlib.Core.List.{List, [], _∷_}
 use Prim.Native.Nat.{ℕ, _≤_, _<_}
 use native.Mathlib.Omega.{arith}
 use borrow.Author.Tests.{ltb-true, le-leb, lt-leb}
-use lib.Dec.{T}
+use lib.Dec.{T, leb}
 use lib.IntN.{ℤ, pos, negsuc, natAbs}
 use lib.Signed.{leZ, ltZ, nonNeg}
 use mir.Syntax.{w64}
@@ -15,7 +15,7 @@ use Rattle.numbers.specs.Integer.{between}
 use Rattle.numbers.proofs.Words.{is-true}
 use Rattle.numbers.proofs.WordTests.{back, back-is}
 use Rattle.numbers.proofs.Truth.{and-left, and-right}
-use Rattle.job_line.specs.Kinds.{stop, post, Range, coordinates, visits, upTo, row, inRange, inRanges}
+use Rattle.job_line.specs.Kinds.{axis, stop, post, Range, coordinates, axisCosts, visits, upTo, row, inRange, inRanges}
 
 module _ {lo hi v : ℤ} (l : SFits w64 lo) (h : SFits w64 hi) (f : SFits w64 v) where
   pub between-on : leZ (back lo) (back v) ≡ true → leZ (back v) (back hi) ≡ between lo hi v
@@ -29,6 +29,10 @@ module _ {lo hi v : ℤ} (l : SFits w64 lo) (h : SFits w64 hi) (f : SFits w64 v)
 pub range-held : (range : Range) {v : ℤ} {r : Bool} → SFits w64 v → r ≡ between (range .low) (range .high) (back v) → r ≡ inRange range v
 unfolding inRange
 range-held range f e = rw (back-is f) at e
+
+and-nothing : (t : Bool) → t ≡ t && true
+and-nothing true = refl
+and-nothing false = refl
 
 -- ---- numbers, one after the other
 pub record Tested (ranges : List Range) (ns : List ℤ) (r : Bool) : Type 0 where
@@ -53,11 +57,43 @@ module _ {n : ℤ} {r : Bool} (f : SFits w64 n) where
 
   pub ranges-last : {range : Range} → r ≡ inRange range (back n) → Tested (range ∷ []) (n ∷ []) r
   unfolding inRanges
-  ranges-last {range} e = record { is = rw (first range e refl) (go r) }
-    where
-      go : (t : Bool) → t ≡ t && true
-      go true = refl
-      go false = refl
+  ranges-last {range} e = record { is = rw (first range e refl) (and-nothing r) }
+
+-- ---- axis costs
+pub cost-on : {v : ℕ} → 1 ≤ v → leb v 9 ≡ inRange axisCosts (pos v)
+unfolding inRange
+cost-on {v} h = rw (le-leb 1 v h)
+
+pub cost-off : {v : ℕ} → v < 1 → false ≡ inRange axisCosts (pos v)
+unfolding inRange
+cost-off {v} h = rw (lt-leb 1 v h)
+
+module _ (a b : ℕ) {r : Bool} (e : r ≡ inRange axisCosts (pos a)) where
+  pub costs-on : {t : Bool} → r ≡ true → t ≡ inRange axisCosts (pos b) → t ≡ inRanges (row axis .ranges) (pos a ∷ pos b ∷ [])
+  unfolding inRanges
+  costs-on {t} on f = rw (← e, on, ← f) (and-nothing t)
+
+  pub costs-off : r ≡ false → false ≡ inRanges (row axis .ranges) (pos a ∷ pos b ∷ [])
+  unfolding inRanges
+  costs-off off = rw (← e, off)
+
+-- a negative one
+cost-below : (z : ℤ) → ltZ z (pos 0) ≡ true → inRange axisCosts z ≡ false
+unfolding inRange
+cost-below (pos n) e = absurd (omega (arith, ltb-true n 0 e))
+cost-below (negsuc n) e = refl
+
+pub first-below : (x y : ℤ) → ltZ x (pos 0) ≡ true → inRanges (row axis .ranges) (x ∷ y ∷ []) ≡ false
+unfolding inRanges
+first-below x y e = rw (cost-below x e)
+
+pub second-below : (x y : ℤ) → ltZ y (pos 0) ≡ true → inRanges (row axis .ranges) (x ∷ y ∷ []) ≡ false
+unfolding inRanges
+second-below x y e = rw (cost-below y e) (go (inRange axisCosts x))
+  where
+    go : (t : Bool) → t && false ≡ false
+    go true = refl
+    go false = refl
 
 -- ---- a stop's numbers: its place, tested first, and its visits
 module _ (x y v : ℤ) {r : Bool} (place : r ≡ inRanges (row post .ranges) (x ∷ y ∷ [])) where

@@ -1,4 +1,5 @@
--- Document 01, "Job and report", and document 02, card 2: the lines of a job in one table, and the form and the ranges that a line has by its row.
+-- Document 01, "Job and report", and document 02, card 2: the lines of a job in one table, and the form and the ranges that a line has by
+-- its row.
 -- Assumes nothing.
 use Prim.Native.Nat.{ℕ}
 use mathlib.Core.Bool.{Bool, true, false, _&&_}

@@ -1,7 +1,9 @@
 // One line of a job: what it holds and the place after it, or the refusal of a line without its form or of a value out of range.
 
+use deck::AxisCosts;
 use deck::Rect;
 use limits::LEAST_COORDINATE;
+use limits::MOST_AXIS_COST;
 use limits::MOST_COORDINATE;
 use limits::MOST_VISITS;
 use refusal::Refusal;
@@ -9,9 +11,10 @@ use text::ParsedNumber;
 ghost use mathlib.Core.Path.{_≡_};
 ghost use Rattle.numbers.specs.Integer.{between};
 ghost use mathlib.Core.List.{_∷_, []};
-ghost use Rattle.job_line.specs.Kinds.{area, post, stop, coordinates, row, inRange, inRanges};
-ghost use Rattle.job_line.specs.Reading.{areaNumbers, placeNumbers, FieldAt, areaAnswer, countAnswer, postAnswer, stopAnswer, LineAt};
-ghost use Rattle.job_line.specs.Reading.{countRow};
+ghost use lib.IntN.{pos};
+ghost use Rattle.job_line.specs.Kinds.{area, axis, post, stop, coordinates, axisCosts, row, inRange, inRanges};
+ghost use Rattle.job_line.specs.Reading.{areaNumbers, costNumbers, placeNumbers, FieldAt, LineAt, countRow};
+ghost use Rattle.job_line.specs.Reading.{areaAnswer, axisAnswer, countAnswer, postAnswer, stopAnswer};
 
 // A place as a line has it.
 pub struct Place {
@@ -22,6 +25,11 @@ pub struct Place {
 // What one line is read as: what it holds and the place after it, or the refusal.
 pub enum AreaLine {
     Read(Rect, usize),
+    Refused(Refusal),
+}
+
+pub enum AxisLine {
+    Read(AxisCosts, usize),
     Refused(Refusal),
 }
 
@@ -79,6 +87,22 @@ pub fn area_in_range(a: Rect) -> bool
     coordinate_in_range(a.yhi)
 }
 
+fn cost_in_range(v: u64) -> bool
+    ensures { λ r. ⌜ r ≡ inRange axisCosts (pos v) ⌝ }
+{
+    if 1 <= v { v <= MOST_AXIS_COST } else { false }
+}
+
+pub fn axis_in_range(c: AxisCosts) -> bool
+    ensures { λ r. ⌜ r ≡ inRanges (row axis .ranges) (costNumbers c) ⌝ }
+{
+    if cost_in_range(c.a) {
+        cost_in_range(c.b)
+    } else {
+        false
+    }
+}
+
 pub fn stop_in_range(p: Place, visits: i64) -> bool
     ensures { λ r. ⌜ r ≡ inRanges (row stop .ranges) (p .x ∷ p .y ∷ visits ∷ []) ⌝ }
 {
@@ -131,6 +155,34 @@ pub fn area_line(s: &[u8], at: usize, line: u64) -> AreaLine
         return AreaLine::Refused(Refusal::OutOfRange(line));
     }
     AreaLine::Read(area, next)
+}
+
+// `axis=a,b`
+pub fn axis_line(s: &[u8], at: usize, line: u64) -> AxisLine
+    ensures { λ r. ⌜ LineAt (row axis) (now (s .entry)) at line (axisAnswer r) ⌝ }
+{
+    if !text::starts(s, at, b"axis=") {
+        return AxisLine::Refused(Refusal::Malformed(line));
+    }
+    let ParsedNumber::Read(x_cost, after_a) = field(s, at + 5, b',') else {
+        return AxisLine::Refused(Refusal::Malformed(line));
+    };
+    let ParsedNumber::Read(y_cost, next) = field(s, after_a, b'\n') else {
+        return AxisLine::Refused(Refusal::Malformed(line));
+    };
+    if x_cost < 0 {
+        return AxisLine::Refused(Refusal::OutOfRange(line));
+    }
+    if y_cost < 0 {
+        return AxisLine::Refused(Refusal::OutOfRange(line));
+    }
+    let a = x_cost as u64;
+    let b = y_cost as u64;
+    let costs = AxisCosts { a, b };
+    if !axis_in_range(costs) {
+        return AxisLine::Refused(Refusal::OutOfRange(line));
+    }
+    AxisLine::Read(costs, next)
 }
 
 // `posts=n`, `stops=n`, `rounds=n`: a number from 0 to `most` behind `key`.
