@@ -2,6 +2,7 @@
 -- Assumes nothing.
 use Prim.Native.Nat.{ℕ, suc, _+_, _*_, _≤_, _<_}
 use mathlib.Core.Path.{_≡_, refl, sym, ap, subst, subst₂, _∙_}
+use mathlib.Core.Bool.{Bool, true, false}
 use mathlib.Core.Logic.{_↔_, ⊎-elim}
 use mathlib.Core.List.{List}
 use native.Mathlib.Omega.{arith}
@@ -18,9 +19,10 @@ use Rattle.query.proofs.Demand3 as Query
 use Rattle.query.specs.Range.{FiguresInRange}
 use Rattle.query.proofs.FigureRanges.{run-in-range}
 use Rattle.job.specs.Format.{Job, Result, refused, accepted, readJob}
-use Rattle.job.specs.Spelling.{spell, Allowed}
+use Rattle.query.specs.Deck.{AxisCosts, plain}
+use Rattle.job.specs.Spelling.{spell, Spells, with-line, without-line, Allowed}
 use Rattle.job.proofs.JobLaws.{most-rounds, other-rounds}
-use Rattle.job.proofs.Meaning.{accepted-law, refused-law, spelling-law, allowed-in-range}
+use Rattle.job.proofs.Meaning.{accepted-job, refused-job, spelling-law, allowed-in-range}
 use Rattle.refusal.specs.Refusal.{numberOf, lineOf}
 use Rattle.refusal.specs.declared.Refusal.{Refusal}
 use Rattle.refusal.specs.declared.Refusal.the-variants.{SmallSpace, ShortOutput}
@@ -56,11 +58,20 @@ allowed-more j h a = record {
 }
 
 -- bytes that spell an allowed job are few enough
-pub read-exactly : (job : List ℕ) (j : Job) → (readJob job ≡ accepted j) ↔ ((job ≡ spell j) × Allowed j)
+spells-fits : (missing : AxisCosts) (job : List ℕ) (j : Job) → Spells missing job j → Allowed j → length job ≤ 16384
+spells-fits missing job j (with-line e) a = rw e (spelling-law j .fits a true)
+spells-fits missing job j (without-line e c) a = rw e (spelling-law j .fits a false)
+
+pub read-exactly : (job : List ℕ) (j : Job) → (readJob job ≡ accepted j) ↔ (Spells plain job j × Allowed j)
 read-exactly job j = (
-  λ e. let h = accepted-law job j .exactly .0 e in (h .1, h .2),
-  λ h. accepted-law job j .exactly .1 (rw (h .0) (spelling-law j .fits (h .1)), h .0, h .1),
+  λ e. let h = accepted-job job j .0 e in (h .1, h .2),
+  λ h. accepted-job job j .1 (spells-fits plain job j (h .0) (h .1), h .0, h .1),
 )
+
+-- the same spelling with one more round
+spells-more : (carried : Bool) (j : Job) → Spells plain (spell carried j) j → Spells plain (spell carried (oneMore j)) (oneMore j)
+spells-more true j h = with-line refl
+spells-more false j h = without-line refl (spelling-law j .left-out plain .0 h)
 
 module _ (job : List ℕ) (cells : List ℤ) (out : List ℕ) where
   -- ---- how the call ends
@@ -92,7 +103,7 @@ module _ (job : List ℕ) (cells : List ℤ) (out : List ℕ) where
   ends = go (readJob job) refl
     where
       go : (r : Result) → readJob job ≡ r → Ends
-      go (refused why) e = refusing why (in-reading (refused-law job why .exactly .0 e)) (refused-call why e)
+      go (refused why) e = refusing why (in-reading (refused-job job why .0 e)) (refused-call why e)
       go (accepted j) e =
           ⊎-elim (λ t. let h = ltb→lt _ _ t in refusing SmallSpace (small-space j e h) (space-call j e h))
           (λ t. let h = nltb→le _ _ t in ⊎-elim (λ u. let k = ltb→lt _ _ u in
@@ -114,7 +125,7 @@ module _ (job : List ℕ) (cells : List ℤ) (out : List ℕ) where
   }
 
   demand-2 : Demand2 job cells out
-  demand-2 = record { read-exactly = read-exactly job; fault-exactly = λ why. refused-law job why .exactly; reported = reports }
+  demand-2 = record { read-exactly = read-exactly job; fault-exactly = refused-job job; reported = reports }
 
   -- the figures that an accepted job gets
   pub figures-are : (j : Job) (f : Figures) → Accepted job cells out j → reportCall job cells out .answer ≡ gives f → jobFigures j ≡ f
@@ -122,7 +133,7 @@ module _ (job : List ℕ) (cells : List ℤ) (out : List ℕ) where
 
   -- ---- demand 1
   pub refuses-so : (why : Refusal) → Applies job cells out why → reportCall job cells out ≡ turnedDown why cells out
-  refuses-so why (in-reading c) = refused-call why (refused-law job why .exactly .1 c)
+  refuses-so why (in-reading c) = refused-call why (refused-job job why .1 c)
   refuses-so _ (small-space j e h) = space-call j e h
   refuses-so _ (short-output j e h k) = output-call j e h k
 
@@ -169,7 +180,7 @@ demand-3 job cells out j f a e =
           (law (j .rounds) .low-rises);
       one-more-high = λ job′ cells′ out′ f′ a′ e′. subst₂ (λ (p q : Figures). q .high ≤ p .high) same (figures-are job′ cells′ out′ (oneMore j) f′ a′ e′)
           (law (j .rounds) .high-falls);
-      one-more-read = λ h. read-exactly (spell (oneMore j)) (oneMore j) .1 (refl, allowed-more j h allowed);
+      one-more-read = λ carried s h. read-exactly (spell carried (oneMore j)) (oneMore j) .1 (spells-more carried j s, allowed-more j h allowed);
       every-n = law;
     }
 

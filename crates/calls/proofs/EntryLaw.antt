@@ -16,7 +16,7 @@ use Rattle.refusal.specs.declared.Refusal.{Refusal}
 use Rattle.refusal.specs.declared.Refusal.the-variants.{ShortOutput}
 use Rattle.job.specs.Format.{Job, Result, refused, accepted, readJob}
 use Rattle.job.specs.Meaning.{Condition}
-use Rattle.job.proofs.Meaning.{refused-law}
+use Rattle.job.proofs.Meaning.{refused-job}
 use Rattle.job.proofs.RefusalLaws.{condition-number}
 use Rattle.write.specs.Written.{overwritten}
 use Rattle.report.specs.Text.{reportText}
@@ -72,7 +72,7 @@ module _ (job out : List ℕ) where
   never-7 = go (readJob job) refl
     where
       go : (r : Result) → readJob job ≡ r → entry job out .result ≢ negℤ (pos 7)
-      go (refused why) e = let c = refused-law job why .exactly .0 e in
+      go (refused why) e = let c = refused-job job why .0 e in
           not-7 (numberOf why) (λ s. omega (arith, condition-number job why c)) (entry-refuses why c)
       go (accepted j) e = ⊎-elim (λ t. not-7 8 (λ s. omega arith) (entry-short j e (ltb→lt _ _ t)))
           (λ t f. subst (λ (z : ℤ). T (nonNeg z)) (sym (ap (λ (r : Returned). r .result) (entry-reports j e (nltb→le _ _ t))) ∙ f) tt)

@@ -13,7 +13,7 @@ use Rattle.query.proofs.ExhaustiveLaws.{exhaustive-law}
 use Rattle.refusal.specs.Refusal.{numberOf, lineOf}
 use Rattle.refusal.specs.declared.Refusal.{Refusal}
 use Rattle.job.specs.Format.{Job, Result, refused, accepted, readJob}
-use Rattle.job.proofs.Meaning.{refused-law}
+use Rattle.job.proofs.Meaning.{refused-job}
 use Rattle.calls.specs.Answers.{gives, refusal}
 use Rattle.calls.specs.Call.{jobFigures, reportCall}
 use Rattle.calls.specs.CheapestCall.{cheapestOf, exhaustiveCall}
@@ -56,7 +56,7 @@ module _ (job : List ℕ) where
 
   pub exhaustive-call-law : ExhaustiveCallLaw job
   exhaustive-call-law = record {
-    refused-exactly = λ why. (λ f. refused-law job why .exactly .0 (refused-call why f), λ h. call-refused why (refused-law job why .exactly .1 h));
+    refused-exactly = λ why. (λ f. refused-job job why .0 (refused-call why f), λ h. call-refused why (refused-job job why .1 h));
     given = call-accepted;
     law = law;
     done-report = done-report;

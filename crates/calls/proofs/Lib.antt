@@ -8,4 +8,5 @@ pub mod SavingLaw
 pub mod RefusalTable
 pub mod CaseA
 pub mod WriteTable
+pub mod AxisTable
 pub mod Theorems

@@ -11,7 +11,7 @@ use Rattle.refusal.specs.Refusal.{numberOf, lineOf}
 use Rattle.refusal.specs.declared.Refusal.{Refusal}
 use Rattle.job.specs.Format.{Job, Result, refused, accepted, readJob}
 use Rattle.job.specs.Meaning.{Condition}
-use Rattle.job.proofs.Meaning.{refused-law}
+use Rattle.job.proofs.Meaning.{refused-job}
 use Rattle.job.proofs.RefusalLaws.{condition-number}
 use Rattle.report.specs.Text.{reportText, refusalText}
 use Rattle.report.proofs.TextLaws.{report-no-refusal, refusal-number}
@@ -52,7 +52,7 @@ module _ (job : List ℕ) where
   never number line h k f = go (readJob job) refl
     where
       go : (r : Result) → readJob job ≡ r → ⊥
-      go (refused why) e = let c = refused-law job why .exactly .0 e in let few = condition-number job why c in
+      go (refused why) e = let c = refused-job job why .0 e in let few = condition-number job why c in
           omega (arith, few, refusal-number (numberOf why) (lineOf why) number line (omega arith) k (sym (refusal-text why c) ∙ f))
       go (accepted j) e = report-no-refusal (jobFigures j) number line (sym (reported-text j e) ∙ f)
 

@@ -1,18 +1,20 @@
 -- What the calls `read` and `write` are held to.
 -- Assumes nothing.
 use mathlib.Core.Path.{_≡_, refl, sym, ap, ap₂, subst, subst₂, _∙_}
+use mathlib.Core.Bool.{Bool, true, false, not, _&&_}
 use mathlib.Core.Logic.{_≢_, ⊎-elim}
 use mathlib.Core.List.{List, map, flatMap}
 use Prim.Native.Nat.{ℕ, _≤_, _<_}
 use native.Mathlib.Omega.{arith}
 use lib.Arith.{le→nltb}
-use lib.Dec.{ltb, ltb→lt, lt→ltb, nltb→le}
+use lib.Dec.{T, eqb, eqb→eq, ltb, ltb→lt, lt→ltb, nltb→le}
 use lib.ListN.{length, take, drop, length-append, length-drop, length-map}
 use lib.Seq.{take-at, drop-at}
 use Rattle.numbers.specs.Padded.{padded}
-use Rattle.numbers.proofs.Truth.{test, cond-true, cond-false}
+use Rattle.numbers.proofs.Truth.{and-left, and-right, test, cond-true, cond-false}
 use Rattle.numbers.proofs.Padded.{padded-length}
 use Rattle.query.specs.Deck as Query
+use Rattle.query.specs.Deck.{AxisCosts, plain}
 use Rattle.deck.specs.DeckOf.{Sized, deckOf, deckRecord, emptyDeck}
 use Rattle.deck.specs.declared.Deck.{Deck}
 use Rattle.deck.proofs.DeckLaws.{held-deck}
@@ -20,11 +22,11 @@ use Rattle.refusal.specs.Refusal.{numberOf, lineOf}
 use Rattle.refusal.specs.declared.Refusal.{Refusal}
 use Rattle.refusal.specs.declared.Refusal.the-variants.{ShortOutput}
 use Rattle.job.specs.Format.{Job, Result, refused, accepted, readText, readJob}
-use Rattle.job.specs.Spelling.{linesCounting, spellLine, spell, Allowed}
+use Rattle.job.specs.Spelling.{linesCounting, spellLine, spell, Spells, with-line, without-line, Allowed}
 use Rattle.job.specs.Meaning.{TextCondition, Condition, too-long, in-text}
-use Rattle.job.specs.File.{heldJob, fileText}
+use Rattle.job.specs.File.{heldJob, writesAxis, savedSpelling, fileText}
 use Rattle.job.proofs.JobLaws.{most-posts, most-stops}
-use Rattle.job.proofs.Meaning.{refused-law, spelling-law, allowed-text}
+use Rattle.job.proofs.Meaning.{refused-law, refused-job, spelling-law, allowed-text}
 use Rattle.job.proofs.RefusalLaws.{text-number}
 use Rattle.job_check.specs.LineFaults.{refusalIn}
 use Rattle.job_check.proofs.FileFaults.{file-is, file-spelled, file-line}
@@ -32,10 +34,38 @@ use Rattle.write.specs.Written.{overwritten}
 use Rattle.calls.specs.Answers.{gives, refuses, refusal}
 use Rattle.calls.specs.ReadCall.{Read, readAs, readCall}
 use Rattle.calls.specs.WriteCall.{Saved, notSaved, savedAs, writeCall}
-use Rattle.calls.specs.SavingLaw.{ReadLaw, Saveable, WriteApplies, in-file, short-output, WrittenLaw, WriteLaw}
+use Rattle.calls.specs.SavingLaw.{SpellsOut, ReadLaw, Saveable, WriteApplies, in-file, short-output, WrittenLaw, WriteLaw}
 use Rattle.calls.proofs.AnswerLaws.{same-number, same-line, same-refusal, same-given, not-refused}
 use Rattle.calls.proofs.Demands.{read-exactly}
 
+-- ---- the spelling that is saved
+plain-unwritten : (c : AxisCosts) → c ≡ plain → writesAxis c ≡ false
+unfolding writesAxis
+plain-unwritten c e = rw e
+
+unwritten-plain : (c : AxisCosts) → T (not (writesAxis c)) → c ≡ plain
+unfolding writesAxis
+unwritten-plain c t =
+    let both = not-not (eqb (c .a) 1 && eqb (c .b) 1) t in
+    let a = eqb→eq (c .a) 1 (and-left (eqb (c .a) 1) (eqb (c .b) 1) both) in
+    let b = eqb→eq (c .b) 1 (and-right (eqb (c .a) 1) (eqb (c .b) 1) both) in
+    λ i. record { a = a i; b = b i }
+
+other-written : (c : AxisCosts) → (c ≡ plain → ⊥) → writesAxis c ≡ true
+other-written c apart = go (writesAxis c) refl
+  where
+    go : (b : Bool) → writesAxis c ≡ b → writesAxis c ≡ true
+    go true e = e
+    go false e = absurd (apart (unwritten-plain c (rw e tt)))
+
+saved-spells : (j : Job) → Spells plain (savedSpelling j) j
+saved-spells j = go (writesAxis (j .deck .axis)) refl
+  where
+    go : (b : Bool) → writesAxis (j .deck .axis) ≡ b → Spells plain (spell (writesAxis (j .deck .axis)) j) j
+    go true e = with-line (ap (λ (b : Bool). spell b j) e)
+    go false e = without-line (ap (λ (b : Bool). spell b j) e) (unwritten-plain (j .deck .axis) (rw e tt))
+
+-- ---- bytes put over the front
 -- ---- bytes put over the front
 module _ (text out : List ℕ) where
   front-taken : take (length text) (overwritten text out) ≡ text
@@ -81,22 +111,22 @@ module _ (deck : Deck) (rounds : ℕ) (out : List ℕ) where
 module _ (deck : Deck) (rounds : ℕ) (out : List ℕ) (sized : Sized deck) where
   data Ends : Type 0 where
     refuses-file : (why : Refusal) → readText (fileText deck rounds) ≡ refused why → writeCall deck rounds out ≡ notSaved why out → Ends
-    too-short : Saveable deck rounds → length out < length (spell (heldJob deck rounds)) → writeCall deck rounds out ≡ notSaved ShortOutput out → Ends
-    writes : Saveable deck rounds → length (spell (heldJob deck rounds)) ≤ length out → writeCall deck rounds out
-        ≡ record { answer = gives (length (spell (heldJob deck rounds))); out = overwritten (spell (heldJob deck rounds)) out } → Ends
+    too-short : Saveable deck rounds → length out < length (savedSpelling (heldJob deck rounds)) → writeCall deck rounds out ≡ notSaved ShortOutput out → Ends
+    writes : Saveable deck rounds → length (savedSpelling (heldJob deck rounds)) ≤ length out → writeCall deck rounds out
+        ≡ record { answer = gives (length (savedSpelling (heldJob deck rounds))); out = overwritten (savedSpelling (heldJob deck rounds)) out } → Ends
 
   module _ (s : Saveable deck rounds) where
-    same-text : fileText deck rounds ≡ spell (heldJob deck rounds)
+    same-text : fileText deck rounds ≡ savedSpelling (heldJob deck rounds)
     same-text = file-spelled deck rounds sized (s .few-posts) (s .few-stops)
 
     saveable-read : readText (fileText deck rounds) ≡ accepted (heldJob deck rounds)
-    saveable-read = allowed-text (fileText deck rounds) (heldJob deck rounds) same-text (s .allowed)
+    saveable-read = allowed-text plain (fileText deck rounds) (heldJob deck rounds) (rw same-text (saved-spells (heldJob deck rounds))) (s .allowed)
 
-    short-ends : length out < length (spell (heldJob deck rounds)) → writeCall deck rounds out ≡ notSaved ShortOutput out
+    short-ends : length out < length (savedSpelling (heldJob deck rounds)) → writeCall deck rounds out ≡ notSaved ShortOutput out
     short-ends h = file-short deck rounds out (heldJob deck rounds) saveable-read (rw same-text h)
 
-    written-ends : length (spell (heldJob deck rounds)) ≤ length out → writeCall deck rounds out
-        ≡ record { answer = gives (length (spell (heldJob deck rounds))); out = overwritten (spell (heldJob deck rounds)) out }
+    written-ends : length (savedSpelling (heldJob deck rounds)) ≤ length out → writeCall deck rounds out
+        ≡ record { answer = gives (length (savedSpelling (heldJob deck rounds))); out = overwritten (savedSpelling (heldJob deck rounds)) out }
     written-ends h = file-written deck rounds out (heldJob deck rounds) saveable-read (rw same-text h)
         ∙ ap (λ (text : List ℕ). record { answer = gives (length text); out = overwritten text out }) same-text
 
@@ -109,14 +139,14 @@ module _ (deck : Deck) (rounds : ℕ) (out : List ℕ) (sized : Sized deck) wher
           let f = file-is deck rounds sized (ap refusalIn e) in
           let s : Saveable deck rounds = record { allowed = f .allowed; few-posts = f .few-posts; few-stops = f .few-stops } in
           ⊎-elim (λ t. let h = ltb→lt _ _ t in too-short s h (short-ends s h)) (λ t. let h = nltb→le _ _ t in writes s h (written-ends s h))
-          (test (ltb (length out) (length (spell (heldJob deck rounds)))))
+          (test (ltb (length out) (length (savedSpelling (heldJob deck rounds)))))
 
   -- ---- refusals
   answer-of : {r : Saved} → writeCall deck rounds out ≡ r → writeCall deck rounds out .answer ≡ r .answer
   answer-of e = ap (λ (r : Saved). r .answer) e
 
   condition : (why : Refusal) → readText (fileText deck rounds) ≡ refused why → TextCondition (fileText deck rounds) why
-  condition why = refused-law (fileText deck rounds) why .exactly-in-text .0
+  condition why = refused-law plain (fileText deck rounds) why .exactly-in-text .0
 
   applies : (why : Refusal) → writeCall deck rounds out .answer ≡ refusal why → WriteApplies deck rounds out why
   applies why e = go ends
@@ -127,7 +157,7 @@ module _ (deck : Deck) (rounds : ℕ) (out : List ℕ) (sized : Sized deck) wher
       go (writes s h p) = absurd (not-refused _ _ _ (sym (answer-of p) ∙ e))
 
   applied : (why : Refusal) → WriteApplies deck rounds out why → writeCall deck rounds out .answer ≡ refusal why
-  applied why (in-file c) = answer-of (file-refused deck rounds out why (refused-law (fileText deck rounds) why .exactly-in-text .1 c))
+  applied why (in-file c) = answer-of (file-refused deck rounds out why (refused-law plain (fileText deck rounds) why .exactly-in-text .1 c))
   applied _ (short-output s h) = answer-of (short-ends s h)
 
   as-read : (why : Refusal) → why ≢ ShortOutput → writeCall deck rounds out .answer ≡ refusal why → readText (fileText deck rounds) ≡ refused why
@@ -155,10 +185,10 @@ module _ (deck : Deck) (rounds : ℕ) (out : List ℕ) (sized : Sized deck) wher
         go (too-short s h p) = let q = same-number _ _ _ _ (sym e ∙ answer-of p) in omega arith
         go (writes s h p) = absurd (not-refused _ _ _ (sym (answer-of p) ∙ e))
 
-    few-lines : line ≤ 580
+    few-lines : line ≤ 581
     few-lines = go ends
       where
-        go : Ends → line ≤ 580
+        go : Ends → line ≤ 581
         go (refuses-file w r p) = let q = same-line _ _ _ _ (sym e ∙ answer-of p) in omega (arith, file-line deck rounds sized w r)
         go (too-short s h p) = let q = same-line _ _ _ _ (sym e ∙ answer-of p) in omega arith
         go (writes s h p) = absurd (not-refused _ _ _ (sym (answer-of p) ∙ e))
@@ -179,36 +209,36 @@ module _ (deck : Deck) (rounds : ℕ) (out : List ℕ) (sized : Sized deck) wher
       found : (why : Refusal) → refusal {A = ℕ} why ≡ refuses number line → Condition (fileText deck rounds) why →
           writeCall deck rounds out .answer ≡ refuses number line
       found _ q (too-long h) = absurd (apart (sym (same-number {A = ℕ} _ _ _ _ q)))
-      found why q (in-text short c) = answer-of (file-refused deck rounds out why (refused-law (fileText deck rounds) why .exactly-in-text .1 c)) ∙ q
+      found why q (in-text short c) = answer-of (file-refused deck rounds out why (refused-law plain (fileText deck rounds) why .exactly-in-text .1 c)) ∙ q
 
       go : (r : Result) → readJob (fileText deck rounds) ≡ r → writeCall deck rounds out .answer ≡ refuses number line
       go (refused why) p = found why (sym (ap (λ (r : Read). r .answer) (read-refused (fileText deck rounds) why p)) ∙ e)
-          (refused-law (fileText deck rounds) why .exactly .0 p)
+          (refused-job (fileText deck rounds) why .0 p)
       go (accepted j) p = absurd (not-refused _ _ _ (sym (ap (λ (r : Read). r .answer) (read-given (fileText deck rounds) j p)) ∙ e))
 
   -- ---- what is written
-  saveable : (n : ℕ) → writeCall deck rounds out .answer ≡ gives n → Saveable deck rounds × (length (spell (heldJob deck rounds)) ≤ length out)
+  saveable : (n : ℕ) → writeCall deck rounds out .answer ≡ gives n → Saveable deck rounds × (length (savedSpelling (heldJob deck rounds)) ≤ length out)
   saveable n e = go ends
     where
-      go : Ends → Saveable deck rounds × (length (spell (heldJob deck rounds)) ≤ length out)
+      go : Ends → Saveable deck rounds × (length (savedSpelling (heldJob deck rounds)) ≤ length out)
       go (refuses-file w r p) = absurd (not-refused _ _ _ (sym e ∙ answer-of p))
       go (too-short s h p) = absurd (not-refused _ _ _ (sym e ∙ answer-of p))
       go (writes s h p) = (s, h)
 
   module _ (n : ℕ) (e : writeCall deck rounds out .answer ≡ gives n) where
-    left : writeCall deck rounds out .out ≡ overwritten (spell (heldJob deck rounds)) out
+    left : writeCall deck rounds out .out ≡ overwritten (savedSpelling (heldJob deck rounds)) out
     left = let (s, h) = saveable n e in ap (λ (r : Saved). r .out) (written-ends s h)
 
-    count-is : n ≡ length (spell (heldJob deck rounds))
+    count-is : n ≡ length (savedSpelling (heldJob deck rounds))
     count-is = let (s, h) = saveable n e in same-given _ _ (sym e ∙ answer-of (written-ends s h))
 
-    pub front-is : take n (writeCall deck rounds out .out) ≡ spell (heldJob deck rounds)
-    front-is = ap₂ (λ (k : ℕ) (l : List ℕ). take k l) count-is left ∙ front-taken (spell (heldJob deck rounds)) out
+    pub front-is : take n (writeCall deck rounds out .out) ≡ savedSpelling (heldJob deck rounds)
+    front-is = ap₂ (λ (k : ℕ) (l : List ℕ). take k l) count-is left ∙ front-taken (savedSpelling (heldJob deck rounds)) out
 
 -- ---- the laws
 -- a file by what it is made of
 textFor : Query.Deck → ℕ → ℕ → ℕ → List ℕ
-textFor d rounds p s = flatMap spellLine (linesCounting p s (record { deck = d; rounds = rounds }))
+textFor d rounds p s = flatMap spellLine (linesCounting (writesAxis (d .axis)) p s (record { deck = d; rounds = rounds }))
 
 same-file : (other deck : Deck) (rounds : ℕ) (out : List ℕ) → deckOf other ≡ deckOf deck → other .posts ≡ deck .posts → other .stops ≡ deck .stops →
     writeCall other rounds out ≡ writeCall deck rounds out
@@ -221,16 +251,18 @@ module _ (deck : Deck) (rounds : ℕ) (out : List ℕ) (sized : Sized deck) wher
   written-law n e =
       let (s, room) = saveable deck rounds out sized n e in
       let front = front-is deck rounds out sized n e in
-      let back = ap readJob front ∙ read-exactly (spell (heldJob deck rounds)) (heldJob deck rounds) .1 (refl, s .allowed) in
+      let back = ap readJob front ∙ read-exactly (savedSpelling (heldJob deck rounds)) (heldJob deck rounds) .1 (saved-spells (heldJob deck rounds), s .allowed) in
       record {
-        same-length = ap length (left deck rounds out sized n e) ∙ length-kept (spell (heldJob deck rounds)) out room;
+        same-length = ap length (left deck rounds out sized n e) ∙ length-kept (savedSpelling (heldJob deck rounds)) out room;
         later-kept = ap₂ (λ (k : ℕ) (l : List ℕ). drop k l) (count-is deck rounds out sized n e) (left deck rounds out sized n e)
-            ∙ rest-kept (spell (heldJob deck rounds)) out ∙ ap (λ (k : ℕ). drop k out) (sym (count-is deck rounds out sized n e));
+            ∙ rest-kept (savedSpelling (heldJob deck rounds)) out ∙ ap (λ (k : ℕ). drop k out) (sym (count-is deck rounds out sized n e));
         reads-back = back;
         reads-back-record = read-given _ _ back;
-        longest = omega (arith, count-is deck rounds out sized n e, spelling-law (heldJob deck rounds) .longest (s .allowed));
-        one-job = λ other more lent m fit f same. spelling-law (heldJob deck rounds) .one-job (heldJob other more) (s .allowed)
-            (saveable other more lent fit m f .0 .allowed) (sym front ∙ same ∙ front-is other more lent fit m f);
+        longest = omega (arith, count-is deck rounds out sized n e, spelling-law (heldJob deck rounds) .longest (s .allowed) (writesAxis (deckOf deck .axis)));
+        one-job = λ other more lent m fit f same. spelling-law (heldJob deck rounds) .one-job plain (savedSpelling (heldJob deck rounds))
+            (heldJob other more) (s .allowed) (saveable other more lent fit m f .0 .allowed) (saved-spells (heldJob deck rounds))
+            (subst (λ (text : List ℕ). Spells plain text (heldJob other more)) (sym (sym front ∙ same ∙ front-is other more lent fit m f))
+            (saved-spells (heldJob other more)));
       }
 
   pub write-law : WriteLaw deck rounds out
@@ -244,7 +276,7 @@ module _ (deck : Deck) (rounds : ℕ) (out : List ℕ) (sized : Sized deck) wher
     refused-out = unchanged deck rounds out sized;
     written-exactly = (
       λ w. saveable deck rounds out sized (w .0) (w .1),
-      λ s. (length (spell (heldJob deck rounds)), answer-of deck rounds out sized (written-ends deck rounds out sized (s .0) (s .1))),
+      λ s. (length (savedSpelling (heldJob deck rounds)), answer-of deck rounds out sized (written-ends deck rounds out sized (s .0) (s .1))),
     );
     file = same-text deck rounds out sized;
     given = written-ends deck rounds out sized;
@@ -258,7 +290,7 @@ column-sized f z size xs h = padded-length size z (map f xs) (rw (length-map xs 
 -- the record of an allowed job's deck, and the job that it holds
 module _ (j : Job) (a : Allowed j) where
   record-held : heldJob (deckRecord (j .deck)) (j .rounds) ≡ j
-  record-held = ap (λ (d : Query.Deck). record { deck = d; rounds = j .rounds }) (held-deck (j .deck) (a .writable .plain-axis))
+  record-held = ap (λ (d : Query.Deck). record { deck = d; rounds = j .rounds }) (held-deck (j .deck))
 
   record-sized : Sized (deckRecord (j .deck))
   unfolding deckRecord
@@ -277,10 +309,10 @@ module _ (j : Job) (a : Allowed j) where
   unfolding deckRecord
   record-saveable = record { allowed = subst Allowed (sym record-held) a; few-posts = most-posts (a .writable); few-stops = most-stops (a .writable) }
 
-  record-written : (out : List ℕ) → length (spell j) ≤ length out →
-      writeCall (deckRecord (j .deck)) (j .rounds) out ≡ record { answer = gives (length (spell j)); out = overwritten (spell j) out }
-  record-written out h = subst (λ (k : Job). length (spell k) ≤ length out → writeCall (deckRecord (j .deck)) (j .rounds) out
-      ≡ record { answer = gives (length (spell k)); out = overwritten (spell k) out }) record-held
+  record-written : (out : List ℕ) → length (savedSpelling j) ≤ length out →
+      writeCall (deckRecord (j .deck)) (j .rounds) out ≡ record { answer = gives (length (savedSpelling j)); out = overwritten (savedSpelling j) out }
+  record-written out h = subst (λ (k : Job). length (savedSpelling k) ≤ length out → writeCall (deckRecord (j .deck)) (j .rounds) out
+      ≡ record { answer = gives (length (savedSpelling k)); out = overwritten (savedSpelling k) out }) record-held
       (written-ends (deckRecord (j .deck)) (j .rounds) out record-sized record-saveable) h
 
 empty-sized : Sized (deckRecord emptyDeck)
@@ -327,25 +359,35 @@ module _ (job : List ℕ) where
       go (accepted j) e = absurd (not-refused (j .rounds) number line (sym (ap (λ (r : Read). r .answer) (read-given job j e)) ∙ f))
 
   read-held : (j : Job) → readJob job ≡ accepted j → deckOf (readCall job .deck) ≡ j .deck
-  read-held j e = ap (λ (r : Read). deckOf (r .deck)) (read-given job j e) ∙ held-deck (j .deck) (read-exactly job j .0 e .1 .writable .plain-axis)
+  read-held j e = ap (λ (r : Read). deckOf (r .deck)) (read-given job j e) ∙ held-deck (j .deck)
 
-  own-bytes : (rounds : ℕ) (out : List ℕ) → readCall job .answer ≡ gives rounds → length job ≤ length out →
-      writeCall (readCall job .deck) rounds out ≡ record { answer = gives (length job); out = overwritten job out }
-  own-bytes rounds out f h =
-      let (j, e, same) = read-accepted rounds f in
-      let (spelt, a) = read-exactly job j .0 e in
-      let known = record-written j a out (subst (λ (l : List ℕ). length l ≤ length out) spelt h) in
-      subst₂ (λ (k : ℕ) (l : List ℕ). Written (readCall job .deck) k l) (sym same) (sym spelt)
-      (subst (λ (d : Deck). Written d (j .rounds) (spell j)) (sym (ap (λ (r : Read). r .deck) (read-given job j e))) known)
-    where
-      Written : Deck → ℕ → List ℕ → Type 0
-      Written deck rounds text = writeCall deck rounds out ≡ record { answer = gives (length text); out = overwritten text out }
+  -- an accepted job, saved as a text that is its saved spelling
+  saved-as : (j : Job) (out text : List ℕ) → readJob job ≡ accepted j → text ≡ savedSpelling j → length text ≤ length out →
+      writeCall (readCall job .deck) (j .rounds) out ≡ record { answer = gives (length text); out = overwritten text out }
+  saved-as j out text e same h =
+      ap (λ (r : Read). writeCall (r .deck) (j .rounds) out) (read-given job j e)
+      ∙ record-written j (read-exactly job j .0 e .1) out (subst (λ (l : List ℕ). length l ≤ length out) same h)
+      ∙ ap (λ (l : List ℕ). record { answer = gives (length l); out = overwritten l out }) (sym same)
+
+  -- what is saved of a job that does not spell out `axis=1,1`, and of one that does
+  own : (j : Job) → Spells plain job j → (SpellsOut job j → ⊥) → job ≡ savedSpelling j
+  own j (without-line e c) apart = e ∙ ap (λ (b : Bool). spell b j) (sym (plain-unwritten (j .deck .axis) c))
+  own j (with-line e) apart = e ∙ ap (λ (b : Bool). spell b j)
+      (sym (other-written (j .deck .axis) (λ c. apart (record { spelled = e; costs = c }))))
+
+  own-bytes : (j : Job) (out : List ℕ) → readJob job ≡ accepted j → (SpellsOut job j → ⊥) → length job ≤ length out →
+      writeCall (readCall job .deck) (j .rounds) out ≡ record { answer = gives (length job); out = overwritten job out }
+  own-bytes j out e apart = saved-as j out job e (own j (read-exactly job j .0 e .0) apart)
+
+  line-left-out : (j : Job) (out : List ℕ) → readJob job ≡ accepted j → SpellsOut job j → length (spell false j) ≤ length out →
+      writeCall (readCall job .deck) (j .rounds) out ≡ record { answer = gives (length (spell false j)); out = overwritten (spell false j) out }
+  line-left-out j out e s = saved-as j out (spell false j) e (ap (λ (b : Bool). spell b j) (sym (plain-unwritten (j .deck .axis) (s .costs))))
 
   pub read-law : ReadLaw job
   read-law = record {
     refused-exactly = λ why. (
-      λ f. refused-law job why .exactly .0 (refused-read why f),
-      λ c. read-answer (read-refused job why (refused-law job why .exactly .1 c)),
+      λ f. refused-job job why .0 (refused-read why f),
+      λ c. read-answer (read-refused job why (refused-job job why .1 c)),
     );
     refused-listed = read-listed;
     refused-deck = refused-zeros;
@@ -357,4 +399,6 @@ module _ (job : List ℕ) where
     held = read-held;
     sized = read-sized;
     own-bytes = own-bytes;
+    line-left-out = line-left-out;
+    nine-bytes = λ j s. ap length (s .spelled) ∙ line-length j (s .costs);
   }

@@ -1,7 +1,7 @@
 -- The theorems of specs/Theorems.antt.
 -- Assumes nothing.
 use Rattle.query.proofs.QueryTheorems.{query-theorems}
-use Rattle.job.proofs.Meaning.{spelling-law}
+use Rattle.job.proofs.Meaning.{accepted-law, refused-law, spelling-law}
 use Rattle.job.proofs.JobVectors as JobVectors
 use Rattle.report.proofs.Fits.{report-fits}
 use Rattle.report.proofs.ReportVectors as ReportVectors
@@ -14,6 +14,7 @@ use Rattle.calls.proofs.SavingLaw.{read-law, write-law}
 use Rattle.calls.proofs.RefusalTable.{refusal-table}
 use Rattle.calls.proofs.CaseA.{case-A}
 use Rattle.calls.proofs.WriteTable.{write-table}
+use Rattle.calls.proofs.AxisTable.{axis-table}
 
 pub theorems : Theorems
 theorems = record {
@@ -23,11 +24,14 @@ theorems = record {
   exhaustive = exhaustive-call-law;
   read = read-law;
   write = write-law;
+  reading = accepted-law;
+  refusing = refused-law;
   spelling = spelling-law;
   report-fits = report-fits;
   refusal-table = refusal-table;
   case-A = case-A;
   write-table = write-table;
+  axis-table = axis-table;
   job-vectors = JobVectors.vectors;
   report-vectors = ReportVectors.vectors;
   rules = query-theorems;

@@ -37,4 +37,12 @@ write-table = record {
   large-file = refl;
   large-file-length = refl;
   longest = refl;
+  axis-written = refl;
+  spelled-out = refl;
+  own-bytes = refl;
+  own-bytes-short = refl;
+  axis-beyond = refl;
+  axis-ten-digits = refl;
+  axis-moves = refl;
+  last-line = refl;
 }

@@ -3,6 +3,7 @@
 -- Assumes nothing.
 use Prim.Native.Nat.{ℕ, suc, _≤_, _<_}
 use mathlib.Core.Path.{_≡_}
+use mathlib.Core.Bool.{Bool}
 use mathlib.Core.Logic.{_↔_}
 use mathlib.Core.List.{List}
 use lib.IntN.{ℤ}
@@ -14,8 +15,8 @@ use Rattle.query.specs.Demand3.{Demand3}
 use Rattle.refusal.specs.Refusal.{numberOf, lineOf}
 use Rattle.refusal.specs.declared.Refusal.{Refusal}
 use Rattle.refusal.specs.declared.Refusal.the-variants.{SmallSpace, ShortOutput}
-use Rattle.job.specs.Format.{Job, refused, accepted, readJob}
-use Rattle.job.specs.Spelling.{spell, Allowed}
+use Rattle.job.specs.Format.{Job, refused, accepted, missingAxis, readJob}
+use Rattle.job.specs.Spelling.{spell, Spells, Allowed}
 use Rattle.job.specs.Meaning.{Condition}
 use Rattle.write.specs.Written.{overwritten}
 use Rattle.report.specs.Text.{reportText}
@@ -60,7 +61,7 @@ pub record Reported (job : List ℕ) (cells : List ℤ) (out : List ℕ) (j : Jo
 
 pub record Demand2 (job : List ℕ) (cells : List ℤ) (out : List ℕ) : Type 0 where
   -- "A job is read as exactly the deck that it spells, and bytes that spell none are refused at their first fault"
-  pub read-exactly : (j : Job) → (readJob job ≡ accepted j) ↔ ((job ≡ spell j) × Allowed j)
+  pub read-exactly : (j : Job) → (readJob job ≡ accepted j) ↔ (Spells missingAxis job j × Allowed j)
   pub fault-exactly : (why : Refusal) → (readJob job ≡ refused why) ↔ Condition job why
   -- "The report's place, travel figures, bounds, state and round count are those that the published min-dist query, as document 01 lays
   -- it down, gives for this deck and this number of rounds"
@@ -79,8 +80,9 @@ pub record Demand3Report (j : Job) (f : Figures) : Type 0 where
       reportCall job cells out .answer ≡ gives more → f .low ≤ℤ more .low
   pub one-more-high : (job : List ℕ) (cells : List ℤ) (out : List ℕ) (more : Figures) → Accepted job cells out (oneMore j) →
       reportCall job cells out .answer ≡ gives more → more .high ≤ f .high
-  -- up to 1,000 rounds such a job exists: j's bytes but for the rounds number
-  pub one-more-read : j .rounds < roundsLimit → readJob (spell (oneMore j)) ≡ accepted (oneMore j)
+  -- up to 1,000 rounds such a job exists: j's bytes, in either spelling that is j's, but for the rounds number
+  pub one-more-read : (carried : Bool) → Spells missingAxis (spell carried j) j → j .rounds < roundsLimit →
+      readJob (spell carried (oneMore j)) ≡ accepted (oneMore j)
   -- past 1,000 rounds, where no job exists, of what the rules give
   pub every-n : (n : ℕ) → Demand3 (j .deck) n (figures (j .deck) n)
 

@@ -1,11 +1,13 @@
--- Document 02, card 1: what the calls `read` and `write` are held to, over every job's bytes, every record that the code can hold, and
+-- Document 02, cards 1 and 2: what the calls `read` and `write` are held to, over every job's bytes, every record that the code can hold, and
 -- every output.
 -- Assumes nothing.
-use Prim.Native.Nat.{ℕ, _≤_, _<_}
+use Prim.Native.Nat.{ℕ, _+_, _≤_, _<_}
 use mathlib.Core.Path.{_≡_}
+use mathlib.Core.Bool.{true, false}
 use mathlib.Core.Logic.{_↔_, _≢_}
 use mathlib.Core.List.{List}
 use lib.ListN.{length, take, drop}
+use Rattle.query.specs.Deck.{plain}
 use Rattle.query.specs.Range.{postsLimit, stopsLimit}
 use Rattle.deck.specs.DeckOf.{Sized, deckOf, deckRecord, emptyDeck}
 use Rattle.deck.specs.declared.Deck.{Deck}
@@ -15,13 +17,18 @@ use Rattle.refusal.specs.declared.Refusal.the-variants.{ShortOutput}
 use Rattle.job.specs.Format.{Job, refused, accepted, readText, readJob}
 use Rattle.job.specs.Spelling.{spell, Allowed}
 use Rattle.job.specs.Meaning.{longestJob, TextCondition, Condition}
-use Rattle.job.specs.File.{heldJob, fileText}
+use Rattle.job.specs.File.{heldJob, savedSpelling, fileText}
 use Rattle.write.specs.Written.{overwritten}
 use Rattle.calls.specs.Answers.{gives, refuses, refusal}
 use Rattle.calls.specs.ReadCall.{readCall}
 use Rattle.calls.specs.WriteCall.{writeCall}
 
 -- ---- reading
+-- 02 card 2, "a job that spells out `axis=1,1`"
+pub record SpellsOut (job : List ℕ) (j : Job) : Type 0 where
+  pub spelled : job ≡ spell true j
+  pub costs : j .deck .axis ≡ plain
+
 pub record ReadLaw (job : List ℕ) : Type 0 where
   -- the refusals are those of reading, each exactly under its condition, and no other number and line; the record is then all zeros
   pub refused-exactly : (why : Refusal) → (readCall job .answer ≡ refusal why) ↔ Condition job why
@@ -33,9 +40,13 @@ pub record ReadLaw (job : List ℕ) : Type 0 where
   pub given : (j : Job) → readJob job ≡ accepted j → readCall job ≡ record { answer = gives (j .rounds); deck = deckRecord (j .deck) }
   pub held : (j : Job) → readJob job ≡ accepted j → deckOf (readCall job .deck) ≡ j .deck
   pub sized : Sized (readCall job .deck)
-  -- 02 "an accepted job that is read and saved comes out in its own bytes"
-  pub own-bytes : (rounds : ℕ) (out : List ℕ) → readCall job .answer ≡ gives rounds → length job ≤ length out →
-      writeCall (readCall job .deck) rounds out ≡ record { answer = gives (length job); out = overwritten job out }
+  -- card 1 "an accepted job that is read and saved comes out in its own bytes", card 2 but for "a job that spells out `axis=1,1`": that one
+  -- comes out without the line, which is nine bytes
+  pub own-bytes : (j : Job) (out : List ℕ) → readJob job ≡ accepted j → (SpellsOut job j → ⊥) → length job ≤ length out →
+      writeCall (readCall job .deck) (j .rounds) out ≡ record { answer = gives (length job); out = overwritten job out }
+  pub line-left-out : (j : Job) (out : List ℕ) → readJob job ≡ accepted j → SpellsOut job j → length (spell false j) ≤ length out →
+      writeCall (readCall job .deck) (j .rounds) out ≡ record { answer = gives (length (spell false j)); out = overwritten (spell false j) out }
+  pub nine-bytes : (j : Job) → SpellsOut job j → length job ≡ length (spell false j) + 9
 
 -- ---- writing
 -- a record and rounds whose file the reader accepts
@@ -47,7 +58,7 @@ pub record Saveable (deck : Deck) (rounds : ℕ) : Type 0 where
 -- 02 "gets the number and line that its file would get, 1 aside ..": 2 to 6 as in reading the file, then 8
 pub data WriteApplies (deck : Deck) (rounds : ℕ) (out : List ℕ) : Refusal → Type 0 where
   in-file : {why : Refusal} → TextCondition (fileText deck rounds) why → WriteApplies deck rounds out why
-  short-output : Saveable deck rounds → length out < length (spell (heldJob deck rounds)) → WriteApplies deck rounds out ShortOutput
+  short-output : Saveable deck rounds → length out < length (savedSpelling (heldJob deck rounds)) → WriteApplies deck rounds out ShortOutput
 
 -- what holds of n bytes that were written
 pub record WrittenLaw (deck : Deck) (rounds : ℕ) (out : List ℕ) (n : ℕ) : Type 0 where
@@ -74,15 +85,15 @@ pub record WriteLaw (deck : Deck) (rounds : ℕ) (out : List ℕ) : Type 0 where
   pub as-its-file : (number line : ℕ) → readCall (fileText deck rounds) .answer ≡ refuses number line → number ≢ 1 →
       writeCall deck rounds out .answer ≡ refuses number line
   pub never-1 : (line : ℕ) → writeCall deck rounds out .answer ≢ refuses 1 line
-  pub few-lines : (number line : ℕ) → writeCall deck rounds out .answer ≡ refuses number line → line ≤ 580
+  pub few-lines : (number line : ℕ) → writeCall deck rounds out .answer ≡ refuses number line → line ≤ 581
   -- nothing lent is changed by a refusal
   pub refused-out : (number line : ℕ) → writeCall deck rounds out .answer ≡ refuses number line → writeCall deck rounds out .out ≡ out
   -- it is written exactly where the reader accepts its file and there is room, and then as the spelling of its job, which its file is
   pub written-exactly : ((n : ℕ) × (writeCall deck rounds out .answer ≡ gives n)) ↔ (Saveable deck rounds
-      × (length (spell (heldJob deck rounds)) ≤ length out))
-  pub file : Saveable deck rounds → fileText deck rounds ≡ spell (heldJob deck rounds)
-  pub given : Saveable deck rounds → length (spell (heldJob deck rounds)) ≤ length out → writeCall deck rounds out
-      ≡ record { answer = gives (length (spell (heldJob deck rounds))); out = overwritten (spell (heldJob deck rounds)) out }
+      × (length (savedSpelling (heldJob deck rounds)) ≤ length out))
+  pub file : Saveable deck rounds → fileText deck rounds ≡ savedSpelling (heldJob deck rounds)
+  pub given : Saveable deck rounds → length (savedSpelling (heldJob deck rounds)) ≤ length out → writeCall deck rounds out
+      ≡ record { answer = gives (length (savedSpelling (heldJob deck rounds))); out = overwritten (savedSpelling (heldJob deck rounds)) out }
   pub written : (n : ℕ) → writeCall deck rounds out .answer ≡ gives n → WrittenLaw deck rounds out n
   -- a record with the same counts that holds the same deck is written alike, whatever stands behind its lists
   pub same-file : (other : Deck) → deckOf other ≡ deckOf deck → other .posts ≡ deck .posts → other .stops ≡ deck .stops →

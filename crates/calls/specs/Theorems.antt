@@ -4,11 +4,12 @@
 use Prim.Native.Nat.{ℕ}
 use mathlib.Core.List.{List}
 use lib.IntN.{ℤ}
+use Rattle.query.specs.Deck.{AxisCosts}
 use Rattle.query.specs.QueryTheorems.{QueryTheorems}
 use Rattle.deck.specs.DeckOf.{Sized}
 use Rattle.deck.specs.declared.Deck.{Deck}
 use Rattle.job.specs.Format.{Job}
-use Rattle.job.specs.Meaning.{SpellingLaw}
+use Rattle.job.specs.Meaning.{AcceptedLaw, RefusedLaw, SpellingLaw}
 use Rattle.job.specs.JobVectors.{JobVectors}
 use Rattle.report.specs.Limits.{ReportFits}
 use Rattle.report.specs.ReportVectors.{ReportVectors}
@@ -20,6 +21,8 @@ use Rattle.calls.specs.SavingLaw.{ReadLaw, WriteLaw}
 use Rattle.calls.specs.RefusalTable.{RefusalTable}
 use Rattle.calls.specs.CaseA.{CaseA}
 use Rattle.calls.specs.WriteTable.{WriteTable}
+use Rattle.calls.specs.AxisTable.{AxisTable}
+use Rattle.refusal.specs.declared.Refusal.{Refusal}
 
 pub record Theorems : Type 0 where
   -- for every file, however garbled, and all that is lent
@@ -30,7 +33,10 @@ pub record Theorems : Type 0 where
   -- document 02, card 1: reading a job, and writing every record that the code can hold, with every output
   pub read : (job : List ℕ) → ReadLaw job
   pub write : (deck : Deck) (rounds : ℕ) (out : List ℕ) → Sized deck → WriteLaw deck rounds out
-  -- no two allowed jobs are spelled alike, and 128 bytes hold every report
+  -- document 02, card 2: reading, whatever a missing axis line means
+  pub reading : (missing : AxisCosts) (job : List ℕ) (j : Job) → AcceptedLaw missing job j
+  pub refusing : (missing : AxisCosts) (job : List ℕ) (why : Refusal) → RefusedLaw missing job why
+  -- no bytes spell two allowed jobs, and 128 bytes hold every report
   pub spelling : (job : Job) → SpellingLaw job
   pub report-fits : ReportFits
   -- what document 01 works out
@@ -40,5 +46,6 @@ pub record Theorems : Type 0 where
   pub report-vectors : ReportVectors
   -- rows of the calls of document 02
   pub write-table : WriteTable
+  pub axis-table : AxisTable
   -- the rules, for every deck and every number of rounds
   pub rules : QueryTheorems

@@ -145,7 +145,7 @@ module _ (P : Pricing) (few : length (P .objects) ≤ 512) where
     near-row = before-costs (1536 + i) (omega arith) ∙ near-of (P .objects) few i h
 
   -- row i is object i
-  row-object : (i : ℕ) → i < length (P .objects) → objectAt (columnsOf P) i ≡ getD (P .objects) i nothing
+  pub row-object : (i : ℕ) → i < length (P .objects) → objectAt (columnsOf P) i ≡ getD (P .objects) i nothing
   row-object i h =
       let l : i < 512 = omega arith in
       rw (

@@ -15,7 +15,7 @@ use Rattle.query.specs.Reach.{load}
 use Rattle.query.specs.Bound.{bound}
 use Rattle.query.specs.Grid.{grid}
 use Rattle.job.specs.Format.{Result}
-use Rattle.deck.specs.Objects.{objectsOf}
+use Rattle.deck.specs.Objects.{pricingOf}
 use Rattle.deck.specs.ObjectColumns.{columnsOf}
 use Rattle.deck.specs.Rectangle.{rectOf}
 use Rattle.deck.specs.declared.Rect as Deck
@@ -71,7 +71,7 @@ cutTurn deck t = positive (cutRecord (grid deck) (rectAt t) .at)
 
 -- the near of stop t, over and over; 0 behind the last
 abbrev pub nearTurn : Deck → ℕ → ℕ
-nearTurn deck t = natAbs (getD (columnsOf (objectsOf deck)) (1536 + t % stopsLimit) (pos 0))
+nearTurn deck t = natAbs (getD (columnsOf (pricingOf deck)) (1536 + t % stopsLimit) (pos 0))
 
 -- the same by the kernel's number
 abbrev pub turn : Deck → ℕ → ℕ → ℕ

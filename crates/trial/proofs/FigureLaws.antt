@@ -79,11 +79,11 @@ module _ {bytes : List ℕ} {o : Opened} (e : o ≡ openedRecord (readJob bytes)
   near-at : (i : ℕ) → i < length (s .job .deck .stops) →
       natAbs (getD (o .problem .columns) (1536 + i) (pos 0)) ≡ getD (map (near (s .job .deck)) (s .job .deck .stops)) i 0
   near-at i h =
-      let objects = objectsOf (s .job .deck) in
+      let P = pricingOf (s .job .deck) in
       ap (λ (l : List ℤ). natAbs (getD l (1536 + i) (pos 0))) (record-columns (s .job .deck) (o .problem) (open-problem bytes o e s))
       ∙ ap (λ (t : Object). t .near)
-      (row-object objects (omega (arith, objects-count, spelt-range s .most-stops)) i (omega (arith, objects-count)))
-      ∙ sym (List·getD-map (λ (t : Object). t .near) objects i nothing) ∙ rw (objectsOf-map, map-map)
+      (row-object P (omega (arith, objects-count, spelt-range s .most-stops)) i (omega (arith, objects-count)))
+      ∙ sym (List·getD-map (λ (t : Object). t .near) (P .objects) i nothing) ∙ rw (objectsOf-map, map-map)
 
   -- the near in row i, as a word
   near-natural : (i : ℕ) → i < o .problem .count →

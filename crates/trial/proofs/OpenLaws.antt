@@ -12,7 +12,7 @@ use Rattle.job.specs.declared.Job as Held
 use Rattle.refusal.specs.declared.Refusal.{Refusal}
 use Rattle.job.specs.declared.Outcome.the-variants.{Accepted}
 use Rattle.job.proofs.JobLaws.{most-rounds}
-use Rattle.job.proofs.Meaning.{accepted-law}
+use Rattle.job.proofs.Meaning.{accepted-job}
 use Rattle.deck.specs.DeckOf.{deckOf}
 use Rattle.job.proofs.ReadDeck.{differ, Spelt, read-accepted, read-deck, read-rounds, read-deckOf, read-full, objects-ask}
 use Rattle.problem.specs.declared.Problem.{Problem}
@@ -58,7 +58,7 @@ module _ (bytes : List ℕ) (o : Opened) (e : o ≡ openedRecord (readJob bytes)
     where
       go : (r : Result) → readJob bytes ≡ r → o ≡ openedRecord r → Spelt bytes
       go (refused why) p q = differ (sym f ∙ ap (λ (k : Opened). k .accepted) q)
-      go (accepted job) p q = record { job = job; read = p; allowed = accepted-law bytes job .exactly .0 p .2 }
+      go (accepted job) p q = record { job = job; read = p; allowed = accepted-job bytes job .0 p .2 }
 
   module _ (s : Spelt bytes) where
     open-record : o ≡ openedDeck (s .job .deck)

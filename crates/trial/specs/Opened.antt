@@ -18,7 +18,7 @@ abbrev pub noProblem : Problem
 noProblem = record {
   area = record { xlo = pos 0; ylo = pos 0; xhi = pos 0; yhi = pos 0 };
   count = 0;
-  columns = replicate 2048 (pos 0);
+  columns = replicate 2050 (pos 0);
   nv = 0;
   v = replicate 514 (pos 0);
   nh = 0;

@@ -118,7 +118,7 @@ pub fn bound_in(columns: &[i32; COLUMNS], n: usize, rect: Rect) -> i64
     let c10 = pricing::cost(columns, n, rect.xhi, rect.ylo);
     let c11 = pricing::cost(columns, n, rect.xhi, rect.yhi);
     let load = pricing::load(columns, n, rect);
-    pricing::bound(c00, c01, c10, c11, pricing::span(rect), load)
+    pricing::bound(c00, c01, c10, c11, pricing::span(columns, rect), load)
 }
 
 pub fn cut_of(o: Opened, rect: Rect) -> Cut

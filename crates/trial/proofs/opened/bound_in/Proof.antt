@@ -25,7 +25,13 @@ load-requires : tie.Need-load-requires
 load-requires c κs = search needs
 
 span-requires : tie.Need-span-requires
-span-requires c κs = search needs
+span-requires c κs =
+    let c11 = c .before in
+    let c10 = c11 .before .before .before in
+    let c01 = c10 .before .before .before in
+    let c00 = c01 .before .before .before in
+    let s = c00 .before .before .before in
+    (s .pre .0 .costs, s .pre .1)
 
 bound-requires : tie.Need-bound-requires
 bound-requires c κs = search needs
