@@ -40,11 +40,6 @@ module _ {A : Type 0} where
   rest-long start n l h = omega (arith, length-drop start l)
 
   -- numbers stored at the front
-  pub two-put : (l : List A) (a b : A) → 2 ≤ length l → take 2 (set (set l 0 a) 1 b) ≡ a ∷ b ∷ []
-  two-put [] a b h = absurd (omega arith)
-  two-put (_ ∷ []) a b h = absurd (omega arith)
-  two-put (_ ∷ _ ∷ l) a b h = refl
-
   pub four-put : (l : List A) (a b c d : A) → 4 ≤ length l → take 4 (set (set (set (set l 0 a) 1 b) 2 c) 3 d) ≡ a ∷ b ∷ c ∷ d ∷ []
   four-put [] a b c d h = absurd (omega arith)
   four-put (_ ∷ []) a b c d h = absurd (omega arith)
@@ -52,11 +47,8 @@ module _ {A : Type 0} where
   four-put (_ ∷ _ ∷ _ ∷ []) a b c d h = absurd (omega arith)
   four-put (_ ∷ _ ∷ _ ∷ _ ∷ l) a b c d h = refl
 
-  pub two-put-length : (l : List A) (a b : A) → length (set (set l 0 a) 1 b) ≡ length l
-  two-put-length l a b = rw (length-set (set l 0 a) 1 b, length-set l 0 a)
-
   pub four-put-length : (l : List A) (a b c d : A) → length (set (set (set (set l 0 a) 1 b) 2 c) 3 d) ≡ length l
-  four-put-length l a b c d = rw (length-set (set (set (set l 0 a) 1 b) 2 c) 3 d, length-set (set (set l 0 a) 1 b) 2 c, two-put-length l a b)
+  four-put-length l a b c d = rw (length-set (set (set (set l 0 a) 1 b) 2 c) 3 d, length-set (set (set l 0 a) 1 b) 2 c, length-set (set l 0 a) 1 b, length-set l 0 a)
 
   -- a list copied behind what is put: the length stays, and its front has that list too
   module _ (l s : List A) (at n : ℕ) {m : List A} (e : m ≡ paste l at s n) (room : at + n ≤ length l) (whole : length s ≡ n) where
@@ -89,14 +81,20 @@ module _ (deck : Deck) (sized : Sized deck) where
       sym (take-all 1156 m₄ (omega (arith, h₄))) ∙ f₄ ∙ append-assoc ((a ∷ b ∷ c ∷ d ∷ px) ++ py) sx sy ∙ append-assoc (a ∷ b ∷ c ∷ d ∷ px) py (sx ++ sy)
       ∙ (λ i. ea i ∷ eb i ∷ ec i ∷ ed i ∷ (px ++ (py ++ (sx ++ sy))))
 
-  pub naturals-put : (ns : List ℕ) {m : List ℕ} → length ns ≡ 514 → m ≡ paste (set (set ns 0 (deck .posts)) 1 (deck .stops)) 2 (deck .visits) 512 →
-      m ≡ naturalsOf deck
+  -- the axis costs and the counts, as they are put in front
+  abbrev pub countsPut : List ℕ → List ℕ
+  countsPut ns = set (set (set (set ns 0 (deck .axis .a)) 1 (deck .axis .b)) 2 (deck .posts)) 3 (deck .stops)
+
+  pub counts-put-length : (ns : List ℕ) → length (countsPut ns) ≡ length ns
+  counts-put-length ns = four-put-length ns (deck .axis .a) (deck .axis .b) (deck .posts) (deck .stops)
+
+  pub naturals-put : (ns : List ℕ) {m : List ℕ} → length ns ≡ 516 → m ≡ paste (countsPut ns) 4 (deck .visits) 512 → m ≡ naturalsOf deck
   naturals-put ns {m} long e =
-      let l₀ = set (set ns 0 (deck .posts)) 1 (deck .stops) in
-      let h₀ = two-put-length ns (deck .posts) (deck .stops) ∙ long in
-      let h : length m ≡ 514 = copied-length l₀ (deck .visits) 2 512 e (omega (arith, h₀)) (sized .visits) ∙ h₀ in
-      sym (take-all 514 m (omega (arith, h)))
-      ∙ copied-front l₀ (deck .visits) 2 512 e (omega (arith, h₀)) (sized .visits) _ (two-put ns (deck .posts) (deck .stops) (omega (arith, long)))
+      let h₀ = counts-put-length ns ∙ long in
+      let h : length m ≡ 516 = copied-length (countsPut ns) (deck .visits) 4 512 e (omega (arith, h₀)) (sized .visits) ∙ h₀ in
+      sym (take-all 516 m (omega (arith, h)))
+      ∙ copied-front (countsPut ns) (deck .visits) 4 512 e (omega (arith, h₀)) (sized .visits) _
+      (four-put ns (deck .axis .a) (deck .axis .b) (deck .posts) (deck .stops) (omega (arith, long)))
 
 -- ---- the record that has the numbers of two lists
 copied-into : {A : Type 0} (z : A) (n : ℕ) (s : List A) {m : List A} → m ≡ paste (replicate n z) 0 s n → m ≡ take n s
@@ -104,11 +102,12 @@ copied-into z n s e =
     let h : length (replicate n z) ≤ 0 + n = omega (arith, length-replicate n z) in
     e ∙ ap (λ (r : List _). take n s ++ r) (drop-of-length-le (replicate n z) h) ∙ append-nil (take n s)
 
-pub deck-made : (zs : List ℤ) (ns : List ℕ) {a b c d : ℤ} {p s : ℕ} {px py sx sy : List ℤ} {vs : List ℕ} → a ≡ getD zs 0 (pos 0) →
-    b ≡ getD zs 1 (pos 0) → c ≡ getD zs 2 (pos 0) → d ≡ getD zs 3 (pos 0) → p ≡ getD ns 0 0 → s ≡ getD ns 1 0 →
+pub deck-made : (zs : List ℤ) (ns : List ℕ) {a b c d : ℤ} {k l p s : ℕ} {px py sx sy : List ℤ} {vs : List ℕ} → a ≡ getD zs 0 (pos 0) →
+    b ≡ getD zs 1 (pos 0) → c ≡ getD zs 2 (pos 0) → d ≡ getD zs 3 (pos 0) → k ≡ getD ns 0 0 → l ≡ getD ns 1 0 → p ≡ getD ns 2 0 → s ≡ getD ns 3 0 →
     px ≡ paste (replicate 64 (pos 0)) 0 (drop 4 zs) 64 → py ≡ paste (replicate 64 (pos 0)) 0 (drop 68 zs) 64 →
     sx ≡ paste (replicate 512 (pos 0)) 0 (drop 132 zs) 512 → sy ≡ paste (replicate 512 (pos 0)) 0 (drop 644 zs) 512 →
-    vs ≡ paste (replicate 512 0) 0 (drop 2 ns) 512 → _≡_ {A = Deck} (record {
+    vs ≡ paste (replicate 512 0) 0 (drop 4 ns) 512 → _≡_ {A = Deck} (record {
+      axis = record { a = k; b = l };
       xlo = a;
       ylo = b;
       xhi = c;
@@ -121,7 +120,8 @@ pub deck-made : (zs : List ℤ) (ns : List ℕ) {a b c d : ℤ} {p s : ℕ} {px 
       «stop_y» = sy;
       visits = vs;
     }) (deckFrom zs ns)
-deck-made zs ns ea eb ec ed ep es epx epy esx esy evs = λ i. record {
+deck-made zs ns ea eb ec ed ek el ep es epx epy esx esy evs = λ i. record {
+  axis = record { a = ek i; b = el i };
   xlo = ea i;
   ylo = eb i;
   xhi = ec i;
@@ -132,19 +132,19 @@ deck-made zs ns ea eb ec ed ep es epx epy esx esy evs = λ i. record {
   stops = es i;
   «stop_x» = copied-into (pos 0) 512 (drop 132 zs) esx i;
   «stop_y» = copied-into (pos 0) 512 (drop 644 zs) esy i;
-  visits = copied-into 0 512 (drop 2 ns) evs i;
+  visits = copied-into 0 512 (drop 4 ns) evs i;
 }
 
 part-long : {A : Type 0} (start n : ℕ) (l : List A) → start + n ≤ length l → length (take n (drop start l)) ≡ n
 part-long start n l h = length-take-le n (drop start l) (rest-long start n l h)
 
-pub deck-sized : (zs : List ℤ) (ns : List ℕ) → length zs ≡ 1156 → length ns ≡ 514 → Sized (deckFrom zs ns)
+pub deck-sized : (zs : List ℤ) (ns : List ℕ) → length zs ≡ 1156 → length ns ≡ 516 → Sized (deckFrom zs ns)
 deck-sized zs ns h k = record {
   post-x = part-long 4 64 zs (omega arith);
   post-y = part-long 68 64 zs (omega arith);
   stop-x = part-long 132 512 zs (omega arith);
   stop-y = part-long 644 512 zs (omega arith);
-  visits = part-long 2 512 ns (omega arith);
+  visits = part-long 4 512 ns (omega arith);
 }
 
 -- ---- the numbers of an answer
@@ -175,11 +175,11 @@ module _ (zs : List ℤ) (ns : List ℕ) where
   few-coordinates : length zs ≢ 1156 → isRecord zs ns ≡ false
   few-coordinates h = rw (ne-eqb (length zs) 1156 h)
 
-  few-naturals : length zs ≡ 1156 → length ns ≢ 514 → isRecord zs ns ≡ false
-  few-naturals h k = rw (eq-eqb (length zs) 1156 h, ne-eqb (length ns) 514 k)
+  few-naturals : length zs ≡ 1156 → length ns ≢ 516 → isRecord zs ns ≡ false
+  few-naturals h k = rw (eq-eqb (length zs) 1156 h, ne-eqb (length ns) 516 k)
 
-  as-long : length zs ≡ 1156 → length ns ≡ 514 → isRecord zs ns ≡ true
-  as-long h k = rw (eq-eqb (length zs) 1156 h, eq-eqb (length ns) 514 k)
+  as-long : length zs ≡ 1156 → length ns ≡ 516 → isRecord zs ns ≡ true
+  as-long h k = rw (eq-eqb (length zs) 1156 h, eq-eqb (length ns) 516 k)
 
   module _ (job : List ℕ) (which : ℕ) where
     nothing-read : isRecord zs ns ≡ false → record { result = least; coordinates = zs; naturals = ns } ≡ trialRead job zs ns which
@@ -188,7 +188,7 @@ module _ (zs : List ℤ) (ns : List ℕ) where
     pub read-few-coordinates : length zs ≢ 1156 → record { result = least; coordinates = zs; naturals = ns } ≡ trialRead job zs ns which
     read-few-coordinates h = nothing-read (few-coordinates h)
 
-    pub read-few-naturals : length zs ≡ 1156 → length ns ≢ 514 → record { result = least; coordinates = zs; naturals = ns } ≡ trialRead job zs ns which
+    pub read-few-naturals : length zs ≡ 1156 → length ns ≢ 516 → record { result = least; coordinates = zs; naturals = ns } ≡ trialRead job zs ns which
     read-few-naturals h k = nothing-read (few-naturals h k)
 
   module _ (rounds : ℕ) (out : List ℕ) (which : ℕ) where
@@ -198,12 +198,12 @@ module _ (zs : List ℤ) (ns : List ℕ) where
     pub write-few-coordinates : length zs ≢ 1156 → record { result = least; out = out } ≡ trialWrite zs ns rounds out which
     write-few-coordinates h = nothing-written (few-coordinates h)
 
-    pub write-few-naturals : length zs ≡ 1156 → length ns ≢ 514 → record { result = least; out = out } ≡ trialWrite zs ns rounds out which
+    pub write-few-naturals : length zs ≡ 1156 → length ns ≢ 516 → record { result = least; out = out } ≡ trialWrite zs ns rounds out which
     write-few-naturals h k = nothing-written (few-naturals h k)
 
 -- ---- the call `read`, by the case of its outcome
 module _ (job : List ℕ) (outcome : Outcome) (deck : Deck) (e : record { answer = readAnswer outcome; deck = deck } ≡ readCall job) where
-  pub read-is : (zs : List ℤ) (ns : List ℕ) (which : ℕ) {v : ℤ} {zs′ : List ℤ} {ns′ : List ℕ} → length zs ≡ 1156 → length ns ≡ 514 →
+  pub read-is : (zs : List ℤ) (ns : List ℕ) (which : ℕ) {v : ℤ} {zs′ : List ℤ} {ns′ : List ℕ} → length zs ≡ 1156 → length ns ≡ 516 →
       v ≡ countFigure which (readAnswer outcome) → zs′ ≡ coordinatesOf deck → ns′ ≡ naturalsOf deck →
       record { result = v; coordinates = zs′; naturals = ns′ } ≡ trialRead job zs ns which
   read-is zs ns which h k f g j =
@@ -224,7 +224,7 @@ module _ (job : List ℕ) (outcome : Outcome) (deck : Deck) (e : record { answer
 
 -- ---- the call `write`, by the case of its answer
 module _ (zs : List ℤ) (ns : List ℕ) (rounds : ℕ) (out : List ℕ) (deck : Deck) (d : deck ≡ deckFrom zs ns) (answer : Written) (out′ : List ℕ)
-    (e : record { answer = writtenAnswer answer; out = out′ } ≡ writeCall deck rounds out) (h : length zs ≡ 1156) (k : length ns ≡ 514) where
+    (e : record { answer = writtenAnswer answer; out = out′ } ≡ writeCall deck rounds out) (h : length zs ≡ 1156) (k : length ns ≡ 516) where
   call-is : record { answer = writtenAnswer answer; out = out′ } ≡ writeCall (deckFrom zs ns) rounds out
   call-is = e ∙ ap (λ (r : Deck). writeCall r rounds out) d
 

@@ -12,31 +12,33 @@ use Rattle.calls.specs.ReadCall.{Read, readCall}
 use Rattle.calls.specs.WriteCall.{Saved, writeCall}
 use Rattle.trial.specs.Trial.{least}
 
--- a record's numbers: the coordinates of its area, of its posts and of its stops; its counts of posts and stops, and the visits
+-- a record's numbers: the coordinates of its area, of its posts and of its stops; its axis costs, its counts of posts and stops, and the
+-- visits
 abbrev pub coordinatesOf : Deck → List ℤ
 coordinatesOf deck =
     deck .xlo ∷ deck .ylo ∷ deck .xhi ∷ deck .yhi ∷ (deck .«post_x» ++ (deck .«post_y» ++ (deck .«stop_x» ++ deck .«stop_y»)))
 
 abbrev pub naturalsOf : Deck → List ℕ
-naturalsOf deck = deck .posts ∷ deck .stops ∷ deck .visits
+naturalsOf deck = deck .axis .a ∷ deck .axis .b ∷ deck .posts ∷ deck .stops ∷ deck .visits
 
 -- whether lists are as long as those of a record, and the record that has these numbers
 abbrev pub isRecord : List ℤ → List ℕ → Bool
-isRecord zs ns = eqb (length zs) 1156 && eqb (length ns) 514
+isRecord zs ns = eqb (length zs) 1156 && eqb (length ns) 516
 
 abbrev pub deckFrom : List ℤ → List ℕ → Deck
 deckFrom zs ns = record {
+  axis = record { a = getD ns 0 0; b = getD ns 1 0 };
   xlo = getD zs 0 (pos 0);
   ylo = getD zs 1 (pos 0);
   xhi = getD zs 2 (pos 0);
   yhi = getD zs 3 (pos 0);
-  posts = getD ns 0 0;
+  posts = getD ns 2 0;
   «post_x» = take 64 (drop 4 zs);
   «post_y» = take 64 (drop 68 zs);
-  stops = getD ns 1 0;
+  stops = getD ns 3 0;
   «stop_x» = take 512 (drop 132 zs);
   «stop_y» = take 512 (drop 644 zs);
-  visits = take 512 (drop 2 ns);
+  visits = take 512 (drop 4 ns);
 }
 
 -- the number that is given, and 0 for the number and the line of a refusal; a refusal has only the last two

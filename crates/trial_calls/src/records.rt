@@ -1,6 +1,8 @@
 // The calls `siting::read` and `siting::write`, for the tests and benchmarks from Rust. A deck's record is two lists of numbers: 1,156
-// coordinates, of the area, the posts' x and y, the stops' x and y; and 514 others, the counts of posts and stops and the visits.
+// coordinates, of the area, the posts' x and y, the stops' x and y; and 516 others, the axis costs, the counts of posts and stops and the
+// visits.
 use calls::Written;
+use deck::AxisCosts;
 use deck::Deck;
 use job::Outcome;
 use limits::POSTS;
@@ -37,7 +39,7 @@ fn copy_naturals(from: &[u64], start: usize, to: &mut [u64], at: usize, n: usize
 
 // The record that has these numbers.
 fn deck_from(coordinates: &[i64], naturals: &[u64]) -> Deck
-    requires { ⌜ (length (now coordinates) ≡ 1156) × (length (now naturals) ≡ 514) ⌝ }
+    requires { ⌜ (length (now coordinates) ≡ 1156) × (length (now naturals) ≡ 516) ⌝ }
     ensures { λ r. ⌜ r ≡ deckFrom (now (coordinates .entry)) (now (naturals .entry)) ⌝ }
 {
     let mut post_x = [0i64; POSTS];
@@ -49,16 +51,20 @@ fn deck_from(coordinates: &[i64], naturals: &[u64]) -> Deck
     copy(coordinates, 68, &mut post_y, 0, POSTS);
     copy(coordinates, 132, &mut stop_x, 0, STOPS);
     copy(coordinates, 644, &mut stop_y, 0, STOPS);
-    copy_naturals(naturals, 2, &mut visits, 0, STOPS);
+    copy_naturals(naturals, 4, &mut visits, 0, STOPS);
     Deck {
+        axis: AxisCosts {
+            a: naturals[0],
+            b: naturals[1],
+        },
         xlo: coordinates[0],
         ylo: coordinates[1],
         xhi: coordinates[2],
         yhi: coordinates[3],
-        posts: naturals[0] as usize,
+        posts: naturals[2] as usize,
         post_x,
         post_y,
-        stops: naturals[1] as usize,
+        stops: naturals[3] as usize,
         stop_x,
         stop_y,
         visits,
@@ -85,12 +91,14 @@ fn put_coordinates(deck: Deck, coordinates: &mut [i64])
 }
 
 fn put_naturals(deck: Deck, naturals: &mut [u64])
-    requires { ⌜ length (now naturals) ≡ 514 ⌝ }
+    requires { ⌜ length (now naturals) ≡ 516 ⌝ }
     ensures { λ r. ⌜ now (naturals .exit) ≡ naturalsOf deck ⌝ }
 {
-    naturals[0] = deck.posts as u64;
-    naturals[1] = deck.stops as u64;
-    copy_naturals(&deck.visits, 0, naturals, 2, STOPS);
+    naturals[0] = deck.axis.a;
+    naturals[1] = deck.axis.b;
+    naturals[2] = deck.posts as u64;
+    naturals[3] = deck.stops as u64;
+    copy_naturals(&deck.visits, 0, naturals, 4, STOPS);
 }
 
 // A number that goes with a count: the count itself; then 0 twice, for no refusal. The least number behind them.
@@ -122,7 +130,7 @@ pub extern "C" fn trial_read(
     if coordinates.len() != 1156 {
         return -9223372036854775808;
     }
-    if naturals.len() != 514 {
+    if naturals.len() != 516 {
         return -9223372036854775808;
     }
     let j = siting::read(job);
@@ -157,7 +165,7 @@ pub extern "C" fn trial_write(
     if coordinates.len() != 1156 {
         return -9223372036854775808;
     }
-    if naturals.len() != 514 {
+    if naturals.len() != 516 {
         return -9223372036854775808;
     }
     let answer = siting::write(deck_from(coordinates, naturals), rounds, out);
