@@ -1,6 +1,6 @@
 -- `job::writes_axis` meets its contract.
 -- Assumes nothing.
-use mathlib.Core.Path.{_≡_, refl}
+use mathlib.Core.Path.{_≡_}
 use mathlib.Core.Bool.{true, not}
 use Prim.Native.Nat.{ℕ}
 use borrow.Author.Tests.{eq-eqb, ne-eqb}
