@@ -18,6 +18,7 @@ ghost use Prim.Native.Nat.{_+_, _≤_};
 ghost use lib.ListN.{drop};
 ghost use Rattle.deck.specs.DeckOf.{costsOf};
 ghost use Rattle.job_line.specs.Reading.{areaNumbers};
+ghost use Rattle.job.specs.File.{writesAxis};
 ghost use Rattle.job.specs.Format.{areaOf, emptyArea, readWith, readJob, refused};
 ghost use Rattle.job.specs.JobRecord.{jobRecord};
 ghost use Rattle.job.specs.ManyLines.{postLines, stopLines, allPosts, allStops};
@@ -343,4 +344,11 @@ pub fn read(bytes: &[u8]) -> Job
     ensures { λ r. ⌜ r ≡ jobRecord (readJob (now (bytes .entry))) ⌝ }
 {
     read_with(bytes, AxisCosts { a: 1, b: 1 })
+}
+
+// Whether the writer has a line for these axis costs.
+pub fn writes_axis(c: AxisCosts) -> bool
+    ensures { λ r. ⌜ r ≡ writesAxis (costsOf c) ⌝ }
+{
+    if c.a == 1 { c.b != 1 } else { true }
 }

@@ -1,6 +1,8 @@
--- The refusal of a file by its parts: the line of the area, those of the posts, those of the stops, that of the rounds, and what they hold.
+-- The refusal of a file by its parts: the lines of the area and of the axis costs, those of the posts, those of the stops, that of the
+-- rounds, and what they hold.
 -- Assumes nothing.
-use mathlib.Core.Path.{_≡_, refl, sym, ap, ap₂, _∙_}
+use mathlib.Core.Path.{_≡_, refl, sym, ap, ap₂, subst, _∙_}
+use mathlib.Core.Bool.{cond}
 use mathlib.Core.List.{List, [], _∷_, _++_}
 use mathlib.Core.Option.{Option, none, some}
 use Prim.Native.Nat.{ℕ, _+_, _≤_}
@@ -11,15 +13,17 @@ use mir.Syntax.{w64}
 use mir.Val.{SFits}
 use Rattle.numbers.proofs.WordTests.{back, back-is}
 use Rattle.deck.specs.declared.Deck.{Deck}
-use Rattle.deck.specs.DeckOf.{Sized, deckOf}
-use Rattle.job_line.specs.Kinds.{Range, area, posts, stops, rounds, upTo, row}
+use Rattle.deck.specs.DeckOf.{Sized, costsOf, deckOf}
+use Rattle.job_line.specs.Kinds.{Range, area, axis, posts, stops, rounds, upTo, row}
+use Rattle.job_line.specs.Reading.{costNumbers}
 use Rattle.job.specs.Format.{areaOf, readText}
 use Rattle.job.specs.Spelling.{JobLine, countLine}
-use Rattle.job.specs.File.{fileText, fileLines}
+use Rattle.job.specs.File.{writesAxis, fileText, fileLines}
 use Rattle.refusal.specs.declared.Refusal.{Refusal}
 use Rattle.job_check.specs.LineFaults.{numbersFault, lineFault, orElse, firstFault, partsFault, refusalIn}
+use Rattle.job_check.proofs.AxisLaws.{axisLines, axis-fault, axis-end}
 use Rattle.job_check.proofs.ShortLaws.{count-most}
-use Rattle.job_check.proofs.FirstFault.{fault-none, fault-more, fault-joined, or-both, postLines, posts-count, stopLines, stops-count}
+use Rattle.job_check.proofs.FirstFault.{fault-none, fault-more, fault-joined, or-both, or-none, postLines, posts-count, stopLines, stops-count}
 
 -- ---- the parts of a record's lines
 abbrev pub areaNumbersOf : Deck → List ℤ
@@ -31,32 +35,19 @@ postPart deck = countLine posts (deck .posts) ∷ postLines (deck .«post_x») (
 abbrev pub stopPart : Deck → List JobLine
 stopPart deck = countLine stops (deck .stops) ∷ stopLines (deck .«stop_x») (deck .«stop_y») (deck .visits) (deck .stops)
 
+-- the number of the first line of the posts
+abbrev pub postsAt : Deck → ℕ
+postsAt deck = cond (writesAxis (costsOf (deck .axis))) 3 2
+
 lines-are : (deck : Deck) (n : ℕ) →
-    fileLines deck n ≡ record { kind = area; numbers = areaNumbersOf deck } ∷ (postPart deck ++ (stopPart deck ++ (countLine rounds n ∷ [])))
+    fileLines deck n ≡ record { kind = area; numbers = areaNumbersOf deck }
+    ∷ (axisLines (costsOf (deck .axis)) ++ (postPart deck ++ (stopPart deck ++ (countLine rounds n ∷ []))))
 unfolding deckOf
 lines-are deck n = refl
 
 area-is : (deck : Deck) → deckOf deck .area ≡ areaOf (areaNumbersOf deck)
 unfolding deckOf
 area-is deck = refl
-
-or-none : (a : Option Refusal) → orElse a none ≡ a
-or-none none = refl
-or-none (some why) = refl
-
-lines-fault : (deck : Deck) (n : ℕ) → firstFault 1 (fileLines deck n)
-    ≡ orElse (numbersFault (row area .ranges) 1 (areaNumbersOf deck)) (orElse (firstFault 2 (postPart deck))
-    (orElse (firstFault (2 + length (postPart deck)) (stopPart deck))
-    (numbersFault (row rounds .ranges) (2 + length (postPart deck) + length (stopPart deck)) (pos n ∷ []))))
-lines-fault deck n = rw (
-  lines-are deck n,
-  fault-more 1 (record { kind = area; numbers = areaNumbersOf deck }) (postPart deck ++ (stopPart deck ++ (countLine rounds n ∷ []))),
-  fault-joined 2 (postPart deck) (stopPart deck ++ (countLine rounds n ∷ [])),
-  fault-joined (2 + length (postPart deck)) (stopPart deck) (countLine rounds n ∷ []),
-  fault-more (2 + length (postPart deck) + length (stopPart deck)) (countLine rounds n) [],
-  fault-none (2 + length (postPart deck) + length (stopPart deck) + 1),
-  or-none (numbersFault (row rounds .ranges) (2 + length (postPart deck) + length (stopPart deck)) (pos n ∷ [])),
-)
 
 -- ---- the counts of parts without a fault
 or-left : (a b : Option Refusal) → orElse a b ≡ none → a ≡ none
@@ -69,8 +60,9 @@ counted most n line l ls g h e =
     count-most most n line (ap₂ (λ (ranges : List Range) (ns : List ℤ). numbersFault ranges line ns) h g)
     (or-left (lineFault line l) (firstFault (line + 1) ls) (sym (fault-more line l ls) ∙ e))
 
-pub posts-most : (deck : Deck) {p : Option Refusal} → p ≡ firstFault 2 (postPart deck) → p ≡ none → deck .posts ≤ 64
-posts-most deck is-p fine = counted 64 (deck .posts) 2 (countLine posts (deck .posts)) (postLines (deck .«post_x») (deck .«post_y») (deck .posts)) refl refl
+pub posts-most : (deck : Deck) (line : ℕ) {p : Option Refusal} → p ≡ firstFault line (postPart deck) → p ≡ none → deck .posts ≤ 64
+posts-most deck line is-p fine =
+    counted 64 (deck .posts) line (countLine posts (deck .posts)) (postLines (deck .«post_x») (deck .«post_y») (deck .posts)) refl refl
     (sym is-p ∙ fine)
 
 pub stops-most : (deck : Deck) (line : ℕ) {s : Option Refusal} → s ≡ firstFault line (stopPart deck) → s ≡ none → deck .stops ≤ 512
@@ -78,7 +70,59 @@ stops-most deck line is-s fine =
     counted 512 (deck .stops) line (countLine stops (deck .stops)) (stopLines (deck .«stop_x») (deck .«stop_y») (deck .visits) (deck .stops)) refl refl
     (sym is-s ∙ fine)
 
--- ---- the refusal of a record's file, found part after part
+-- ---- what is left of a file's refusal, once parts of it have no fault
+module _ (deck : Deck) (n : ℕ) where
+  -- behind the stops, behind the posts and behind the axis costs, where the next line has this number, and behind the area
+  abbrev pub behindStops : ℕ → Option Refusal
+  behindStops line = orElse (numbersFault (row rounds .ranges) line (pos n ∷ [])) (partsFault (deckOf deck .area) (deck .posts) (deck .stops))
+
+  abbrev pub behindPosts : ℕ → Option Refusal
+  behindPosts line = orElse (firstFault line (stopPart deck)) (behindStops (line + length (stopPart deck)))
+
+  abbrev pub behindAxis : ℕ → Option Refusal
+  behindAxis line = orElse (firstFault line (postPart deck)) (behindPosts (line + length (postPart deck)))
+
+  abbrev pub behindArea : Option Refusal
+  behindArea = orElse (numbersFault (row axis .ranges) 2 (costNumbers (deck .axis))) (behindAxis (postsAt deck))
+
+  later-fault : (first : ℕ) → orElse (firstFault first (postPart deck ++ (stopPart deck ++ (countLine rounds n ∷ []))))
+      (partsFault (deckOf deck .area) (deck .posts) (deck .stops)) ≡ behindAxis first
+  later-fault first = rw (
+    fault-joined first (postPart deck) (stopPart deck ++ (countLine rounds n ∷ [])),
+    fault-joined (first + length (postPart deck)) (stopPart deck) (countLine rounds n ∷ []),
+    fault-more (first + length (postPart deck) + length (stopPart deck)) (countLine rounds n) [],
+    fault-none (first + length (postPart deck) + length (stopPart deck) + 1),
+    or-none (numbersFault (row rounds .ranges) (first + length (postPart deck) + length (stopPart deck)) (pos n ∷ [])),
+    or-both,
+    or-both,
+  )
+
+  lines-fault : orElse (firstFault 1 (fileLines deck n)) (partsFault (deckOf deck .area) (deck .posts) (deck .stops))
+      ≡ orElse (numbersFault (row area .ranges) 1 (areaNumbersOf deck)) behindArea
+  lines-fault = rw (
+    lines-are deck n,
+    fault-more 1 (record { kind = area; numbers = areaNumbersOf deck })
+        (axisLines (costsOf (deck .axis)) ++ (postPart deck ++ (stopPart deck ++ (countLine rounds n ∷ [])))),
+    fault-joined 2 (axisLines (costsOf (deck .axis))) (postPart deck ++ (stopPart deck ++ (countLine rounds n ∷ []))),
+    axis-fault (costsOf (deck .axis)),
+    axis-end (costsOf (deck .axis)),
+    or-both,
+    or-both,
+    later-fault (postsAt deck),
+  )
+
+-- this is left of it
+pub record Left (deck : Deck) (n : ℕ) (rest : Option Refusal) : Type 0 where
+  pub is : refusalIn (readText (fileText deck n)) ≡ rest
+
+-- a part, whose fault the code found
+module _ {deck : Deck} {n : ℕ} {part found : Option Refusal} (rest : Option Refusal) (left : Left deck n (orElse part rest)) (e : found ≡ part) where
+  pub part-fine : found ≡ none → Left deck n rest
+  part-fine fine = record { is = left .is ∙ rw (← e, fine) }
+
+  pub part-refused : {why : Refusal} → found ≡ some why → some why ≡ refusalIn (readText (fileText deck n))
+  part-refused refused = sym (left .is ∙ rw (← e, refused))
+
 -- the area's numbers as the code holds them
 pub record AreaFits (deck : Deck) : Type 0 where
   pub xlo : SFits w64 (deck .xlo)
@@ -92,62 +136,35 @@ backNumbers deck = back (deck .xlo) ∷ back (deck .ylo) ∷ back (deck .xhi) �
 back-numbers : (deck : Deck) → AreaFits deck → backNumbers deck ≡ areaNumbersOf deck
 back-numbers deck f = rw (back-is (f .xlo), back-is (f .ylo), back-is (f .xhi), back-is (f .yhi))
 
-module _ (deck : Deck) (n : ℕ) (sized : Sized deck) (fits : AreaFits deck)
-    (whole : refusalIn (readText (fileText deck n)) ≡ orElse (firstFault 1 (fileLines deck n)) (partsFault (deckOf deck .area) (deck .posts) (deck .stops)))
-    {a : Option Refusal} (is-a : a ≡ numbersFault (row area .ranges) 1 (backNumbers deck)) where
-  after-area : refusalIn (readText (fileText deck n)) ≡ orElse a (orElse (firstFault 2 (postPart deck))
-      (orElse (firstFault (2 + length (postPart deck)) (stopPart deck))
-      (orElse (numbersFault (row rounds .ranges) (2 + length (postPart deck) + length (stopPart deck)) (pos n ∷ []))
-      (partsFault (deckOf deck .area) (deck .posts) (deck .stops)))))
-  after-area = whole ∙ rw (lines-fault deck n, is-a, back-numbers deck fits, or-both, or-both, or-both)
+-- of all of a file, found by its lines
+pub all-left : (deck : Deck) (n : ℕ) → AreaFits deck →
+    refusalIn (readText (fileText deck n)) ≡ orElse (firstFault 1 (fileLines deck n)) (partsFault (deckOf deck .area) (deck .posts) (deck .stops)) →
+    Left deck n (orElse (numbersFault (row area .ranges) 1 (backNumbers deck)) (behindArea deck n))
+all-left deck n fits whole = record { is = whole ∙ lines-fault deck n ∙ rw (back-numbers deck fits) }
 
-  pub area-refused : {why : Refusal} → a ≡ some why → some why ≡ refusalIn (readText (fileText deck n))
-  area-refused refused = sym (after-area ∙ rw refused)
+-- the number of the next line, as the code finds it
+pub posts-behind : {deck : Deck} {n line : ℕ} → line ≡ postsAt deck → Left deck n (behindAxis deck n (postsAt deck)) →
+    Left deck n (behindAxis deck n line)
+posts-behind e left = rw e left
 
-  module _ (a-fine : a ≡ none) {p : Option Refusal} (is-p : p ≡ firstFault 2 (postPart deck)) where
-    after-posts : refusalIn (readText (fileText deck n)) ≡ orElse p (orElse (firstFault (2 + length (postPart deck)) (stopPart deck))
-        (orElse (numbersFault (row rounds .ranges) (2 + length (postPart deck) + length (stopPart deck)) (pos n ∷ []))
-        (partsFault (deckOf deck .area) (deck .posts) (deck .stops))))
-    after-posts = after-area ∙ rw (a-fine, is-p)
+module _ {deck : Deck} {n : ℕ} (sized : Sized deck) (line : ℕ) where
+  pub stops-behind : deck .posts ≤ 64 → Left deck n (behindPosts deck n (line + length (postPart deck))) →
+      Left deck n (behindPosts deck n (line + 1 + deck .posts))
+  stops-behind few left = subst (λ (k : ℕ). Left deck n (behindPosts deck n k)) (omega (
+    arith,
+    posts-count (deck .«post_x») (deck .«post_y») (deck .posts) (omega (arith, sized .post-x)) (omega (arith, sized .post-y)),
+  )) left
 
-    pub posts-refused : {why : Refusal} → p ≡ some why → some why ≡ refusalIn (readText (fileText deck n))
-    posts-refused refused = sym (after-posts ∙ rw refused)
+  pub rounds-behind : deck .stops ≤ 512 → Left deck n (behindStops deck n (line + length (stopPart deck))) →
+      Left deck n (behindStops deck n (line + 1 + deck .stops))
+  rounds-behind many left = subst (λ (k : ℕ). Left deck n (behindStops deck n k)) (omega (
+    arith,
+    stops-count (deck .«stop_x») (deck .«stop_y») (deck .visits) (deck .stops) (omega (arith, sized .stop-x)) (omega (arith, sized .stop-y))
+        (omega (arith, sized .visits)),
+  )) left
 
-    module _ (p-fine : p ≡ none) where
-      posts-end : 2 + length (postPart deck) ≡ 3 + deck .posts
-      posts-end =
-          let few = posts-most deck is-p p-fine in
-          omega (arith, posts-count (deck .«post_x») (deck .«post_y») (deck .posts) (omega (arith, sized .post-x)) (omega (arith, sized .post-y)))
-
-      module _ {s : Option Refusal} (is-s : s ≡ firstFault (3 + deck .posts) (stopPart deck)) where
-        after-stops : refusalIn (readText (fileText deck n)) ≡ orElse s
-            (orElse (numbersFault (row rounds .ranges) (2 + length (postPart deck) + length (stopPart deck)) (pos n ∷ []))
-            (partsFault (deckOf deck .area) (deck .posts) (deck .stops)))
-        after-stops = after-posts ∙ rw (p-fine, posts-end, is-s)
-
-        pub stops-refused : {why : Refusal} → s ≡ some why → some why ≡ refusalIn (readText (fileText deck n))
-        stops-refused refused = sym (after-stops ∙ rw refused)
-
-        module _ (s-fine : s ≡ none) where
-          stops-end : 2 + length (postPart deck) + length (stopPart deck) ≡ 3 + deck .posts + 1 + deck .stops
-          stops-end =
-              let many = stops-most deck (3 + deck .posts) is-s s-fine in
-              omega (
-                arith,
-                posts-end,
-                stops-count (deck .«stop_x») (deck .«stop_y») (deck .visits) (deck .stops) (omega (arith, sized .stop-x))
-                    (omega (arith, sized .stop-y)) (omega (arith, sized .visits)),
-              )
-
-          module _ {r : Option Refusal} (is-r : r ≡ numbersFault (row rounds .ranges) (3 + deck .posts + 1 + deck .stops) (pos n ∷ [])) where
-            after-rounds : refusalIn (readText (fileText deck n)) ≡ orElse r (partsFault (deckOf deck .area) (deck .posts) (deck .stops))
-            after-rounds = after-stops ∙ rw (s-fine, stops-end, is-r)
-
-            pub rounds-refused : {why : Refusal} → r ≡ some why → some why ≡ refusalIn (readText (fileText deck n))
-            rounds-refused refused = sym (after-rounds ∙ rw refused)
-
-            pub parts-answer : {e : Option Refusal} → r ≡ none → e ≡ partsFault (areaOf (backNumbers deck)) (deck .posts) (deck .stops) →
-                e ≡ refusalIn (readText (fileText deck n))
-            parts-answer r-fine is-e =
-                is-e ∙ ap (λ (ns : List ℤ). partsFault (areaOf ns) (deck .posts) (deck .stops)) (back-numbers deck fits)
-                ∙ sym (after-rounds ∙ rw (r-fine, area-is))
+pub parts-answer : {deck : Deck} {n : ℕ} {found : Option Refusal} → AreaFits deck →
+    Left deck n (partsFault (deckOf deck .area) (deck .posts) (deck .stops)) →
+    found ≡ partsFault (areaOf (backNumbers deck)) (deck .posts) (deck .stops) → found ≡ refusalIn (readText (fileText deck n))
+parts-answer {deck} fits left e = e ∙ ap (λ (ns : List ℤ). partsFault (areaOf ns) (deck .posts) (deck .stops)) (back-numbers deck fits)
+    ∙ sym (left .is ∙ rw area-is)

@@ -14,23 +14,27 @@ use Rattle.numbers.proofs.Truth.{test, holds, fails}
 use Rattle.numbers.proofs.Members.{each-cons}
 use Rattle.numbers.specs.Lists.{nonEmpty}
 use Rattle.query.specs.Place.{Place, Rect}
-use Rattle.query.specs.Deck.{Stop, plain}
+use Rattle.query.specs.Deck.{AxisCosts, Stop, plain}
+use Rattle.text.specs.Ascii.{bytes}
+use Rattle.text.specs.TextReading.{startsWith}
 use Rattle.deck.specs.DeckOf.{Sized, deckOf}
 use Rattle.deck.specs.declared.Deck.{Deck}
 use Rattle.deck.proofs.DeckLaws.{posts-counted, stops-counted}
 use Rattle.job_line.specs.Kinds.{Kind, area, posts, post, stops, stop, rounds, row, inRanges}
 use Rattle.job.specs.Format.{Job, Result, refused, accepted, emptyArea, checked, readText}
-use Rattle.job.specs.Spelling.{JobLine, postLine, stopLine, linesCounting, linesOf, spellLine, spell, Writable, Allowed}
+use Rattle.job.specs.Spelling.{JobLine, areaLine, axisLine, countLine, postLine, stopLine, laterLines, linesCounting, linesOf, spellLine, spell, Writable}
+use Rattle.job.specs.Spelling.{Allowed}
 use Rattle.job.specs.Meaning.{dueAfter}
-use Rattle.job.specs.File.{heldJob, fileLines, fileText}
+use Rattle.job.specs.File.{heldJob, writesAxis, savedSpelling, fileLines, fileText}
 use Rattle.job.proofs.FormLaws.{SomeLong, Fitting, Within, form-spells, form-long}
 use Rattle.job.proofs.RangeLaws.{count-range}
 use Rattle.job.proofs.Faults.{Faults, bad-form, bad-value, further, allDue}
-use Rattle.job.proofs.Meaning.{text-fault, text-checked, text-accepted}
+use Rattle.job.proofs.Meaning.{text-fault, text-checked, text-accepted, plain-ranged}
 use Rattle.refusal.specs.Refusal.{lineOf}
 use Rattle.refusal.specs.declared.Refusal.{Refusal}
 use Rattle.refusal.specs.declared.Refusal.the-variants.{Malformed, OutOfRange, EmptyArea, NoPosts, NoStops}
 use Rattle.job_check.specs.LineFaults.{allShort, numbersFault, lineFault, orElse, firstFault, partsFault, refusalIn}
+use Rattle.job_check.proofs.AxisLaws.{left-out, axisLines, axis-end, third-line}
 
 -- ---- one line
 short-or-long : (ns : List ℤ) → (T (allShort ns) × Within ns) ⊎ (T (not (allShort ns)) × SomeLong ns)
@@ -63,7 +67,7 @@ Follows : List Kind → List JobLine → Type 0
 Follows due [] = due ≡ []
 Follows [] (l ∷ ls) = ⊥
 Follows (k ∷ due) (l ∷ ls) = (k ≡ l .kind) × (length (l .numbers) ≡ length (row (l .kind) .ranges))
-    × (T (inRanges (row (l .kind) .ranges) (l .numbers)) → Follows (dueAfter (l .kind) (l .numbers) ++ due) ls)
+    × (T (inRanges (row (l .kind) .ranges) (l .numbers)) → Follows (dueAfter (l .kind) (l .numbers) (flatMap spellLine ls) ++ due) ls)
 
 none-some : {C : Type 0} {why : Refusal} → _≡_ {A = Option Refusal} none (some why) → C
 none-some {why = why} e = absurd (Option·none-ne-some why e)
@@ -77,7 +81,7 @@ module _ (due : List Kind) (n : ℕ) (l : JobLine) (ls : List JobLine) (why : Re
   fits w = record { as-many = as-many; small = w }
 
   line-fault : LineIs n l → (T (inRanges (row (l .kind) .ranges) (l .numbers)) → firstFault (n + 1) ls ≡ some why →
-      Faults (dueAfter (l .kind) (l .numbers) ++ due) (n + 1) (flatMap spellLine ls) why) → firstFault n (l ∷ ls) ≡ some why →
+      Faults (dueAfter (l .kind) (l .numbers) (flatMap spellLine ls) ++ due) (n + 1) (flatMap spellLine ls) why) → firstFault n (l ∷ ls) ≡ some why →
       Faults (l .kind ∷ due) n (flatMap spellLine (l ∷ ls)) why
   unfolding firstFault flatMap spellLine
   line-fault (long p s) later e = subst (Faults (l .kind ∷ due) n (spellLine l ++ flatMap spellLine ls))
@@ -94,7 +98,8 @@ unfolding Follows firstFault
 lines-fault due [] n why f e = none-some e
 lines-fault [] (l ∷ ls) n why f e = absurd f
 lines-fault (k ∷ due) (l ∷ ls) n why f e = subst (λ (k : Kind). Faults (k ∷ due) n (flatMap spellLine (l ∷ ls)) why) (sym (f .0))
-    (line-fault due n l ls why (f .1) (line-is n l) (λ t. lines-fault (dueAfter (l .kind) (l .numbers) ++ due) ls (n + 1) why (f .2 t)) e)
+    (line-fault due n l ls why (f .1) (line-is n l) (λ t. lines-fault (dueAfter (l .kind) (l .numbers) (flatMap spellLine ls) ++ due) ls (n + 1) why (f .2 t))
+    e)
 
 -- the line of a fault is one of them
 fault-line : (n : ℕ) (ls : List JobLine) (why : Refusal) → firstFault n ls ≡ some why → lineOf why < n + length ls
@@ -134,8 +139,8 @@ lines-fine (l ∷ ls) n e = each-cons InRanges (go (line-is n l)) (lines-fine ls
 
 -- so many lines of a kind that makes no others due
 many-follow : {A : Type 0} (k : Kind) (numbersOf : A → List ℤ) → ((a : A) → length (numbersOf a) ≡ length (row k .ranges))
-    → ((ns : List ℤ) → dueAfter k ns ≡ []) → (xs : List A) (count : ℕ) → length xs ≡ count → (due : List Kind) (ls : List JobLine) → Follows due ls
-    → Follows (replicate count k ++ due) (map (λ a. record { kind = k; numbers = numbersOf a }) xs ++ ls)
+    → ((ns : List ℤ) (rest : List ℕ) → dueAfter k ns rest ≡ []) → (xs : List A) (count : ℕ) → length xs ≡ count → (due : List Kind) (ls : List JobLine)
+    → Follows due ls → Follows (replicate count k ++ due) (map (λ a. record { kind = k; numbers = numbersOf a }) xs ++ ls)
 unfolding Follows
 many-follow k numbersOf as-many alone [] zero e due ls f = f
 many-follow k numbersOf as-many alone [] (suc count) e due ls f = absurd (omega arith)
@@ -143,8 +148,17 @@ many-follow k numbersOf as-many alone (x ∷ xs) zero e due ls f = absurd (omega
 many-follow k numbersOf as-many alone (x ∷ xs) (suc count) e due ls f = (
   refl,
   as-many x,
-  λ t. rw (alone (numbersOf x)) (many-follow k numbersOf as-many alone xs count (omega arith) due ls f),
+  λ t. rw (alone (numbersOf x) _) (many-follow k numbersOf as-many alone xs count (omega arith) due ls f),
 )
+
+-- the lines behind that of the area: the axis line is due where the text goes on with its key, and `posts=` does not
+axis-follows : (carried : Bool) (c : AxisCosts) (ns : List ℤ) (n : ℕ) (ls : List JobLine) (due : List Kind) →
+    Follows (posts ∷ due) (countLine posts n ∷ ls) →
+    Follows (dueAfter area ns (flatMap spellLine (cond carried (axisLine c ∷ []) [] ++ (countLine posts n ∷ ls))) ++ (posts ∷ due))
+    (cond carried (axisLine c ∷ []) [] ++ (countLine posts n ∷ ls))
+unfolding Follows flatMap spellLine startsWith bytes
+axis-follows true c ns n ls due f = (refl, refl, λ t. f)
+axis-follows false c ns n ls due f = f
 
 -- refusals 4 to 6 have no line
 parts-line : (r : Rect) (p s : ℕ) (why : Refusal) → partsFault r p s ≡ some why → lineOf why ≡ 0
@@ -179,33 +193,30 @@ module _ (deck : Deck) (rounds-held : ℕ) (sized : Sized deck) where
   stops-held : deck .stops ≤ 512 → length (deckOf deck .stops) ≡ deck .stops
   stops-held h = omega (arith, stops-counted deck sized)
 
-  plain-held : deckOf deck .axis ≡ plain
-  unfolding deckOf
-  plain-held = refl
-
   file-follows : Follows allDue (fileLines deck rounds-held)
   unfolding Follows
   file-follows = (
     refl,
     refl,
-    λ t. (
+    λ t. axis-follows (writesAxis (deckOf deck .axis)) (deckOf deck .axis) (areaLine (deckOf deck .area) .numbers) (deck .posts) _ _ (
       refl,
       refl,
-      λ p. many-follow post (λ p. postLine p .numbers) (λ a. refl) (λ ns. refl) (deckOf deck .posts) (deck .posts)
+      λ p. many-follow post (λ p. postLine p .numbers) (λ a. refl) (λ ns rest. refl) (deckOf deck .posts) (deck .posts)
           (posts-held (count-range 64 (deck .posts) .0 p)) (stops ∷ rounds ∷ []) _ (
             refl,
             refl,
             λ q. many-follow stop (λ s. stopLine s .numbers) (λ a. refl)
-                (λ ns. refl) (deckOf deck .stops) (deck .stops) (stops-held (count-range 512 (deck .stops) .0 q)) (rounds ∷ []) _ (refl, refl, λ r. refl),
+                (λ ns rest. refl) (deckOf deck .stops) (deck .stops) (stops-held (count-range 512 (deck .stops) .0 q)) (rounds ∷ []) _ (refl, refl, λ r. refl),
           ),
     ),
   )
 
-  lines-held : deck .posts ≤ 64 → deck .stops ≤ 512 → fileLines deck rounds-held ≡ linesOf (heldJob deck rounds-held)
-  lines-held p s = ap₂ (λ (p s : ℕ). linesCounting p s (heldJob deck rounds-held)) (sym (posts-held p)) (sym (stops-held s))
+  lines-held : deck .posts ≤ 64 → deck .stops ≤ 512 →
+      fileLines deck rounds-held ≡ linesOf (writesAxis (deckOf deck .axis)) (heldJob deck rounds-held)
+  lines-held p s = ap₂ (λ (p s : ℕ). linesCounting (writesAxis (deckOf deck .axis)) p s (heldJob deck rounds-held)) (sym (posts-held p)) (sym (stops-held s))
 
   -- where the counts are those of the lists, the file is the spelling of the job that is held
-  pub file-spelled : deck .posts ≤ 64 → deck .stops ≤ 512 → fileText deck rounds-held ≡ spell (heldJob deck rounds-held)
+  pub file-spelled : deck .posts ≤ 64 → deck .stops ≤ 512 → fileText deck rounds-held ≡ savedSpelling (heldJob deck rounds-held)
   unfolding fileText spell
   file-spelled p s = ap (flatMap spellLine) (lines-held p s)
 
@@ -213,21 +224,22 @@ module _ (deck : Deck) (rounds-held : ℕ) (sized : Sized deck) where
   record AllFine : Type 0 where
     posts-few : deck .posts ≤ 64
     stops-few : deck .stops ≤ 512
-    writable : Writable (heldJob deck rounds-held)
-    spelled : fileText deck rounds-held ≡ spell (heldJob deck rounds-held)
+    writable : Writable (writesAxis (deckOf deck .axis)) (heldJob deck rounds-held)
+    spelled : fileText deck rounds-held ≡ savedSpelling (heldJob deck rounds-held)
 
   all-fine : firstFault 1 (fileLines deck rounds-held) ≡ none → AllFine
   unfolding InRanges
   all-fine e =
       let each = lines-fine (fileLines deck rounds-held) 1 e in
-      let p : deck .posts ≤ 64 = count-range 64 (deck .posts) .0 (each _ (List·Memᴰ·tail (List·Memᴰ·head refl))) in
+      let later : (l : JobLine) → List·Memᴰ l (laterLines (deck .posts) (deck .stops) (heldJob deck rounds-held)) → InRanges l
+      = λ l i. each l (List·Memᴰ·tail (Memᴰ·append-right (axisLines (deckOf deck .axis)) i)) in
+      let p : deck .posts ≤ 64 = count-range 64 (deck .posts) .0 (later _ (List·Memᴰ·head refl)) in
       let s : deck .stops ≤ 512 = count-range 512 (deck .stops) .0
-      (each _ (List·Memᴰ·tail (List·Memᴰ·tail (Memᴰ·append-right (map postLine (deckOf deck .posts)) (List·Memᴰ·head refl))))) in
+      (later _ (List·Memᴰ·tail (Memᴰ·append-right (map postLine (deckOf deck .posts)) (List·Memᴰ·head refl)))) in
       record {
         posts-few = p;
         stops-few = s;
-        writable =
-            record { plain-axis = plain-held; in-ranges = subst (λ (ls : List JobLine). (l : JobLine) → List·Memᴰ l ls → InRanges l) (lines-held p s) each };
+        writable = record { in-ranges = subst (λ (ls : List JobLine). (l : JobLine) → List·Memᴰ l ls → InRanges l) (lines-held p s) each };
         spelled = file-spelled p s;
       }
 
@@ -244,6 +256,9 @@ module _ (deck : Deck) (rounds-held : ℕ) (sized : Sized deck) where
       go false (p ∷ ps) [] = rw (eqb·suc-zero (length ps))
       go false (p ∷ ps) (s ∷ ss) = rw (eqb·suc-zero (length ps), eqb·suc-zero (length ss))
 
+  all-read : AllFine → readText (fileText deck rounds-held) ≡ checked (heldJob deck rounds-held)
+  all-read f = text-checked plain _ (heldJob deck rounds-held) (f .spelled) (f .writable) (left-out (deckOf deck .axis))
+
   -- what reading the file gives
   pub file-fault : refusalIn (readText (fileText deck rounds-held))
       ≡ orElse (firstFault 1 (fileLines deck rounds-held)) (partsFault (deckOf deck .area) (deck .posts) (deck .stops))
@@ -252,18 +267,20 @@ module _ (deck : Deck) (rounds-held : ℕ) (sized : Sized deck) where
     where
       go : (o : Option Refusal) → firstFault 1 (fileLines deck rounds-held) ≡ o →
           refusalIn (readText (fileText deck rounds-held)) ≡ orElse o (partsFault (deckOf deck .area) (deck .posts) (deck .stops))
-      go (some why) e = ap refusalIn (text-fault _ why (lines-fault allDue (fileLines deck rounds-held) 1 why file-follows e))
-      go none e = let f = all-fine e in ap refusalIn (text-checked _ (heldJob deck rounds-held) (f .spelled) (f .writable)) ∙ parts-is f
+      go (some why) e = ap refusalIn (text-fault plain _ why (lines-fault allDue (fileLines deck rounds-held) 1 why file-follows e))
+      go none e = let f = all-fine e in ap refusalIn (all-read f) ∙ parts-is f
 
-  -- at a line of the file, of which there are at most 580
-  lines-few : length (fileLines deck rounds-held) ≤ 580
-  lines-few = simp (length-append, length-map) (omega (arith, posts-counted deck sized, stops-counted deck sized))
+  -- at a line of the file, of which there are at most 581
+  lines-few : length (fileLines deck rounds-held) ≤ 581
+  lines-few =
+      let axis = axis-end (deckOf deck .axis) in
+      simp (length-append, length-map) (omega (arith, axis, third-line (writesAxis (deckOf deck .axis)), posts-counted deck sized, stops-counted deck sized))
 
-  pub file-line : (why : Refusal) → readText (fileText deck rounds-held) ≡ refused why → lineOf why ≤ 580
+  pub file-line : (why : Refusal) → readText (fileText deck rounds-held) ≡ refused why → lineOf why ≤ 581
   file-line why e = go (firstFault 1 (fileLines deck rounds-held)) refl (sym file-fault ∙ ap refusalIn e)
     where
       go : (o : Option Refusal) → firstFault 1 (fileLines deck rounds-held) ≡ o →
-          orElse o (partsFault (deckOf deck .area) (deck .posts) (deck .stops)) ≡ some why → lineOf why ≤ 580
+          orElse o (partsFault (deckOf deck .area) (deck .posts) (deck .stops)) ≡ some why → lineOf why ≤ 581
       go (some found) p f = omega (arith, fault-line 1 (fileLines deck rounds-held) why (p ∙ f), lines-few)
       go none p f = omega (arith, parts-line (deckOf deck .area) (deck .posts) (deck .stops) why f)
 
@@ -271,7 +288,7 @@ module _ (deck : Deck) (rounds-held : ℕ) (sized : Sized deck) where
   pub record FileIs : Type 0 where
     pub few-posts : deck .posts ≤ 64
     pub few-stops : deck .stops ≤ 512
-    pub text : fileText deck rounds-held ≡ spell (heldJob deck rounds-held)
+    pub text : fileText deck rounds-held ≡ savedSpelling (heldJob deck rounds-held)
     pub allowed : Allowed (heldJob deck rounds-held)
     pub read : readText (fileText deck rounds-held) ≡ accepted (heldJob deck rounds-held)
 
@@ -282,9 +299,8 @@ module _ (deck : Deck) (rounds-held : ℕ) (sized : Sized deck) where
       held : (r : Result) → readText (fileText deck rounds-held) ≡ r → AllFine → FileIs
       held (refused why) p f = none-some (sym e ∙ ap refusalIn p)
       held (accepted job) p f =
-          let (spelt, allowed) = text-accepted _ job p in
-          let same : job ≡ heldJob deck rounds-held = checked-same (heldJob deck rounds-held) job
-          (sym (text-checked _ (heldJob deck rounds-held) (f .spelled) (f .writable)) ∙ p) in
+          let (spelt, allowed) = text-accepted plain _ job plain-ranged p in
+          let same : job ≡ heldJob deck rounds-held = checked-same (heldJob deck rounds-held) job (sym (all-read f) ∙ p) in
           record { few-posts = f .posts-few; few-stops = f .stops-few; text = f .spelled; allowed = subst Allowed same allowed; read = p ∙ ap accepted same }
 
       go : (o : Option Refusal) → firstFault 1 (fileLines deck rounds-held) ≡ o → FileIs

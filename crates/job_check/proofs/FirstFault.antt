@@ -45,6 +45,10 @@ pub or-both : (a b c : Option Refusal) → orElse (orElse a b) c ≡ orElse a (o
 or-both none b c = refl
 or-both (some why) b c = refl
 
+pub or-none : (a : Option Refusal) → orElse a none ≡ a
+or-none none = refl
+or-none (some why) = refl
+
 -- those joined end to end
 pub fault-joined : (n : ℕ) (ls ms : List JobLine) → firstFault n (ls ++ ms) ≡ orElse (firstFault n ls) (firstFault (n + length ls) ms)
 fault-joined n [] ms = let e : n + 0 ≡ n = omega arith in rw (fault-none, e)

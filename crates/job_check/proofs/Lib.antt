@@ -1,3 +1,4 @@
+pub mod AxisLaws
 pub mod CheckLaws
 pub mod FileFaults
 pub mod FirstFault

@@ -91,6 +91,18 @@ module _ {a b : ℤ} (fa : SFits w64 a) (fb : SFits w64 b) {r : Bool} (low : r �
     pub high-is : {t : Bool} → s ≡ t → allShort (a ∷ b ∷ c ∷ d ∷ []) ≡ t
     high-is e = rw (short-corners a b c d, low-is, on) (sym (rw (back-is fc, back-is fd) at high) ∙ e)
 
+-- axis costs
+module _ (a b : ℕ) where
+  pub a-long : 999999999 < a → allShort (pos a ∷ pos b ∷ []) ≡ false
+  a-long h = rw (short-more (pos a) (pos b ∷ []), natural-long a h)
+
+  module _ (h : a ≤ 999999999) where
+    pub b-long : 999999999 < b → allShort (pos a ∷ pos b ∷ []) ≡ false
+    b-long k = rw (short-more (pos a) (pos b ∷ []), natural-short a h, short-one (pos b)) (natural-long b k)
+
+    pub costs-short : b ≤ 999999999 → allShort (pos a ∷ pos b ∷ []) ≡ true
+    costs-short k = rw (short-more (pos a) (pos b ∷ []), natural-short a h, short-one (pos b)) (natural-short b k)
+
 -- a stop, its place tested first
 short-stop : (x y v : ℤ) → allShort (x ∷ y ∷ v ∷ []) ≡ allShort (x ∷ y ∷ []) && short v
 unfolding allShort

@@ -1,4 +1,5 @@
 // The refusal that reading the file of a deck's record and rounds would give, found from their numbers.
+use deck::AxisCosts;
 use deck::Deck;
 use deck::Rect;
 use job_line::Place;
@@ -7,16 +8,17 @@ use limits::POSTS;
 use limits::STOPS;
 use refusal::Refusal;
 ghost use mathlib.Core.Path.{_≡_};
+ghost use mathlib.Core.Bool.{cond};
 ghost use mathlib.Core.List.{[], _∷_, map};
 ghost use Prim.Native.Nat.{_≤_};
 ghost use lib.IntN.{pos};
 ghost use lib.ListN.{length, take};
-ghost use Rattle.deck.specs.DeckOf.{places, stopsOf};
-ghost use Rattle.job_line.specs.Kinds.{area, posts, post, stops, stop, upTo, row};
-ghost use Rattle.job_line.specs.Reading.{areaNumbers, placeNumbers};
+ghost use Rattle.deck.specs.DeckOf.{costsOf, places, stopsOf};
+ghost use Rattle.job_line.specs.Kinds.{area, axis, posts, post, stops, stop, upTo, row};
+ghost use Rattle.job_line.specs.Reading.{areaNumbers, costNumbers, placeNumbers};
 ghost use Rattle.job.specs.Format.{areaOf, readText};
 ghost use Rattle.job.specs.Spelling.{countLine, postLine, stopLine};
-ghost use Rattle.job.specs.File.{fileText};
+ghost use Rattle.job.specs.File.{writesAxis, fileText};
 ghost use Rattle.job_check.specs.LineFaults.{short, allShort, numbersFault, firstFault, partsFault, refusalIn, checkedAs};
 
 pub enum Checked {
@@ -56,6 +58,21 @@ fn area_line(a: Rect) -> Checked
     }
     if !job_line::area_in_range(a) {
         return Checked::Refused(Refusal::OutOfRange(1));
+    }
+    Checked::Fine
+}
+
+fn axis_line(c: AxisCosts) -> Checked
+    ensures { λ r. ⌜ checkedAs r ≡ numbersFault (row axis .ranges) 2 (costNumbers c) ⌝ }
+{
+    if 999999999 < c.a {
+        return Checked::Refused(Refusal::Malformed(2));
+    }
+    if 999999999 < c.b {
+        return Checked::Refused(Refusal::Malformed(2));
+    }
+    if !job_line::axis_in_range(c) {
+        return Checked::Refused(Refusal::OutOfRange(2));
     }
     Checked::Fine
 }
@@ -133,14 +150,14 @@ fn stop_lines<'a>(xs: &'a [i64], ys: &'a [i64], visits: &'a [u64], n: usize, fir
     Checked::Fine
 }
 
-// The line `posts=n` and the lines of the posts.
-fn all_posts<'a>(xs: &'a [i64], ys: &'a [i64], n: usize) -> Checked
-    requires { ⌜ (64 ≤ length (now xs)) × (64 ≤ length (now ys)) ⌝ }
+// The line `posts=n`, which is line `line`, and the lines of the posts.
+fn all_posts<'a>(xs: &'a [i64], ys: &'a [i64], n: usize, line: u64) -> Checked
+    requires { ⌜ (64 ≤ length (now xs)) × (64 ≤ length (now ys)) × (line ≤ 900) ⌝ }
     ensures { λ r. ⌜ checkedAs r
-        ≡ firstFault 2 (countLine posts n ∷ map postLine (take n (places (now (xs .entry)) (now (ys .entry))))) ⌝ }
+        ≡ firstFault line (countLine posts n ∷ map postLine (take n (places (now (xs .entry)) (now (ys .entry))))) ⌝ }
 {
-    match count_line(n as u64, POSTS, 2) {
-        Checked::Fine => post_lines(xs, ys, n, 3),
+    match count_line(n as u64, POSTS, line) {
+        Checked::Fine => post_lines(xs, ys, n, line + 1),
         Checked::Refused(why) => Checked::Refused(why),
     }
 }
@@ -158,6 +175,13 @@ fn all_stops<'a>(xs: &'a [i64], ys: &'a [i64], visits: &'a [u64], n: usize, line
 }
 
 // ---- the file
+
+// The number of the line `posts=n`.
+fn posts_at(c: AxisCosts) -> u64
+    ensures { λ r. ⌜ r ≡ cond (writesAxis (costsOf c)) 3 2 ⌝ }
+{
+    if job::writes_axis(c) { 3 } else { 2 }
+}
 
 // Refusals 4, 5 and 6, in this order.
 fn missing_part(a: Rect, posts: usize, stops: usize) -> Checked
@@ -189,11 +213,17 @@ pub fn check(deck: Deck, rounds: u64) -> Checked
         Checked::Fine => {}
         Checked::Refused(why) => return Checked::Refused(why),
     }
-    match all_posts(&deck.post_x, &deck.post_y, deck.posts) {
+    // costs of 1 and 1, which have no line, have no fault either
+    match axis_line(deck.axis) {
         Checked::Fine => {}
         Checked::Refused(why) => return Checked::Refused(why),
     }
-    let line = 3 + deck.posts as u64;
+    let first = posts_at(deck.axis);
+    match all_posts(&deck.post_x, &deck.post_y, deck.posts, first) {
+        Checked::Fine => {}
+        Checked::Refused(why) => return Checked::Refused(why),
+    }
+    let line = first + 1 + deck.posts as u64;
     match all_stops(&deck.stop_x, &deck.stop_y, &deck.visits, deck.stops, line) {
         Checked::Fine => {}
         Checked::Refused(why) => return Checked::Refused(why),

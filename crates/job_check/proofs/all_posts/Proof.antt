@@ -15,11 +15,14 @@ count-line-requires c κs = search needs
 enum-told : tie.Need-enum-told
 enum-told c = search needs
 
+add-post-lines : tie.Need-add-post-lines
+add-post-lines c = omega (arith, c .before .before .before .pre)
+
 post-lines-requires : tie.Need-post-lines-requires
 post-lines-requires c κs =
     let few = count-most _ _ _ (c .before .before .count-line .ensures) (ap checkedAs (c .enum-told .given .1)) in
     let s = c .before .before .before in
-    (omega (arith, s .pre), omega (arith, s .pre), omega arith, omega arith)
+    (omega (arith, s .pre), omega (arith, s .pre), omega arith, omega (arith, s .pre))
 
 enum-known-why : tie.Need-enum-known-why
 enum-known-why c = search needs
@@ -33,4 +36,11 @@ returns-2 c = line-alone _ _ _ (c .before .before .before .count-line .ensures) 
 pub all-posts-spec : {M : Type 1} → statement M
 all-posts-spec =
     tie.close
-    (tie.spec count-line-requires enum-told post-lines-requires enum-known-why returns returns-2)
+    (tie.spec
+    count-line-requires
+    enum-told
+    add-post-lines
+    post-lines-requires
+    enum-known-why
+    returns
+    returns-2)
