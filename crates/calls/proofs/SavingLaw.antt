@@ -1,17 +1,17 @@
 -- What the calls `read` and `write` are held to.
 -- Assumes nothing.
-use mathlib.Core.Path.{_≡_, refl, sym, ap, ap₂, subst, subst₂, _∙_}
-use mathlib.Core.Bool.{Bool, true, false, not, _&&_}
+use mathlib.Core.Path.{_≡_, refl, sym, ap, ap₂, subst, _∙_}
+use mathlib.Core.Bool.{Bool, true, false}
 use mathlib.Core.Logic.{_≢_, ⊎-elim}
-use mathlib.Core.List.{List, map, flatMap}
-use Prim.Native.Nat.{ℕ, _≤_, _<_}
+use mathlib.Core.List.{List, _++_, map, flatMap}
+use Prim.Native.Nat.{ℕ, _+_, _≤_, _<_}
 use native.Mathlib.Omega.{arith}
 use lib.Arith.{le→nltb}
-use lib.Dec.{T, eqb, eqb→eq, ltb, ltb→lt, lt→ltb, nltb→le}
+use lib.Dec.{ltb, ltb→lt, lt→ltb, nltb→le}
 use lib.ListN.{length, take, drop, length-append, length-drop, length-map}
 use lib.Seq.{take-at, drop-at}
 use Rattle.numbers.specs.Padded.{padded}
-use Rattle.numbers.proofs.Truth.{and-left, and-right, test, cond-true, cond-false}
+use Rattle.numbers.proofs.Truth.{test, cond-true, cond-false}
 use Rattle.numbers.proofs.Padded.{padded-length}
 use Rattle.query.specs.Deck as Query
 use Rattle.query.specs.Deck.{AxisCosts, plain}
@@ -22,13 +22,14 @@ use Rattle.refusal.specs.Refusal.{numberOf, lineOf}
 use Rattle.refusal.specs.declared.Refusal.{Refusal}
 use Rattle.refusal.specs.declared.Refusal.the-variants.{ShortOutput}
 use Rattle.job.specs.Format.{Job, Result, refused, accepted, readText, readJob}
-use Rattle.job.specs.Spelling.{linesCounting, spellLine, spell, Spells, with-line, without-line, Allowed}
+use Rattle.job.specs.Spelling.{areaLine, axisLine, laterLines, linesCounting, spellLine, spell, Spells, with-line, without-line, Allowed}
 use Rattle.job.specs.Meaning.{TextCondition, Condition, too-long, in-text}
 use Rattle.job.specs.File.{heldJob, writesAxis, savedSpelling, fileText}
 use Rattle.job.proofs.JobLaws.{most-posts, most-stops}
 use Rattle.job.proofs.Meaning.{refused-law, refused-job, spelling-law, allowed-text}
 use Rattle.job.proofs.RefusalLaws.{text-number}
 use Rattle.job_check.specs.LineFaults.{refusalIn}
+use Rattle.job_check.proofs.AxisLaws.{left-out, saved-spells}
 use Rattle.job_check.proofs.FileFaults.{file-is, file-spelled, file-line}
 use Rattle.write.specs.Written.{overwritten}
 use Rattle.calls.specs.Answers.{gives, refuses, refusal}
@@ -43,27 +44,31 @@ plain-unwritten : (c : AxisCosts) → c ≡ plain → writesAxis c ≡ false
 unfolding writesAxis
 plain-unwritten c e = rw e
 
-unwritten-plain : (c : AxisCosts) → T (not (writesAxis c)) → c ≡ plain
-unfolding writesAxis
-unwritten-plain c t =
-    let both = not-not (eqb (c .a) 1 && eqb (c .b) 1) t in
-    let a = eqb→eq (c .a) 1 (and-left (eqb (c .a) 1) (eqb (c .b) 1) both) in
-    let b = eqb→eq (c .b) 1 (and-right (eqb (c .a) 1) (eqb (c .b) 1) both) in
-    λ i. record { a = a i; b = b i }
-
 other-written : (c : AxisCosts) → (c ≡ plain → ⊥) → writesAxis c ≡ true
 other-written c apart = go (writesAxis c) refl
   where
     go : (b : Bool) → writesAxis c ≡ b → writesAxis c ≡ true
     go true e = e
-    go false e = absurd (apart (unwritten-plain c (rw e tt)))
+    go false e = absurd (apart (left-out c (rw e tt)))
 
-saved-spells : (j : Job) → Spells plain (savedSpelling j) j
-saved-spells j = go (writesAxis (j .deck .axis)) refl
-  where
-    go : (b : Bool) → writesAxis (j .deck .axis) ≡ b → Spells plain (spell (writesAxis (j .deck .axis)) j) j
-    go true e = with-line (ap (λ (b : Bool). spell b j) e)
-    go false e = without-line (ap (λ (b : Bool). spell b j) e) (unwritten-plain (j .deck .axis) (rw e tt))
+-- `axis=1,1` and its byte 10 are nine bytes
+nine : length (spellLine (axisLine plain)) ≡ 9
+unfolding spellLine
+nine = refl
+
+line-length : (j : Job) → j .deck .axis ≡ plain → length (spell true j) ≡ length (spell false j) + 9
+unfolding spell flatMap
+line-length j e =
+    let later = flatMap spellLine (laterLines (length (j .deck .posts)) (length (j .deck .stops)) j) in
+    let first = spellLine (areaLine (j .deck .area)) in
+    let line : length (spellLine (axisLine (j .deck .axis))) ≡ 9 = ap (λ (c : AxisCosts). length (spellLine (axisLine c))) e ∙ nine in
+    omega (
+      arith,
+      length-append first (spellLine (axisLine (j .deck .axis)) ++ later),
+      length-append (spellLine (axisLine (j .deck .axis))) later,
+      length-append first later,
+      line,
+    )
 
 -- ---- bytes put over the front
 -- ---- bytes put over the front

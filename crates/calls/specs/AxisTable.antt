@@ -58,17 +58,21 @@ pub record AxisTable : Type 0 where
       ∷ [] ≡ (3, 1) ∷ (3, 2) ∷ []
   -- through each call
   pub report-done : reportCall (narrow "rounds=10") (replicate 55 (pos 9)) (replicate 130 7)
-      ≡ record { answer = gives (report done (at 2 4) 9 (pos 9) 15 3); cells = replicate 55 (pos 0); out = printed ++ replicate 79 7 }
+      ≡ record { answer = gives (report done (at 2 4) 9 (pos 9) 15 3); cells = replicate 55 (pos 0); out = printed ++ replicate 80 7 }
   pub report-stopped : reportCall (narrow "rounds=1") (replicate 12 (pos 9)) (replicate 128 7)
       ≡ record {
         answer = gives (report stopped (at 1 4) 11 (pos 6) 15 1);
         cells = map pos (1 ∷ 1 ∷ 3 ∷ 4 ∷ 6 ∷ 1 ∷ 4 ∷ 3 ∷ 9 ∷ 9 ∷ 0 ∷ 0 ∷ []);
         out = bytes "state=stopped\nat=1,4\nhigh=11\nlow=6\nbefore=15\nrounds=1\n" ++ replicate 74 7;
       }
-  pub entry-done : entry (narrow "rounds=1000") (replicate 128 7) ≡ record { result = pos 51; out = printed ++ replicate 77 7 }
+  pub entry-done : entry (narrow "rounds=1000") (replicate 128 7) ≡ record { result = pos 50; out = printed ++ replicate 78 7 }
   pub program-done : answerText (narrow "rounds=1000") ≡ printed
   pub program-refused : answerText (ended (behind 1 ("axis=10,1" ∷ []))) ≡ bytes "refused=3\nline=2\n"
   pub exhaustive-done : exhaustiveCall (narrow "rounds=0") ≡ gives (record { at = at 2 4; cost = 9 })
   -- `axis=1,1` says what a missing line says
   pub spelled-out : reportCall (ended (behind 1 ("axis=1,1" ∷ []))) (replicate 55 (pos 9)) (replicate 130 7)
-      ≡ reportCall (ended caseA) (replicate 55 (pos 9)) (replicate 130 7)
+      ≡ record {
+        answer = gives (report done (at 4 3) 13 (pos 13) 34 3);
+        cells = replicate 55 (pos 0);
+        out = bytes "state=done\nat=4,3\nhigh=13\nlow=13\nbefore=34\nrounds=3\n" ++ replicate 78 7;
+      }

@@ -128,7 +128,7 @@ pub record WriteTable : Type 0 where
       (65 ∷ nineDigits ∷ tenDigits ∷ mostNatural ∷ []) ≡ (3, 2) ∷ (3, 2) ∷ (2, 2) ∷ (2, 2) ∷ []
   pub stops-beyond : map (λ n. gets (counting 3 (pos 0, pos 0) n (pos tenDigits, pos 0, 0)))
       (513 ∷ nineDigits ∷ tenDigits ∷ mostNatural ∷ []) ≡ (3, 6) ∷ (3, 6) ∷ (2, 6) ∷ (2, 6) ∷ []
-  pub second-post : gets (recordOf square 2 ((pos 0, pos 0) ∷ (pos 20001, pos 0) ∷ []) 1 ((pos 0, pos 0, 1) ∷ [])) ≡ (3, 4)
+  pub second-post : gets (recordOf (1, 1) square 2 ((pos 0, pos 0) ∷ (pos 20001, pos 0) ∷ []) 1 ((pos 0, pos 0, 1) ∷ [])) ≡ (3, 4)
   pub first-post : gets (counting 64 (pos 20001, pos 0) mostNatural (pos 0, pos 0, 0)) ≡ (3, 3)
   pub first-stop : gets (counting 64 (pos 0, pos 0) 512 (pos 0, pos 20001, 1)) ≡ (3, 68)
   -- rounds, behind 64 posts and 512 stops
