@@ -256,7 +256,8 @@ module _ (deck : Deck) (rounds : ℕ) (out : List ℕ) (sized : Sized deck) wher
   written-law n e =
       let (s, room) = saveable deck rounds out sized n e in
       let front = front-is deck rounds out sized n e in
-      let back = ap readJob front ∙ read-exactly (savedSpelling (heldJob deck rounds)) (heldJob deck rounds) .1 (saved-spells (heldJob deck rounds), s .allowed) in
+      let job = heldJob deck rounds in
+      let back = ap readJob front ∙ read-exactly (savedSpelling job) job .1 (saved-spells job, s .allowed) in
       record {
         same-length = ap length (left deck rounds out sized n e) ∙ length-kept (savedSpelling (heldJob deck rounds)) out room;
         later-kept = ap₂ (λ (k : ℕ) (l : List ℕ). drop k l) (count-is deck rounds out sized n e) (left deck rounds out sized n e)

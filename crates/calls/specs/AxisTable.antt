@@ -48,7 +48,8 @@ pub record AxisTable : Type 0 where
   pub form-before-range : second ("axis=0,x" ∷ "axis=10,01" ∷ "axis=0,1000000000" ∷ []) ≡ replicate 3 (2, 2)
   -- once, and as the second line
   pub twice : asked (ended (behind 1 ("axis=1,1" ∷ "axis=1,1" ∷ []))) ≡ (2, 3)
-  pub elsewhere : map (λ n. asked (ended (behind n ("axis=1,1" ∷ [])))) (0 ∷ 2 ∷ 3 ∷ 6 ∷ 7 ∷ []) ≡ (2, 1) ∷ (2, 3) ∷ (2, 4) ∷ (2, 7) ∷ (2, 8) ∷ []
+  pub elsewhere : map (λ n. asked (ended (behind n ("axis=1,1" ∷ [])))) (0 ∷ 2 ∷ 3 ∷ 6 ∷ 7 ∷ [])
+      ≡ (2, 1) ∷ (2, 3) ∷ (2, 4) ∷ (2, 7) ∷ (2, 8) ∷ []
   pub ends-early : asked (ended (take 2 (behind 1 ("axis=1,1" ∷ [])))) ≡ (2, 3)
   pub no-end : map (λ text. asked (ended (take 1 caseA) ++ bytes text)) ("axis=1,1" ∷ "axis=10,1" ∷ "axis=" ∷ []) ≡ replicate 3 (2, 2)
   -- every later line's number moves by one, and an earlier line comes first

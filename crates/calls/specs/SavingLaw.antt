@@ -1,5 +1,5 @@
--- Document 02, cards 1 and 2: what the calls `read` and `write` are held to, over every job's bytes, every record that the code can hold, and
--- every output.
+-- Document 02, cards 1 and 2: what the calls `read` and `write` are held to, over every job's bytes, every record that the code can hold,
+-- and every output.
 -- Assumes nothing.
 use Prim.Native.Nat.{ℕ, _+_, _≤_, _<_}
 use mathlib.Core.Path.{_≡_}
@@ -45,7 +45,8 @@ pub record ReadLaw (job : List ℕ) : Type 0 where
   pub own-bytes : (j : Job) (out : List ℕ) → readJob job ≡ accepted j → (SpellsOut job j → ⊥) → length job ≤ length out →
       writeCall (readCall job .deck) (j .rounds) out ≡ record { answer = gives (length job); out = overwritten job out }
   pub line-left-out : (j : Job) (out : List ℕ) → readJob job ≡ accepted j → SpellsOut job j → length (spell false j) ≤ length out →
-      writeCall (readCall job .deck) (j .rounds) out ≡ record { answer = gives (length (spell false j)); out = overwritten (spell false j) out }
+      writeCall (readCall job .deck) (j .rounds) out
+      ≡ record { answer = gives (length (spell false j)); out = overwritten (spell false j) out }
   pub nine-bytes : (j : Job) → SpellsOut job j → length job ≡ length (spell false j) + 9
 
 -- ---- writing
@@ -92,8 +93,8 @@ pub record WriteLaw (deck : Deck) (rounds : ℕ) (out : List ℕ) : Type 0 where
   pub written-exactly : ((n : ℕ) × (writeCall deck rounds out .answer ≡ gives n)) ↔ (Saveable deck rounds
       × (length (savedSpelling (heldJob deck rounds)) ≤ length out))
   pub file : Saveable deck rounds → fileText deck rounds ≡ savedSpelling (heldJob deck rounds)
-  pub given : Saveable deck rounds → length (savedSpelling (heldJob deck rounds)) ≤ length out → writeCall deck rounds out
-      ≡ record { answer = gives (length (savedSpelling (heldJob deck rounds))); out = overwritten (savedSpelling (heldJob deck rounds)) out }
+  pub given : Saveable deck rounds → let text = savedSpelling (heldJob deck rounds) in
+      length text ≤ length out → writeCall deck rounds out ≡ record { answer = gives (length text); out = overwritten text out }
   pub written : (n : ℕ) → writeCall deck rounds out .answer ≡ gives n → WrittenLaw deck rounds out n
   -- a record with the same counts that holds the same deck is written alike, whatever stands behind its lists
   pub same-file : (other : Deck) → deckOf other ≡ deckOf deck → other .posts ≡ deck .posts → other .stops ≡ deck .stops →

@@ -1,4 +1,5 @@
--- Document 02, cards 1 and 2: rows of the calls `write` and `read`, from a record's numbers and an output to all that the call answers and leaves.
+-- Document 02, cards 1 and 2: rows of the calls `write` and `read`, from a record's numbers and an output to all that the call answers
+-- and leaves.
 -- Assumes nothing.
 use Prim.Native.Nat.{ℕ}
 use Prim.Native.String.{String}
@@ -41,7 +42,8 @@ apart = recordOf (6, 7) (negsuc 0 ∷ pos 2 ∷ pos 3 ∷ pos 4 ∷ []) 2 ((pos 
     ((pos 10, pos 11, 12) ∷ (pos 13, pos 14, 15) ∷ [])
 
 abbrev pub apartLines : List String
-apartLines = "area=-1,2,3,4" ∷ "axis=6,7" ∷ "posts=2" ∷ "post=5,-7" ∷ "post=8,9" ∷ "stops=2" ∷ "stop=10,11,12" ∷ "stop=13,14,15" ∷ "rounds=0" ∷ []
+apartLines =
+    "area=-1,2,3,4" ∷ "axis=6,7" ∷ "posts=2" ∷ "post=5,-7" ∷ "post=8,9" ∷ "stops=2" ∷ "stop=10,11,12" ∷ "stop=13,14,15" ∷ "rounds=0" ∷ []
 
 -- case A's area
 abbrev pub square : List ℤ
@@ -161,10 +163,11 @@ pub record WriteTable : Type 0 where
   pub own-bytes-short : writeCall (readCall (ended (carrying "axis=2,1")) .deck) 10 (replicate 79 7)
       ≡ record { answer = refuses 8 0; out = replicate 79 7 }
   -- an axis cost out of range, and of ten digits; later lines' numbers move by one
-  pub axis-beyond : map (λ axis. gets (withAxis axis)) ((0, 1) ∷ (1, 0) ∷ (0, 0) ∷ (10, 1) ∷ (1, 10) ∷ (nineDigits, 1) ∷ []) ≡ replicate 6 (3, 2)
-  pub axis-ten-digits : map (λ axis. gets (withAxis axis)) ((tenDigits, 1) ∷ (1, tenDigits) ∷ (0, tenDigits) ∷ (mostNatural, mostNatural) ∷ [])
-      ≡ replicate 4 (2, 2)
+  pub axis-beyond : map (λ axis. gets (withAxis axis)) ((0, 1) ∷ (1, 0) ∷ (0, 0) ∷ (10, 1) ∷ (1, 10) ∷ (nineDigits, 1) ∷ [])
+      ≡ replicate 6 (3, 2)
+  pub axis-ten-digits : map (λ axis. gets (withAxis axis))
+      ((tenDigits, 1) ∷ (1, tenDigits) ∷ (0, tenDigits) ∷ (mostNatural, mostNatural) ∷ []) ≡ replicate 4 (2, 2)
   pub axis-moves : getsWith 1001 (withAxis (1, 1)) ∷ getsWith 1001 (withAxis (1, 2)) ∷ getsWith 1001 (withAxis (2, 1)) ∷ []
       ≡ (3, 7) ∷ (3, 8) ∷ (3, 8) ∷ []
-  pub last-line : getsWith 1001 (recordOf (9, 9) square 64 (replicate postsLimit (pos 0, pos 0)) 512 (replicate stopsLimit (pos 0, pos 0, 1)))
-      ≡ (3, 581)
+  pub last-line : getsWith 1001
+      (recordOf (9, 9) square 64 (replicate postsLimit (pos 0, pos 0)) 512 (replicate stopsLimit (pos 0, pos 0, 1))) ≡ (3, 581)

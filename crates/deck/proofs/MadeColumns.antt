@@ -45,9 +45,9 @@ near-front k n px py us vs qx qy xs ys a b c d =
 -- two numbers put behind others, where 0 was
 costs-put : (xs : List ℤ) (u v : ℤ) → length xs ≡ 2048 → set (set (xs ++ replicate 2 (pos 0)) 2048 u) 2049 v ≡ xs ++ (u ∷ v ∷ [])
 costs-put xs u v e = rw (set-at xs (pos 0) (pos 0 ∷ []) u 2048 e) (
-  ap (λ (l : List ℤ). set l 2049 v) (sym (append-assoc xs (u ∷ []) (pos 0 ∷ [])))
-  ∙ set-at (xs ++ (u ∷ [])) (pos 0) [] v 2049 (omega (arith, length-append xs (u ∷ [])))
-  ∙ append-assoc xs (u ∷ []) (v ∷ []))
+    ap (λ (l : List ℤ). set l 2049 v) (sym (append-assoc xs (u ∷ []) (pos 0 ∷ [])))
+    ∙ set-at (xs ++ (u ∷ [])) (pos 0) [] v 2049 (omega (arith, length-append xs (u ∷ [])))
+    ∙ append-assoc xs (u ∷ []) (v ∷ []))
 
 -- the columns of a record, scaled
 abbrev sx : Deck → List ℤ

@@ -27,7 +27,8 @@ pub record Object : Type 0 where
 
 unfoldable pub objectsOf : Deck → List Object
 unfolding near
-objectsOf deck = map (λ stop. record { at = scaledPlace (deck .axis) (stop .at); visits = stop .visits; near = near deck stop }) (deck .stops)
+objectsOf deck =
+    map (λ stop. record { at = scaledPlace (deck .axis) (stop .at); visits = stop .visits; near = near deck stop }) (deck .stops)
 
 -- all that pricing needs of a deck besides the place or rectangle priced: its axis costs, and its objects at their scaled places
 pub record Pricing : Type 0 where

@@ -1,26 +1,30 @@
 -- The ramps of all objects, one object after another: what they come to at a line is the cost there.
 -- Assumes nothing.
-use mathlib.Core.Path.{_≡_, _∙_}
+use mathlib.Core.Path.{_≡_, ap, _∙_}
 use mathlib.Core.List.{List}
 use Prim.Native.Nat.{ℕ, _+_, _*_, _≤_, _<_, min}
 use native.Mathlib.Omega.{arith}
 use lib.IntN.{ℤ, pos, natAbs}
-use lib.ListN.{getD}
+use lib.ListN.{getD, length-map}
 use mir.Syntax.{w64}
 use mir.Val.{SFits}
+use Rattle.numbers.specs.Integer.{times}
+use Rattle.numbers.proofs.Scaling.{scaled-at}
 use Rattle.numbers.proofs.Words.{word-fits}
 use Rattle.numbers.proofs.WordTests.{back}
 use Rattle.query.specs.Place.{Place}
-use Rattle.deck.specs.ObjectColumns.{objectAt, pricingIn}
+use Rattle.deck.specs.Ranges.{CostInRange, Scaled}
+use Rattle.deck.specs.Objects.{scaledPlace}
+use Rattle.deck.specs.ObjectColumns.{objectAt, axisIn, pricingIn}
 use Rattle.deck.proofs.WordLaws.{coordinate}
 use Rattle.deck.proofs.TravelLaws.{far, travel-plain}
 use Rattle.pricing.specs.ObjectFigures.{costOf, beforeOf}
 use Rattle.pricing.specs.Columns.{Priceable, ObjectInRange}
-use Rattle.pricing.proofs.NarrowLaws.{word, natural, visits-word, near-word}
+use Rattle.pricing.proofs.NarrowLaws.{word, natural, visits-word, near-word, scaled-by, scaled-small}
 use Rattle.pricing.proofs.ObjectLaws.{paidBy, paidNow, costOf-sum, beforeOf-sum}
 use Rattle.pricing.proofs.ColumnLaws.{sum-none, sum-more}
 use Rattle.pricing.proofs.TurnLaws.{row}
-use Rattle.exhaustive.specs.Ramps.{prefixSum, ObjectSums, ObjectAdded, ObjectsAdded}
+use Rattle.exhaustive.specs.Ramps.{scaledLines, prefixSum, ObjectSums, ObjectAdded, ObjectsAdded}
 use Rattle.exhaustive.proofs.Prefixes.{prefix-most}
 use Rattle.exhaustive.proofs.ObjectRamps.{sums-more, small-back}
 
@@ -32,11 +36,15 @@ abbrev pub counted : ℤ → ℕ
 counted z = natAbs (word z)
 
 module _ (z : ℤ) (h : natAbs z ≤ 180000) where
-  wide-fits : SFits w64 (word z)
+  pub wide-fits : SFits w64 (word z)
   wide-fits = rw (coordinate z h) (word-fits w64 z (omega arith))
 
   wide-is : widened z ≡ z
   wide-is = rw (coordinate z h) (small-back z (omega arith))
+
+-- a coordinate that was scaled
+pub scaled-wide : {k r : ℤ} (v : ℤ) → CostInRange k → natAbs v ≤ 20000 → Scaled (word k) (back v) r → widened r ≡ times (natAbs k) v
+scaled-wide {k} v cost h e = ap back (scaled-by cost v h e) ∙ small-back (times (natAbs k) v) (omega (arith, scaled-small cost v h))
 
 -- ---- no object
 empty : (xs : List ℕ) (m n : ℕ) → ((k : ℕ) → getD xs k 0 ≤ 0 * m) → prefixSum xs n ≡ 0
@@ -51,7 +59,7 @@ module _ (columns : List ℤ) where
         rw (
           costOf-sum (pricingIn columns 0) p,
           beforeOf-sum (pricingIn columns 0),
-          sum-none (paidBy (pricingIn columns 0) p) columns,
+          sum-none (paidBy (scaledPlace (axisIn columns) p)) columns,
           sum-none paidNow columns,
           empty up 131070 (j + 1) (sums .up-sums .weights-most),
           empty us 262140000000 (j + 1) (sums .up-sums .starts-most),
@@ -75,10 +83,12 @@ module _ (columns : List ℤ) where
     abbrev near : ℤ
     near = getD columns (1536 + i) (pos 0)
 
-    cost-more : (p : Place) → costOf (pricingIn columns (i + 1)) p ≡ costOf (pricingIn columns i) p + natAbs visits * min (natAbs near) (far x y (p .x) (p .y))
+    cost-more : (p : Place) → let q = scaledPlace (axisIn columns) p in
+        costOf (pricingIn columns (i + 1)) p ≡ costOf (pricingIn columns i) p + natAbs visits * min (natAbs near) (far x y (q .x) (q .y))
     cost-more p =
+        let q = scaledPlace (axisIn columns) p in
         rw (costOf-sum (pricingIn columns (i + 1)) p, costOf-sum (pricingIn columns i) p)
-        (sum-more (paidBy (pricingIn columns i) p) columns i ∙ rw (travel-plain (objectAt columns i .at) p))
+        (sum-more (paidBy q) columns i ∙ rw (travel-plain (objectAt columns i .at) q))
 
     before-more : beforeOf (pricingIn columns (i + 1)) ≡ beforeOf (pricingIn columns i) + natAbs visits * natAbs near
     before-more = rw (beforeOf-sum (pricingIn columns (i + 1)), beforeOf-sum (pricingIn columns i)) (sum-more paidNow columns i)
@@ -102,16 +112,20 @@ module _ {columns : List ℤ} {n i : ℕ} (priceable : Priceable columns n) (h :
       let r = row priceable h in
       rw (x-is, y-is, visits-word r, near-word r, ← natural (visits columns i) (r .visits-some), ← natural (near columns i) (r .near-some)) r
 
-  pub objects-more : (ls : List ℤ) (v : ℤ) (up us down ds up′ us′ down′ ds′ : List ℕ) → ObjectsAdded (pricingIn columns i) i ls v up us down ds
-      → ObjectAdded ls v (widened (x columns i)) (widened (y columns i)) (counted (visits columns i)) (counted (near columns i))
+  pub objects-more : (ls : List ℤ) (v u : ℤ) (b : ℕ) (up us down ds up′ us′ down′ ds′ : List ℕ) → u ≡ times (axisIn columns .a) v
+      → b ≡ axisIn columns .b → ObjectsAdded (pricingIn columns i) i ls v up us down ds
+      → ObjectAdded (scaledLines b ls) u (widened (x columns i)) (widened (y columns i)) (counted (visits columns i)) (counted (near columns i))
       up us down ds up′ us′ down′ ds′
       → ObjectsAdded (pricingIn columns (i + 1)) (i + 1) ls v up′ us′ down′ ds′
-  objects-more ls v up us down ds up′ us′ down′ ds′ so-far one = record {
+  objects-more ls v u b up us down ds up′ us′ down′ ds′ eu eb so-far one = record {
     sums = one .sums i (so-far .sums);
     cost = λ j k.
         let p : Place = record { x = v; y = getD ls j (pos 0) } in
-        let read = rw (x-is, y-is, visits-word (row priceable h), near-word (row priceable h)) at one in
-        omega (arith, cost-more columns i p, before-more columns i, so-far .cost j k, read .added j k);
+        let read = rw (x-is, y-is, visits-word (row priceable h), near-word (row priceable h), eu, eb) at one in
+        let c = axisIn columns .b in
+        let paid = rw (scaled-at c ls j) at (read .added j (omega (arith, length-map ls (times c)))) in
+        let past = rw (scaled-at c ls j) at (so-far .cost j k) in
+        rw (scaled-at c ls j) (omega (arith, cost-more columns i p, before-more columns i, past, paid));
   }
 
 -- at most 600 objects

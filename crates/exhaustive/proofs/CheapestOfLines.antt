@@ -5,14 +5,15 @@ use mathlib.Core.List.{List, flatMap}
 use Prim.Native.Nat.{ℕ, zero, suc, _+_, _≤_, _<_}
 use native.Mathlib.Omega.{arith}
 use lib.IntN.{ℤ, pos}
-use lib.ListN.{length, getD, drop, replicate, length-replicate, drop-of-length-le}
+use lib.ListN.{length, getD, drop, replicate, length-replicate, length-map, drop-of-length-le}
+use Rattle.numbers.specs.Integer.{times}
 use Rattle.query.specs.Range.{costLimit}
 use Rattle.deck.specs.Objects.{Pricing}
 use Rattle.pricing.specs.ObjectFigures.{beforeOf}
 use Rattle.pricing.specs.Columns.{Figure}
 use Rattle.problem.specs.declared.Spot.{Spot}
 use Rattle.numbers.proofs.WordTests.{back}
-use Rattle.exhaustive.specs.Ramps.{LinesInRange, RampSums, ObjectSums, ObjectsAdded, Sweepable}
+use Rattle.exhaustive.specs.Ramps.{scaledLines, LinesInRange, RampSums, ObjectSums, ObjectsAdded, Sweepable}
 use Rattle.exhaustive.specs.Cheapest.{firstCheapest, along, costsAlong, Swept}
 use Rattle.exhaustive.proofs.ObjectRamps.{small-back}
 use Rattle.exhaustive.proofs.AllObjects.{sums-few}
@@ -39,15 +40,15 @@ zero-sums = record { up-sums = zero-ramps; down-sums = zero-ramps }
 -- ---- the columns of objects
 module _ (P : Pricing) (m : ℕ) (ls : List ℤ) (v : ℤ) (up us down ds : List ℕ) (before : ℕ) (few : m ≤ 512) (now : Figure (beforeOf P) costLimit before)
     (added : ObjectsAdded P m ls v up us down ds) where
-  pub sweepable : Sweepable ls up us down ds before
+  pub sweepable : Sweepable (scaledLines (P .axis .b) ls) up us down ds before
   sweepable = record {
     before-most = now .within;
     sums = sums-few m (added .sums) (omega arith);
-    enough = λ j h. omega (arith, added .cost j h, now .is);
+    enough = λ j h. omega (arith, added .cost j (omega (arith, length-map ls (times (P .axis .b)))), now .is);
   }
 
-  pub swept-line : (old costs : List ℕ) → Swept ls up us down ds before old costs → costs ≡ costsAlong P ls v old
-  swept-line old costs s = s .is P m v added (now .is)
+  pub swept-line : (b : ℕ) (old costs : List ℕ) → P .axis .b ≡ b → Swept ls b up us down ds before old costs → costs ≡ costsAlong P ls v old
+  swept-line b old costs e s = s .is P m v e added (now .is)
 
 -- ---- line after line
 pub record Compared (P : Pricing) (hs vs : List ℤ) (first found : Spot) (i : ℕ) : Type 0 where

@@ -1,5 +1,7 @@
 pub mod Heights
+pub mod Division
 pub mod Prefixes
+pub mod ScaledLines
 pub mod RampLaws
 pub mod ObjectRamps
 pub mod TableLaws

@@ -14,8 +14,9 @@ use Rattle.numbers.proofs.Integer.{add-nat, sub-nat, sum-abs, sub-abs}
 use Rattle.numbers.proofs.Words.{word-fits}
 use Rattle.pricing.specs.Columns.{ObjectInRange}
 use Rattle.numbers.proofs.WordTests.{back}
-use Rattle.exhaustive.specs.Ramps.{heightOf, LinesInRange, RampSums, RampInRange, RampAdded, ObjectAdded}
+use Rattle.exhaustive.specs.Ramps.{heightOf, RampSums, RampInRange, RampAdded, ObjectAdded}
 use Rattle.exhaustive.proofs.Heights.{height-nat, height-least, height-dist}
+use Rattle.exhaustive.proofs.ScaledLines.{ScaledInRange}
 
 -- ---- columns of at most m ramps
 pub sums-more : {ws us : List ℕ} (m k : ℕ) → RampSums ws us m → m ≤ k → RampSums ws us k
@@ -33,7 +34,8 @@ small-back z h = toZ-ofZ w64 z (word-fits w64 z (omega arith))
 ramp-sum : (near d r s t : ℕ) → near ≡ d + r → r ≤ s → min near (d + ((s - t) + (t - s))) + (t - (s - r)) + (t - (s + r)) ≡ near + 2 * (t - s)
 ramp-sum near d r s t e h = omega arith
 
-module _ (v sx sy : ℤ) (visits near d : ℕ) (g : natAbs v ≤ 20000) (object : ObjectInRange sx sy (pos visits) (pos near)) (e : d ≡ dist (back sx) (back v)) where
+module _ (v sx sy : ℤ) (visits near d : ℕ) (g : natAbs v ≤ 180000) (object : ObjectInRange sx sy (pos visits) (pos near))
+    (e : d ≡ dist (back sx) (back v)) where
   sx-back : back sx ≡ sx
   sx-back = small-back sx (omega (arith, object .place .x-range))
 
@@ -97,7 +99,7 @@ module _ (v sx sy : ℤ) (visits near d : ℕ) (g : natAbs v ≤ 20000) (object 
   high-height = omega (arith, height-nat (sy +ℤ pos r) (omega (arith, high-abs)), height-nat sy (omega (arith, object .place .y-range)), add-nat sy (pos r))
 
   -- what the object pays at a line
-  module _ (y : ℤ) (h : natAbs y ≤ 20000) (l : d < near) where
+  module _ (y : ℤ) (h : natAbs y ≤ 180000) (l : d < near) where
     paid-ramps : min near (dist sx v + dist sy y) + (heightOf y - heightOf (sy -ℤ pos r)) + (heightOf y - heightOf (sy +ℤ pos r)) ≡ near + 2 *
         (heightOf y - heightOf sy)
     paid-ramps =
@@ -112,7 +114,7 @@ module _ (v sx sy : ℤ) (visits near d : ℕ) (g : natAbs v ≤ 20000) (object 
         (heightOf y - heightOf (sy +ℤ pos r)) ≡ visits * near + (2 * visits) * (heightOf y - heightOf sy)
     paid-times = times _ _ _ _ paid-ramps
 
-  module _ (ls : List ℤ) (lines : LinesInRange ls) where
+  module _ (ls : List ℤ) (lines : ScaledInRange ls) where
     pub object-none : (up us down ds : List ℕ) → near ≤ d → ObjectAdded ls v sx sy visits near up us down ds up us down ds
     object-none up us down ds h = record {
       sums = λ m s. record {

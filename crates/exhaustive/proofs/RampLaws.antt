@@ -11,15 +11,16 @@ use lib.IntN.{ℤ, pos, natAbs}
 use lib.ListN.{length, getD, set, length-set}
 use Rattle.numbers.proofs.Truth.{test}
 use Rattle.lines.specs.LineRecord.{FirstAtLeast}
-use Rattle.exhaustive.specs.Ramps.{heightOf, LinesInRange, weightsAt, startsAt, RampSums, RampInRange, RampAdded}
+use Rattle.exhaustive.specs.Ramps.{heightOf, weightsAt, startsAt, RampSums, RampInRange, RampAdded}
 use Rattle.exhaustive.proofs.Heights.{height-most, height-le, height-lt}
+use Rattle.exhaustive.proofs.ScaledLines.{ScaledInRange}
 use Rattle.exhaustive.proofs.Prefixes.{prefix-before, prefix-behind, set-each}
 
 -- the columns after a ramp is added at index k
 abbrev pub raisedBy : List ℕ → ℕ → ℕ → List ℕ
 raisedBy xs k w = set xs k (getD xs k 0 + w)
 
-module _ (ls : List ℤ) (start : ℤ) (w k : ℕ) (ws us : List ℕ) (lines : LinesInRange ls) (range : RampInRange start w) (first : FirstAtLeast ls start k)
+module _ (ls : List ℤ) (start : ℤ) (w k : ℕ) (ws us : List ℕ) (lines : ScaledInRange ls) (range : RampInRange start w) (first : FirstAtLeast ls start k)
     (sums : RampSums ws us 2000) where
   pub ramp-weight : w * heightOf start ≤ 262140000000
   ramp-weight = omega (arith, mul-le-mul (range .weight-range) (height-most start 900000 (range .start-range) (omega arith)))
@@ -48,8 +49,8 @@ module _ (ls : List ℤ) (start : ℤ) (w k : ℕ) (ws us : List ℕ) (lines : L
           (heightOf (getD ls j (pos 0)) - heightOf start)
       behind l =
           rw (
-            prefix-behind ws k (getD ws k 0 + w) w (omega (arith, sums .weights-long, lines .in-order .few)) refl (j + 1) (omega arith),
-            prefix-behind us k (getD us k 0 + w * heightOf start) (w * heightOf start) (omega (arith, sums .starts-long, lines .in-order .few)) refl (j + 1)
+            prefix-behind ws k (getD ws k 0 + w) w (omega (arith, sums .weights-long, lines .few)) refl (j + 1) (omega arith),
+            prefix-behind us k (getD us k 0 + w * heightOf start) (w * heightOf start) (omega (arith, sums .starts-long, lines .few)) refl (j + 1)
                 (omega arith),
           )
           (steep _ _ _ _ _ (omega (arith, height-le start (getD ls j (pos 0)) (omega (arith, range .start-range)) (line-range j h) (first .after j l h))))

@@ -5,15 +5,17 @@ use mathlib.Core.List.{List}
 use Prim.Native.Nat.{ℕ, _+_, _*_, _^_, _≤_, _<_}
 use native.Mathlib.Omega.{arith}
 use lib.IntN.{ℤ, pos, natAbs}
-use lib.ListN.{length, getD, set, length-set}
+use lib.ListN.{length, getD, set, length-set, length-map}
 use Rattle.deck.specs.Objects.{Pricing}
 use Rattle.pricing.specs.ObjectFigures.{costOf, beforeOf}
-use Rattle.numbers.proofs.WordTests.{back}
-use Rattle.exhaustive.specs.Ramps.{heightOf, prefixSum, LinesInRange, RampSums, ObjectsAdded, Payable, Sweepable}
+use Rattle.numbers.specs.Integer.{times}
+use Rattle.numbers.proofs.Scaling.{scaled-at}
+use Rattle.exhaustive.specs.Ramps.{heightOf, prefixSum, scaledLines, LinesInRange, RampSums, raisedAt, loweredAt, ObjectsAdded, Payable, Sweepable}
 use Rattle.exhaustive.specs.Cheapest.{Swept}
 use Rattle.exhaustive.proofs.Heights.{height-most}
 use Rattle.exhaustive.proofs.Prefixes.{prefix-none, prefix-more, prefix-most}
-use Rattle.exhaustive.proofs.ObjectRamps.{sums-more, small-back}
+use Rattle.exhaustive.proofs.ObjectRamps.{sums-more}
+use Rattle.exhaustive.proofs.ScaledLines.{scaled-line}
 use Rattle.exhaustive.proofs.CostsAlong.{costsTo, costs-none, costs-more, costs-all}
 
 -- ---- the sums stay small
@@ -25,17 +27,18 @@ module _ {ws us : List ℕ} (sums : RampSums ws us 1200) (n : ℕ) (h : n ≤ 51
   starts-cap = omega (arith, prefix-most us 314568000000000 (λ k. sums .starts-most k) n)
 
 -- ---- the loop
-pub record Sweeping (ls : List ℤ) (up us down ds : List ℕ) (before : ℕ) (old costs : List ℕ) (a b c d j : ℕ) : Type 0 where
+pub record Sweeping (ls : List ℤ) (cost : ℕ) (up us down ds : List ℕ) (before : ℕ) (old costs : List ℕ) (a b c d j : ℕ) : Type 0 where
   pub count : j ≤ length ls
   pub long : length costs ≡ length old
   pub ups : a ≡ prefixSum up j
   pub up-starts : b ≡ prefixSum us j
   pub downs : c ≡ prefixSum down j
   pub down-starts : d ≡ prefixSum ds j
-  pub written : (P : Pricing) (m : ℕ) (v : ℤ) → ObjectsAdded P m ls v up us down ds → before ≡ beforeOf P → costs ≡ costsTo P ls v old j
+  pub written : (P : Pricing) (m : ℕ) (v : ℤ) → P .axis .b ≡ cost → ObjectsAdded P m ls v up us down ds → before ≡ beforeOf P →
+      costs ≡ costsTo P ls v old j
 
-module _ (ls : List ℤ) (up us down ds : List ℕ) (before : ℕ) (old : List ℕ) where
-  pub sweep-none : Sweeping ls up us down ds before old old 0 0 0 0 0
+module _ (ls : List ℤ) (cost : ℕ) (up us down ds : List ℕ) (before : ℕ) (old : List ℕ) where
+  pub sweep-none : Sweeping ls cost up us down ds before old old 0 0 0 0 0
   sweep-none = record {
     count = omega arith;
     long = refl;
@@ -43,15 +46,15 @@ module _ (ls : List ℤ) (up us down ds : List ℕ) (before : ℕ) (old : List �
     up-starts = sym (prefix-none us);
     downs = sym (prefix-none down);
     down-starts = sym (prefix-none ds);
-    written = λ P m v s e. sym (costs-none P ls v old);
+    written = λ P m v q s e. sym (costs-none P ls v old);
   }
 
-  pub sweep-all : {costs : List ℕ} {a b c d j : ℕ} → Sweeping ls up us down ds before old costs a b c d j → length ls ≤ j
-      → Swept ls up us down ds before old costs
-  sweep-all {j = j} s h = record { is = λ P m v added f. s .written P m v added f ∙ costs-all P ls v old j (omega (arith, s .count)) }
+  pub sweep-all : {costs : List ℕ} {a b c d j : ℕ} → Sweeping ls cost up us down ds before old costs a b c d j → length ls ≤ j
+      → Swept ls cost up us down ds before old costs
+  sweep-all {j = j} s h = record { is = λ P m v q added f. s .written P m v q added f ∙ costs-all P ls v old j (omega (arith, s .count)) }
 
-  module _ (lines : LinesInRange ls) (ok : Sweepable ls up us down ds before) {costs : List ℕ} {a b c d j : ℕ}
-      (s : Sweeping ls up us down ds before old costs a b c d j) (h : j < length ls) where
+  module _ (most : cost ≤ 9) (lines : LinesInRange ls) (ok : Sweepable (scaledLines cost ls) up us down ds before) {costs : List ℕ} {a b c d j : ℕ}
+      (s : Sweeping ls cost up us down ds before old costs a b c d j) (h : j < length ls) where
     abbrev y : ℤ
     y = getD ls j (pos 0)
 
@@ -82,16 +85,20 @@ module _ (ls : List ℤ) (up us down ds : List ℕ) (before : ℕ) (old : List �
     pub down-starts-cap : d + getD ds j 0 ≤ 2 ^ 60
     down-starts-cap = rw down-starts-next (starts-cap (ok .sums .down-sums) (j + 1) few)
 
-    y-back : back y ≡ y
-    y-back = small-back y (omega (arith, lines .range j h))
+    abbrev z : ℤ
+    z = times cost y
 
-    pub y-range : natAbs (back y) ≤ 900000
-    y-range = rw y-back (omega (arith, lines .range j h))
+    pub z-small : natAbs z ≤ 180000
+    z-small = scaled-line cost most ls lines j h
 
-    module _ (t : ℕ) (e : t ≡ heightOf (back y)) where
-      t-is : t ≡ heightOf y
-      t-is = e ∙ rw y-back
+    enough : prefixSum down (j + 1) * heightOf z + prefixSum us (j + 1) ≤ before + (prefixSum up (j + 1) * heightOf z + prefixSum ds (j + 1))
+    enough = rw (scaled-at cost ls j) at (ok .enough j (omega (arith, length-map ls (times cost))))
 
+    at-line : (k m n : ℕ) → k ≡ cost → m + loweredAt (scaledLines k ls) down us j ≡ n + raisedAt (scaledLines k ls) up ds j
+        → m + (prefixSum down (j + 1) * heightOf z + prefixSum us (j + 1)) ≡ n + (prefixSum up (j + 1) * heightOf z + prefixSum ds (j + 1))
+    at-line k m n r e = rw (r, scaled-at cost ls j) at e
+
+    module _ (t : ℕ) (t-is : t ≡ heightOf z) where
       pub payable : Payable before (a + getD up j 0) (b + getD us j 0) (c + getD down j 0) (d + getD ds j 0) t
       payable = record {
         before-small = omega (arith, ok .before-most);
@@ -99,19 +106,20 @@ module _ (ls : List ℤ) (up us down ds : List ℕ) (before : ℕ) (old : List �
         up-at-small = up-starts-cap;
         down-small = downs-cap;
         down-at-small = down-starts-cap;
-        height-small = omega (arith, t-is, height-most y 20000 (lines .range j h) (omega arith));
-        enough = rw (t-is, ups-next, up-starts-next, downs-next, down-starts-next) (ok .enough j h);
+        height-small = omega (arith, t-is, height-most z 180000 z-small (omega arith));
+        enough = rw (t-is, ups-next, up-starts-next, downs-next, down-starts-next) enough;
       }
 
-      module _ (cost : ℕ) (q : cost + ((c + getD down j 0) * t + (b + getD us j 0)) ≡ before + ((a + getD up j 0) * t + (d + getD ds j 0))) where
-        balance : cost + (prefixSum down (j + 1) * heightOf y + prefixSum us (j + 1)) ≡ before + (prefixSum up (j + 1) * heightOf y + prefixSum ds (j + 1))
+      module _ (price : ℕ) (q : price + ((c + getD down j 0) * t + (b + getD us j 0)) ≡ before + ((a + getD up j 0) * t + (d + getD ds j 0))) where
+        balance : price + (prefixSum down (j + 1) * heightOf z + prefixSum us (j + 1)) ≡ before + (prefixSum up (j + 1) * heightOf z + prefixSum ds (j + 1))
         balance = rw (t-is, ups-next, up-starts-next, downs-next, down-starts-next) at q
 
-        cost-is : (P : Pricing) (m : ℕ) (v : ℤ) → ObjectsAdded P m ls v up us down ds → before ≡ beforeOf P → cost ≡ costOf P (record { x = v; y = y })
-        cost-is P m v added f = omega (arith, balance, added .cost j h, f)
+        price-is : (P : Pricing) (m : ℕ) (v : ℤ) → P .axis .b ≡ cost → ObjectsAdded P m ls v up us down ds → before ≡ beforeOf P →
+            price ≡ costOf P (record { x = v; y = y })
+        price-is P m v r added f = omega (arith, balance, at-line (P .axis .b) _ _ r (added .cost j h), f)
 
-        pub sweep-more : length old ≡ 514 → (new : ℕ) → new ≡ cost
-            → Sweeping ls up us down ds before old (set costs j new) (a + getD up j 0) (b + getD us j 0) (c + getD down j 0) (d + getD ds j 0) (j + 1)
+        pub sweep-more : length old ≡ 514 → (new : ℕ) → new ≡ price
+            → Sweeping ls cost up us down ds before old (set costs j new) (a + getD up j 0) (b + getD us j 0) (c + getD down j 0) (d + getD ds j 0) (j + 1)
         sweep-more l new i = record {
           count = omega arith;
           long = simp length-set (s .long);
@@ -119,5 +127,7 @@ module _ (ls : List ℤ) (up us down ds : List ℕ) (before : ℕ) (old : List �
           up-starts = up-starts-next;
           downs = downs-next;
           down-starts = down-starts-next;
-          written = λ P m v added f. costs-more P ls v old j new h (omega (arith, lines .in-order .few)) (s .written P m v added f) (i ∙ cost-is P m v added f);
+          written =
+              λ P m v r added f. costs-more P ls v old j new h (omega (arith, lines .in-order .few)) (s .written P m v r added f)
+              (i ∙ price-is P m v r added f);
         }

@@ -1,20 +1,25 @@
 -- The table of line numbers: how it is filled, and what is read from it.
 -- Assumes nothing.
-use mathlib.Core.Path.{_≡_, refl, sym, subst, _∙_}
+use mathlib.Core.Path.{_≡_, refl, sym, ap, subst, _∙_}
 use mathlib.Core.List.{List}
 use mathlib.Core.Logic.{⊎-elim}
-use Prim.Native.Nat.{ℕ, _+_, _-_, _≤_, _<_}
+use Prim.Native.Nat.{ℕ, _+_, _*_, _-_, _≤_, _<_}
+use native.Mathlib.Nat.{mul-le-mul-left}
 use native.Mathlib.Omega.{arith}
 use lib.Dec.{ltb, ltb→lt, nltb→le}
 use lib.IntN.{ℤ, pos, natAbs}
-use lib.ListN.{length, getD, set, length-set}
+use lib.ListN.{length, getD, set, length-set, length-map}
+use lib.Signed.{_≤ℤ_, _<ℤ_}
 use lib.Seq.{getD-set-same, getD-set-other, ext-getD}
+use Rattle.numbers.specs.Integer.{times}
 use Rattle.numbers.proofs.Truth.{test}
 use Rattle.numbers.proofs.Integer.{order}
+use Rattle.numbers.proofs.Scaling.{scale-parts, scaled-at}
 use Rattle.lines.specs.LineRecord.{FirstAtLeast}
 use Rattle.lines.proofs.Indexed.{front-le}
 use Rattle.numbers.proofs.WordTests.{back}
-use Rattle.exhaustive.specs.Ramps.{heightOf, LinesInRange, SlotsFilled, Parted, LineTable}
+use Rattle.exhaustive.specs.Ramps.{heightOf, scaledLines, LinesInRange, SlotsFilled, Parted, LineTable}
+use Rattle.exhaustive.proofs.Division.{Upwards}
 use Rattle.exhaustive.proofs.Heights.{height-nat, height-most, height-least, height-le}
 use Rattle.exhaustive.proofs.ObjectRamps.{small-back}
 
@@ -110,29 +115,47 @@ module _ (ls : List ℤ) (lines : LinesInRange ls) where
       pub slot-within : t - 979999 ≤ 40001
       slot-within = omega (arith, height-is, slot-most j h)
 
-  -- ---- what is read
-  module _ (start : ℤ) (g : natAbs start ≤ 900000) where
-    first-of : {r : ℕ} → Parted ls (heightOf start) r → FirstAtLeast ls start r
-    first-of p = record {
-      within = p .within;
-      before = λ k h. omega (arith, order, p .before k h, height-nat (getD ls k (pos 0)) (wide k (omega (arith, p .within))), height-nat start (omega arith));
-      after = λ k h l. omega (arith, order, p .after k h l, height-nat (getD ls k (pos 0)) (wide k l), height-nat start (omega arith));
+-- ---- what is read: the first line that is not below a start when it is multiplied by b
+module _ (b : ℕ) (some : 1 ≤ b) (ls : List ℤ) (lines : LinesInRange ls) (start : ℤ) (g : natAbs start ≤ 900000) where
+  module _ (k : ℕ) (h : k < length ls) where
+    abbrev y : ℤ
+    y = getD ls k (pos 0)
+
+    is-below : b * heightOf y + 1000000 < heightOf start + 1000000 * b → getD (scaledLines b ls) k (pos 0) <ℤ start
+    is-below l = rw (scaled-at b ls k)
+        (omega (arith, order, scale-parts b y, height-nat start (omega arith), ap (λ (n : ℕ). b * n) (height-nat y (wide ls lines k h))))
+
+    is-not-below : heightOf start + 1000000 * b ≤ b * heightOf y + 1000000 → start ≤ℤ getD (scaledLines b ls) k (pos 0)
+    is-not-below l = rw (scaled-at b ls k)
+        (omega (arith, order, scale-parts b y, height-nat start (omega arith), ap (λ (n : ℕ). b * n) (height-nat y (wide ls lines k h))))
+
+  module _ (t : ℕ) (e : t ≡ heightOf start) (small : b ≤ 9) where
+    pub from-below : t < 1000000 - 20000 * b → FirstAtLeast (scaledLines b ls) start 0
+    from-below h = record {
+      within = omega arith;
+      before = λ k l. absurd (omega arith);
+      after = λ k l m. let in-list : k < length ls = omega (arith, length-map ls (times b)) in
+          is-not-below k in-list (omega (arith, e, mul-le-mul-left b (slot-least ls lines k in-list)));
     }
 
-    module _ (t : ℕ) (e : t ≡ heightOf start) where
-      pub from-below : t < 980000 → FirstAtLeast ls start 0
-      from-below h = first-of (record { within = omega arith; before = λ k l. absurd (omega arith); after = λ k l m. omega (arith, e, slot-least k m) })
+    module _ (low : 1000000 - 20000 * b ≤ t) (s : ℕ) (up : Upwards (t - (1000000 - 20000 * b)) b s) where
+      from-slot : {r : ℕ} → Parted ls (s + 980000) r → FirstAtLeast (scaledLines b ls) start r
+      from-slot p = record {
+        within = omega (arith, p .within, length-map ls (times b));
+        before = λ k l. is-below k (omega (arith, p .within)) (omega (arith, e, up .least, mul-le-mul-left b (p .before k l)));
+        after = λ k l m. let in-list : k < length ls = omega (arith, length-map ls (times b)) in
+            is-not-below k in-list (omega (arith, e, up .enough, mul-le-mul-left b (p .after k l in-list)));
+      }
 
-      pub from-above : 1020000 < t → FirstAtLeast ls start (length ls)
-      from-above h = first-of (record { within = omega arith; before = λ k l. omega (arith, e, slot-most k l); after = λ k l m. absurd (omega arith) })
+      pub from-above : 40000 < s → FirstAtLeast (scaledLines b ls) start (length ls)
+      from-above h =
+          from-slot (record { within = omega arith; before = λ k l. omega (arith, slot-most ls lines k l); after = λ k l m. absurd (omega arith) })
 
-      pub table-small : (table : List ℕ) → LineTable ls table → t ≤ 1020000 → getD table (t - 980000) 0 ≤ 514
-      table-small table s h = omega (arith, s .parted (t - 980000) (omega arith) .within, lines .in-order .few)
+      pub from-table : (table : List ℕ) → LineTable ls table → s ≤ 40000 → FirstAtLeast (scaledLines b ls) start (getD table s 0)
+      from-table table numbered h = from-slot (numbered .parted s h)
 
-      pub from-table : (table : List ℕ) → LineTable ls table → 980000 ≤ t → t ≤ 1020000 → FirstAtLeast ls start (getD table (t - 980000) 0)
-      from-table table s h l =
-          let q : (t - 980000) + 980000 ≡ heightOf start = omega (arith, e) in
-          first-of (subst (λ (u : ℕ). Parted ls u (getD table (t - 980000) 0)) q (s .parted (t - 980000) (omega arith)))
+pub table-small : (ls : List ℤ) → LinesInRange ls → (table : List ℕ) → LineTable ls table → (s : ℕ) → s ≤ 40000 → getD table s 0 ≤ 514
+table-small ls lines table numbered s h = omega (arith, numbered .parted s h .within, lines .in-order .few)
 
 -- ---- two tables of the same lines are the same
 parted-one : {ls : List ℤ} {t r r′ : ℕ} → Parted ls t r → Parted ls t r′ → r ≤ r′

@@ -34,9 +34,10 @@ unfoldable pub costsAlong : Pricing → List ℤ → ℤ → List ℕ → List �
 unfolding costOf
 costsAlong P ls v old = map (λ h. costOf P (record { x = v; y = h })) ls ++ drop (length ls) old
 
--- such an array, whatever the objects whose ramps the columns hold
-pub record Swept (ls : List ℤ) (up up-at down down-at : List ℕ) (before : ℕ) (old costs : List ℕ) : Type 0 where
-  pub is : (P : Pricing) (m : ℕ) (v : ℤ) → ObjectsAdded P m ls v up up-at down down-at → before ≡ beforeOf P → costs ≡ costsAlong P ls v old
+-- such an array, whatever the objects whose ramps the columns hold, where b is the axis cost of y
+pub record Swept (ls : List ℤ) (b : ℕ) (up up-at down down-at : List ℕ) (before : ℕ) (old costs : List ℕ) : Type 0 where
+  pub is : (P : Pricing) (m : ℕ) (v : ℤ) → P .axis .b ≡ b → ObjectsAdded P m ls v up up-at down down-at → before ≡ beforeOf P →
+      costs ≡ costsAlong P ls v old
 
 -- the cheapest of a spot and the crossings of the vertical line at v, whatever the objects whose costs the array holds
 pub record Chosen (ls : List ℤ) (v : ℤ) (costs : List ℕ) (first r : Spot) : Type 0 where

@@ -1,17 +1,18 @@
 -- The cost of the places of a vertical line as a sum of ramps. A ramp of weight w from a start s on is w × (t − s) at a height t above s,
 -- and 0 below. Along the line at v an object with d = |sx − v| pays for each visit near where near ≤ d; else, with r = near − d, it pays
--- near, less a ramp from sy − r on, plus two from sy on, less one from sy + r on.
+-- near, less a ramp from sy − r on, plus two from sy on, less one from sy + r on. All of these are scaled coordinates.
 -- Assumes nothing.
-use Prim.Native.Nat.{ℕ, zero, suc, _+_, _*_, _-_, _≤_, _<_, min, _^_}
+use Prim.Native.Nat.{ℕ, zero, suc, _+_, _*_, _-_, _/_, _≤_, _<_, min, _^_}
 use mathlib.Core.Path.{_≡_}
-use mathlib.Core.List.{List}
+use mathlib.Core.List.{List, map}
 use lib.IntN.{ℤ, pos, natAbs, _+ℤ_}
 use lib.ListN.{length, getD}
-use Rattle.numbers.specs.Integer.{dist}
-use Rattle.query.specs.Range.{costLimit, coordinateLimit}
+use Rattle.numbers.specs.Integer.{dist, times}
+use Rattle.query.specs.Range.{costLimit, coordinateLimit, axisCostLimit}
 use Rattle.deck.specs.Objects.{Pricing}
 use Rattle.pricing.specs.ObjectFigures.{costOf, beforeOf}
 use Rattle.lines.specs.LineRecord.{LinesInOrder}
+use Rattle.exhaustive.specs.declared.Divisor.{Divisor}
 
 -- how far a coordinate lies above −1,000,000
 unfoldable pub heightOf : ℤ → ℕ
@@ -26,6 +27,20 @@ prefixSum xs (suc n) = prefixSum xs n + getD xs n 0
 pub record LinesInRange (ls : List ℤ) : Type 0 where
   pub in-order : LinesInOrder ls
   pub range : (j : ℕ) → j < length ls → natAbs (getD ls j (pos 0)) ≤ coordinateLimit
+
+-- lines multiplied by an axis cost
+abbrev pub scaledLines : ℕ → List ℤ → List ℤ
+scaledLines b ls = map (times b) ls
+
+-- an axis cost to divide by
+pub record Dividing (d : Divisor) : Type 0 where
+  pub some : 1 ≤ d .by
+  pub most : d .by ≤ axisCostLimit
+  pub reciprocal-is : d .reciprocal ≡ 4294967296 / d .by + 1
+
+pub record DivisorOf (b : ℕ) (d : Divisor) : Type 0 where
+  pub is : d .by ≡ b
+  pub dividing : Dividing d
 
 -- slots from `from` on that are before `to` hold j now, and those before `from` what they held
 pub record SlotsFilled (xs : List ℕ) (from to j : ℕ) (xs′ : List ℕ) : Type 0 where
@@ -93,8 +108,8 @@ pub record ObjectAdded (ls : List ℤ) (v sx sy : ℤ) (visits near : ℕ)
 -- the columns of m objects along the line at v: the cost at each line is what the objects pay now and what is added, less what is taken off
 pub record ObjectsAdded (P : Pricing) (m : ℕ) (ls : List ℤ) (v : ℤ) (up up-at down down-at : List ℕ) : Type 0 where
   pub sums : ObjectSums up up-at down down-at m
-  pub cost : (j : ℕ) → j < length ls →
-      costOf P (record { x = v; y = getD ls j (pos 0) }) + loweredAt ls down up-at j ≡ beforeOf P + raisedAt ls up down-at j
+  pub cost : (j : ℕ) → j < length ls → let scaled = scaledLines (P .axis .b) ls in
+      costOf P (record { x = v; y = getD ls j (pos 0) }) + loweredAt scaled down up-at j ≡ beforeOf P + raisedAt scaled up down-at j
 
 -- what `cost_at` asks: no sum is too large, and not more is taken off than is there
 pub record Payable (before up up-at down down-at t : ℕ) : Type 0 where

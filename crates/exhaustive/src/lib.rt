@@ -1,30 +1,37 @@
 // The exhaustive search: the cheapest crossing of a deck's lines. Along one vertical line the cost is a sum of ramps (specs/Ramps.antt),
 // so that the costs of all its crossings follow from prefix sums, with no pass over the objects for each. Line by line these costs are
-// written into an array (`costs_along`), and then the cheapest is chosen (`choose`).
+// written into an array (`costs_along`), and then the cheapest is chosen (`choose`). Objects and ramps are at scaled places, lines are not.
 use deck::Rect;
+use deck::scaled;
 use limits::COLUMNS;
 use limits::LINES;
 use limits::NEAR_COLUMN;
 use limits::VISITS_COLUMN;
+use limits::X_COST;
 use limits::Y_COLUMN;
+use limits::Y_COST;
 use numbers::abs_diff;
 use problem::Spot;
 ghost use mathlib.Core.Path.{_≡_};
 ghost use mathlib.Core.List.{flatMap};
-ghost use Prim.Native.Nat.{_+_, _*_, _≤_};
+ghost use Prim.Native.Nat.{_+_, _*_, _/_, _≤_};
 ghost use lib.IntN.{pos, natAbs};
 ghost use lib.ListN.{length};
 ghost use Rattle.query.specs.Range.{costLimit};
 ghost use Rattle.query.specs.Exhaustive.{exhaustive};
-ghost use Rattle.deck.specs.ObjectColumns.{pricingIn};
+ghost use Rattle.deck.specs.Ranges.{CostInRange};
+ghost use Rattle.deck.specs.ObjectColumns.{axisIn, pricingIn};
 ghost use Rattle.pricing.specs.ObjectFigures.{beforeOf};
-ghost use Rattle.pricing.specs.Columns.{Priceable, ObjectInRange, Figure};
+ghost use Rattle.pricing.specs.Columns.{CostsInRange, Priceable, ObjectInRange, Figure};
 ghost use Rattle.lines.specs.LineRecord.{FirstAtLeast};
 ghost use Rattle.problem.specs.ObjectProblem.{pricedOf};
 ghost use Rattle.problem.specs.Prepared.{problemOf, Prepared};
 ghost use Rattle.exhaustive.specs.Ramps.{
   heightOf,
+  scaledLines,
   LinesInRange,
+  Dividing,
+  DivisorOf,
   SlotsFilled,
   LineTable,
   RampSums,
@@ -37,6 +44,12 @@ ghost use Rattle.exhaustive.specs.Ramps.{
   Sweepable,
 };
 ghost use Rattle.exhaustive.specs.Cheapest.{cheaperOf, firstCheapest, along, costsAlong, Swept, Chosen};
+
+// A number to divide by, and what is multiplied with instead: 2 ^ 32 / by + 1.
+struct Divisor {
+    by: u64,
+    reciprocal: u64,
+}
 
 // How far a coordinate lies above −1,000,000, which is below every start of a ramp.
 fn height(y: i64) -> u64
@@ -75,48 +88,74 @@ pub fn number_lines(h: &[i64], table: &mut [u16; 40001])
     fill(table, from, 40001, h.len() as u16);
 }
 
-// The number of the first line that is not below `start`, or that of all lines. Only this reads the table, and only lines have to lie
-// where the table reaches: below it the answer is 0, above it the number of lines. The height of a start that `add_ramp` multiplies with
-// is not looked up. So if heights get scaled by some b and lines do not, the lookup stays as it is and is asked for another y: for a
-// ramp that starts at s the least y with s ≤ b × y.
-fn line_from(h: &[i64], table: &[u16; 40001], start: i64) -> usize
-    requires { ⌜ LinesInRange (now h) × LineTable (now h) (now table) × (natAbs start ≤ 900000) ⌝ }
-    ensures { λ r. ⌜ FirstAtLeast (now (h .entry)) start r ⌝ }
+// The axis cost of y, to divide by.
+fn divisor_of(columns: &[i32; COLUMNS]) -> Divisor
+    requires { ⌜ CostsInRange (now columns) ⌝ }
+    ensures { λ d. ⌜ DivisorOf (axisIn (now (columns .entry)) .b) d ⌝ }
 {
-    let t = height(start);
-    if t < 980000 {
-        return 0;
+    let b = columns[Y_COST] as u32;
+    let by = b as u64;
+    Divisor {
+        by,
+        reciprocal: 4294967296 / by + 1,
     }
-    if 1020000 < t {
-        return h.len();
-    }
-    table[(t - 980000) as usize] as usize
 }
 
-// Adds a ramp of weight `w` from `start` on, at the first line that is not below `start`. Ramps are held in two columns, by line:
+// n / d.by. A multiplication is several times faster than a division, and there are three for each object and vertical line.
+fn divided(n: u64, d: Divisor) -> u64
+    requires { ⌜ Dividing d × (n ≤ 2000000) ⌝ }
+    ensures { λ r. ⌜ r ≡ n / d .by ⌝ }
+{
+    n * d.reciprocal / 4294967296
+}
+
+// The number of the first line that, scaled, is not below `start`, or that of all lines. The table is by plain coordinates, so it is asked
+// for the least one that is not below `start` when it is scaled. Lines are where the table reaches: below it the answer is 0, above it the
+// number of lines.
+fn line_from(h: &[i64], table: &[u16; 40001], d: Divisor, start: i64) -> usize
+    requires { ⌜ LinesInRange (now h) × LineTable (now h) (now table) × Dividing d × (natAbs start ≤ 900000) ⌝ }
+    ensures { λ r. ⌜ FirstAtLeast (scaledLines (d .by) (now (h .entry))) start r ⌝ }
+{
+    let t = height(start);
+    let lowest = 1000000 - 20000 * d.by;
+    if t < lowest {
+        return 0;
+    }
+    let slot = divided(t - lowest + d.by - 1, d);
+    if 40000 < slot {
+        return h.len();
+    }
+    table[slot as usize] as usize
+}
+
+// Adds a ramp of weight `w` from `start` on, at the first line that, scaled, is not below `start`. Ramps are held in two columns, by line:
 // their weights, and their weights times the heights at which they start.
 fn add_ramp(
     h: &[i64],
     table: &[u16; 40001],
+    d: Divisor,
     weights: &mut [u64; 515],
     starts: &mut [u64; 515],
     start: i64,
     w: u64,
 )
     requires { ⌜ LinesInRange (now h) × RampSums (now weights) (now starts) 2000 × RampInRange start w
-        × LineTable (now h) (now table) ⌝ }
+        × LineTable (now h) (now table) × Dividing d ⌝ }
     ensures { λ _.
-        ⌜ RampAdded (now (h .entry)) start w (now (weights .entry)) (now (starts .entry)) (now (weights .exit)) (now (starts .exit)) ⌝ }
+        ⌜ RampAdded (scaledLines (d .by) (now (h .entry))) start w (now (weights .entry)) (now (starts .entry)) (now (weights .exit))
+        (now (starts .exit)) ⌝ }
 {
-    let k = line_from(h, table, start);
+    let k = line_from(h, table, d, start);
     weights[k] = weights[k] + w;
     starts[k] = starts[k] + w * height(start);
 }
 
-// Adds the ramps of an object along the vertical line at `v`. An object that is not nearer to the line than to its closest post has none.
+// Adds the ramps of an object along the vertical line that is at `v` when it is scaled. An object that is not nearer to the line than to
+// its closest post has none.
 fn add_object(
     h: &[i64],
     table: &[u16; 40001],
+    d: Divisor,
     v: i64,
     up: &mut [u64; 515],
     up_at: &mut [u64; 515],
@@ -127,20 +166,20 @@ fn add_object(
     visits: u64,
     near: u64,
 )
-    requires { ⌜ LinesInRange (now h) × (natAbs v ≤ 20000) × ObjectSums (now up) (now «up_at») (now down) (now «down_at») 600
-        × ObjectInRange sx sy (pos visits) (pos near) × LineTable (now h) (now table) ⌝ }
+    requires { ⌜ LinesInRange (now h) × (natAbs v ≤ 180000) × ObjectSums (now up) (now «up_at») (now down) (now «down_at») 600
+        × ObjectInRange sx sy (pos visits) (pos near) × LineTable (now h) (now table) × Dividing d ⌝ }
     ensures { λ _.
-        ⌜ ObjectAdded (now (h .entry)) v sx sy visits near (now (up .entry)) (now («up_at» .entry)) (now (down .entry))
-        (now («down_at» .entry)) (now (up .exit)) (now («up_at» .exit)) (now (down .exit)) (now («down_at» .exit)) ⌝ }
+        ⌜ ObjectAdded (scaledLines (d .by) (now (h .entry))) v sx sy visits near (now (up .entry)) (now («up_at» .entry))
+        (now (down .entry)) (now («down_at» .entry)) (now (up .exit)) (now («up_at» .exit)) (now (down .exit)) (now («down_at» .exit)) ⌝ }
 {
-    let d = abs_diff(sx, v);
-    if near <= d {
+    let far = abs_diff(sx, v);
+    if near <= far {
         return;
     }
-    let r = (near - d) as i64;
-    add_ramp(h, table, down, down_at, sy - r, visits);
-    add_ramp(h, table, up, up_at, sy, 2 * visits);
-    add_ramp(h, table, down, down_at, sy + r, visits);
+    let r = (near - far) as i64;
+    add_ramp(h, table, d, down, down_at, sy - r, visits);
+    add_ramp(h, table, d, up, up_at, sy, 2 * visits);
+    add_ramp(h, table, d, down, down_at, sy + r, visits);
 }
 
 // The ramps of all objects along the vertical line at `v`, in columns that were 0.
@@ -161,6 +200,8 @@ fn add_objects<'a>(
         ⌜ ObjectsAdded (pricingIn (now (columns .entry)) n) n (now (h .entry)) v
         (now (up .exit)) (now («up_at» .exit)) (now (down .exit)) (now («down_at» .exit)) ⌝ }
 {
+    let d = divisor_of(columns);
+    let x = scaled(columns[X_COST], v) as i64;
     let mut i: usize = 0;
     while i < n {
         let sx = columns[i] as i64;
@@ -170,7 +211,8 @@ fn add_objects<'a>(
         add_object(
             h,
             table,
-            v,
+            d,
+            x,
             up,
             up_at,
             down,
@@ -211,9 +253,10 @@ fn cheaper(best: Spot, p: Spot) -> Spot
     }
 }
 
-// Writes the cost of each crossing of a vertical line into `costs`, from the ramps along the line.
+// Writes the cost of each crossing of a vertical line into `costs`, from the ramps along the line, where b is the axis cost of y.
 fn sweep<'a>(
     h: &'a [i64],
+    b: i32,
     up: &'a [u64; 515],
     up_at: &'a [u64; 515],
     down: &'a [u64; 515],
@@ -221,10 +264,11 @@ fn sweep<'a>(
     before: u64,
     costs: &mut [u64; LINES],
 )
-    requires { ⌜ LinesInRange (now h) × Sweepable (now h) (now up) (now «up_at») (now down) (now «down_at») before
-        × (length (now costs) ≡ 514) ⌝ }
+    requires { ⌜ LinesInRange (now h)
+        × Sweepable (scaledLines (natAbs b) (now h)) (now up) (now «up_at») (now down) (now «down_at») before
+        × (length (now costs) ≡ 514) × CostInRange b ⌝ }
     ensures { λ _.
-        ⌜ Swept (now (h .entry)) (now (up .entry)) (now («up_at» .entry)) (now (down .entry)) (now («down_at» .entry)) before
+        ⌜ Swept (now (h .entry)) (natAbs b) (now (up .entry)) (now («up_at» .entry)) (now (down .entry)) (now («down_at» .entry)) before
         (now (costs .entry)) (now (costs .exit)) ⌝ }
 {
     let mut ups: u64 = 0;
@@ -237,8 +281,8 @@ fn sweep<'a>(
         up_from = up_from + up_at[k];
         downs = downs + down[k];
         down_from = down_from + down_at[k];
-        let y = h[k];
-        let cost = cost_at(before, ups, up_from, downs, down_from, height(y));
+        let y = scaled(b, h[k]);
+        let cost = cost_at(before, ups, up_from, downs, down_from, height(y as i64));
         costs[k] = cost;
         k += 1;
     }
@@ -277,7 +321,8 @@ pub fn costs_along<'a>(
         &mut down,
         &mut down_at,
     );
-    sweep(h, &up, &up_at, &down, &down_at, before, costs);
+    let b = columns[Y_COST];
+    sweep(h, b, &up, &up_at, &down, &down_at, before, costs);
 }
 
 // The cheapest of a spot and the crossings of the vertical line at `v`, the first among equals, from their costs.

@@ -94,13 +94,17 @@ module _ {columns : List ℤ} {n : ℕ} (priceable : Priceable columns n) where
 
   -- ---- all rows
   pub cost-most : (p : Place) → costOf (pricingIn columns n) p ≤ costLimit
-  cost-most p = rw costOf-sum (omega (arith, priceable .count, sum-most (paidBy (scaledPlace (axisIn columns) p)) 47185200000 columns n (λ i h. paid-most h (scaledPlace (axisIn columns) p))))
+  cost-most p =
+      let q = scaledPlace (axisIn columns) p in
+      rw costOf-sum (omega (arith, priceable .count, sum-most (paidBy q) 47185200000 columns n (λ i h. paid-most h q)))
 
   pub before-most : beforeOf (pricingIn columns n) ≤ costLimit
   before-most = rw beforeOf-sum (omega (arith, priceable .count, sum-most paidNow 47185200000 columns n (λ i h. paidNow-most h)))
 
   pub load-most : (r : Rect) → loadOf (pricingIn columns n) r ≤ loadLimit
-  load-most r = rw loadOf-sum (omega (arith, priceable .count, sum-most (borneBy (scaledRect (axisIn columns) r)) 65535 columns n (λ i h. borne-most h (scaledRect (axisIn columns) r))))
+  load-most r =
+      let q = scaledRect (axisIn columns) r in
+      rw loadOf-sum (omega (arith, priceable .count, sum-most (borneBy q) 65535 columns n (λ i h. borne-most h q)))
 
 -- ---- which rows reach a rectangle: the flags of the first i rows of n
 pub record Flagged (columns : List ℤ) (n : ℕ) (r : Rect) (flags : List ℕ) (i : ℕ) : Type 0 where

@@ -48,7 +48,8 @@ module _ {A : Type 0} where
   four-put (_ ∷ _ ∷ _ ∷ _ ∷ l) a b c d h = refl
 
   pub four-put-length : (l : List A) (a b c d : A) → length (set (set (set (set l 0 a) 1 b) 2 c) 3 d) ≡ length l
-  four-put-length l a b c d = rw (length-set (set (set (set l 0 a) 1 b) 2 c) 3 d, length-set (set (set l 0 a) 1 b) 2 c, length-set (set l 0 a) 1 b, length-set l 0 a)
+  four-put-length l a b c d =
+      rw (length-set (set (set (set l 0 a) 1 b) 2 c) 3 d, length-set (set (set l 0 a) 1 b) 2 c, length-set (set l 0 a) 1 b, length-set l 0 a)
 
   -- a list copied behind what is put: the length stays, and its front has that list too
   module _ (l s : List A) (at n : ℕ) {m : List A} (e : m ≡ paste l at s n) (room : at + n ≤ length l) (whole : length s ≡ n) where

@@ -57,7 +57,8 @@ loop-again c =
     let pre = c .before .before .before .before .pre in
     let from = c .before .before .before .before .args .from .now in
     let taken = c .before .before .loop-test .taken in
-    copied-more _ _ _ _ _ _ (pre .2) (omega (arith, pre .0 .count, length-map from (times (natAbs (toZ w32 (ofZ w32 (c .before .before .before .before .args .k)))))))
+    let k = toZ w32 (ofZ w32 (c .before .before .before .before .args .k)) in
+    copied-more _ _ _ _ _ _ (pre .2) (omega (arith, pre .0 .count, length-map from (times (natAbs k))))
     (c .before .before .before .loop .inv) taken (scaled-word _ (pre .0 .range _ taken) (c .scaled .ensures) ∙ sym (scaled-at _ from _))
 
 same-length : tie.Need-same-length Inv-loop μ-loop

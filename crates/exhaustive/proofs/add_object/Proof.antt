@@ -2,9 +2,15 @@
 -- Assumes nothing.
 use native.Mathlib.Omega.{arith}
 use borrow.Author.Needs.{needs}
+use denote.Ref.{now}
+use Rattle.exhaustive.specs.Ramps.{scaledLines}
+use Rattle.exhaustive.proofs.ScaledLines.{ScaledInRange, scaled-in-range}
 use Rattle.exhaustive.proofs.ObjectRamps.{sums-more, small-back, low-fits, high-fits, low-range, middle-range, high-range, object-none, object-added}
 use Rattle.exhaustive.proofs.add_object.Statement.{statement}
 use Rattle.exhaustive.proofs.add_object.Tie as tie
+
+lines : (s : tie.Start) → ScaledInRange (scaledLines (s .args .d .by) (now (s .args .h)))
+lines s = scaled-in-range _ (s .pre .5 .most) _ (s .pre .0)
 
 abs-diff-requires : tie.Need-abs-diff-requires
 abs-diff-requires c κs =
@@ -15,7 +21,7 @@ returns : tie.Need-returns
 returns c =
     let s = c .before .before in
     object-none (s .args .v) (s .args .sx) (s .args .sy) (s .args .visits) (s .args .near) _ (s .pre .1) (s .pre .3) (c .before .abs-diff .ensures) _
-    (s .pre .0) _ _ _ _ (c .if1 .taken)
+    (lines s) _ _ _ _ (c .if1 .taken)
 
 sub-r : tie.Need-sub-r
 sub-r c = search needs
@@ -35,6 +41,7 @@ add-ramp-requires c κs =
       low-range (s .args .v) (s .args .sx) (s .args .sy) (s .args .visits) (s .args .near) _ (s .pre .1) (s .pre .3)
           (c .before .before .before .abs-diff .ensures),
       s .pre .4,
+      s .pre .5,
     )
 
 mul-add-ramp : tie.Need-mul-add-ramp
@@ -48,6 +55,7 @@ add-ramp-requires-2 c κs =
       middle-range (s .args .v) (s .args .sx) (s .args .sy) (s .args .visits) (s .args .near) _ (s .pre .1) (s .pre .3)
           (c .before .before .before .before .before .before .abs-diff .ensures),
       s .pre .4,
+      s .pre .5,
     )
 
 add-add-ramp : tie.Need-add-add-ramp
@@ -63,13 +71,14 @@ add-ramp-requires-3 c κs =
       high-range (s .args .v) (s .args .sx) (s .args .sy) (s .args .visits) (s .args .near) _ (s .pre .1) (s .pre .3)
           (c .before .before .before .before .before .before .before .before .before .abs-diff .ensures),
       s .pre .4,
+      s .pre .5,
     )
 
 returns-2 : tie.Need-returns-2
 returns-2 c =
     let s = c .before .before .before .before .before .before .before .before .before .before .before in
     object-added (s .args .v) (s .args .sx) (s .args .sy) (s .args .visits) (s .args .near) _ (s .pre .1) (s .pre .3)
-    (c .before .before .before .before .before .before .before .before .before .before .abs-diff .ensures) _ (s .pre .0) _ _ _ _ _ _ _ _ _ _
+    (c .before .before .before .before .before .before .before .before .before .before .abs-diff .ensures) _ (lines s) _ _ _ _ _ _ _ _ _ _
     (c .before .before .before .before .before .before .before .before .before .if1 .left)
     (c .before .before .before .before .before .before .add-ramp .ensures) (c .before .before .before .add-ramp2 .ensures) (c .add-ramp3 .ensures)
 

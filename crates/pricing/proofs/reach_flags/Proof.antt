@@ -65,7 +65,8 @@ loop-less c = omega arith
 loop-again : tie.Need-loop-again Inv-loop μ-loop
 loop-again c =
     let turn = c .before .before .before .before in
-    flagged-more _ _ _ _ (turn .before .before .before .before .before .before .before .pre .0) (turn .before .loop .inv) (turn .loop-test .taken) (c .flag .ensures)
+    let s = turn .before .before .before .before .before .before .before in
+    flagged-more _ _ _ _ (s .pre .0) (turn .before .loop .inv) (turn .loop-test .taken) (c .flag .ensures)
 
 returns : tie.Need-returns Inv-loop μ-loop
 returns c =
