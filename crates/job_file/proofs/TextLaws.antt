@@ -4,12 +4,14 @@ use mathlib.Core.Path.{_≡_, refl, sym, ap, _∙_}
 use Prim.Native.Nat.{ℕ, zero, suc, _+_, _≤_, _<_}
 use native.Mathlib.Numerals.{add-one}
 use native.Mathlib.Omega.{arith}
+use mathlib.Core.Bool.{true, false}
 use mathlib.Core.List.{List, [], _∷_, _++_, map, map-append, flatMap, append-assoc, append-nil}
 use lib.IntN.{ℤ, pos}
 use lib.ListN.{length, getD, take, length-append}
 use lib.Seq.{take-suc}
 use Rattle.numbers.proofs.Joined.{flatMap-append}
 use Rattle.query.specs.Place.{Rect}
+use Rattle.query.specs.Deck.{AxisCosts}
 use Rattle.text.specs.Ascii.{bytes, comma, newline}
 use Rattle.text.specs.Decimal.{spellNat, spellInt}
 use Rattle.write.specs.Written.{Wrote}
@@ -18,18 +20,19 @@ use Rattle.deck.specs.DeckOf.{places, stopsOf}
 use Rattle.deck.proofs.ClosestLaws.{placeAt, places-length, places-at}
 use Rattle.deck.proofs.DeckLaws.{stopIn, stops-length, stops-in}
 use Rattle.job_line.specs.Kinds.{Kind, row, endOf}
-use Rattle.job.specs.Spelling.{JobLine, areaLine, countLine, postLine, stopLine, spellNumbers, spellLine}
-use Rattle.job_file.specs.Texts.{numberText, placeText, postText, stopText, postTexts, stopTexts}
+use Rattle.job.specs.Spelling.{JobLine, areaLine, axisLine, countLine, postLine, stopLine, spellNumbers, spellLine}
+use Rattle.job.specs.File.{writesAxis}
+use Rattle.job_file.specs.Texts.{numberText, placeText, axisText, postText, stopText, postTexts, stopTexts}
 
 -- ---- lines of a list, one after another
+one : (j : JobLine) → flatMap spellLine (j ∷ []) ≡ spellLine j
+unfolding flatMap
+one j = append-nil (spellLine j)
+
 module _ {A : Type 0} (g : A → JobLine) where
   -- those of its first n elements
   abbrev texts : List A → ℕ → List ℕ
   texts l n = flatMap spellLine (map g (take n l))
-
-  one : (j : JobLine) → flatMap spellLine (j ∷ []) ≡ spellLine j
-  unfolding flatMap
-  one j = append-nil (spellLine j)
 
   texts-fewer : (k n : ℕ) (l : List A) → k ≤ n → length (texts l k) ≤ length (texts l n)
   unfolding flatMap
@@ -112,6 +115,17 @@ area-text r = line-text (areaLine r)
     ∙ ap (λ (l : List ℕ). placeText (r .xlo) (r .ylo) comma ++ l) (numbers-two (r .xhi) (r .yhi)))
     ∙ sym (append-assoc (bytes "area=") (placeText (r .xlo) (r .ylo) comma) (placeText (r .xhi) (r .yhi) newline))
 
+-- `axis=a,b`: the key, and each number with its end
+pub axis-text : (c : AxisCosts) → writesAxis c ≡ true →
+    axisText c ≡ bytes "axis=" ++ numberText (pos (c .a)) comma ++ numberText (pos (c .b)) newline
+axis-text c e = rw e (one (axisLine c) ∙ line-text (axisLine c)
+    ∙ ap (λ (l : List ℕ). bytes "axis=" ++ l) (numbers-two (pos (c .a)) (pos (c .b)))
+    ∙ sym (append-assoc (bytes "axis=") (numberText (pos (c .a)) comma) (numberText (pos (c .b)) newline)))
+
+pub axis-left-out : (c : AxisCosts) → writesAxis c ≡ false → axisText c ≡ []
+unfolding flatMap
+axis-left-out c e = rw e
+
 pub count-text : (kind : Kind) (n : ℕ) → spellLine (countLine kind n) ≡ row kind .key ++ numberText (pos n) newline
 count-text kind n = line-text (countLine kind n) ∙ ap (λ (l : List ℕ). row kind .key ++ l) (numbers-one (pos n))
 
@@ -124,11 +138,25 @@ spelled-pos n = refl
 pub length-number : (z : ℤ) (end : ℕ) → length (numberText z end) ≡ length (spellInt z) + 1
 length-number z end = length-append (spellInt z) (end ∷ [])
 
+pub length-nat : (n end : ℕ) → length (numberText (pos n) end) ≡ length (spellNat n) + 1
+length-nat n end = omega (arith, length-number (pos n) end, ap length (spelled-pos n))
+
 pub length-count : (key : List ℕ) (n : ℕ) → length (key ++ numberText (pos n) newline) ≡ length key + length (spellNat n) + 1
-length-count key n = omega (arith, length-append key (numberText (pos n) newline), length-number (pos n) newline, ap length (spelled-pos n))
+length-count key n = omega (arith, length-append key (numberText (pos n) newline), length-nat n newline)
 
 pub length-place : (x y : ℤ) (end : ℕ) → length (placeText x y end) ≡ length (spellInt x) + length (spellInt y) + 2
 length-place x y end = omega (arith, length-append (numberText x comma) (numberText y end), length-number x comma, length-number y end)
+
+pub length-axis : (c : AxisCosts) → writesAxis c ≡ true → length (axisText c) ≡ 5 + length (spellNat (c .a)) + length (spellNat (c .b)) + 2
+unfolding bytes
+length-axis c e = omega (
+  arith,
+  ap length (axis-text c e),
+  length-append (bytes "axis=" ++ numberText (pos (c .a)) comma) (numberText (pos (c .b)) newline),
+  length-append (bytes "axis=") (numberText (pos (c .a)) comma),
+  length-nat (c .a) comma,
+  length-nat (c .b) newline,
+)
 
 pub length-post : (x y : ℤ) → length (postText x y) ≡ 5 + (length (spellInt x) + length (spellInt y) + 2)
 unfolding bytes
@@ -142,8 +170,7 @@ length-stop x y v = omega (
   length-append (bytes "stop=" ++ placeText x y comma) (numberText (pos v) newline),
   length-append (bytes "stop=") (placeText x y comma),
   length-place x y comma,
-  length-number (pos v) newline,
-  ap length (spelled-pos v),
+  length-nat v newline,
 )
 
 -- ---- the lines of posts and stops, whose numbers the code has

@@ -1,4 +1,5 @@
 // The file of a deck's record and rounds: its length, and its bytes written into an output that has room for them.
+use deck::AxisCosts;
 use deck::Deck;
 ghost use mathlib.Core.Path.{_≡_};
 ghost use mathlib.Core.List.{_++_};
@@ -8,8 +9,9 @@ ghost use lib.ListN.{length};
 ghost use Rattle.text.specs.Ascii.{newline};
 ghost use Rattle.text.specs.Decimal.{spellInt};
 ghost use Rattle.write.specs.Written.{Overwrote, Wrote};
+ghost use Rattle.deck.specs.DeckOf.{costsOf};
 ghost use Rattle.job.specs.File.{fileText};
-ghost use Rattle.job_file.specs.Texts.{numberText, placeText, postText, stopText, postTexts, stopTexts};
+ghost use Rattle.job_file.specs.Texts.{numberText, placeText, axisText, postText, stopText, postTexts, stopTexts};
 
 // ---- lengths
 
@@ -19,6 +21,18 @@ fn place_len(x: i64, y: i64) -> usize
     ensures { λ r. ⌜ r ≤ 44 ⌝ }
 {
     write::int_len(x) + write::int_len(y) + 2
+}
+
+// The line of axis costs: nothing where the file has none.
+fn axis_len(c: AxisCosts) -> usize
+    ensures { λ r. ⌜ r ≡ length (axisText (costsOf c)) ⌝ }
+    ensures { λ r. ⌜ r ≤ 47 ⌝ }
+{
+    if job::writes_axis(c) {
+        5 + write::nat_len(c.a) + write::nat_len(c.b) + 2
+    } else {
+        0
+    }
 }
 
 // The lines of the first n posts.
@@ -59,10 +73,11 @@ pub fn file_len(deck: Deck, rounds: u64) -> usize
     let posts = posts_len(&deck.post_x, &deck.post_y, deck.posts);
     let stops = stops_len(&deck.stop_x, &deck.stop_y, &deck.visits, deck.stops);
     let area_line = 5 + place_len(deck.xlo, deck.ylo) + place_len(deck.xhi, deck.yhi);
+    let axis_line = axis_len(deck.axis);
     let posts_line = 6 + write::nat_len(deck.posts as u64) + 1;
     let stops_line = 6 + write::nat_len(deck.stops as u64) + 1;
     let rounds_line = 7 + write::nat_len(rounds) + 1;
-    area_line + posts_line + posts + stops_line + stops + rounds_line
+    area_line + axis_line + posts_line + posts + stops_line + stops + rounds_line
 }
 
 // ---- one line
@@ -102,6 +117,21 @@ fn put_count(out: &mut [u8], at: usize, key: &[u8], n: u64) -> usize
 {
     let next = write::put(out, at, key);
     put_nat_end(out, next, n, b'\n')
+}
+
+// `axis=a,b`: nothing where the file has no such line.
+fn put_axis(out: &mut [u8], at: usize, c: AxisCosts) -> usize
+    requires { ⌜ at + length (axisText (costsOf c)) ≤ length (now out) ⌝ }
+    ensures { λ r. ⌜ Wrote (now (out .entry)) at (axisText (costsOf c)) (now (out .exit)) r ⌝ }
+{
+    let has_line = job::writes_axis(c);
+    if has_line {
+        let next = write::put(out, at, b"axis=");
+        let next = put_nat_end(out, next, c.a, b',');
+        put_nat_end(out, next, c.b, b'\n')
+    } else {
+        at
+    }
 }
 
 // `post=x,y`
@@ -173,6 +203,7 @@ pub fn put_file(deck: Deck, rounds: u64, out: &mut [u8]) -> usize
     let next = write::put(out, 0, b"area=");
     let next = put_place(out, next, deck.xlo, deck.ylo, b',');
     let next = put_place(out, next, deck.xhi, deck.yhi, b'\n');
+    let next = put_axis(out, next, deck.axis);
     let next = put_count(out, next, b"posts=", deck.posts as u64);
     let next = put_posts(out, next, &deck.post_x, &deck.post_y, deck.posts);
     let next = put_count(out, next, b"stops=", deck.stops as u64);

@@ -16,7 +16,7 @@ use Rattle.job_file.proofs.file_len.Tie as tie
 
 -- the calls that the end stands behind, and the start
 abbrev at-stops : tie.After-nat-len3 → tie.After-stops-len
-at-stops c = c .before .before .before .before .before .before .before .before .before
+at-stops c = c .before .before .before .before .before .before .before .before .before .before .before
 
 abbrev at-posts : tie.After-stops-len → tie.After-posts-len
 at-posts c = c .before .before .before .before .before .before .before .before
@@ -60,6 +60,9 @@ place-len-requires-2 c κs = search needs
 add-area-line-2 : tie.Need-add-area-line-2
 add-area-line-2 c = search needs
 
+axis-len-requires : tie.Need-axis-len-requires
+axis-len-requires c κs = search needs
+
 nat-len-requires : tie.Need-nat-len-requires
 nat-len-requires c κs = search needs
 
@@ -91,7 +94,7 @@ add-result : tie.Need-add-result
 add-result c = search needs
 
 add-result-2 : tie.Need-add-result-2
-add-result-2 c = omega (arith, sizes c)
+add-result-2 c = search needs
 
 add-result-3 : tie.Need-add-result-3
 add-result-3 c = omega (arith, sizes c)
@@ -102,6 +105,9 @@ add-result-4 c = omega (arith, sizes c)
 add-result-5 : tie.Need-add-result-5
 add-result-5 c = omega (arith, sizes c)
 
+add-result-6 : tie.Need-add-result-6
+add-result-6 c = omega (arith, sizes c)
+
 returns : tie.Need-returns
 returns c =
     let s = start (at-posts (at-stops c)) in
@@ -111,8 +117,9 @@ returns c =
       length-file deck (s .args .rounds),
       at-posts (at-stops c) .posts-len .ensures .0,
       at-stops c .stops-len .ensures .0,
-      back (deck .xlo) (deck .ylo) (search needs) (search needs) (c .before .before .before .before .before .before .place-len .ensures .0),
-      back (deck .xhi) (deck .yhi) (search needs) (search needs) (c .before .before .before .place-len2 .ensures .0),
+      back (deck .xlo) (deck .ylo) (search needs) (search needs) (c .before .before .before .before .before .before .before .before .place-len .ensures .0),
+      back (deck .xhi) (deck .yhi) (search needs) (search needs) (c .before .before .before .before .before .place-len2 .ensures .0),
+      c .before .before .before .axis-len .ensures .0,
       c .before .before .nat-len .ensures .0,
       c .before .nat-len2 .ensures .0,
       c .nat-len3 .ensures .0,
@@ -128,6 +135,7 @@ file-len-spec =
     add-area-line
     place-len-requires-2
     add-area-line-2
+    axis-len-requires
     nat-len-requires
     add-posts-line
     add-posts-line-2
@@ -142,4 +150,5 @@ file-len-spec =
     add-result-3
     add-result-4
     add-result-5
+    add-result-6
     returns)

@@ -13,9 +13,10 @@ use mir.ValLaws.{toZ-ofZ}
 use Rattle.text.specs.Ascii.{bytes, comma, newline}
 use Rattle.write.specs.Written.{Wrote}
 use Rattle.write.proofs.WrittenLaws.{wrote-kept, wrote-both, wrote-front}
+use Rattle.deck.specs.DeckOf.{costsOf}
 use Rattle.job.specs.File.{fileText}
-use Rattle.job_file.specs.Texts.{placeText, postTexts, stopTexts}
-use Rattle.job_file.proofs.FileLaws.{countPart, front₁, front₂, front₃, front₄, front₅, front₆, front₇, file-parts, Fronts, fronts, part-room}
+use Rattle.job_file.specs.Texts.{placeText, axisText, postTexts, stopTexts}
+use Rattle.job_file.proofs.FileLaws.{countPart, front₁, front₂, front₃, front₄, front₅, front₆, front₇, front₈, file-parts, Fronts, fronts, part-room}
 use Rattle.job_file.proofs.put_file.Statement.{statement}
 use Rattle.job_file.proofs.put_file.Tie as tie
 
@@ -29,6 +30,10 @@ counted : {out after : List ℕ} {at end m : ℕ} (key : List ℕ) (n : ℕ) →
     Wrote out at (countPart key n) after end
 counted key n w e = rw e at w
 
+-- a corner fits: of the start alone, since a search from the call meets too many records
+fits-yhi : (s : tie.Start) → SFits w64 (s .args .t1 .yhi)
+fits-yhi s = search needs
+
 -- the calls that a call stands behind
 abbrev before-put-place : tie.After-put-place → tie.After-put
 before-put-place c = c .before .before .before .before .before .before
@@ -36,7 +41,10 @@ before-put-place c = c .before .before .before .before .before .before
 abbrev before-put-place2 : tie.After-put-place2 → tie.After-put-place
 before-put-place2 c = c .before .before .before .before .before .before
 
-abbrev before-put-count : tie.After-put-count → tie.After-put-place2
+abbrev before-put-axis : tie.After-put-axis → tie.After-put-place2
+before-put-axis c = c .before .before .before .before .before
+
+abbrev before-put-count : tie.After-put-count → tie.After-put-axis
 before-put-count c = c .before .before .before .before .before
 
 abbrev before-put-posts : tie.After-put-posts → tie.After-put-count
@@ -58,8 +66,11 @@ start-put-place c = start-put (before-put-place c)
 abbrev start-put-place2 : tie.After-put-place2 → tie.Start
 start-put-place2 c = start-put-place (before-put-place2 c)
 
+abbrev start-put-axis : tie.After-put-axis → tie.Start
+start-put-axis c = start-put-place2 (before-put-axis c)
+
 abbrev start-put-count : tie.After-put-count → tie.Start
-start-put-count c = start-put-place2 (before-put-count c)
+start-put-count c = start-put-axis (before-put-count c)
 
 abbrev start-put-posts : tie.After-put-posts → tie.Start
 start-put-posts c = start-put-count (before-put-posts c)
@@ -92,27 +103,32 @@ wrote-put-place2 c =
     wrote-both (wrote-put-place (before-put-place2 c))
     (back (s .args .t1 .xhi) (s .args .t1 .yhi) newline (search needs) (search needs) (c .put-place2 .ensures)) zero-le
 
+wrote-put-axis : (c : tie.After-put-axis) → let s = start-put-axis c in
+    Wrote (s .args .out .now) 0 (front₄ (s .args .t1)) (c .put-axis .last .0) (c .put-axis .result)
+unfolding bytes
+wrote-put-axis c = wrote-both (wrote-put-place2 (before-put-axis c)) (c .put-axis .ensures) zero-le
+
 wrote-put-count : (c : tie.After-put-count) → let s = start-put-count c in
-    Wrote (s .args .out .now) 0 (front₄ (s .args .t1)) (c .put-count .last .0) (c .put-count .result)
+    Wrote (s .args .out .now) 0 (front₅ (s .args .t1)) (c .put-count .last .0) (c .put-count .result)
 unfolding bytes
 wrote-put-count c =
     let s = start-put-count c in
-    wrote-both (wrote-put-place2 (before-put-count c)) (counted (bytes "posts=") (s .args .t1 .posts) (c .put-count .ensures) (omega arith)) zero-le
+    wrote-both (wrote-put-axis (before-put-count c)) (counted (bytes "posts=") (s .args .t1 .posts) (c .put-count .ensures) (omega arith)) zero-le
 
 wrote-put-posts : (c : tie.After-put-posts) → let s = start-put-posts c in
-    Wrote (s .args .out .now) 0 (front₅ (s .args .t1)) (c .put-posts .last .0) (c .put-posts .result)
+    Wrote (s .args .out .now) 0 (front₆ (s .args .t1)) (c .put-posts .last .0) (c .put-posts .result)
 unfolding bytes
 wrote-put-posts c = wrote-both (wrote-put-count (before-put-posts c)) (c .put-posts .ensures) zero-le
 
 wrote-put-count2 : (c : tie.After-put-count2) → let s = start-put-count2 c in
-    Wrote (s .args .out .now) 0 (front₆ (s .args .t1)) (c .put-count2 .last .0) (c .put-count2 .result)
+    Wrote (s .args .out .now) 0 (front₇ (s .args .t1)) (c .put-count2 .last .0) (c .put-count2 .result)
 unfolding bytes
 wrote-put-count2 c =
     let s = start-put-count2 c in
     wrote-both (wrote-put-posts (before-put-count2 c)) (counted (bytes "stops=") (s .args .t1 .stops) (c .put-count2 .ensures) (omega arith)) zero-le
 
 wrote-put-stops : (c : tie.After-put-stops) → let s = start-put-stops c in
-    Wrote (s .args .out .now) 0 (front₇ (s .args .t1)) (c .put-stops .last .0) (c .put-stops .result)
+    Wrote (s .args .out .now) 0 (front₈ (s .args .t1)) (c .put-stops .last .0) (c .put-stops .result)
 unfolding bytes
 wrote-put-stops c = wrote-both (wrote-put-count2 (before-put-stops c)) (c .put-stops .ensures) zero-le
 
@@ -148,8 +164,15 @@ unfolding bytes
 put-place-requires-2 c κs =
     let w = c .before .before .before .before .before in
     let s = start-put-place w in
-    rw (toZ-ofZ w64 (s .args .t1 .xhi) (search needs), toZ-ofZ w64 (s .args .t1 .yhi) (search needs))
+    rw (toZ-ofZ w64 (s .args .t1 .xhi) (search needs), toZ-ofZ w64 (s .args .t1 .yhi) (fits-yhi s))
     (part-room _ (placeText (s .args .t1 .xhi) (s .args .t1 .yhi) newline) (wrote-put-place w) (rooms s .three))
+
+put-axis-requires : tie.Need-put-axis-requires
+unfolding bytes
+put-axis-requires c κs =
+    let w = c .before .before .before .before in
+    let s = start-put-place2 w in
+    part-room _ (axisText (costsOf (s .args .t1 .axis))) (wrote-put-place2 w) (rooms s .four)
 
 slice-aggregate-put-count : tie.Need-slice-aggregate-put-count
 slice-aggregate-put-count c = search needs
@@ -158,8 +181,8 @@ put-count-requires : tie.Need-put-count-requires
 unfolding bytes
 put-count-requires c κs =
     let w = c .before .before .before .before in
-    let s = start-put-place2 w in
-    part-room _ (countPart (bytes "posts=") (s .args .t1 .posts)) (wrote-put-place2 w) (rooms s .four)
+    let s = start-put-axis w in
+    part-room _ (countPart (bytes "posts=") (s .args .t1 .posts)) (wrote-put-axis w) (rooms s .five)
 
 put-posts-requires : tie.Need-put-posts-requires
 unfolding bytes
@@ -167,7 +190,7 @@ put-posts-requires c κs =
     let w = c .before .before .before .before .before .before .before .before in
     let s = start-put-count w in
     let deck = s .args .t1 in
-    (search needs, search needs, part-room _ (postTexts (deck .«post_x») (deck .«post_y») (deck .posts)) (wrote-put-count w) (rooms s .five))
+    (search needs, search needs, part-room _ (postTexts (deck .«post_x») (deck .«post_y») (deck .posts)) (wrote-put-count w) (rooms s .six))
 
 slice-aggregate-put-count-2 : tie.Need-slice-aggregate-put-count-2
 slice-aggregate-put-count-2 c = search needs
@@ -177,7 +200,7 @@ unfolding bytes
 put-count-requires-2 c κs =
     let w = c .before .before .before .before in
     let s = start-put-posts w in
-    part-room _ (countPart (bytes "stops=") (s .args .t1 .stops)) (wrote-put-posts w) (rooms s .six)
+    part-room _ (countPart (bytes "stops=") (s .args .t1 .stops)) (wrote-put-posts w) (rooms s .seven)
 
 put-stops-requires : tie.Need-put-stops-requires
 unfolding bytes
@@ -188,7 +211,7 @@ put-stops-requires c κs =
       search needs,
       search needs,
       search needs,
-      part-room _ (stopTexts (deck .«stop_x») (deck .«stop_y») (deck .visits) (deck .stops)) (wrote-put-count2 w) (rooms s .seven),
+      part-room _ (stopTexts (deck .«stop_x») (deck .«stop_y») (deck .visits) (deck .stops)) (wrote-put-count2 w) (rooms s .eight),
     )
 
 slice-aggregate-put-count-3 : tie.Need-slice-aggregate-put-count-3
@@ -217,6 +240,7 @@ put-file-spec =
     put-requires
     put-place-requires
     put-place-requires-2
+    put-axis-requires
     slice-aggregate-put-count
     put-count-requires
     put-posts-requires

@@ -1,16 +1,14 @@
 -- `job_file::put_stop` meets its contract: the key, the place behind it, and the visits behind that.
 -- Assumes nothing.
-use mathlib.Core.Path.{ap}
 use Prim.Native.Nat.{_≤_}
 use native.Mathlib.Omega.{arith}
-use lib.IntN.{pos}
 use lib.ListN.{length}
 use borrow.Author.Needs.{needs}
 use mir.Syntax.{w64}
 use mir.ValLaws.{toZ-ofZ}
 use Rattle.text.specs.Ascii.{bytes, comma, newline}
 use Rattle.write.proofs.WrittenLaws.{wrote-both}
-use Rattle.job_file.proofs.TextLaws.{spelled-pos, stop-text, length-number, length-place, length-stop}
+use Rattle.job_file.proofs.TextLaws.{stop-text, length-nat, length-place, length-stop}
 use Rattle.job_file.proofs.put_stop.Statement.{statement}
 use Rattle.job_file.proofs.put_stop.Tie as tie
 
@@ -45,8 +43,7 @@ put-nat-end-requires c κs =
       c .before .before .before .put-place .kept .0,
       length-stop (s .args .x) (s .args .y) (s .args .visits),
       length-place (s .args .x) (s .args .y) comma,
-      length-number (pos (s .args .visits)) newline,
-      ap length (spelled-pos (s .args .visits)),
+      length-nat (s .args .visits) newline,
     )
 
 same-length : tie.Need-same-length
