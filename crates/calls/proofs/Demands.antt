@@ -18,8 +18,8 @@ use Rattle.query.specs.Demand3.{Demand3}
 use Rattle.query.proofs.Demand3 as Query
 use Rattle.query.specs.Range.{FiguresInRange}
 use Rattle.query.proofs.FigureRanges.{run-in-range}
-use Rattle.job.specs.Format.{Job, Result, refused, accepted, readJob}
-use Rattle.query.specs.Deck.{AxisCosts, plain}
+use Rattle.job.specs.Format.{Job, Result, refused, accepted, missingAxis, readJob}
+use Rattle.query.specs.Deck.{AxisCosts}
 use Rattle.job.specs.Spelling.{spell, Spells, with-line, without-line, Allowed}
 use Rattle.job.proofs.JobLaws.{most-rounds, other-rounds}
 use Rattle.job.proofs.Meaning.{accepted-job, refused-job, spelling-law, allowed-in-range}
@@ -62,16 +62,16 @@ spells-fits : (missing : AxisCosts) (job : List ℕ) (j : Job) → Spells missin
 spells-fits missing job j (with-line e) a = rw e (spelling-law j .fits a true)
 spells-fits missing job j (without-line e c) a = rw e (spelling-law j .fits a false)
 
-pub read-exactly : (job : List ℕ) (j : Job) → (readJob job ≡ accepted j) ↔ (Spells plain job j × Allowed j)
+pub read-exactly : (job : List ℕ) (j : Job) → (readJob job ≡ accepted j) ↔ (Spells missingAxis job j × Allowed j)
 read-exactly job j = (
   λ e. let h = accepted-job job j .0 e in (h .1, h .2),
-  λ h. accepted-job job j .1 (spells-fits plain job j (h .0) (h .1), h .0, h .1),
+  λ h. accepted-job job j .1 (spells-fits missingAxis job j (h .0) (h .1), h .0, h .1),
 )
 
 -- the same spelling with one more round
-spells-more : (carried : Bool) (j : Job) → Spells plain (spell carried j) j → Spells plain (spell carried (oneMore j)) (oneMore j)
+spells-more : (carried : Bool) (j : Job) → Spells missingAxis (spell carried j) j → Spells missingAxis (spell carried (oneMore j)) (oneMore j)
 spells-more true j h = with-line refl
-spells-more false j h = without-line refl (spelling-law j .left-out plain .0 h)
+spells-more false j h = without-line refl (spelling-law j .left-out missingAxis .0 h)
 
 module _ (job : List ℕ) (cells : List ℤ) (out : List ℕ) where
   -- ---- how the call ends

@@ -21,7 +21,7 @@ use Rattle.deck.proofs.DeckLaws.{held-deck}
 use Rattle.refusal.specs.Refusal.{numberOf, lineOf}
 use Rattle.refusal.specs.declared.Refusal.{Refusal}
 use Rattle.refusal.specs.declared.Refusal.the-variants.{ShortOutput}
-use Rattle.job.specs.Format.{Job, Result, refused, accepted, readText, readJob}
+use Rattle.job.specs.Format.{Job, Result, refused, accepted, missingAxis, readText, readJob}
 use Rattle.job.specs.Spelling.{areaLine, axisLine, laterLines, linesCounting, spellLine, spell, Spells, with-line, without-line, Allowed}
 use Rattle.job.specs.Meaning.{TextCondition, Condition, too-long, in-text}
 use Rattle.job.specs.File.{heldJob, writesAxis, savedSpelling, fileText}
@@ -125,7 +125,7 @@ module _ (deck : Deck) (rounds : ℕ) (out : List ℕ) (sized : Sized deck) wher
     same-text = file-spelled deck rounds sized (s .few-posts) (s .few-stops)
 
     saveable-read : readText (fileText deck rounds) ≡ accepted (heldJob deck rounds)
-    saveable-read = allowed-text plain (fileText deck rounds) (heldJob deck rounds) (rw same-text (saved-spells (heldJob deck rounds))) (s .allowed)
+    saveable-read = allowed-text missingAxis (fileText deck rounds) (heldJob deck rounds) (rw same-text (saved-spells (heldJob deck rounds))) (s .allowed)
 
     short-ends : length out < length (savedSpelling (heldJob deck rounds)) → writeCall deck rounds out ≡ notSaved ShortOutput out
     short-ends h = file-short deck rounds out (heldJob deck rounds) saveable-read (rw same-text h)
@@ -151,7 +151,7 @@ module _ (deck : Deck) (rounds : ℕ) (out : List ℕ) (sized : Sized deck) wher
   answer-of e = ap (λ (r : Saved). r .answer) e
 
   condition : (why : Refusal) → readText (fileText deck rounds) ≡ refused why → TextCondition (fileText deck rounds) why
-  condition why = refused-law plain (fileText deck rounds) why .exactly-in-text .0
+  condition why = refused-law missingAxis (fileText deck rounds) why .exactly-in-text .0
 
   applies : (why : Refusal) → writeCall deck rounds out .answer ≡ refusal why → WriteApplies deck rounds out why
   applies why e = go ends
@@ -162,7 +162,7 @@ module _ (deck : Deck) (rounds : ℕ) (out : List ℕ) (sized : Sized deck) wher
       go (writes s h p) = absurd (not-refused _ _ _ (sym (answer-of p) ∙ e))
 
   applied : (why : Refusal) → WriteApplies deck rounds out why → writeCall deck rounds out .answer ≡ refusal why
-  applied why (in-file c) = answer-of (file-refused deck rounds out why (refused-law plain (fileText deck rounds) why .exactly-in-text .1 c))
+  applied why (in-file c) = answer-of (file-refused deck rounds out why (refused-law missingAxis (fileText deck rounds) why .exactly-in-text .1 c))
   applied _ (short-output s h) = answer-of (short-ends s h)
 
   as-read : (why : Refusal) → why ≢ ShortOutput → writeCall deck rounds out .answer ≡ refusal why → readText (fileText deck rounds) ≡ refused why
@@ -214,7 +214,7 @@ module _ (deck : Deck) (rounds : ℕ) (out : List ℕ) (sized : Sized deck) wher
       found : (why : Refusal) → refusal {A = ℕ} why ≡ refuses number line → Condition (fileText deck rounds) why →
           writeCall deck rounds out .answer ≡ refuses number line
       found _ q (too-long h) = absurd (apart (sym (same-number {A = ℕ} _ _ _ _ q)))
-      found why q (in-text short c) = answer-of (file-refused deck rounds out why (refused-law plain (fileText deck rounds) why .exactly-in-text .1 c)) ∙ q
+      found why q (in-text short c) = answer-of (file-refused deck rounds out why (refused-law missingAxis (fileText deck rounds) why .exactly-in-text .1 c)) ∙ q
 
       go : (r : Result) → readJob (fileText deck rounds) ≡ r → writeCall deck rounds out .answer ≡ refuses number line
       go (refused why) p = found why (sym (ap (λ (r : Read). r .answer) (read-refused (fileText deck rounds) why p)) ∙ e)
@@ -265,9 +265,9 @@ module _ (deck : Deck) (rounds : ℕ) (out : List ℕ) (sized : Sized deck) wher
         reads-back = back;
         reads-back-record = read-given _ _ back;
         longest = omega (arith, count-is deck rounds out sized n e, spelling-law (heldJob deck rounds) .longest (s .allowed) (writesAxis (deckOf deck .axis)));
-        one-job = λ other more lent m fit f same. spelling-law (heldJob deck rounds) .one-job plain (savedSpelling (heldJob deck rounds))
+        one-job = λ other more lent m fit f same. spelling-law (heldJob deck rounds) .one-job missingAxis (savedSpelling (heldJob deck rounds))
             (heldJob other more) (s .allowed) (saveable other more lent fit m f .0 .allowed) (saved-spells (heldJob deck rounds))
-            (subst (λ (text : List ℕ). Spells plain text (heldJob other more)) (sym (sym front ∙ same ∙ front-is other more lent fit m f))
+            (subst (λ (text : List ℕ). Spells missingAxis text (heldJob other more)) (sym (sym front ∙ same ∙ front-is other more lent fit m f))
             (saved-spells (heldJob other more)));
       }
 
@@ -376,7 +376,7 @@ module _ (job : List ℕ) where
       ∙ ap (λ (l : List ℕ). record { answer = gives (length l); out = overwritten l out }) (sym same)
 
   -- what is saved of a job that does not spell out `axis=1,1`, and of one that does
-  own : (j : Job) → Spells plain job j → (SpellsOut job j → ⊥) → job ≡ savedSpelling j
+  own : (j : Job) → Spells missingAxis job j → (SpellsOut job j → ⊥) → job ≡ savedSpelling j
   own j (without-line e c) apart = e ∙ ap (λ (b : Bool). spell b j) (sym (plain-unwritten (j .deck .axis) c))
   own j (with-line e) apart = e ∙ ap (λ (b : Bool). spell b j)
       (sym (other-written (j .deck .axis) (λ c. apart (record { spelled = e; costs = c }))))

@@ -20,7 +20,7 @@ use Rattle.query.proofs.FigureRanges.{point-in-range}
 use Rattle.refusal.specs.Refusal.{numberOf, lineOf}
 use Rattle.job.specs.Format.{Result, refused, accepted, readJob}
 use Rattle.refusal.specs.declared.Refusal.{Refusal}
-use Rattle.job.proofs.Meaning.{refused-law, allowed-in-range}
+use Rattle.job.proofs.Meaning.{refused-job, allowed-in-range}
 use Rattle.job.proofs.RefusalLaws.{condition-line}
 use Rattle.report.specs.Report.{reportFigures}
 use Rattle.query.specs.Range.{PlaceInRange, FiguresInRange, costLimit}
@@ -136,7 +136,7 @@ module _ (job : List ℕ) (answer : Cheapest) (e : cheapestAnswer answer ≡ exh
 
       go : (r : Result) → readJob job ≡ r → PlaceInRange (pricedOf s .at) × (s .cost ≤ costLimit)
       go (refused why) g = absurd (not-refused (pricedOf s) (numberOf why) (lineOf why) (sym found
-          ∙ exhaustive-call-law job .refused-exactly why .1 (refused-law job why .exactly .0 g)))
+          ∙ exhaustive-call-law job .refused-exactly why .1 (refused-job job why .0 g)))
       go (accepted j) g =
           let range = allowed-in-range j (read-exactly job j .0 g .1) in
           let law = exhaustive-call-law job .law j g in

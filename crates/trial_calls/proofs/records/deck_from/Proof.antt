@@ -37,35 +37,41 @@ slice-aggregate-copy-naturals c = search needs
 copy-naturals-requires : tie.Need-copy-naturals-requires
 copy-naturals-requires c κs = search needs
 
-shared-slice-copy-out-t20 : tie.Need-shared-slice-copy-out-t20
-shared-slice-copy-out-t20 c = search needs
+shared-slice-read-t20 : tie.Need-shared-slice-read-t20
+shared-slice-read-t20 c = search needs
 
-shared-slice-copy-out-t22 : tie.Need-shared-slice-copy-out-t22
-shared-slice-copy-out-t22 c = search needs
+shared-slice-read-t22 : tie.Need-shared-slice-read-t22
+shared-slice-read-t22 c = search needs
 
-shared-slice-copy-out-t24 : tie.Need-shared-slice-copy-out-t24
-shared-slice-copy-out-t24 c = search needs
+shared-slice-copy-out-t25 : tie.Need-shared-slice-copy-out-t25
+shared-slice-copy-out-t25 c = search needs
 
-shared-slice-copy-out-t26 : tie.Need-shared-slice-copy-out-t26
-shared-slice-copy-out-t26 c = search needs
+shared-slice-copy-out-t27 : tie.Need-shared-slice-copy-out-t27
+shared-slice-copy-out-t27 c = search needs
 
-shared-slice-read-t28 : tie.Need-shared-slice-read-t28
-shared-slice-read-t28 c = search needs
+shared-slice-copy-out-t29 : tie.Need-shared-slice-copy-out-t29
+shared-slice-copy-out-t29 c = search needs
+
+shared-slice-copy-out-t31 : tie.Need-shared-slice-copy-out-t31
+shared-slice-copy-out-t31 c = search needs
 
 shared-slice-read-t33 : tie.Need-shared-slice-read-t33
 shared-slice-read-t33 c = search needs
 
+shared-slice-read-t38 : tie.Need-shared-slice-read-t38
+shared-slice-read-t38 c = search needs
+
 returns : tie.Need-returns
 returns c =
     let words = c .before .before in
-    let visits = c .before .before .before .before .before .before .before in
+    let visits = c .before .before .before .before .before .before .before .before .before in
     let sy = visits .before .before .before in
     let sx = sy .before .before .before in
     let py = sx .before .before .before in
     let px = py .before .before .before in
     let s = px .before .before .before in
-    deck-made (s .args .coordinates .now) (s .args .naturals .now) (fitting _ (words .before .before .before .t20 .given))
-    (fitting _ (words .before .before .t22 .given)) (fitting _ (words .before .t24 .given)) (fitting _ (words .t26 .given)) refl refl
+    deck-made (s .args .coordinates .now) (s .args .naturals .now) (fitting _ (words .before .before .before .t25 .given))
+    (fitting _ (words .before .before .t27 .given)) (fitting _ (words .before .t29 .given)) (fitting _ (words .t31 .given)) refl refl refl refl
     (px .copy .ensures) (py .copy2 .ensures) (sx .copy3 .ensures)
     (sy .copy4 .ensures) (visits .copy-naturals .ensures)
 
@@ -83,10 +89,12 @@ deck-from-spec =
     copy-requires-4
     slice-aggregate-copy-naturals
     copy-naturals-requires
-    shared-slice-copy-out-t20
-    shared-slice-copy-out-t22
-    shared-slice-copy-out-t24
-    shared-slice-copy-out-t26
-    shared-slice-read-t28
+    shared-slice-read-t20
+    shared-slice-read-t22
+    shared-slice-copy-out-t25
+    shared-slice-copy-out-t27
+    shared-slice-copy-out-t29
+    shared-slice-copy-out-t31
     shared-slice-read-t33
+    shared-slice-read-t38
     returns)

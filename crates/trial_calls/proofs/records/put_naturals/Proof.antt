@@ -1,10 +1,10 @@
--- `trial_calls::records::put_naturals` meets its contract: the two counts come first, and the visits behind them.
+-- `trial_calls::records::put_naturals` meets its contract: the axis costs and the counts come first, and the visits behind them.
 -- Assumes nothing.
 use mathlib.Core.Path.{_∙_}
 use native.Mathlib.Omega.{arith}
 use borrow.Author.Needs.{needs}
 use Rattle.deck.specs.DeckOf.{Sized}
-use Rattle.trial_calls.proofs.RecordLaws.{two-put-length, naturals-put}
+use Rattle.trial_calls.proofs.RecordLaws.{counts-put-length, naturals-put}
 use Rattle.trial_calls.proofs.records.put_naturals.Statement.{statement}
 use Rattle.trial_calls.proofs.records.put_naturals.Tie as tie
 
@@ -17,17 +17,23 @@ slice-write-naturals c = search needs
 slice-write-naturals-2 : tie.Need-slice-write-naturals-2
 slice-write-naturals-2 c = search needs
 
+slice-write-naturals-3 : tie.Need-slice-write-naturals-3
+slice-write-naturals-3 c = search needs
+
+slice-write-naturals-4 : tie.Need-slice-write-naturals-4
+slice-write-naturals-4 c = search needs
+
 copy-naturals-requires : tie.Need-copy-naturals-requires
 copy-naturals-requires c κs =
     let s = c .before .before .before .before .before in (
       omega (arith, sized s .visits),
-      omega (arith, s .pre, two-put-length (s .args .naturals .now) (s .args .t1 .posts) (s .args .t1 .stops)),
+      omega (arith, s .pre, counts-put-length (s .args .t1) (sized s) (s .args .naturals .now)),
     )
 
 same-length : tie.Need-same-length
 same-length c =
     let s = c .before .before .before .before .before .before .before .before in
-    c .before .before .copy-naturals .kept .1 .1 .0 ∙ two-put-length (s .args .naturals .now) (s .args .t1 .posts) (s .args .t1 .stops)
+    c .before .before .copy-naturals .kept .1 .1 .0 ∙ counts-put-length (s .args .t1) (sized s) (s .args .naturals .now)
 
 returns : tie.Need-returns
 returns c =
@@ -40,6 +46,8 @@ put-naturals-spec =
     (tie.spec
     slice-write-naturals
     slice-write-naturals-2
+    slice-write-naturals-3
+    slice-write-naturals-4
     copy-naturals-requires
     same-length
     returns)
