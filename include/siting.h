@@ -19,6 +19,7 @@ extern "C" {
  * The job is lines, each ended by byte 10, with nothing behind the last:
  *
  *     area=xlo,ylo,xhi,yhi    the rectangle where the post may go, edges included
+ *     axis=a,b                what a tenth costs in x and in y, each 1 to 9; without this line 1 and 1
  *     posts=n                 1 to 64 posts
  *     post=x,y                a line for each post
  *     stops=n                 1 to 512 stops
@@ -26,7 +27,8 @@ extern "C" {
  *     rounds=n                how many rounds the search may take, 0 to 1000
  *
  * Coordinates are whole tenths of a millimetre from the deck's centre, -20000 to 20000. A number has 1 to 9 digits and a leading '-'
- * if it is negative: no '+', no leading zero save in 0 itself, no -0. There are no spaces.
+ * if it is negative: no '+', no leading zero save in 0 itself, no -0. There are no spaces. Travel between two places is a times the
+ * difference in x plus b times that in y.
  *
  * The report is six lines, each ended by byte 10, with no byte 0 behind them:
  *
