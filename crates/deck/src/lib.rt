@@ -82,7 +82,8 @@ pub fn scaled(k: i32, v: i64) -> i32
     requires { ⌜ CostInRange k × (natAbs v ≤ 20000) ⌝ }
     ensures { λ r. ⌜ Scaled k v r ⌝ }
 {
-    k * v as i32
+    let narrow = v as i32;
+    k * narrow
 }
 
 // The first n coordinates of a column, multiplied by an axis cost, put into an array from a place on.

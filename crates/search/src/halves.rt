@@ -45,14 +45,8 @@ pub(crate) fn bounded(columns: &[i32; COLUMNS], n: usize, rect: Rect, k: Costs) 
     ensures { λ r. ⌜ r ≡ cellFor (pricingIn (now (columns .entry)) n) (rectOf rect) ⌝ }
 {
     let load = pricing::load(columns, n, rect);
-    let bound = pricing::bound(
-        k.c00,
-        k.c01,
-        k.c10,
-        k.c11,
-        pricing::span(columns, rect),
-        load,
-    );
+    let span = pricing::span(columns, rect);
+    let bound = pricing::bound(k.c00, k.c01, k.c10, k.c11, span, load);
     Cell { rect, bound }
 }
 
