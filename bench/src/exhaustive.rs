@@ -1,23 +1,25 @@
 //! Hand-written Rust for the exhaustive call, from the job's bytes on: the method of crate `exhaustive`, once with a search by halves for
 //! each ramp and once with a table, and the plain pass, which prices every crossing by itself.
 
-use crate::read::{read, Deck, Objects};
+use crate::read::{read, scaled, Deck, Objects};
 
 /// Cost, x, y.
 pub type Spot = (i64, i32, i32);
 
-/// A deck with its lines, in plain tenths.
+/// A deck with its lines, in plain tenths. `scaled` has the horizontal ones at the scaled y.
 struct Lined {
     deck: Deck,
     objects: Objects,
     vertical: Vec<i32>,
     horizontal: Vec<i32>,
+    scaled: Vec<i32>,
 }
 
 fn lined(job: &[u8]) -> Lined {
     let (deck, objects) = read(job).unwrap_or_else(|_| panic!("refused"));
     let (vertical, horizontal) = (deck.lines(&objects, true), deck.lines(&objects, false));
-    Lined { deck, objects, vertical, horizontal }
+    let scaled = scaled(&horizontal, deck.axis.b);
+    Lined { deck, objects, vertical, horizontal, scaled }
 }
 
 /// The ramps that start behind the last line and up to this one: the sum of their weights, and of weight times start.
@@ -48,8 +50,8 @@ struct Site {
 /// of lines.
 #[inline(always)]
 fn by_ramps(lined: &Lined, first: impl Fn(i32) -> usize) -> Spot {
-    let Lined { deck, objects, vertical, horizontal } = lined;
-    let (axis, area) = (deck.axis, deck.axis.scaled(deck.area));
+    let Lined { deck, objects, vertical, horizontal, scaled } = lined;
+    let area = deck.axis.scaled(deck.area);
     let sites: Vec<Site> = objects
         .sites()
         .filter(|s| s.reaches(area))
@@ -59,7 +61,7 @@ fn by_ramps(lined: &Lined, first: impl Fn(i32) -> usize) -> Spot {
     let mut ramps = vec![Ramps::default(); horizontal.len() + 1];
     let mut best = (i64::MAX, 0, 0);
     for &v in vertical {
-        let x = axis.a * v;
+        let x = deck.axis.a * v;
         ramps.fill(Ramps::default());
         for s in &sites {
             let r = s.near - (s.x - x).abs();
@@ -70,10 +72,10 @@ fn by_ramps(lined: &Lined, first: impl Fn(i32) -> usize) -> Spot {
             }
         }
         let (mut weight, mut starts) = (0, before);
-        for (&h, ramp) in horizontal.iter().zip(&ramps) {
+        for ((&h, &y), ramp) in horizontal.iter().zip(scaled).zip(&ramps) {
             weight += ramp.weight;
             starts -= ramp.starts;
-            let cost = starts + weight * (axis.b * h) as i64;
+            let cost = starts + weight * y as i64;
             if cost < best.0 {
                 best = (cost, v, h);
             }
@@ -84,8 +86,7 @@ fn by_ramps(lined: &Lined, first: impl Fn(i32) -> usize) -> Spot {
 
 pub fn searched(job: &[u8]) -> Spot {
     let lined = lined(job);
-    let scaled: Vec<i32> = lined.horizontal.iter().map(|&h| lined.deck.axis.b * h).collect();
-    by_ramps(&lined, |y| scaled.partition_point(|&h| h < y))
+    by_ramps(&lined, |y| lined.scaled.partition_point(|&h| h < y))
 }
 
 pub fn looked_up(job: &[u8]) -> Spot {
@@ -97,21 +98,20 @@ pub fn looked_up(job: &[u8]) -> Spot {
         table[(pair[0] - lo + 1) as usize..=(pair[1] - lo) as usize].fill(i as u16 + 1);
     }
     table[(hi - lo + 1) as usize] = lined.horizontal.len() as u16;
-    // n / b as a product, right for n below 2^28
-    let reciprocal = (1u64 << 32) / b as u64 + 1;
-    by_ramps(&lined, |y| {
-        // the least plain y that is not below: the quotient, rounded up
-        let n = y.clamp(b * lo, b * (hi + 1)) - b * lo + b - 1;
-        table[(n as u64 * reciprocal >> 32) as usize] as usize
+    // the least y of the area with start <= b * y, from lo on: (start - b * lo) / b rounded up. The quotient is a product, right below 2^28
+    let (less, reciprocal, last) = (b * lo - (b - 1), (1u64 << 32) / b as u64 + 1, table.len() - 1);
+    by_ramps(&lined, |start| {
+        let n = (start - less).max(0) as u32 as u64;
+        table[((n * reciprocal >> 32) as usize).min(last)] as usize
     })
 }
 
 pub fn every_crossing(job: &[u8]) -> Spot {
-    let Lined { deck, objects, vertical, horizontal } = lined(job);
+    let Lined { deck, objects, vertical, horizontal, scaled } = lined(job);
     let mut best = (i64::MAX, 0, 0);
     for &v in &vertical {
-        for &h in &horizontal {
-            let cost = objects.cost(deck.axis.a * v, deck.axis.b * h) as i64;
+        for (&h, &y) in horizontal.iter().zip(&scaled) {
+            let cost = objects.cost(deck.axis.a * v, y) as i64;
             if cost < best.0 {
                 best = (cost, v, h);
             }

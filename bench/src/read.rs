@@ -104,7 +104,7 @@ pub struct Objects {
     pub near: Vec<i32>,
 }
 
-fn scaled(column: &[i32], k: i32) -> Vec<i32> {
+pub fn scaled(column: &[i32], k: i32) -> Vec<i32> {
     column.iter().map(|&v| k * v).collect()
 }
 
