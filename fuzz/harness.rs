@@ -47,8 +47,8 @@ const PAGE: usize = 4_096;
 /// The bytes beside what is lent that are looked at too.
 const BESIDE: usize = 200;
 /// The numbers of a record's two lists.
-const COORDINATES: usize = 1_156;
-const NATURALS: usize = 516;
+const COORDINATES: usize = Record::COORDINATES;
+const NATURALS: usize = Record::NATURALS;
 /// The longest job that is accepted, and so the longest file that is written.
 const LONGEST: usize = 14_089;
 

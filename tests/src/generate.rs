@@ -1,6 +1,7 @@
 //! Random jobs: valid ones of many shapes, and damaged ones. The generator is a plain xorshift, so that a printed seed repeats a run.
 
 use crate::reference::{spell, spell_out, Axis, Job, Rect, Stop};
+use crate::vectors::WRONG_AXIS_LINES;
 
 pub struct Random(u64);
 
@@ -265,17 +266,7 @@ pub fn damaged(random: &mut Random) -> Vec<u8> {
     text
 }
 
-/// Lines in the place of an axis line, some of them right.
-#[rustfmt::skip]
-const AXIS_LINES: [&str; 40] = [
-    "axis=", "axis=1", "axis=1,", "axis=,1", "axis=,", "axis=1,1,1", "axis=1,1,", "axis=1,1", "axis=2,1", "axis=9,9",
-    "axis=0,1", "axis=1,0", "axis=0,0", "axis=10,1", "axis=1,10", "axis=-1,1", "axis=1,-9", "axis=999999999,1", "axis=1,-999999999",
-    "axis=1000000000,1", "axis=1,1000000000", "axis=0,1000000000", "axis=10,x", "axis=-0,1", "axis=1,-0", "axis=01,1", "axis=1,00",
-    "axis=+1,1", "axis=1,+1", "axis=1,1\r", "axis=1, 1", "axis=1,1 ", " axis=1,1", "axis =1,1", "Axis=1,1", "axis", "axis1,1", "axes=1,1",
-    "axis=1.0,1", "",
-];
-
-/// The axis line missing, twice, changed, in another place or cut off.
+/// An axis line twice, in another place, cut off or wrong.
 fn damage_axis(random: &mut Random, text: &mut Vec<u8>) {
     let mut lines: Vec<Vec<u8>> = text.split_inclusive(|&b| b == 10).map(<[u8]>::to_vec).collect();
     if !lines[1].starts_with(b"axis=") {
@@ -293,7 +284,7 @@ fn damage_axis(random: &mut Random, text: &mut Vec<u8>) {
                 lines.truncate(2);
             }
         }
-        _ => lines[1] = format!("{}\n", random.pick(&AXIS_LINES)).into_bytes(),
+        _ => lines[1] = random.pick(&WRONG_AXIS_LINES).0.into(),
     }
     *text = lines.concat();
 }

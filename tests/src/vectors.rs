@@ -40,9 +40,9 @@ pub fn reports() -> Vec<(String, &'static str)> {
     ]
 }
 
-/// Lines behind case A's first, each with the number and the line of the refusal.
+/// What does not do behind the area line of any job, each with the number and the line of the refusal.
 #[rustfmt::skip]
-const BEHIND_THE_AREA: [(&str, i64, i64); 53] = [
+pub const WRONG_AXIS_LINES: [(&str, i64, i64); 53] = [
     // two numbers in their form behind the key
     ("axis=\n", 2, 2), ("axis=1\n", 2, 2), ("axis=1,\n", 2, 2), ("axis=,1\n", 2, 2), ("axis=,\n", 2, 2), ("axis=1,1,1\n", 2, 2),
     ("axis=1,1,\n", 2, 2), ("axis=01,1\n", 2, 2), ("axis=1,01\n", 2, 2), ("axis=00,1\n", 2, 2), ("axis=-0,1\n", 2, 2),
@@ -81,7 +81,7 @@ const REPLACED: [(&str, &str, i64, i64); 14] = [
 
 /// Jobs with the number and the line of their refusals.
 pub fn refusals() -> Vec<(String, i64, i64)> {
-    let mut jobs: Vec<(String, i64, i64)> = BEHIND_THE_AREA.map(|(text, number, line)| (behind(1, text), number, line)).into();
+    let mut jobs: Vec<(String, i64, i64)> = WRONG_AXIS_LINES.map(|(text, number, line)| (behind(1, text), number, line)).into();
     for (old, new, number, line) in REPLACED {
         jobs.push((CASE_A.replace(old, new), number, line));
         jobs.push((behind(1, "axis=2,1\n").replace(old, new), number, line + 1));

@@ -1,7 +1,7 @@
 //! The proved exhaustive call against the reference: the full exhaustive, every point of a small area, the done reports of the same job.
 
 use siting_tests::generate::{axis, crowded, damaged, each_job, job, job_of, largest, noise, seed, special, spelled, Random};
-use siting_tests::reference::{brute_force, read, search, spell, exhaustive, Axis, Job, Place, Rect, Refusal, Stop};
+use siting_tests::reference::{brute_force, exhaustive, read, search, spell, Axis, Job, Place, Rect, Refusal, Stop};
 use siting_tests::trial;
 use siting_tests::vectors::{narrow, refusals, reports};
 

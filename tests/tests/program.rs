@@ -1,7 +1,7 @@
 //! The program by pipes, against the reference.
 
 use siting_tests::decks::CASE_A;
-use siting_tests::generate::{damaged, job, noise, seed, spelled, Random};
+use siting_tests::generate::{damaged, job, largest, noise, seed, spelled, Random};
 use siting_tests::program::{command, printed, redirected};
 use siting_tests::reference::answer_text;
 use siting_tests::vectors::{refusals, reports};
@@ -46,6 +46,9 @@ fn jobs_are_answered_as_the_reference_answers_them() {
     }
     for _ in 0..50 {
         check(&noise(&mut random));
+    }
+    for _ in 0..5 {
+        check(&spelled(largest)(&mut random));
     }
 }
 

@@ -1,7 +1,8 @@
 //! The proved report call against the reference: answer, text, cell space and all that stays as it was, on random jobs and lent memory.
 
 use siting_tests::generate::{damaged, each_job, job, job_of, largest, noise, seed, special, spelled, Random};
-use siting_tests::reference::{brute_force, read, refusal_text, report_text, search, spell, exhaustive, Axis, Deck, Found, Job, Rect, Refusal, Stop};
+use siting_tests::reference::{brute_force, exhaustive, read, refusal_text, report_text, search, spell};
+use siting_tests::reference::{Axis, Deck, Found, Job, Rect, Refusal, Stop};
 use siting_tests::trial;
 use siting_tests::vectors::{deep, narrow, refusals, reports};
 
@@ -398,11 +399,13 @@ fn the_largest_figures_are_those_of_the_reference() {
     let corners: [(i64, i64); 4] = [(-20_000, -20_000), (20_000, -20_000), (-20_000, 20_000), (20_000, 20_000)];
     for post in corners {
         for rounds in [0, 1, 1_000] {
-            for (spread, a, b) in [(0, 1, 1), (1, 1, 1), (40_000, 1, 1), (0, 9, 9), (1, 9, 9), (40_000, 9, 9), (40_000, 9, 1), (40_000, 1, 9)] {
-                let mut across = |v: i64| -v + v.signum() * random.range(0, spread);
-                let stops = (0..512).map(|_| Stop { at: (across(post.0), across(post.1)), visits: 65_535 }).collect();
-                let j = Job { area, axis: Axis { a, b }, posts: vec![post], stops, rounds };
-                check_job(&mut random, &spell(&j), &mut seen);
+            for spread in [0, 1, 40_000] {
+                for (a, b) in [(1, 1), (9, 9), (1, 9)] {
+                    let mut across = |v: i64| -v + v.signum() * random.range(0, spread);
+                    let stops = (0..512).map(|_| Stop { at: (across(post.0), across(post.1)), visits: 65_535 }).collect();
+                    let j = Job { area, axis: Axis { a, b }, posts: vec![post], stops, rounds };
+                    check_job(&mut random, &spell(&j), &mut seen);
+                }
             }
         }
     }

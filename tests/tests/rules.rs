@@ -1,7 +1,8 @@
 //! The reference against itself, on random decks: what documents 01 and 02 promise of their rules. And against the vectors.
 
 use siting_tests::generate::{each_job, job, job_of, rect, seed, spelled, Random};
-use siting_tests::reference::{answer_text, brute_force, exhaustive, read, saved, search, spell, write, Axis, Deck, Job, Place, Record, Rect, Refusal, Stop};
+use siting_tests::reference::{answer_text, brute_force, exhaustive, read, saved, search, spell, write};
+use siting_tests::reference::{Axis, Deck, Job, Place, Record, Rect, Refusal, Stop};
 use siting_tests::vectors::{refusals, reports};
 
 #[test]
@@ -87,7 +88,7 @@ fn stretched_rect(Axis { a, b }: Axis, r: Rect) -> Rect {
 fn axis_costs_are_plain_travel_on_a_stretched_deck() {
     let mut random = Random::new(seed());
     for _ in 0..2_000 {
-        let size = random.range(1, 12);
+        let size = random.pick(&[2, 5, 12, 1_000, 20_000]);
         let j = job_of(&mut random, size, 8);
         let (deck, other) = (Deck::new(&j), &stretched(&j));
         let wide = Deck::new(other);
