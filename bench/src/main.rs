@@ -238,15 +238,12 @@ fn exhaustive_calls() {
     println!();
     println!("{:<52} {:>10} {:>10} {:>7}", "the exhaustive call, us a call", "proved", "twin", "ratio");
     let twins: [(&str, fn(&[u8]) -> exhaustive::Spot); 3] = [("ramps by search", exhaustive::searched), ("ramps by table", exhaustive::looked_up), ("every crossing", exhaustive::every_crossing)];
-    let run = |name: &str, deck: Sizes| {
-        let job = Sizes { rounds: 0, ..deck }.job();
-        compare_exhaustive(name, &if deck.posts == 1 { exhaustive::cornered(job) } else { job }, if deck.stops == 512 { 1 } else { 20 }, &twins);
-    };
-    run("largest", LARGEST);
-    run("a post in a corner", Sizes { posts: 1, ..LARGEST });
-    run("typical", TYPICAL);
+    let job = |deck: Sizes| Sizes { rounds: 0, ..deck }.job();
+    compare_exhaustive("largest", &job(LARGEST), 1, &twins);
+    compare_exhaustive("a post in a corner", &exhaustive::cornered(job(Sizes { posts: 1, ..LARGEST })), 1, &twins);
+    compare_exhaustive("typical", &job(TYPICAL), 20, &twins);
     for (name, deck) in slower() {
-        run(name, deck);
+        compare_exhaustive(name, &job(deck), if deck.stops == 512 { 1 } else { 20 }, &twins);
     }
 }
 

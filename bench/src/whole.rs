@@ -242,7 +242,10 @@ struct Found {
 fn search<P: Pricing>(deck: &Deck, objects: &Objects, pricing: &mut P, out: &mut [i64]) -> Found {
     let (vertical, horizontal) = (deck.lines(objects, true), deck.lines(objects, false));
     let (vs, hs) = (&vertical[..], &horizontal[..]);
-    let edges = |x: (u16, u16), y: (u16, u16)| Rect { xlo: vs[x.0 as usize], ylo: hs[y.0 as usize], xhi: vs[x.1 as usize], yhi: hs[y.1 as usize] };
+    let edges = |x: (u16, u16), y: (u16, u16)| {
+        let ((xlo, xhi), (ylo, yhi)) = ((vs[x.0 as usize], vs[x.1 as usize]), (hs[y.0 as usize], hs[y.1 as usize]));
+        Rect { xlo, ylo, xhi, yhi }
+    };
     let (a, axis) = (deck.area, deck.axis);
     let (x, y) = ((0, vs.len() as u16 - 1), (0, hs.len() as u16 - 1));
     let (costs, load, stops) = pricing.start(axis.scaled(a));

@@ -1,4 +1,4 @@
-//! Jobs with an axis line, each with the report or the refusal that documents 01 and 02 give it.
+//! Jobs with an axis line, and some without, each with the report or the refusal that documents 01 and 02 give it.
 
 use crate::decks::CASE_A;
 
