@@ -8,7 +8,7 @@ mod mutate;
 mod record;
 
 use mutate::Random;
-use reference::{read, refusal_text, report_text, search, write, Record, Refusal};
+use reference::{read, refusal_text, report_text, saved, search, write, Axis, Record, Refusal};
 use std::ffi::c_void;
 use std::io::{ErrorKind, Write};
 use std::process::{abort, Command, Stdio};
@@ -47,8 +47,10 @@ const PAGE: usize = 4_096;
 /// The bytes beside what is lent that are looked at too.
 const BESIDE: usize = 200;
 /// The numbers of a record's two lists.
-const COORDINATES: usize = 1_156;
-const NATURALS: usize = 514;
+const COORDINATES: usize = Record::COORDINATES;
+const NATURALS: usize = Record::NATURALS;
+/// The longest job that is accepted, and so the longest file that is written.
+const LONGEST: usize = 14_089;
 
 /// Whole pages between two that may not be touched.
 struct Lent {
@@ -89,6 +91,7 @@ struct State {
     programs: u64,
     done: u64,
     stopped: u64,
+    axis_costs: u64,
     refused: [u64; 9],
     records: u64,
     written: u64,
@@ -119,6 +122,7 @@ extern "C" fn LLVMFuzzerInitialize(_: *mut c_void, _: *mut c_void) -> i32 {
         programs: 0,
         done: 0,
         stopped: 0,
+        axis_costs: 0,
         refused: [0; 9],
         records: 0,
         written: 0,
@@ -135,7 +139,8 @@ extern "C" fn LLVMFuzzerInitialize(_: *mut c_void, _: *mut c_void) -> i32 {
 
 extern "C" fn last() {
     if let Some(s) = &*state() {
-        println!("{} inputs: {} done, {} stopped, refusals 1 to 6 {:?}", s.inputs, s.done, s.stopped, &s.refused[1..7]);
+        let (done, stopped, refused) = (s.done, s.stopped, &s.refused[1..7]);
+        println!("{} inputs: {done} done, {stopped} stopped, {} of these with axis costs, refusals 1 to 6 {refused:?}", s.inputs, s.axis_costs);
         println!("{} of them by the program too", s.programs);
         println!("{} of {} records written, refusals 2 to 8 {:?}", s.written, s.records, &s.not_written[2..]);
     }
@@ -302,23 +307,24 @@ impl State {
         }
     }
 
-    /// The job's own record, if it is accepted, and others made of its numbers.
+    /// The job's own record, if it is accepted, and others made of its numbers. Its own is written as the job, but for a line `axis=1,1`.
     fn check_records(&mut self, bytes: &[u8], want: Result<Record, Refusal>, any: u64) {
         let (at_end, fill, some) = (any >> 16 & 1 == 0, (any >> 24) as u8, any as usize % 300);
         self.read(bytes, &want, at_end, fill);
         let mut random = Random(any | 1);
         let mut record = record::of(bytes, &mut random);
         if let Ok(own) = want {
-            if write(&own, bytes.len()).as_deref() != Ok(bytes) {
-                differs("the reference's own text of an accepted job", &own.text().escape_ascii().to_string(), "the input");
+            let saved = saved(bytes);
+            if write(&own, saved.len()).as_ref() != Ok(&saved) {
+                differs("the reference's own text of an accepted job", &own.text().escape_ascii().to_string(), "the input, without a line axis=1,1");
             }
-            self.write(&own, bytes.len(), at_end, fill);
-            self.write(&record, bytes.len() - 1, !at_end, fill);
+            self.write(&own, saved.len(), at_end, fill);
+            self.write(&record, saved.len() - 1, !at_end, fill);
         } else {
-            self.write(&record, (bytes.len() + some).min(14_080), at_end, fill);
+            self.write(&record, (bytes.len() + some).min(LONGEST), at_end, fill);
         }
         record::replace(&mut random, &mut record);
-        let length = record.text().len().min(14_080);
+        let length = record.text().len().min(LONGEST);
         let lengths = [0, length - 1, length, length + some, length.min(some)];
         self.write(&record, lengths[random.below(lengths.len())], at_end, fill);
     }
@@ -351,6 +357,7 @@ impl State {
         let want = match job {
             Ok(job) => {
                 let found = search(&job);
+                self.axis_costs += u64::from(job.axis != Axis::PLAIN);
                 *(if found.done { &mut self.done } else { &mut self.stopped }) += 1;
                 Ok(report_text(&found))
             }

@@ -25,7 +25,7 @@ impl Random {
 }
 
 /// The ends of the ranges; a step to either side is another change.
-const ENDS: [i64; 10] = [0, 1, 64, 512, 1_000, 20_000, -20_000, 65_535, 999_999_999, -999_999_999];
+const ENDS: [i64; 11] = [0, 1, 9, 64, 512, 1_000, 20_000, -20_000, 65_535, 999_999_999, -999_999_999];
 
 type Line = Vec<u8>;
 
@@ -106,6 +106,33 @@ fn change_lines(random: &mut Random, lines: &mut Vec<Line>) -> Option<()> {
     Some(())
 }
 
+/// Most are right.
+fn axis_line(random: &mut Random) -> Line {
+    let mut cost = || match random.below(16) {
+        0 => ENDS[random.below(ENDS.len())],
+        1 => random.around(10),
+        _ => 1 + random.below(9) as i64,
+    };
+    format!("axis={},{}", cost(), cost()).into_bytes()
+}
+
+/// The axis line added, with other numbers, removed, doubled or moved.
+fn change_axis(random: &mut Random, lines: &mut Vec<Line>) {
+    let Some(&i) = all(lines, "axis=").first() else {
+        lines.insert(1, axis_line(random));
+        return;
+    };
+    match random.below(8) {
+        0..=3 => lines[i] = axis_line(random),
+        4 | 5 => drop(lines.remove(i)),
+        6 => lines.insert(i, lines[i].clone()),
+        _ => {
+            let line = lines.remove(i);
+            lines.insert(random.below(lines.len() + 1), line);
+        }
+    }
+}
+
 fn count(lines: &mut [Line]) {
     for (key, each) in [("posts=", "post="), ("stops=", "stop=")] {
         let n = all(lines, each).len();
@@ -122,13 +149,14 @@ fn change(random: &mut Random, bytes: &mut Vec<u8>, most: usize) {
             break;
         }
         // None: this change does not fit this job
-        let _ = match random.below(8) {
+        let _ = match random.below(9) {
             0 => {
                 let i = random.below(lines.len());
                 libfuzzer(&mut lines[i], 40);
                 Some(())
             }
             1..=3 => change_lines(random, &mut lines),
+            4 => Some(change_axis(random, &mut lines)),
             _ => change_number(random, &mut lines),
         };
     }

@@ -5,8 +5,8 @@ use reference::Record;
 
 /// The ends of the ranges, of ten digits and of the machine's numbers, and their neighbours.
 #[rustfmt::skip]
-const ENDS: [i128; 32] = [
-    0, 1, -1, 2, 64, 65, 512, 513, 1_000, 1_001, 20_000, 20_001, -20_000, -20_001, 65_535, 65_536, 65_537, 99_999, 100_000,
+const ENDS: [i128; 34] = [
+    0, 1, -1, 2, 9, 10, 64, 65, 512, 513, 1_000, 1_001, 20_000, 20_001, -20_000, -20_001, 65_535, 65_536, 65_537, 99_999, 100_000,
     999_999_999, -999_999_999, 1_000_000_000, -1_000_000_000, 1 << 32, (1 << 32) + 1, -(1 << 32) - 1,
     i64::MIN as i128, i64::MIN as i128 + 1, i64::MAX as i128, 1 << 63, (1 << 63) + 1, u64::MAX as i128,
 ];
@@ -31,6 +31,11 @@ fn numbers(bytes: &[u8]) -> Vec<i128> {
     found
 }
 
+/// Whether the numbers of the second line are axis costs.
+fn has_axis_line(bytes: &[u8]) -> bool {
+    bytes.split(|&b| b == b'\n').nth(1).is_some_and(|line| line.starts_with(b"axis"))
+}
+
 /// A record of these numbers, in the order of a job, and 1 where there are no more. Ends stand behind its lists.
 pub fn of(bytes: &[u8], random: &mut Random) -> Record {
     let mut end = || ENDS[random.below(ENDS.len())];
@@ -40,11 +45,14 @@ pub fn of(bytes: &[u8], random: &mut Random) -> Record {
         stop_x: [end() as i64; 512],
         stop_y: [end() as i64; 512],
         visits: [end() as u64; 512],
-        ..Record::ZEROS
+        ..Record::PLAIN
     };
     let mut found = numbers(bytes).into_iter();
     let mut next = || found.next().unwrap_or(1);
     record.area = [(); 4].map(|()| next() as i64);
+    if has_axis_line(bytes) {
+        record.axis = [(); 2].map(|()| next() as u64);
+    }
     record.posts = next() as u64;
     for i in 0..record.posts.min(64) as usize {
         (record.post_x[i], record.post_y[i]) = (next() as i64, next() as i64);
@@ -64,7 +72,7 @@ pub fn replace(random: &mut Random, record: &mut Record) {
         let (z, n) = (end as i64, end as u64);
         let post = random.below(record.posts.clamp(1, 64) as usize);
         let stop = random.below(record.stops.clamp(1, 512) as usize);
-        match random.below(9) {
+        match random.below(10) {
             0 => record.area[random.below(4)] = z,
             1 => record.posts = n,
             2 => record.post_x[post] = z,
@@ -73,6 +81,7 @@ pub fn replace(random: &mut Random, record: &mut Record) {
             5 => record.stop_x[stop] = z,
             6 => record.stop_y[stop] = z,
             7 => record.visits[stop] = n,
+            8 => record.axis[random.below(2)] = n,
             _ => record.rounds = n,
         }
     }

@@ -12,6 +12,11 @@ mod twin;
 mod whole;
 mod write;
 
+use read::{Axis, Sizes, LARGEST, ONE_EDGE, PLAIN, TYPICAL};
+
+/// A slower bridge.
+const SLOWER: Axis = Axis { a: 2, b: 1 };
+
 #[link(name = "trial", kind = "static")]
 extern "C" {
     fn trial_reading(job: *const u8, len: usize, which: u64) -> i64;
@@ -74,7 +79,7 @@ fn compare(name: &str, job: &[u8], k: u64, kernel: Kernel, twin: impl Fn(u64) ->
         assert!(a > 0, "{name}: an empty sum");
     }
     let (ours, theirs) = ((ours - reading) / k as f64, theirs / k as f64);
-    println!("{name:<44} {ours:>10.1} {theirs:>10.1} {:>7.2}", ours / theirs);
+    println!("{name:<52} {ours:>10.1} {theirs:>10.1} {:>7.2}", ours / theirs);
 }
 
 /// 0 for a report, else minus the number of the refusal.
@@ -112,12 +117,16 @@ fn reports() {
     println!();
     println!("{:<52} {:>10} {:>10} {:>7}", "the report call, us a call", "proved", "twin", "ratio");
     let twins: [(&str, Report); 3] = [("all stops", whole::report), ("stops in reach", whole::report_reaching), ("a list a cell", whole::report_listed)];
-    let decks = [("largest", 64, 40_001, 512, 20_000, 1_000), ("posts at one edge", 64, 2_000, 512, 20_000, 1_000), ("typical", 8, 40_001, 100, 6_325, 200)];
-    for (name, posts, strip, stops, half, rounds) in decks {
-        let job = |rounds| read::job(posts, strip, stops, half, rounds);
-        compare_reports(name, &job(rounds), if rounds == 1_000 { 1 } else { 20 }, &twins);
-        compare_reports(&format!("{name}, 0 rounds"), &job(0), 20, &twins[..1]);
+    let plain = [("largest", LARGEST), ("posts at one edge", ONE_EDGE), ("typical", TYPICAL)];
+    for (name, deck) in plain.into_iter().chain(slower()) {
+        compare_reports(name, &deck.job(), if deck.rounds == 1_000 { 1 } else { 20 }, &twins);
+        compare_reports(&format!("{name}, 0 rounds"), &Sizes { rounds: 0, ..deck }.job(), 20, &twins[..1]);
     }
+}
+
+/// Decks with axis costs.
+fn slower() -> [(&'static str, Sizes); 2] {
+    [("largest, axis 2,1", Sizes { axis: SLOWER, ..LARGEST }), ("typical, axis 2,1", Sizes { axis: SLOWER, ..TYPICAL })]
 }
 
 /// Reading a job: the proved reader, with its record of the deck, beside the twin's.
@@ -139,19 +148,20 @@ fn compare_reading(name: &str, job: &[u8]) {
 fn growth() {
     println!();
     println!("{:<52} {:>10} {:>10} {:>7}", "reading, us a job", "proved", "twin", "ratio");
-    compare_reading("largest", &read::job(64, 40_001, 512, 20_000, 1_000));
-    compare_reading("typical", &read::job(8, 40_001, 100, 6_325, 200));
+    for (name, deck) in [("largest", LARGEST), ("typical", TYPICAL)].into_iter().chain(slower()) {
+        compare_reading(name, &deck.job());
+    }
     println!();
     println!("{:<52} {:>10} {:>10} {:>7}", "growth of the report call, us a call", "proved", "twin", "ratio");
     let twin: [(&str, Report); 1] = [("all stops", whole::report)];
     for stops in [64, 128, 256, 512] {
-        compare_reports(&format!("{stops} stops"), &read::job(64, 40_001, stops, 20_000, 1_000), 1, &twin);
+        compare_reports(&format!("{stops} stops"), &Sizes { stops, ..LARGEST }.job(), 1, &twin);
     }
     for posts in [1, 8, 64] {
-        compare_reports(&format!("{posts} posts"), &read::job(posts, 40_001, 512, 20_000, 1_000), 1, &twin);
+        compare_reports(&format!("{posts} posts"), &Sizes { posts, ..LARGEST }.job(), 1, &twin);
     }
     for rounds in [0, 10, 100, 1_000] {
-        compare_reports(&format!("{rounds} rounds"), &read::job(64, 40_001, 512, 20_000, rounds), 1, &twin);
+        compare_reports(&format!("{rounds} rounds"), &Sizes { rounds, ..LARGEST }.job(), 1, &twin);
     }
 }
 
@@ -193,9 +203,11 @@ fn compare_writing(name: &str, lists: &write::Lists, job: Option<&[u8]>) {
 fn writing() {
     println!();
     println!("{:<52} {:>10} {:>10} {:>7}", "writing, us a job", "proved", "twin", "ratio");
-    compare_writing("largest", &write::mixed(), None);
-    let typical = read::job(8, 40_001, 100, 6_325, 200);
-    compare_writing("typical", &write::lists(&typical), Some(&typical));
+    for (axis, name) in [(PLAIN, ""), (SLOWER, ", axis 2,1")] {
+        compare_writing(&format!("largest{name}"), &write::mixed(axis), None);
+        let typical = Sizes { axis, ..TYPICAL }.job();
+        compare_writing(&format!("typical{name}"), &write::lists(&typical), Some(&typical));
+    }
 }
 
 /// The exhaustive call, `turns` times: place and cost must be the same. The plain pass over all crossings, last of the twins, is long, and has few repetitions.
@@ -226,24 +238,36 @@ fn exhaustive_calls() {
     println!();
     println!("{:<52} {:>10} {:>10} {:>7}", "the exhaustive call, us a call", "proved", "twin", "ratio");
     let twins: [(&str, fn(&[u8]) -> exhaustive::Spot); 3] = [("ramps by search", exhaustive::searched), ("ramps by table", exhaustive::looked_up), ("every crossing", exhaustive::every_crossing)];
-    compare_exhaustive("largest", &read::job(64, 40_001, 512, 20_000, 0), 1, &twins);
-    compare_exhaustive("a post in a corner", &exhaustive::cornered(read::job(1, 40_001, 512, 20_000, 0)), 1, &twins);
-    compare_exhaustive("typical", &read::job(8, 40_001, 100, 6_325, 0), 20, &twins);
+    let job = |deck: Sizes| Sizes { rounds: 0, ..deck }.job();
+    compare_exhaustive("largest", &job(LARGEST), 1, &twins);
+    compare_exhaustive("a post in a corner", &exhaustive::cornered(job(Sizes { posts: 1, ..LARGEST })), 1, &twins);
+    compare_exhaustive("typical", &job(TYPICAL), 20, &twins);
+    for (name, deck) in slower() {
+        compare_exhaustive(name, &job(deck), if deck.stops == 512 { 1 } else { 20 }, &twins);
+    }
+}
+
+/// The kernels on one deck. The names of the rows end in `suffix`.
+fn kernels(deck: &twin::Deck, suffix: &str) {
+    let job = deck.spell();
+    let s = deck.sites();
+    let row = |name: &str, k: u64, kernel: Kernel, twin: &dyn Fn(u64) -> i64| compare(&format!("{name}{suffix}"), &job, k, kernel, twin);
+    row("near of 512 stops x 64 posts", 400, Kernel::Near, &|k| twin::near_many(deck, k));
+    row("cost of a place, 512 stops", 20_000, Kernel::Cost, &|k| twin::cost_many(&s, k));
+    row("load of a rectangle, 512 stops", 20_000, Kernel::Load, &|k| twin::load_many(&s, k));
+    row("bound of a cell, 512 stops (4 costs, load)", 5_000, Kernel::Bound, &|k| twin::bound_many(&s, k, twin::bound));
+    row("the same, twin with one pass for all five", 5_000, Kernel::Bound, &|k| twin::bound_many(&s, k, twin::bound_in_one_pass));
 }
 
 fn main() {
-    let deck = twin::Deck::full(64, 512);
-    let job = deck.spell();
+    let deck = twin::Deck::full(PLAIN, 64, 512);
     let s = deck.sites();
     let (xs, ys) = (deck.lines(&s, true), deck.lines(&s, false));
     println!("one deck: 64 posts, 512 stops, {} and {} lines; best of {REPETITIONS}, interleaved", xs.len(), ys.len());
-    println!("{:<44} {:>10} {:>10} {:>7}", "ns a call", "proved", "twin", "ratio");
-    compare("near of 512 stops x 64 posts", &job, 400, Kernel::Near, |k| twin::near_many(&deck, k));
-    compare("cost of a place, 512 stops", &job, 20_000, Kernel::Cost, |k| twin::cost_many(&s, k));
-    compare("load of a rectangle, 512 stops", &job, 20_000, Kernel::Load, |k| twin::load_many(&s, k));
-    compare("bound of a cell, 512 stops (4 costs, load)", &job, 5_000, Kernel::Bound, |k| twin::bound_many(&s, k, twin::bound));
-    compare("the same, twin with one pass for all five", &job, 5_000, Kernel::Bound, |k| twin::bound_many(&s, k, twin::bound_in_one_pass));
-    compare("choice of a cut", &job, 100_000, Kernel::Cut, |k| twin::cut_many(&xs, &ys, k));
+    println!("{:<52} {:>10} {:>10} {:>7}", "ns a call", "proved", "twin", "ratio");
+    kernels(&deck, "");
+    compare("choice of a cut", &deck.spell(), 100_000, Kernel::Cut, |k| twin::cut_many(&xs, &ys, k));
+    kernels(&twin::Deck::full(Axis { a: 9, b: 9 }, 64, 512), ", axis 9,9");
     reports();
     exhaustive_calls();
     growth();

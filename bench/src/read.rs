@@ -54,15 +54,26 @@ impl Reader<'_> {
 
 const XY: (i32, i32) = (-20_000, 20_000);
 
-/// A deck with the near of each stop, one column a field.
+/// A deck as the job spells it, one column a field.
 pub struct Deck {
     pub area: Rect,
+    pub axis: Axis,
+    pub post_x: Vec<i32>,
+    pub post_y: Vec<i32>,
     pub xs: Vec<i32>,
     pub ys: Vec<i32>,
     pub visits: Vec<u32>,
-    pub near: Vec<i32>,
     pub rounds: usize,
 }
+
+/// What a tenth costs in x and in y.
+#[derive(Clone, Copy, PartialEq)]
+pub struct Axis {
+    pub a: i32,
+    pub b: i32,
+}
+
+pub const PLAIN: Axis = Axis { a: 1, b: 1 };
 
 #[derive(Clone, Copy)]
 pub struct Rect {
@@ -72,33 +83,61 @@ pub struct Rect {
     pub yhi: i32,
 }
 
-/// The deck with its near.
-pub fn read(job: &[u8]) -> Result<Deck, Refused> {
-    let (mut deck, px, py) = parse(job)?;
+impl Axis {
+    /// A rectangle in travel from the deck's centre.
+    #[inline]
+    pub fn scaled(self, r: Rect) -> Rect {
+        Rect { xlo: self.a * r.xlo, ylo: self.b * r.ylo, xhi: self.a * r.xhi, yhi: self.b * r.yhi }
+    }
+
+    /// Its line of a job.
+    pub fn line(self) -> String {
+        if self == PLAIN { String::new() } else { format!("axis={},{}\n", self.a, self.b) }
+    }
+}
+
+/// The stops at scaled places, each with its near: travel is plain between them.
+pub struct Objects {
+    pub xs: Vec<i32>,
+    pub ys: Vec<i32>,
+    pub visits: Vec<u32>,
+    pub near: Vec<i32>,
+}
+
+pub fn scaled(column: &[i32], k: i32) -> Vec<i32> {
+    column.iter().map(|&v| k * v).collect()
+}
+
+/// The deck and its objects.
+pub fn read(job: &[u8]) -> Result<(Deck, Objects), Refused> {
+    let mut deck = parse(job)?;
+    let Axis { a, b } = deck.axis;
+    let (xs, ys) = (scaled(&deck.xs, a), scaled(&deck.ys, b));
     // post by post over the column of stops: no reduction inside the loop
-    let mut near = vec![i32::MAX; deck.xs.len()];
-    for (&u, &v) in px.iter().zip(&py) {
-        for ((m, &x), &y) in near.iter_mut().zip(&deck.xs).zip(&deck.ys) {
+    let mut near = vec![i32::MAX; xs.len()];
+    for (&u, &v) in deck.post_x.iter().zip(&deck.post_y) {
+        let (u, v) = (a * u, b * v);
+        for ((m, &x), &y) in near.iter_mut().zip(&xs).zip(&ys) {
             *m = (*m).min((x - u).abs() + (y - v).abs());
         }
     }
-    deck.near = near;
-    Ok(deck)
+    let visits = std::mem::take(&mut deck.visits);
+    Ok((deck, Objects { xs, ys, visits, near }))
 }
 
-/// The deck as the job spells it, near still empty, and the posts.
-pub fn parse(job: &[u8]) -> Result<(Deck, Vec<i32>, Vec<i32>), Refused> {
+pub fn parse(job: &[u8]) -> Result<Deck, Refused> {
     if job.len() > 16_384 {
         return Err((1, 0));
     }
     let mut r = Reader { job, at: 0, line: 0 };
     let [xlo, ylo, xhi, yhi] = r.line(b"area=", [XY; 4])?;
+    let [a, b] = if job[r.at..].starts_with(b"axis=") { r.line(b"axis=", [(1, 9); 2])? } else { [1, 1] };
     let posts = r.line(b"posts=", [(0, 64)])?[0] as usize;
-    let (mut px, mut py) = (Vec::with_capacity(posts), Vec::with_capacity(posts));
+    let (mut post_x, mut post_y) = (Vec::with_capacity(posts), Vec::with_capacity(posts));
     for _ in 0..posts {
         let [x, y] = r.line(b"post=", [XY; 2])?;
-        px.push(x);
-        py.push(y);
+        post_x.push(x);
+        post_y.push(y);
     }
     let n = r.line(b"stops=", [(0, 512)])?[0] as usize;
     let (mut xs, mut ys, mut visits) = (Vec::with_capacity(n), Vec::with_capacity(n), Vec::with_capacity(n));
@@ -121,24 +160,41 @@ pub fn parse(job: &[u8]) -> Result<(Deck, Vec<i32>, Vec<i32>), Refused> {
     if n == 0 {
         return Err((6, 0));
     }
-    Ok((Deck { area: Rect { xlo, ylo, xhi, yhi }, xs, ys, visits, near: Vec::new(), rounds }, px, py))
+    Ok(Deck { area: Rect { xlo, ylo, xhi, yhi }, axis: Axis { a, b }, post_x, post_y, xs, ys, visits, rounds })
 }
 
-/// A job over the whole range of coordinates from a fixed seed, with an area of this half side. Posts stand all over the deck, or
-/// in a strip of this width along its left edge.
-pub fn job(posts: usize, strip: u64, stops: usize, half: i64, rounds: usize) -> Vec<u8> {
-    let mut state: u64 = 0x2545_f491_4f6c_dd1d;
-    let mut at = |n: u64| {
-        state = state.wrapping_mul(6_364_136_223_846_793_005).wrapping_add(1_442_695_040_888_963_407);
-        ((state >> 33) % n) as i64
-    };
-    let mut text = format!("area=-{half},-{half},{half},{half}\nposts={posts}\n");
-    for _ in 0..posts {
-        text += &format!("post={},{}\n", at(strip) - 20_000, at(40_001) - 20_000);
+/// A deck to measure, over the whole range of coordinates from a fixed seed, with an area of this half side. Posts stand all over the
+/// deck, or in a strip of this width along its left edge.
+#[derive(Clone, Copy)]
+pub struct Sizes {
+    pub axis: Axis,
+    pub posts: usize,
+    pub strip: u64,
+    pub stops: usize,
+    pub half: i64,
+    pub rounds: usize,
+}
+
+pub const LARGEST: Sizes = Sizes { axis: PLAIN, posts: 64, strip: 40_001, stops: 512, half: 20_000, rounds: 1_000 };
+pub const ONE_EDGE: Sizes = Sizes { strip: 2_000, ..LARGEST };
+pub const TYPICAL: Sizes = Sizes { posts: 8, stops: 100, half: 6_325, rounds: 200, ..LARGEST };
+
+impl Sizes {
+    pub fn job(self) -> Vec<u8> {
+        let mut state: u64 = 0x2545_f491_4f6c_dd1d;
+        let mut at = |n: u64| {
+            state = state.wrapping_mul(6_364_136_223_846_793_005).wrapping_add(1_442_695_040_888_963_407);
+            ((state >> 33) % n) as i64
+        };
+        let half = self.half;
+        let mut text = format!("area=-{half},-{half},{half},{half}\n{}posts={}\n", self.axis.line(), self.posts);
+        for _ in 0..self.posts {
+            text += &format!("post={},{}\n", at(self.strip) - 20_000, at(40_001) - 20_000);
+        }
+        text += &format!("stops={}\n", self.stops);
+        for _ in 0..self.stops {
+            text += &format!("stop={},{},{}\n", at(40_001) - 20_000, at(40_001) - 20_000, at(1_000) + 1);
+        }
+        (text + &format!("rounds={}\n", self.rounds)).into_bytes()
     }
-    text += &format!("stops={stops}\n");
-    for _ in 0..stops {
-        text += &format!("stop={},{},{}\n", at(40_001) - 20_000, at(40_001) - 20_000, at(1_000) + 1);
-    }
-    (text + &format!("rounds={rounds}\n")).into_bytes()
 }

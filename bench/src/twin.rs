@@ -2,30 +2,27 @@
 
 use std::hint::black_box;
 
+use crate::read::{Axis, Rect};
+
 pub struct Deck {
-    area: [i64; 4],
+    area: Rect,
+    axis: Axis,
     posts: Vec<(i64, i64)>,
     stops: Vec<(i64, i64, u64)>,
 }
 
-/// The sites of a deck, one column a field.
+/// The sites of a deck at scaled places, one column a field.
 pub struct Sites {
+    axis: Axis,
     xs: Vec<i32>,
     ys: Vec<i32>,
     visits: Vec<u32>,
     near: Vec<u32>,
 }
 
-pub struct Rect {
-    xlo: i32,
-    ylo: i32,
-    xhi: i32,
-    yhi: i32,
-}
-
 impl Deck {
     /// A deck over the whole range, from a fixed seed.
-    pub fn full(posts: usize, stops: usize) -> Deck {
+    pub fn full(axis: Axis, posts: usize, stops: usize) -> Deck {
         let mut state: u64 = 0x9e37_79b9_7f4a_7c15;
         let mut at = |n: u64| {
             state = state.wrapping_mul(6_364_136_223_846_793_005).wrapping_add(1_442_695_040_888_963_407);
@@ -33,15 +30,16 @@ impl Deck {
         };
         let mut coordinate = || at(40_001) as i64 - 20_000;
         Deck {
-            area: [-20_000, -20_000, 20_000, 20_000],
+            area: Rect { xlo: -20_000, ylo: -20_000, xhi: 20_000, yhi: 20_000 },
+            axis,
             posts: (0..posts).map(|_| (coordinate(), coordinate())).collect(),
             stops: (0..stops).map(|_| (coordinate(), coordinate(), (coordinate() + 20_001) as u64)).collect(),
         }
     }
 
     pub fn spell(&self) -> Vec<u8> {
-        let [a, b, c, d] = self.area;
-        let mut text = format!("area={a},{b},{c},{d}\nposts={}\n", self.posts.len());
+        let r = &self.area;
+        let mut text = format!("area={},{},{},{}\n{}posts={}\n", r.xlo, r.ylo, r.xhi, r.yhi, self.axis.line(), self.posts.len());
         for (x, y) in &self.posts {
             text += &format!("post={x},{y}\n");
         }
@@ -53,26 +51,29 @@ impl Deck {
     }
 
     pub fn sites(&self) -> Sites {
-        let px: Vec<i32> = self.posts.iter().map(|p| p.0 as i32).collect();
-        let py: Vec<i32> = self.posts.iter().map(|p| p.1 as i32).collect();
-        let xs: Vec<i32> = self.stops.iter().map(|s| s.0 as i32).collect();
-        let ys: Vec<i32> = self.stops.iter().map(|s| s.1 as i32).collect();
+        let Axis { a, b } = self.axis;
+        let px: Vec<i32> = self.posts.iter().map(|p| a * p.0 as i32).collect();
+        let py: Vec<i32> = self.posts.iter().map(|p| b * p.1 as i32).collect();
+        let xs: Vec<i32> = self.stops.iter().map(|s| a * s.0 as i32).collect();
+        let ys: Vec<i32> = self.stops.iter().map(|s| b * s.1 as i32).collect();
         let near = xs
             .iter()
             .zip(&ys)
             .map(|(&x, &y)| px.iter().zip(&py).map(|(&u, &v)| (x - u).abs() + (y - v).abs()).min().unwrap() as u32)
             .collect();
-        Sites { xs, ys, visits: self.stops.iter().map(|s| s.2 as u32).collect(), near }
+        Sites { axis: self.axis, xs, ys, visits: self.stops.iter().map(|s| s.2 as u32).collect(), near }
     }
 
+    /// The lines along an axis, in plain tenths.
     pub fn lines(&self, s: &Sites, across: bool) -> Vec<i64> {
-        let [xlo, ylo, xhi, yhi] = self.area;
-        let r = Rect { xlo: xlo as i32, ylo: ylo as i32, xhi: xhi as i32, yhi: yhi as i32 };
-        let (lo, hi) = if across { (xlo, xhi) } else { (ylo, yhi) };
+        let (r, area) = (&self.area, self.axis.scaled(self.area));
+        let (lo, hi) = if across { (r.xlo, r.xhi) } else { (r.ylo, r.yhi) };
+        let (lo, hi) = (lo as i64, hi as i64);
         let mut lines: Vec<i64> = s
             .rows()
-            .filter(|&(x, y, _, near)| reached(x, y, near, &r))
-            .map(|(x, y, _, _)| (if across { x } else { y }) as i64)
+            .zip(&self.stops)
+            .filter(|&((x, y, _, near), _)| reached(x, y, near, &area))
+            .map(|(_, stop)| if across { stop.0 } else { stop.1 })
             .filter(|v| (lo..=hi).contains(v))
             .chain([lo, hi])
             .collect();
@@ -165,15 +166,15 @@ pub fn near_many(deck: &Deck, k: u64) -> i64 {
 }
 
 pub fn cost_many(s: &Sites, k: u64) -> i64 {
-    (0..k).map(|t| cost(s, spread(t, 7919, 10_000), spread(t, 6007, 10_000)) as i64).sum()
+    (0..k).map(|t| cost(s, s.axis.a * spread(t, 7919, 10_000), s.axis.b * spread(t, 6007, 10_000)) as i64).sum()
 }
 
 pub fn load_many(s: &Sites, k: u64) -> i64 {
-    (0..k).map(|t| load(s, &rect(t)) as i64).sum()
+    (0..k).map(|t| load(s, &s.axis.scaled(rect(t))) as i64).sum()
 }
 
 pub fn bound_many(s: &Sites, k: u64, bound: impl Fn(&Sites, &Rect) -> i64) -> i64 {
-    (0..k).filter(|&t| bound(s, &rect(t)) > 0).count() as i64
+    (0..k).filter(|&t| bound(s, &s.axis.scaled(rect(t))) > 0).count() as i64
 }
 
 pub fn cut_many(xs: &[i64], ys: &[i64], k: u64) -> i64 {

@@ -4,9 +4,9 @@
 use std::cmp::Reverse;
 use std::collections::BinaryHeap;
 
-use crate::read::{read, Deck, Rect};
+use crate::read::{read, Deck, Objects, Rect};
 
-// ---- pricing
+// ---- pricing, all of it at scaled places
 
 #[derive(Clone, Copy)]
 pub struct Site {
@@ -34,7 +34,7 @@ impl Site {
     }
 }
 
-impl Deck {
+impl Objects {
     #[inline]
     pub fn sites(&self) -> impl Iterator<Item = Site> + '_ {
         let columns = self.xs.iter().zip(&self.ys).zip(&self.visits).zip(&self.near);
@@ -67,14 +67,16 @@ impl Deck {
         }
         ([low, high], [before as u64, behind as u64])
     }
+}
 
-    /// The lines at the x or the y of the sites that reach the area, and at its edges.
-    pub fn lines(&self, across: bool) -> Vec<i32> {
-        let a = self.area;
-        let (lo, hi) = if across { (a.xlo, a.xhi) } else { (a.ylo, a.yhi) };
-        let mut lines = Vec::with_capacity(self.xs.len() + 2);
+impl Deck {
+    /// The lines at the x or the y of the stops that reach the area, and at its edges, in plain tenths.
+    pub fn lines(&self, objects: &Objects, across: bool) -> Vec<i32> {
+        let (r, area) = (self.area, self.axis.scaled(self.area));
+        let (lo, hi, column) = if across { (r.xlo, r.xhi, &self.xs) } else { (r.ylo, r.yhi, &self.ys) };
+        let mut lines = Vec::with_capacity(column.len() + 2);
         lines.extend([lo, hi]);
-        lines.extend(self.sites().filter(|s| s.reaches(a)).map(|s| if across { s.x } else { s.y }).filter(|v| (lo..=hi).contains(v)));
+        lines.extend(objects.sites().zip(column).filter(|(s, v)| s.reaches(area) && (lo..=hi).contains(v)).map(|(_, &v)| v));
         lines.sort_unstable();
         lines.dedup();
         lines
@@ -88,30 +90,24 @@ pub trait Pricing {
     type Stops: Copy;
 
     /// The start: the costs of the area's corners, its load, its stops.
-    fn start(&mut self, area: (i32, i32, i32, i32)) -> ([u64; 4], u64, Self::Stops);
+    fn start(&mut self, area: Rect) -> ([u64; 4], u64, Self::Stops);
 
     /// A cut of a cell with these stops in two parts: the costs of the two new corners, and the load and the stops of each part.
-    fn cut(&mut self, stops: Self::Stops, first: (i32, i32, i32, i32), second: (i32, i32, i32, i32)) -> ([u64; 2], [(u64, Self::Stops); 2]);
-}
-
-fn rect((xlo, ylo, xhi, yhi): (i32, i32, i32, i32)) -> Rect {
-    Rect { xlo, ylo, xhi, yhi }
+    fn cut(&mut self, stops: Self::Stops, first: Rect, second: Rect) -> ([u64; 2], [(u64, Self::Stops); 2]);
 }
 
 /// Every pass over all stops.
-struct All<'a>(&'a Deck);
+struct All<'a>(&'a Objects);
 
 impl Pricing for All<'_> {
     type Stops = ();
 
-    fn start(&mut self, area: (i32, i32, i32, i32)) -> ([u64; 4], u64, ()) {
-        let r = rect(area);
+    fn start(&mut self, r: Rect) -> ([u64; 4], u64, ()) {
         let cost = |x, y| self.0.cost(x, y);
         ([cost(r.xlo, r.ylo), cost(r.xlo, r.yhi), cost(r.xhi, r.ylo), cost(r.xhi, r.yhi)], self.0.load(r), ())
     }
 
-    fn cut(&mut self, _: (), first: (i32, i32, i32, i32), second: (i32, i32, i32, i32)) -> ([u64; 2], [(u64, ()); 2]) {
-        let (f, s) = (rect(first), rect(second));
+    fn cut(&mut self, _: (), f: Rect, s: Rect) -> ([u64; 2], [(u64, ()); 2]) {
         let (costs, [before, behind]) = if f.xhi < s.xhi {
             self.0.cut(true, (f.xlo, f.xhi, s.xhi), (f.ylo, f.yhi))
         } else {
@@ -123,35 +119,34 @@ impl Pricing for All<'_> {
 
 /// Every pass over the stops that reach the area. The others pay their near wherever in the area the post stands.
 struct Reaching {
-    deck: Deck,
+    objects: Objects,
     others: u64,
 }
 
 impl Reaching {
-    fn new(deck: &Deck) -> Reaching {
-        let sites: Vec<Site> = deck.sites().filter(|s| s.reaches(deck.area)).collect();
-        let d = Deck {
-            area: deck.area,
+    fn new(deck: &Deck, objects: &Objects) -> Reaching {
+        let area = deck.axis.scaled(deck.area);
+        let sites: Vec<Site> = objects.sites().filter(|s| s.reaches(area)).collect();
+        let reaching = Objects {
             xs: sites.iter().map(|s| s.x).collect(),
             ys: sites.iter().map(|s| s.y).collect(),
             visits: sites.iter().map(|s| s.visits).collect(),
             near: sites.iter().map(|s| s.near).collect(),
-            rounds: deck.rounds,
         };
-        Reaching { others: deck.before() - d.before(), deck: d }
+        Reaching { others: objects.before() - reaching.before(), objects: reaching }
     }
 }
 
 impl Pricing for Reaching {
     type Stops = ();
 
-    fn start(&mut self, area: (i32, i32, i32, i32)) -> ([u64; 4], u64, ()) {
-        let (costs, load, ()) = All(&self.deck).start(area);
+    fn start(&mut self, area: Rect) -> ([u64; 4], u64, ()) {
+        let (costs, load, ()) = All(&self.objects).start(area);
         (costs.map(|c| c + self.others), load, ())
     }
 
-    fn cut(&mut self, stops: (), first: (i32, i32, i32, i32), second: (i32, i32, i32, i32)) -> ([u64; 2], [(u64, ()); 2]) {
-        let (costs, parts) = All(&self.deck).cut(stops, first, second);
+    fn cut(&mut self, stops: (), first: Rect, second: Rect) -> ([u64; 2], [(u64, ()); 2]) {
+        let (costs, parts) = All(&self.objects).cut(stops, first, second);
         (costs.map(|c| c + self.others), parts)
     }
 }
@@ -172,8 +167,7 @@ struct List {
 impl Pricing for Listed {
     type Stops = List;
 
-    fn start(&mut self, area: (i32, i32, i32, i32)) -> ([u64; 4], u64, List) {
-        let r = rect(area);
+    fn start(&mut self, r: Rect) -> ([u64; 4], u64, List) {
         let others = self.rows.iter().filter(|s| !s.reaches(r)).map(|s| s.visits as u64 * s.near as u64).sum();
         self.rows.retain(|s| s.reaches(r));
         let cost = |x, y| others + self.rows.iter().map(|s| s.pays(x, y)).sum::<u64>();
@@ -181,8 +175,7 @@ impl Pricing for Listed {
         ([cost(r.xlo, r.ylo), cost(r.xlo, r.yhi), cost(r.xhi, r.ylo), cost(r.xhi, r.yhi)], load, List { from: 0, to: self.rows.len(), others })
     }
 
-    fn cut(&mut self, stops: List, first: (i32, i32, i32, i32), second: (i32, i32, i32, i32)) -> ([u64; 2], [(u64, List); 2]) {
-        let (f, s) = (rect(first), rect(second));
+    fn cut(&mut self, stops: List, f: Rect, s: Rect) -> ([u64; 2], [(u64, List); 2]) {
         let mut costs = [stops.others; 2];
         for site in &self.rows[stops.from..stops.to] {
             costs[0] += site.pays(s.xlo, s.ylo);
@@ -231,8 +224,9 @@ fn middle(lines: &[i32], (lo, hi): (u16, u16)) -> u16 {
     lo + 1 + (if above { at } else { at - 1 }) as u16
 }
 
-fn bounded<S>(vertical: &[i32], horizontal: &[i32], mut c: Cell<S>, load: u64) -> Cell<S> {
-    let span = vertical[c.x.1 as usize] - vertical[c.x.0 as usize] + horizontal[c.y.1 as usize] - horizontal[c.y.0 as usize];
+/// A cell with its bound, from its scaled edges.
+fn bounded<S>(mut c: Cell<S>, edges: Rect, load: u64) -> Cell<S> {
+    let span = edges.xhi - edges.xlo + edges.yhi - edges.ylo;
     let [a, b, d, e] = c.costs;
     c.bound = ((a + e).max(b + d) as i64 - span as i64 * load as i64 + 1) >> 1;
     c
@@ -245,13 +239,16 @@ struct Found {
     rounds: usize,
 }
 
-fn search<P: Pricing>(deck: &Deck, pricing: &mut P, out: &mut [i64]) -> Found {
-    let (vertical, horizontal) = (deck.lines(true), deck.lines(false));
+fn search<P: Pricing>(deck: &Deck, objects: &Objects, pricing: &mut P, out: &mut [i64]) -> Found {
+    let (vertical, horizontal) = (deck.lines(objects, true), deck.lines(objects, false));
     let (vs, hs) = (&vertical[..], &horizontal[..]);
-    let edges = |x: (u16, u16), y: (u16, u16)| (vs[x.0 as usize], hs[y.0 as usize], vs[x.1 as usize], hs[y.1 as usize]);
-    let a = deck.area;
+    let edges = |x: (u16, u16), y: (u16, u16)| {
+        let ((xlo, xhi), (ylo, yhi)) = ((vs[x.0 as usize], vs[x.1 as usize]), (hs[y.0 as usize], hs[y.1 as usize]));
+        Rect { xlo, ylo, xhi, yhi }
+    };
+    let (a, axis) = (deck.area, deck.axis);
     let (x, y) = ((0, vs.len() as u16 - 1), (0, hs.len() as u16 - 1));
-    let (costs, load, stops) = pricing.start(edges(x, y));
+    let (costs, load, stops) = pricing.start(axis.scaled(a));
     let mut best: Spot = [(costs[0], a.xlo, a.ylo), (costs[1], a.xlo, a.yhi), (costs[2], a.xhi, a.ylo), (costs[3], a.xhi, a.yhi)].into_iter().min().unwrap();
     // lines are in order, so that (xlo, ylo) and the numbers of their lines have the same order
     let key = |c: &Cell<P::Stops>, i: usize| Reverse((c.bound, (c.x.0 as u32) << 16 | c.y.0 as u32, i as u32));
@@ -259,7 +256,7 @@ fn search<P: Pricing>(deck: &Deck, pricing: &mut P, out: &mut [i64]) -> Found {
     let precedes = |c: &Cell<P::Stops>, best: Spot| (c.bound, vs[c.x.0 as usize], hs[c.y.0 as usize]) < (best.0 as i64, best.1, best.2);
     let mut cells: Vec<Cell<P::Stops>> = Vec::with_capacity(deck.rounds * 2 + 1);
     let mut heap = BinaryHeap::with_capacity(deck.rounds + 2);
-    let area = bounded(vs, hs, Cell { x, y, bound: 0, costs, stops }, load);
+    let area = bounded(Cell { x, y, bound: 0, costs, stops }, axis.scaled(a), load);
     if can_cut(&area) && precedes(&area, best) {
         heap.push(key(&area, 0));
         cells.push(area);
@@ -277,8 +274,8 @@ fn search<P: Pricing>(deck: &Deck, pricing: &mut P, out: &mut [i64]) -> Found {
         rounds += 1;
         let [k00, k01, k10, k11] = c.costs;
         let (wide, deep) = (c.x.1 - c.x.0 > 1, c.y.1 - c.y.0 > 1);
-        let (xlo, ylo, xhi, yhi) = edges(c.x, c.y);
-        let across = wide && (!deep || xhi - xlo >= yhi - ylo);
+        let r = edges(c.x, c.y);
+        let across = wide && (!deep || r.xhi - r.xlo >= r.yhi - r.ylo);
         let (mut first, mut second) = (c, c);
         if across {
             let m = middle(vs, c.x);
@@ -290,13 +287,14 @@ fn search<P: Pricing>(deck: &Deck, pricing: &mut P, out: &mut [i64]) -> Found {
             second.y.0 = m;
         }
         let (f, s) = (edges(first.x, first.y), edges(second.x, second.y));
-        let ([low, high], [(load1, stops1), (load2, stops2)]) = pricing.cut(c.stops, f, s);
-        best = best.min((low, s.0, s.1)).min((high, f.2, f.3));
+        let (scaled_f, scaled_s) = (axis.scaled(f), axis.scaled(s));
+        let ([low, high], [(load1, stops1), (load2, stops2)]) = pricing.cut(c.stops, scaled_f, scaled_s);
+        best = best.min((low, s.xlo, s.ylo)).min((high, f.xhi, f.yhi));
         (first.costs, second.costs) = if across { ([k00, k01, low, high], [low, high, k10, k11]) } else { ([k00, low, k10, high], [low, k01, high, k11]) };
         (first.stops, second.stops) = (stops1, stops2);
-        for (c, load) in [(first, load1), (second, load2)] {
+        for (c, edges, load) in [(first, scaled_f, load1), (second, scaled_s, load2)] {
             if can_cut(&c) {
-                let c = bounded(vs, hs, c, load);
+                let c = bounded(c, edges, load);
                 if precedes(&c, best) {
                     heap.push(key(&c, cells.len()));
                     cells.push(c);
@@ -308,8 +306,8 @@ fn search<P: Pricing>(deck: &Deck, pricing: &mut P, out: &mut [i64]) -> Found {
     live.sort_unstable();
     for (slot, k) in out.chunks_exact_mut(5).zip(&live) {
         let c = &cells[k.2 as usize];
-        let (xlo, ylo, xhi, yhi) = edges(c.x, c.y);
-        slot.copy_from_slice(&[xlo as i64, ylo as i64, xhi as i64, yhi as i64, c.bound]);
+        let r = edges(c.x, c.y);
+        slot.copy_from_slice(&[r.xlo as i64, r.ylo as i64, r.xhi as i64, r.yhi as i64, c.bound]);
     }
     out[5 * live.len()..].fill(0);
     Found { done: live.is_empty(), best, low: live.first().map_or(best.0 as i64, |k| k.0), rounds }
@@ -348,9 +346,9 @@ impl Text<'_> {
 }
 
 /// 0 for a report, else minus the number of the refusal, as `proved_report`.
-fn report_with(job: &[u8], cells: &mut [i64], out: &mut [u8], find: impl FnOnce(&Deck, &mut [i64]) -> Found) -> i64 {
-    let deck = match read(job) {
-        Ok(deck) => deck,
+fn report_with(job: &[u8], cells: &mut [i64], out: &mut [u8], find: impl FnOnce(&Deck, &Objects, &mut [i64]) -> Found) -> i64 {
+    let (deck, objects) = match read(job) {
+        Ok(read) => read,
         Err((number, _)) => return -number,
     };
     if cells.len() < 5 * (deck.rounds + 1) {
@@ -359,23 +357,23 @@ fn report_with(job: &[u8], cells: &mut [i64], out: &mut [u8], find: impl FnOnce(
     if out.len() < 128 {
         return -8;
     }
-    let f = find(&deck, cells);
+    let f = find(&deck, &objects, cells);
     let mut t = Text { out, at: 0 };
     t.put(b"state=").put(if f.done { b"done" } else { b"stopped" });
     t.put(b"\nat=").number(f.best.1 as i64).put(b",").number(f.best.2 as i64);
     t.put(b"\nhigh=").number(f.best.0 as i64).put(b"\nlow=").number(f.low);
-    t.put(b"\nbefore=").number(deck.before() as i64).put(b"\nrounds=").number(f.rounds as i64).put(b"\n");
+    t.put(b"\nbefore=").number(objects.before() as i64).put(b"\nrounds=").number(f.rounds as i64).put(b"\n");
     0
 }
 
 pub fn report(job: &[u8], cells: &mut [i64], out: &mut [u8]) -> i64 {
-    report_with(job, cells, out, |deck, cells| search(deck, &mut All(deck), cells))
+    report_with(job, cells, out, |deck, objects, cells| search(deck, objects, &mut All(objects), cells))
 }
 
 pub fn report_reaching(job: &[u8], cells: &mut [i64], out: &mut [u8]) -> i64 {
-    report_with(job, cells, out, |deck, cells| search(deck, &mut Reaching::new(deck), cells))
+    report_with(job, cells, out, |deck, objects, cells| search(deck, objects, &mut Reaching::new(deck, objects), cells))
 }
 
 pub fn report_listed(job: &[u8], cells: &mut [i64], out: &mut [u8]) -> i64 {
-    report_with(job, cells, out, |deck, cells| search(deck, &mut Listed { rows: deck.sites().collect() }, cells))
+    report_with(job, cells, out, |deck, objects, cells| search(deck, objects, &mut Listed { rows: objects.sites().collect() }, cells))
 }

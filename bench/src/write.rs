@@ -1,12 +1,13 @@
 //! Hand-written Rust for writing a job, from the lists of a record's numbers on, and the records that are measured.
 
-use crate::read::{parse, Refused};
+use crate::read::{parse, Axis, Refused};
 
 const POSTS: usize = 64;
 const STOPS: usize = 512;
 
 struct Record {
     area: [i64; 4],
+    axis: [u64; 2],
     posts: u64,
     post_x: [i64; POSTS],
     post_y: [i64; POSTS],
@@ -28,13 +29,15 @@ fn taken<T: Copy + Default, const N: usize>(list: &mut &[T]) -> [T; N] {
 }
 
 fn record(mut coordinates: &[i64], mut naturals: &[u64], rounds: u64) -> Option<Record> {
-    if coordinates.len() != 4 + 2 * POSTS + 2 * STOPS || naturals.len() != 2 + STOPS {
+    if coordinates.len() != 4 + 2 * POSTS + 2 * STOPS || naturals.len() != 4 + STOPS {
         return None;
     }
     let (c, n) = (&mut coordinates, &mut naturals);
+    let axis = taken(n);
     let [posts, stops] = taken(n);
     Some(Record {
         area: taken(c),
+        axis,
         posts,
         post_x: taken(c),
         post_y: taken(c),
@@ -67,13 +70,21 @@ impl Record {
         self.stop_x.iter().zip(&self.stop_y).zip(&self.visits).take(self.stops as usize).map(|((&x, &y), &v)| (x, y, v))
     }
 
+    fn writes_axis(&self) -> bool {
+        self.axis != [1, 1]
+    }
+
     fn check(&self) -> Result<(), Refused> {
         line(1, self.area, [])?;
-        line(2, [], [(0, self.posts, POSTS as u64)])?;
-        for (i, (x, y)) in self.posts().enumerate() {
-            line(3 + i, [x, y], [])?;
+        if self.writes_axis() {
+            line(2, [], self.axis.map(|cost| (1, cost, 9)))?;
         }
-        let at = 3 + self.posts as usize;
+        let at = 2 + self.writes_axis() as usize;
+        line(at, [], [(0, self.posts, POSTS as u64)])?;
+        for (i, (x, y)) in self.posts().enumerate() {
+            line(at + 1 + i, [x, y], [])?;
+        }
+        let at = at + 1 + self.posts as usize;
         line(at, [], [(0, self.stops, STOPS as u64)])?;
         for (i, (x, y, visits)) in self.stops().enumerate() {
             line(at + 1 + i, [x, y], [(1, visits, 65_535)])?;
@@ -148,13 +159,17 @@ impl Record {
         let posts = self.posts().map(|(x, y)| width(x) + width(y) + "post=,\n".len()).sum::<usize>();
         let stops = self.stops().map(|(x, y, v)| width(x) + width(y) + digits(v as u32) + "stop=,,\n".len()).sum::<usize>();
         let counts = [self.posts, self.stops, self.rounds].iter().map(|&n| digits(n as u32)).sum::<usize>();
-        area + posts + stops + counts + "posts=\nstops=\nrounds=\n".len()
+        let axis = if self.writes_axis() { "axis=1,1\n".len() } else { 0 };
+        area + axis + posts + stops + counts + "posts=\nstops=\nrounds=\n".len()
     }
 
     fn text(&self, out: &mut [u8]) {
         let [xlo, ylo, xhi, yhi] = self.area;
         let mut t = Text { out, at: 0 };
         t.put(b"area=").coordinate(xlo).put(b",").coordinate(ylo).put(b",").coordinate(xhi).put(b",").coordinate(yhi);
+        if self.writes_axis() {
+            t.put(b"\naxis=").natural(self.axis[0]).put(b",").natural(self.axis[1]);
+        }
         t.put(b"\nposts=").natural(self.posts);
         for (x, y) in self.posts() {
             t.put(b"\npost=").coordinate(x).put(b",").coordinate(y);
@@ -192,22 +207,22 @@ pub struct Lists {
 
 /// Those of a job.
 pub fn lists(job: &[u8]) -> Lists {
-    let (deck, px, py) = parse(job).unwrap_or_else(|_| panic!("refused"));
+    let deck = parse(job).unwrap_or_else(|_| panic!("refused"));
     let a = deck.area;
     let mut coordinates: Vec<i64> = [a.xlo, a.ylo, a.xhi, a.yhi].map(i64::from).into();
-    for (column, size) in [(&px, POSTS), (&py, POSTS), (&deck.xs, STOPS), (&deck.ys, STOPS)] {
+    for (column, size) in [(&deck.post_x, POSTS), (&deck.post_y, POSTS), (&deck.xs, STOPS), (&deck.ys, STOPS)] {
         let end = coordinates.len() + size;
         coordinates.extend(column.iter().map(|&v| i64::from(v)));
         coordinates.resize(end, 0);
     }
-    let mut naturals = vec![px.len() as u64, deck.xs.len() as u64];
+    let mut naturals = vec![deck.axis.a as u64, deck.axis.b as u64, deck.post_x.len() as u64, deck.xs.len() as u64];
     naturals.extend(deck.visits.iter().map(|&v| u64::from(v)));
-    naturals.resize(2 + STOPS, 0);
+    naturals.resize(4 + STOPS, 0);
     Lists { coordinates, naturals, rounds: deck.rounds as u64 }
 }
 
 /// Those of the most posts and stops, all numbers of 1 to 5 digits from a fixed seed.
-pub fn mixed() -> Lists {
+pub fn mixed(axis: Axis) -> Lists {
     let mut state: u64 = 0x2545_f491_4f6c_dd1d;
     let mut below = |n: u64| {
         state = state.wrapping_mul(6_364_136_223_846_793_005).wrapping_add(1_442_695_040_888_963_407);
@@ -217,7 +232,7 @@ pub fn mixed() -> Lists {
         let size = [10, 100, 1_000, 10_000, 20_001][below(5) as usize];
         below(size)
     };
-    let naturals = [POSTS as u64, STOPS as u64].into_iter().chain((0..STOPS).map(|_| natural() + 1)).collect();
+    let naturals = [axis.a as u64, axis.b as u64, POSTS as u64, STOPS as u64].into_iter().chain((0..STOPS).map(|_| natural() + 1)).collect();
     let mut coordinates: Vec<i64> = vec![-20_000, -20_000, 20_000, 20_000];
     for _ in 0..2 * POSTS + 2 * STOPS {
         let n = natural() as i64;

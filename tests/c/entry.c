@@ -14,6 +14,8 @@
 #define STOPS "stops=2\nstop=4,3,2\nstop=8,12,1\n"
 #define CASE_A AREA POSTS STOPS "rounds=10\n"
 #define REPORT_A "state=done\nat=4,3\nhigh=13\nlow=13\nbefore=34\nrounds=3\n"
+// a deck whose best place depends on the axis costs
+#define NARROW(axis) "area=1,1,3,9\n" axis "posts=1\npost=4,6\nstops=2\nstop=6,1,1\nstop=2,4,1\nrounds=10\n"
 
 #define LONGEST_JOB 16384
 // less than the 256 KiB of siting.h, of which the thread's own start takes some
@@ -141,6 +143,13 @@ static const struct {
     {"area=5,5,5,5\n" POSTS STOPS "rounds=10\n", "state=done\nat=5,5\nhigh=16\nlow=16\nbefore=34\nrounds=0\n"},
     {"area=0,0,9,0\nposts=1\npost=5,1\nstops=1\nstop=5,0,1\nrounds=0\n", "state=stopped\nat=0,0\nhigh=1\nlow=-3\nbefore=1\nrounds=0\n"},
     {"area=0,0,9,0\nposts=1\npost=5,1\nstops=1\nstop=5,0,1\nrounds=1\n", "state=done\nat=5,0\nhigh=0\nlow=0\nbefore=1\nrounds=1\n"},
+    // axis costs
+    {AREA "axis=1,1\n" POSTS STOPS "rounds=10\n", REPORT_A},
+    {AREA "axis=9,9\n" POSTS STOPS "rounds=10\n", "state=done\nat=4,3\nhigh=117\nlow=117\nbefore=306\nrounds=3\n"},
+    {NARROW(""), "state=done\nat=2,1\nhigh=7\nlow=7\nbefore=11\nrounds=3\n"},
+    {NARROW("axis=1,1\n"), "state=done\nat=2,1\nhigh=7\nlow=7\nbefore=11\nrounds=3\n"},
+    {NARROW("axis=2,1\n"), "state=done\nat=2,4\nhigh=9\nlow=9\nbefore=15\nrounds=3\n"},
+    {NARROW("axis=1,2\n"), "state=done\nat=3,1\nhigh=9\nlow=9\nbefore=18\nrounds=3\n"},
 };
 
 static const struct {
@@ -172,6 +181,20 @@ static const struct {
     {2, AREA POSTS "stops=1\nstop=4,3,2\nstop=8,12,1\nrounds=10\n"},
     {2, AREA POSTS "stops=1\nstop=4,3\nrounds=10\n"},
     {2, POSTS AREA STOPS "rounds=10\n"},
+    {2, NARROW("axis=\n")},
+    {2, NARROW("axis=1\n")},
+    {2, NARROW("axis=1,1,1\n")},
+    {2, NARROW("axis=01,1\n")},
+    {2, NARROW("axis=1,+1\n")},
+    {2, NARROW("axis=-0,1\n")},
+    {2, NARROW("axis=1,1000000000\n")},
+    {2, NARROW("axis=1,1\r\n")},
+    {2, NARROW("axis=2,1\naxis=2,1\n")},
+    {2, "axis=2,1\n" CASE_A},
+    {2, AREA POSTS "axis=2,1\n" STOPS "rounds=10\n"},
+    {2, CASE_A "axis=2,1\n"},
+    {2, AREA "axis=2,1"},
+    {2, AREA "axis=2,1\n"},
     // a value out of range
     {3, "area=2,2,8,20001\n" POSTS STOPS "rounds=10\n"},
     {3, "area=-20001,2,8,8\n" POSTS STOPS "rounds=10\n"},
@@ -185,6 +208,10 @@ static const struct {
     {3, AREA POSTS "stops=1\nstop=4,3,65536\nrounds=10\n"},
     {3, AREA POSTS STOPS "rounds=1001\n"},
     {3, AREA POSTS STOPS "rounds=-1\n"},
+    {3, NARROW("axis=0,1\n")},
+    {3, NARROW("axis=1,10\n")},
+    {3, NARROW("axis=-1,1\n")},
+    {3, NARROW("axis=999999999,1\n")},
     // an empty area, no posts, no stops
     {4, "area=8,2,2,8\n" POSTS STOPS "rounds=10\n"},
     {4, "area=2,8,8,2\n" POSTS STOPS "rounds=10\n"},
@@ -199,6 +226,10 @@ static const struct {
     {2, "area=8,2,2,8\nposts=0\nstops=0\nrounds=10\n\n"},
     {4, "area=8,2,2,8\nposts=0\nstops=0\nrounds=10\n"},
     {5, AREA "posts=0\nstops=0\nrounds=10\n"},
+    {2, NARROW("axis=0,1000000000\n")},
+    {3, AREA "axis=10,1\nposts=a\n"},
+    {3, "area=8,2,2,8\naxis=10,1\nposts=0\nstops=0\nrounds=10\n"},
+    {4, "area=8,2,2,8\naxis=9,1\nposts=0\nstops=0\nrounds=10\n"},
 };
 
 static void table(void) {
@@ -210,17 +241,20 @@ static void table(void) {
     }
     static const char zero[] = "area=2,2,8,8\0\n" POSTS STOPS "rounds=10\n";
     refused("a byte 0", zero, sizeof zero - 1, 2);
-    // every start of case A but the whole
-    for (size_t length = 0; length < strlen(CASE_A); length++) {
-        call_both("a start of case A", CASE_A, length, 128, NULL, 2);
+    // every start of a job but the whole
+    static const char *const whole[] = {CASE_A, NARROW("axis=2,1\n")};
+    for (size_t i = 0; i < 2; i++) {
+        for (size_t length = 0; length < strlen(whole[i]); length++) {
+            call_both("a start of a job", whole[i], length, 128, NULL, 2);
+        }
     }
 }
 
 // ---- sizes
 
 // 64 posts, 512 stops and 1,000 rounds, each line as long as it can be.
-static size_t longest(char *job, const char *area, const char *post, const char *stop) {
-    size_t n = (size_t)sprintf(job, "area=%s,%s\nposts=64\n", area, area);
+static size_t longest(char *job, const char *axis, const char *area, const char *post, const char *stop) {
+    size_t n = (size_t)sprintf(job, "area=%s,%s\n%sposts=64\n", area, area, axis);
     for (int i = 0; i < 64; i++) {
         n += (size_t)sprintf(job + n, "post=%s\n", post);
     }
@@ -233,15 +267,18 @@ static size_t longest(char *job, const char *area, const char *post, const char 
 
 static void sizes(void) {
     static char job[LONGEST_JOB + 2];
-    size_t n = longest(job, "-20000,-20000", "-20000,-20000", "-20000,-20000");
-    check(n == 14080, "the longest accepted job", "length");
+    size_t n = longest(job, "axis=9,9\n", "-20000,-20000", "-20000,-20000", "-20000,-20000");
+    check(n == 14089, "the longest accepted job", "length");
     accepted("the longest accepted job", job, n, "state=done\nat=-20000,-20000\nhigh=0\nlow=0\nbefore=0\nrounds=0\n");
     memset(job + n, '\n', sizeof job - n);
     refused("lines up to 16,384 bytes", job, LONGEST_JOB, 2);
     refused("lines up to 16,385 bytes", job, LONGEST_JOB + 1, 1);
-    n = longest(job, "20000,20000", "20000,20000", "-20000,-20000");
-    accepted("the largest figures", job, n,
+    n = longest(job, "", "20000,20000", "20000,20000", "-20000,-20000");
+    accepted("the largest figures under 1,1", job, n,
              "state=done\nat=20000,20000\nhigh=2684313600000\nlow=2684313600000\nbefore=2684313600000\nrounds=0\n");
+    n = longest(job, "axis=9,9\n", "20000,20000", "20000,20000", "-20000,-20000");
+    accepted("the largest figures", job, n,
+             "state=done\nat=20000,20000\nhigh=24158822400000\nlow=24158822400000\nbefore=24158822400000\nrounds=0\n");
     memset(job, 'a', sizeof job);
     refused("16,384 letters", job, LONGEST_JOB, 2);
     refused("16,385 letters", job, LONGEST_JOB + 1, 1);
@@ -249,8 +286,8 @@ static void sizes(void) {
 
 // ---- the files of examples/
 
-static const char *const names[] = {"case-a",           "milk-lab",           "milk-lab-stopped",  "crowded",        "ties",
-                                    "refused-65-posts", "refused-empty-area", "refused-line-ends", "refused-cut-off"};
+static const char *const names[] = {"case-a",       "milk-lab",         "milk-lab-stopped",   "crowded",           "ties",
+                                    "heavy-bridge", "refused-65-posts", "refused-empty-area", "refused-line-ends", "refused-cut-off"};
 
 #define NAMES (sizeof names / sizeof names[0])
 

@@ -1,7 +1,7 @@
 //! The jobs of examples/, made by plain rules. `cargo run --release --offline --example write_examples` writes them with their reports.
 
 use crate::generate::{crowded, Random};
-use crate::reference::{spell, Job, Place, Rect, Stop};
+use crate::reference::{spell, Axis, Job, Place, Rect, Stop};
 
 /// Labware: rows of stops from its front left stop, `pitch` tenths apart, with `visits` of column and row.
 fn grid(stops: &mut Vec<Stop>, corner: Place, columns: i64, rows: i64, pitch: i64, visits: fn(i64, i64) -> i64) {
@@ -16,7 +16,7 @@ fn grid(stops: &mut Vec<Stop>, corner: Place, columns: i64, rows: i64, pitch: i6
 /// A deck 1.5 m wide and 0.7 m deep with two wash posts at its left end. Six racks of 5 × 8 milk vials, 33 mm apart, stand at the back,
 /// a plate of 12 × 8 wells, 9 mm apart, and four troughs at the front, the scanner at the left end and the sealer at the right. The
 /// free patch is the lane between back and front.
-fn milk_lab(rounds: i64) -> Job {
+fn milk_lab(axis: Axis, rounds: i64) -> Job {
     let mut stops = Vec::new();
     stops.push(Stop { at: (-6_900, -1_200), visits: 240 });
     for rack in 0..6 {
@@ -29,6 +29,7 @@ fn milk_lab(rounds: i64) -> Job {
     stops.push(Stop { at: (6_800, -1_500), visits: 96 });
     Job {
         area: Rect { xlo: -2_500, ylo: -1_900, xhi: 5_000, yhi: 200 },
+        axis,
         posts: vec![(-7_200, 0), (-7_200, 2_500)],
         stops,
         rounds,
@@ -48,6 +49,7 @@ fn ties() -> Job {
     }
     Job {
         area: Rect { xlo: -300, ylo: -300, xhi: 300, yhi: 300 },
+        axis: Axis::PLAIN,
         posts: vec![(1_700, 0), (-1_700, 0), (0, 1_700), (0, -1_700), (0, 1_700)],
         stops,
         rounds: 1_000,
@@ -64,15 +66,17 @@ pub fn folder() -> std::path::PathBuf {
 
 /// Each example's name and bytes.
 pub fn examples() -> Vec<(&'static str, Vec<u8>)> {
-    let cut_off = spell(&milk_lab(1_000));
+    let milk = spell(&milk_lab(Axis::PLAIN, 1_000));
     vec![
         ("case-a", CASE_A.into()),
-        ("milk-lab", spell(&milk_lab(1_000))),
-        ("milk-lab-stopped", spell(&milk_lab(12))),
+        ("milk-lab", milk.clone()),
+        ("milk-lab-stopped", spell(&milk_lab(Axis::PLAIN, 12))),
+        // in x so slow that the best place is another one than in milk-lab
+        ("heavy-bridge", spell(&milk_lab(Axis { a: 5, b: 1 }, 1_000))),
         ("crowded", spell(&crowded(&mut Random::new(1), 6_000, 3_000, 12))),
         ("ties", spell(&ties())),
         ("refused-line-ends", CASE_A.replace('\n', "\r\n").into()),
-        ("refused-cut-off", cut_off[..cut_off.len() / 2].into()),
+        ("refused-cut-off", milk[..milk.len() / 2].into()),
         ("refused-65-posts", CASE_A.replace("posts=1\n", "posts=65\n").into()),
         ("refused-empty-area", CASE_A.replace("area=2,2,8,8", "area=8,2,2,8").into()),
     ]

@@ -1,6 +1,7 @@
 //! Random jobs: valid ones of many shapes, and damaged ones. The generator is a plain xorshift, so that a printed seed repeats a run.
 
-use crate::reference::{spell, Job, Rect, Stop};
+use crate::reference::{spell, spell_out, Axis, Job, Rect, Stop};
+use crate::vectors::WRONG_AXIS_LINES;
 
 pub struct Random(u64);
 
@@ -24,6 +25,10 @@ impl Random {
     pub fn one_in(&mut self, n: i64) -> bool {
         self.range(1, n) == 1
     }
+
+    pub fn pick<T: Copy>(&mut self, from: &[T]) -> T {
+        from[self.range(0, from.len() as i64 - 1) as usize]
+    }
 }
 
 /// A seed from the environment (SEED) or from the clock; printed, so that a failure can be repeated.
@@ -41,6 +46,27 @@ pub fn each_job(count: usize, bytes: impl Fn(&mut Random) -> Vec<u8>, mut check:
     for _ in 0..count {
         let job = bytes(&mut random);
         check(&mut random, &job);
+    }
+}
+
+/// Axis costs, 1,1 about half the time.
+pub fn axis(random: &mut Random) -> Axis {
+    if random.one_in(2) {
+        return Axis::PLAIN;
+    }
+    Axis { a: random.range(1, 9), b: random.range(1, 9) }
+}
+
+/// A job's bytes. Axis costs of 1,1 are mostly left out, and sometimes spelled out.
+pub fn spelling(random: &mut Random, job: &Job) -> Vec<u8> {
+    if random.one_in(8) { spell_out(job) } else { spell(job) }
+}
+
+/// The bytes of such jobs.
+pub fn spelled(job: impl Fn(&mut Random) -> Job) -> impl Fn(&mut Random) -> Vec<u8> {
+    move |random| {
+        let j = job(random);
+        spelling(random, &j)
     }
 }
 
@@ -81,10 +107,10 @@ pub fn job_of(random: &mut Random, size: i64, most_stops: i64) -> Job {
     for _ in 0..random.range(1, most_stops) {
         let place = match random.range(1, 12) {
             // a stop at a post, at an earlier stop, or the mirror image of one
-            1 => posts[random.range(0, posts.len() as i64 - 1) as usize],
-            2 if !stops.is_empty() => stops[random.range(0, stops.len() as i64 - 1) as usize].at,
+            1 => random.pick(&posts),
+            2 if !stops.is_empty() => random.pick(&stops).at,
             3 if !stops.is_empty() => {
-                let s = stops[random.range(0, stops.len() as i64 - 1) as usize].at;
+                let s = random.pick(&stops).at;
                 (mirrored(s.0, area.xlo, area.xhi), s.1)
             }
             _ => (at(random), at(random)),
@@ -96,7 +122,7 @@ pub fn job_of(random: &mut Random, size: i64, most_stops: i64) -> Job {
         2 => 1_000,
         _ => random.range(0, 60),
     };
-    Job { area, posts, stops, rounds }
+    Job { area, axis: axis(random), posts, stops, rounds }
 }
 
 /// 512 stops anywhere on a deck of twice `width` by twice `depth`, and 64 posts at its left and right ends: a long search.
@@ -107,6 +133,7 @@ pub fn crowded(random: &mut Random, width: i64, depth: i64, most_visits: i64) ->
     };
     Job {
         area: Rect { xlo: -width, ylo: -depth, xhi: width, yhi: depth },
+        axis: Axis::PLAIN,
         posts: (0..64).map(|i| (if i % 2 == 0 { -width } else { width }, random.range(-depth, depth))).collect(),
         stops: (0..512).map(|_| stop(random)).collect(),
         rounds: 1_000,
@@ -119,7 +146,7 @@ fn mirrored(v: i64, lo: i64, hi: i64) -> i64 {
 
 /// A job of a shape in which many places cost the same, or in which little is left to search.
 pub fn special(random: &mut Random) -> Job {
-    let size = [2, 5, 9, 40, 1_000, 20_000][random.range(0, 5) as usize];
+    let size = random.pick(&[2, 5, 9, 40, 1_000, 20_000]);
     let mut j = job_of(random, size, 12);
     let a = j.area;
     match random.range(1, 10) {
@@ -130,6 +157,7 @@ pub fn special(random: &mut Random) -> Job {
         }
         // the same with x and y exchanged: the sides of a cell are often equal
         2 => {
+            j.axis.b = j.axis.a;
             let (lo, hi) = (a.xlo.min(a.ylo), a.xhi.max(a.yhi));
             j.area = Rect { xlo: lo, ylo: lo, xhi: hi, yhi: hi };
             j.stops = j.stops.iter().flat_map(|s| [s.at, (s.at.1, s.at.0)].map(|at| Stop { at, ..*s })).collect();
@@ -150,7 +178,7 @@ pub fn special(random: &mut Random) -> Job {
         // each stop at a post: every place costs 0
         5 => {
             let posts = j.posts.clone();
-            j.stops.iter_mut().for_each(|s| s.at = posts[random.range(0, posts.len() as i64 - 1) as usize]);
+            j.stops.iter_mut().for_each(|s| s.at = random.pick(&posts));
         }
         // the area is a point, or a segment
         6 => j.area = Rect { xhi: a.xlo, yhi: a.ylo, ..a },
@@ -179,7 +207,7 @@ fn images(p: (i64, i64), a: Rect) -> [(i64, i64); 4] {
     [p, (q.0, p.1), (p.0, q.1), q]
 }
 
-/// The most stops and posts, at the ends of the range, with the most visits.
+/// The most stops and posts, at the ends of the range, with the most visits, and often with the most axis costs.
 pub fn largest(random: &mut Random) -> Job {
     let far = random.range(1, 3);
     let at = |random: &mut Random| match random.range(1, 3) {
@@ -198,6 +226,7 @@ pub fn largest(random: &mut Random) -> Job {
     let stops = 512;
     Job {
         area,
+        axis: if random.one_in(3) { Axis { a: 9, b: 9 } } else { axis(random) },
         posts: (0..posts).map(|_| if random.one_in(2) { (20_000, 20_000) } else { (at(random), at(random)) }).collect(),
         stops: (0..stops).map(|_| Stop { at: (at(random), at(random)), visits: if far == 2 { random.range(1, 65_535) } else { 65_535 } }).collect(),
         rounds: 1_000,
@@ -227,11 +256,37 @@ pub fn damaged(random: &mut Random) -> Vec<u8> {
         4 => job.rounds = random.range(990, 1_010),
         _ => {}
     }
-    let mut text = spell(&job);
+    let mut text = spelling(random, &job);
+    if random.one_in(5) {
+        damage_axis(random, &mut text);
+    }
     for _ in 0..random.range(0, 2) {
         damage(random, &mut text);
     }
     text
+}
+
+/// An axis line twice, in another place, cut off or wrong.
+fn damage_axis(random: &mut Random, text: &mut Vec<u8>) {
+    let mut lines: Vec<Vec<u8>> = text.split_inclusive(|&b| b == 10).map(<[u8]>::to_vec).collect();
+    if !lines[1].starts_with(b"axis=") {
+        lines.insert(1, b"axis=2,1\n".to_vec());
+    }
+    let place = random.range(0, lines.len() as i64 - 1) as usize;
+    match random.range(1, 8) {
+        1 => lines.insert(2, lines[1].clone()),
+        2 => lines.swap(1, place),
+        3 => lines.insert(place, lines[1].clone()),
+        4 => {
+            let end = random.range(0, lines[1].len() as i64 - 1) as usize;
+            lines[1].truncate(end);
+            if random.one_in(2) {
+                lines.truncate(2);
+            }
+        }
+        _ => lines[1] = random.pick(&WRONG_AXIS_LINES).0.into(),
+    }
+    *text = lines.concat();
 }
 
 fn damage(random: &mut Random, text: &mut Vec<u8>) {
@@ -239,8 +294,7 @@ fn damage(random: &mut Random, text: &mut Vec<u8>) {
         return;
     }
     let at = random.range(0, text.len() as i64 - 1) as usize;
-    const BYTES: &[u8] = b"0123456789-+,=\n\r aeopst\0\xff";
-    let byte = BYTES[random.range(0, BYTES.len() as i64 - 1) as usize];
+    let byte = random.pick(b"0123456789-+,=\n\r aeiopstx\0\xff");
     match random.range(1, 9) {
         1 => text[at] = byte,
         2 => text.insert(at, byte),

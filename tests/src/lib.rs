@@ -6,3 +6,4 @@ pub mod generate;
 pub mod program;
 pub mod reference;
 pub mod trial;
+pub mod vectors;

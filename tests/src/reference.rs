@@ -1,5 +1,5 @@
 //! Document 01 as a plain program: reading, pricing, the search by cells over the whole partition, the full walk, the report text; and
-//! of document 02 the writing of jobs (card 1).
+//! of document 02 the writing of jobs (card 1) and axis costs (card 2).
 //! It is written to be read beside these and is slow on purpose: cells are never dropped, and nothing is kept in order.
 
 use std::cmp::Ordering;
@@ -14,6 +14,18 @@ pub struct Rect {
     pub yhi: i64,
 }
 
+/// What a tenth costs in x and in y.
+#[derive(Clone, Copy, Debug, PartialEq, Eq)]
+pub struct Axis {
+    pub a: i64,
+    pub b: i64,
+}
+
+impl Axis {
+    /// Those of a job without an axis line.
+    pub const PLAIN: Axis = Axis { a: 1, b: 1 };
+}
+
 #[derive(Clone, Copy, Debug, PartialEq, Eq)]
 pub struct Stop {
     pub at: Place,
@@ -23,6 +35,7 @@ pub struct Stop {
 #[derive(Clone, Debug, PartialEq, Eq)]
 pub struct Job {
     pub area: Rect,
+    pub axis: Axis,
     pub posts: Vec<Place>,
     pub stops: Vec<Stop>,
     pub rounds: i64,
@@ -96,6 +109,12 @@ pub fn read_text(bytes: &[u8]) -> Result<Job, Refusal> {
     let mut lines = Lines { rest: bytes, line: 0 };
     let a = lines.next("area=", &[XY; 4])?;
     let area = Rect { xlo: a[0], ylo: a[1], xhi: a[2], yhi: a[3] };
+    let axis = if lines.rest.starts_with(b"axis=") {
+        let v = lines.next("axis=", &[(1, 9); 2])?;
+        Axis { a: v[0], b: v[1] }
+    } else {
+        Axis::PLAIN
+    };
     let posts = lines.next("posts=", &[(0, 64)])?[0];
     let posts = (0..posts)
         .map(|_| lines.next("post=", &[XY; 2]).map(|v| (v[0], v[1])))
@@ -117,13 +136,22 @@ pub fn read_text(bytes: &[u8]) -> Result<Job, Refusal> {
     if stops.is_empty() {
         return Err(refuse(6, 0));
     }
-    Ok(Job { area, posts, stops, rounds })
+    Ok(Job { area, axis, posts, stops, rounds })
 }
 
-/// A job's bytes.
+/// A job's bytes, with an axis line.
+pub fn spell_out(job: &Job) -> Vec<u8> {
+    spell_with(job, &format!("axis={},{}\n", job.axis.a, job.axis.b))
+}
+
+/// A job's bytes, with an axis line where it has to have one.
 pub fn spell(job: &Job) -> Vec<u8> {
+    if job.axis == Axis::PLAIN { spell_with(job, "") } else { spell_out(job) }
+}
+
+fn spell_with(job: &Job, axis_line: &str) -> Vec<u8> {
     let a = job.area;
-    let mut text = format!("area={},{},{},{}\nposts={}\n", a.xlo, a.ylo, a.xhi, a.yhi, job.posts.len());
+    let mut text = format!("area={},{},{},{}\n{axis_line}posts={}\n", a.xlo, a.ylo, a.xhi, a.yhi, job.posts.len());
     for p in &job.posts {
         text += &format!("post={},{}\n", p.0, p.1);
     }
@@ -141,6 +169,7 @@ pub fn spell(job: &Job) -> Vec<u8> {
 #[derive(Clone, Debug, PartialEq, Eq)]
 pub struct Record {
     pub area: [i64; 4],
+    pub axis: [u64; 2],
     pub posts: u64,
     pub post_x: [i64; 64],
     pub post_y: [i64; 64],
@@ -152,8 +181,10 @@ pub struct Record {
 }
 
 impl Record {
+    /// That of a refused job.
     pub const ZEROS: Record = Record {
         area: [0; 4],
+        axis: [0; 2],
         posts: 0,
         post_x: [0; 64],
         post_y: [0; 64],
@@ -164,10 +195,13 @@ impl Record {
         rounds: 0,
     };
 
+    /// The same with axis costs that a file can have.
+    pub const PLAIN: Record = Record { axis: [1; 2], ..Record::ZEROS };
+
     /// That of a job that was read: zeros behind its lists.
     pub fn of(job: &Job) -> Record {
-        let a = job.area;
-        let mut record = Record { area: [a.xlo, a.ylo, a.xhi, a.yhi], rounds: job.rounds as u64, ..Record::ZEROS };
+        let (a, axis) = (job.area, [job.axis.a as u64, job.axis.b as u64]);
+        let mut record = Record { area: [a.xlo, a.ylo, a.xhi, a.yhi], axis, rounds: job.rounds as u64, ..Record::ZEROS };
         record.posts = job.posts.len() as u64;
         for (i, p) in job.posts.iter().enumerate() {
             (record.post_x[i], record.post_y[i]) = *p;
@@ -180,10 +214,15 @@ impl Record {
         record
     }
 
-    /// The text of its file. A count is written as it is; beyond its arrays it counts all of their elements.
+    /// The text of its file. The line of axis costs of 1,1 is left out. A count is written as it is; beyond its arrays it counts all of
+    /// their elements.
     pub fn text(&self) -> Vec<u8> {
         let [xlo, ylo, xhi, yhi] = self.area;
-        let mut text = format!("area={xlo},{ylo},{xhi},{yhi}\nposts={}\n", self.posts);
+        let mut text = format!("area={xlo},{ylo},{xhi},{yhi}\n");
+        if self.axis != [1, 1] {
+            text += &format!("axis={},{}\n", self.axis[0], self.axis[1]);
+        }
+        text += &format!("posts={}\n", self.posts);
         for i in 0..self.posts.min(64) as usize {
             text += &format!("post={},{}\n", self.post_x[i], self.post_y[i]);
         }
@@ -195,10 +234,14 @@ impl Record {
         text.into_bytes()
     }
 
+    /// How many numbers the two lists have.
+    pub const COORDINATES: usize = 4 + 2 * 64 + 2 * 512;
+    pub const NATURALS: usize = 4 + 512;
+
     /// The lists of numbers by which the trial functions know it, the rounds left out.
     pub fn lists(&self) -> (Vec<i64>, Vec<u64>) {
         let coordinates = [&self.area[..], &self.post_x, &self.post_y, &self.stop_x, &self.stop_y].concat();
-        let naturals = [&[self.posts, self.stops][..], &self.visits].concat();
+        let naturals = [&self.axis[..], &[self.posts, self.stops], &self.visits].concat();
         (coordinates, naturals)
     }
 }
@@ -213,10 +256,17 @@ pub fn write(record: &Record, room: usize) -> Result<Vec<u8>, Refusal> {
     Ok(text)
 }
 
+/// What an accepted job comes out as when it is read and saved: its own bytes, but for a line `axis=1,1`.
+pub fn saved(bytes: &[u8]) -> Vec<u8> {
+    let second = bytes.iter().position(|&b| b == 10).map_or(bytes.len(), |end| end + 1);
+    let behind = &bytes[second..];
+    [&bytes[..second], behind.strip_prefix(b"axis=1,1\n").unwrap_or(behind)].concat()
+}
+
 // ---- pricing
 
-pub fn travel(p: Place, q: Place) -> i64 {
-    (p.0 - q.0).abs() + (p.1 - q.1).abs()
+pub fn travel(axis: Axis, p: Place, q: Place) -> i64 {
+    axis.a * (p.0 - q.0).abs() + axis.b * (p.1 - q.1).abs()
 }
 
 /// A deck with each stop's near.
@@ -230,9 +280,13 @@ impl Deck<'_> {
         let near = job
             .stops
             .iter()
-            .map(|s| job.posts.iter().map(|&p| travel(s.at, p)).min().unwrap())
+            .map(|s| job.posts.iter().map(|&p| travel(job.axis, s.at, p)).min().unwrap())
             .collect();
         Deck { job, near }
+    }
+
+    fn travel(&self, p: Place, q: Place) -> i64 {
+        travel(self.job.axis, p, q)
     }
 
     fn stops(&self) -> impl Iterator<Item = (&Stop, i64)> {
@@ -240,7 +294,7 @@ impl Deck<'_> {
     }
 
     pub fn cost(&self, p: Place) -> i64 {
-        self.stops().map(|(s, near)| s.visits * near.min(travel(s.at, p))).sum()
+        self.stops().map(|(s, near)| s.visits * near.min(self.travel(s.at, p))).sum()
     }
 
     pub fn before(&self) -> i64 {
@@ -251,7 +305,7 @@ impl Deck<'_> {
         self.stops()
             .filter(move |(s, near)| {
                 let closest = (s.at.0.clamp(r.xlo, r.xhi), s.at.1.clamp(r.ylo, r.yhi));
-                travel(s.at, closest) < *near
+                self.travel(s.at, closest) < *near
             })
             .map(|(s, _)| s)
     }
@@ -275,7 +329,8 @@ impl Deck<'_> {
     pub fn bound(&self, r: Rect) -> i64 {
         let first = self.cost((r.xlo, r.ylo)) + self.cost((r.xhi, r.yhi));
         let second = self.cost((r.xlo, r.yhi)) + self.cost((r.xhi, r.ylo));
-        let twice = first.max(second) - (r.xhi - r.xlo + r.yhi - r.ylo) * self.load(r);
+        let Axis { a, b } = self.job.axis;
+        let twice = first.max(second) - (a * (r.xhi - r.xlo) + b * (r.yhi - r.ylo)) * self.load(r);
         // towards plus infinity
         -((-twice).div_euclid(2))
     }

@@ -2,8 +2,9 @@
 
 use siting_tests::decks::examples;
 use siting_tests::entry;
-use siting_tests::generate::{crowded, damaged, job, job_of, noise, seed, Random};
-use siting_tests::reference::{read, report_text, search, spell, Job};
+use siting_tests::generate::{axis, crowded, damaged, job, job_of, noise, seed, spelled, spelling, Random};
+use siting_tests::reference::{read, report_text, search, spell_out, Axis, Job};
+use siting_tests::vectors::{refusals, reports};
 
 /// The bytes before and behind what is lent.
 const BESIDE: usize = 16;
@@ -12,6 +13,7 @@ const BESIDE: usize = 16;
 #[derive(Default)]
 struct Seen {
     jobs: usize,
+    axis_costs: usize,
     refused: [usize; 9],
     done: usize,
     stopped: usize,
@@ -48,6 +50,7 @@ fn check(random: &mut Random, seen: &mut Seen, bytes: &[u8]) {
     let want = match read(bytes) {
         Ok(job) => {
             let found = search(&job);
+            seen.axis_costs += (job.axis != Axis::PLAIN) as usize;
             if found.done {
                 seen.done += 1;
             } else {
@@ -73,13 +76,13 @@ fn generated_jobs_get_what_the_reference_says() {
     let mut random = Random::new(seed());
     let mut seen = Seen::default();
     for _ in 0..20_000 {
-        let bytes = spell(&job(&mut random));
+        let bytes = spelled(job)(&mut random);
         check(&mut random, &mut seen, &bytes);
     }
     for _ in 0..10_000 {
         // few places, so that most costs and bounds have equals
         let size = random.range(0, 3);
-        let bytes = spell(&job_of(&mut random, size, 10));
+        let bytes = spelled(|random: &mut Random| job_of(random, size, 10))(&mut random);
         check(&mut random, &mut seen, &bytes);
     }
     for _ in 0..30_000 {
@@ -91,7 +94,7 @@ fn generated_jobs_get_what_the_reference_says() {
         check(&mut random, &mut seen, &bytes);
     }
     println!("{} jobs: {} done, {} stopped, refusals {:?}", seen.jobs, seen.done, seen.stopped, seen.refused);
-    assert!(seen.done > 1_000 && seen.stopped > 1_000);
+    assert!(seen.done > 1_000 && seen.stopped > 1_000 && seen.axis_costs > 10_000);
     assert_eq!((seen.refused[0], seen.refused[7]), (0, 0));
     for number in [1, 2, 3, 4, 5, 6, 8] {
         assert!(seen.refused[number] > 100, "refusal {number}");
@@ -107,7 +110,8 @@ fn the_largest_jobs_get_what_the_reference_says() {
         let visits = if random.one_in(2) { 65_535 } else { 3 };
         let deck = crowded(&mut random, size, size, visits);
         let rounds = if i < 3 { 1_000 } else { random.range(0, 250) };
-        check(&mut random, &mut seen, &spell(&Job { rounds, ..deck }));
+        let bytes = spelled(|random: &mut Random| Job { axis: axis(random), rounds, ..deck.clone() })(&mut random);
+        check(&mut random, &mut seen, &bytes);
     }
     for _ in 0..1_000 {
         // stops at the ends of the range, with the most visits
@@ -117,16 +121,32 @@ fn the_largest_jobs_get_what_the_reference_says() {
             stop.at = (end(stop.at.0, &mut random), end(stop.at.1, &mut random));
             stop.visits = 65_535;
         }
-        check(&mut random, &mut seen, &spell(&j));
+        if random.one_in(3) {
+            j.axis = Axis { a: 9, b: 9 };
+        }
+        let bytes = spelling(&mut random, &j);
+        check(&mut random, &mut seen, &bytes);
     }
-    println!("{} jobs: {} done, {} stopped", seen.jobs, seen.done, seen.stopped);
+    println!("{} jobs: {} done, {} stopped, {} with axis costs", seen.jobs, seen.done, seen.stopped, seen.axis_costs);
+    assert!(seen.done + seen.stopped == 1_060 && seen.axis_costs > 400);
+}
+
+#[test]
+fn the_vectors_get_what_they_say() {
+    let mut random = Random::new(seed());
+    for (job, report) in reports() {
+        call(&mut random, job.as_bytes(), &Ok(report.into()), 128);
+    }
+    for (job, number, _) in refusals() {
+        call(&mut random, job.as_bytes(), &Err(number), 128);
+    }
 }
 
 #[test]
 fn every_output_length_and_every_start_of_a_job() {
     let mut random = Random::new(seed());
     let mut seen = Seen::default();
-    let bytes = spell(&job_of(&mut random, 30, 6));
+    let bytes = spell_out(&job_of(&mut random, 30, 6));
     let text = Ok(report_text(&search(&read(&bytes).unwrap())));
     for length in 0..=300 {
         call(&mut random, &bytes, &text, length);
@@ -134,6 +154,8 @@ fn every_output_length_and_every_start_of_a_job() {
     for end in 0..=bytes.len() {
         check(&mut random, &mut seen, &bytes[..end]);
     }
+    // the whole job alone is accepted, and no start of it is
+    assert_eq!((seen.done + seen.stopped, seen.jobs), (1, bytes.len() + 1));
     for length in [16_383, 16_384, 16_385, 16_386, 100_000] {
         check(&mut random, &mut seen, &vec![b'a'; length]);
         let mut long = bytes.clone();

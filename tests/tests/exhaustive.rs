@@ -1,8 +1,9 @@
 //! The proved exhaustive call against the reference: the full exhaustive, every point of a small area, the done reports of the same job.
 
-use siting_tests::generate::{crowded, damaged, each_job, job, job_of, largest, noise, seed, special, Random};
-use siting_tests::reference::{brute_force, read, search, spell, exhaustive, Job, Place, Rect, Refusal, Stop};
+use siting_tests::generate::{axis, crowded, damaged, each_job, job, job_of, largest, noise, seed, special, spelled, Random};
+use siting_tests::reference::{brute_force, exhaustive, read, search, spell, Axis, Job, Place, Rect, Refusal, Stop};
 use siting_tests::trial;
+use siting_tests::vectors::{narrow, refusals, reports};
 
 const LEAST: i64 = i64::MIN;
 
@@ -33,6 +34,7 @@ struct Seen {
     jobs: usize,
     refusals: [usize; 9],
     found: usize,
+    axis_costs: usize,
     brute_forced: usize,
     done: usize,
     stopped: usize,
@@ -62,6 +64,7 @@ fn check(random: &mut Random, bytes: &[u8], seen: &mut Seen) {
         Ok(job) => job,
     };
     seen.found += 1;
+    seen.axis_costs += (job.axis != Axis::PLAIN) as usize;
     let found = found.unwrap_or_else(|why| panic!("{why:?}\n{}", text(bytes)));
     assert_eq!(found, exhaustive(&job), "{}", text(bytes));
     if points(job.area) * job.stops.len() as i64 <= 20_000 {
@@ -85,7 +88,7 @@ fn check(random: &mut Random, bytes: &[u8], seen: &mut Seen) {
         }
     }
     // no number of rounds that is not allowed
-    let line = (job.posts.len() + job.stops.len() + 4) as i64;
+    let line = (job.posts.len() + job.stops.len() + 4 + (job.axis != Axis::PLAIN) as usize) as i64;
     let other = spell(&Job { rounds: 1_001, ..job });
     assert_eq!(answer(random, &other), Err(Refusal { number: 3, line }), "{}", text(bytes));
 }
@@ -102,50 +105,52 @@ fn check_jobs(count: usize, bytes: impl Fn(&mut Random) -> Vec<u8>) -> Seen {
 
 #[test]
 fn crossings_are_those_of_the_reference() {
-    let seen = check_jobs(4_000, |random| spell(&job(random)));
-    assert!(seen.found == 4_000 && seen.brute_forced > 1_500 && seen.done > 5_000 && seen.stopped > 1_000, "{seen:?}");
+    let seen = check_jobs(4_000, spelled(job));
+    assert!(seen.found == 4_000 && seen.axis_costs > 1_500 && seen.brute_forced > 1_500 && seen.done > 5_000 && seen.stopped > 1_000, "{seen:?}");
 }
 
 #[test]
 fn crossings_of_special_decks_are_those_of_the_reference() {
-    let seen = check_jobs(6_000, |random| spell(&special(random)));
-    assert!(seen.brute_forced > 2_000 && seen.done > 10_000 && seen.stopped > 500, "{seen:?}");
+    let seen = check_jobs(6_000, spelled(special));
+    assert!(seen.axis_costs > 2_000 && seen.brute_forced > 2_000 && seen.done > 10_000 && seen.stopped > 500, "{seen:?}");
 }
 
 /// Small areas, few stops: every point is priced, and most costs are tied.
 #[test]
 fn every_point_of_a_small_area_costs_at_least_the_answer() {
-    let seen = check_jobs(6_000, |random| {
+    let seen = check_jobs(6_000, spelled(|random: &mut Random| {
         let size = random.range(1, 14);
-        spell(&job_of(random, size, 10))
-    });
-    assert!(seen.brute_forced > 5_000 && seen.done > 10_000, "{seen:?}");
+        job_of(random, size, 10)
+    }));
+    assert!(seen.axis_costs > 2_000 && seen.brute_forced > 5_000 && seen.done > 10_000, "{seen:?}");
 }
 
 #[test]
 fn crossings_of_the_largest_decks_are_those_of_the_reference() {
-    let seen = check_jobs(60, |random| spell(&largest(random)));
-    assert!(seen.found == 60, "{seen:?}");
+    let seen = check_jobs(60, spelled(largest));
+    assert!(seen.found == 60 && seen.axis_costs > 20, "{seen:?}");
 }
 
 /// Some 500 lines each way: the reference prices a quarter of a million crossings a deck.
 #[test]
 fn crossings_of_crowded_decks_are_those_of_the_reference() {
-    let seen = check_jobs(12, |random| {
+    let seen = check_jobs(12, spelled(|random: &mut Random| {
         let (width, depth) = (random.range(300, 20_000), random.range(300, 20_000));
         let mut j = crowded(random, width, depth, 65_535);
+        j.axis = axis(random);
         match random.range(1, 3) {
             // one post in a corner: nearly every stop is within reach of every line
             1 => j.posts = vec![(-20_000, -20_000)],
             2 => j.posts.truncate(random.range(1, 8) as usize),
             _ => {}
         }
-        spell(&j)
-    });
+        j
+    }));
     assert!(seen.found == 12, "{seen:?}");
 }
 
-/// The sums of the ramps at their largest: one post in a corner, and all stops with the most visits in the opposite one, or all over.
+/// The sums of the ramps at their largest: one post in a corner, all stops with the most visits in the opposite one, or all over, and the
+/// most axis costs too.
 #[test]
 fn the_largest_figures_are_those_of_the_reference() {
     let mut random = Random::new(seed());
@@ -155,21 +160,24 @@ fn the_largest_figures_are_those_of_the_reference() {
     for post in corners {
         for spread in [0, 1, 50, 40_000] {
             for area in [whole, Rect { xhi: -20_000, ..whole }, Rect { ylo: 20_000, ..whole }, Rect { xlo: 19_990, ylo: 19_990, ..whole }] {
-                let mut across = |v: i64| -v + v.signum() * random.range(0, spread);
-                let stops = (0..512).map(|i| Stop { at: (across(post.0), across(post.1)), visits: if i < 500 { 65_535 } else { 1 } }).collect();
-                check(&mut random, &spell(&Job { area, posts: vec![post], stops, rounds: 0 }), &mut seen);
+                for (a, b) in [(1, 1), (9, 9), (1, 9)] {
+                    let mut across = |v: i64| -v + v.signum() * random.range(0, spread);
+                    let stops = (0..512).map(|i| Stop { at: (across(post.0), across(post.1)), visits: if i < 500 { 65_535 } else { 1 } }).collect();
+                    let j = Job { area, axis: Axis { a, b }, posts: vec![post], stops, rounds: 0 };
+                    check(&mut random, &spell(&j), &mut seen);
+                }
             }
         }
     }
     println!("{seen:?}");
-    assert!(seen.found == 64, "{seen:?}");
+    assert!(seen.found == 192, "{seen:?}");
 }
 
 #[test]
 fn damaged_jobs_are_refused_as_the_reference_refuses_them() {
     let seen = check_jobs(10_000, |random| if random.one_in(5) { noise(random) } else { damaged(random) });
     assert!(seen.refusals[1..7].iter().all(|&n| n > 10), "{seen:?}");
-    assert!(seen.refusals[7..] == [0, 0] && seen.found > 1_000, "{seen:?}");
+    assert!(seen.refusals[7..] == [0, 0] && seen.found > 700 && seen.axis_costs > 200, "{seen:?}");
 }
 
 // ---- the decks of document 01
@@ -195,6 +203,30 @@ fn the_marked_decks_have_the_places_of_document_01() {
         finds(&format!("area=0,0,10,0\nposts=1\npost=0,50\nstops=2\nstop=0,0,1\nstop=10,0,1\nrounds={rounds}\n"), 10, (0, 0));
         finds(&case_a(rounds).replace("2,2,8,8", "5,5,5,5"), 16, (5, 5));
         finds(&format!("area=0,0,9,0\nposts=1\npost=5,1\nstops=1\nstop=5,0,1\nrounds={rounds}\n"), 0, (5, 0));
+    }
+}
+
+#[test]
+fn a_narrow_deck_has_another_place_for_each_of_three_axis_costs() {
+    for rounds in [0, 1, 1_000] {
+        for axis_line in ["", "axis=1,1\n"] {
+            finds(&narrow(axis_line, rounds), 7, (2, 1));
+        }
+        finds(&narrow("axis=2,1\n", rounds), 9, (2, 4));
+        finds(&narrow("axis=1,2\n", rounds), 9, (3, 1));
+    }
+}
+
+#[test]
+fn the_vectors_get_what_they_say() {
+    let mut random = Random::new(1);
+    let mut seen = Seen::default();
+    for (job, _) in reports() {
+        check(&mut random, job.as_bytes(), &mut seen);
+    }
+    assert_eq!(seen.found, reports().len());
+    for (job, number, line) in refusals() {
+        refused(job.as_bytes(), number, line);
     }
 }
 

@@ -1,8 +1,9 @@
 //! The proved reader and the proved pricing against the reference, on random bytes and decks.
 
-use siting_tests::generate::{damaged, job, job_of, largest, noise, rect, seed, Random};
-use siting_tests::reference::{cut, read, spell, Deck, Job, Place, Rect, Refusal};
+use siting_tests::generate::{damaged, job, job_of, largest, noise, rect, seed, spelled, spelling, Random};
+use siting_tests::reference::{cut, read, spell_out, Axis, Deck, Job, Place, Rect, Refusal};
 use siting_tests::trial;
+use siting_tests::vectors::{deep, narrow, refusals, reports};
 
 const LEAST: i64 = i64::MIN;
 
@@ -25,7 +26,7 @@ fn check_read(bytes: &[u8]) {
 fn jobs_are_read_as_the_reference_reads_them() {
     let mut random = Random::new(seed());
     for _ in 0..8_000 {
-        check_read(&spell(&job(&mut random)));
+        check_read(&spelled(job)(&mut random));
     }
     for _ in 0..16_000 {
         check_read(&damaged(&mut random));
@@ -33,8 +34,8 @@ fn jobs_are_read_as_the_reference_reads_them() {
     for _ in 0..6_000 {
         check_read(&noise(&mut random));
     }
-    // each start of a valid job
-    let bytes = spell(&job_of(&mut random, 30, 6));
+    // each start of a valid job with an axis line
+    let bytes = spell_out(&job_of(&mut random, 30, 6));
     for end in 0..=bytes.len() {
         check_read(&bytes[..end]);
     }
@@ -46,7 +47,18 @@ fn jobs_are_read_as_the_reference_reads_them() {
         check_read(&long);
     }
     for _ in 0..20 {
-        check_read(&spell(&largest(&mut random)));
+        check_read(&spelled(largest)(&mut random));
+    }
+}
+
+#[test]
+fn the_vectors_are_read_as_they_say() {
+    for (job, _) in reports() {
+        let rounds = read(job.as_bytes()).unwrap().rounds;
+        assert_eq!((trial::refusal(job.as_bytes()), trial::refusal_line(job.as_bytes()), trial::rounds(job.as_bytes())), (0, 0, rounds), "{job}");
+    }
+    for (job, number, line) in refusals() {
+        assert_eq!((trial::refusal(job.as_bytes()), trial::refusal_line(job.as_bytes())), (number as u64, line as u64), "{job}");
     }
 }
 
@@ -102,7 +114,7 @@ fn check_lines(bytes: &[u8], across: bool, lines: &[i64]) {
 
 /// Every figure of a deck, at `many` places and rectangles.
 fn check_deck(random: &mut Random, job: &Job, many: usize) {
-    let bytes = spell(job);
+    let bytes = spelling(random, job);
     let deck = Deck::new(job);
     assert_eq!(trial::before(&bytes), deck.before(), "{}", text(&bytes));
     let step = 1 + job.stops.len() / 40;
@@ -160,20 +172,52 @@ fn figures_of_the_largest_decks_are_those_of_the_reference() {
     }
 }
 
+/// Worked out by hand.
+#[test]
+fn figures_of_a_deck_with_axis_costs() {
+    let job = narrow("axis=2,1\n", 10);
+    let bytes = job.as_bytes();
+    // the post at 4,6: 2 * 2 + 5 from the stop at 6,1 and 2 * 2 + 2 from that at 2,4
+    assert_eq!((trial::near(bytes, 0), trial::near(bytes, 1), trial::before(bytes)), (9, 6, 15));
+    assert_eq!([(1, 1), (1, 9), (3, 1), (3, 9), (2, 4)].map(|p| trial::cost(bytes, p)), [14, 15, 11, 15, 9]);
+    let whole = Rect { xlo: 1, ylo: 1, xhi: 3, yhi: 9 };
+    let back = Rect { ylo: 4, ..whole };
+    // 6,1 is 2 * 3 + 3 from 3,4, its near: not within reach
+    assert_eq!((trial::load(bytes, whole), trial::load(bytes, back)), (2, 1));
+    assert_eq!((trial::bound(bytes, whole), trial::bound(bytes, back)), (3, 9));
+    // 5 tenths are longer than 3 at twice the cost
+    assert_eq!(trial::cut(deep(0).as_bytes(), Rect { xlo: 0, ylo: 0, xhi: 3, yhi: 5 }), (2, 2));
+}
+
+/// Every pair of axis costs, on one deck.
+#[test]
+fn figures_under_each_axis_cost() {
+    let mut random = Random::new(seed());
+    let j = job_of(&mut random, 20_000, 40);
+    for a in 1..=9 {
+        for b in 1..=9 {
+            check_deck(&mut random, &Job { axis: Axis { a, b }, ..j.clone() }, 10);
+        }
+    }
+}
+
 #[test]
 fn extreme_numbers_are_answered_too() {
     let mut random = Random::new(seed());
     let j = job_of(&mut random, 30, 6);
-    let bytes = spell(&j);
-    let deck = Deck::new(&j);
-    let (vertical, horizontal) = (deck.vertical(), deck.horizontal());
-    let ends = [i64::MIN, i64::MIN + 1, -20_001, -20_000, -1, 0, 1, 20_000, 20_001, i64::MAX - 1, i64::MAX];
-    for x in ends {
-        for y in ends {
-            check_cost(&bytes, &deck, (x, y));
-            for u in ends {
-                for v in ends {
-                    check_rect(&bytes, &deck, &vertical, &horizontal, Rect { xlo: x, ylo: y, xhi: u, yhi: v });
+    for axis in [Axis::PLAIN, Axis { a: 9, b: 9 }] {
+        let j = Job { axis, ..j.clone() };
+        let bytes = spelling(&mut random, &j);
+        let deck = Deck::new(&j);
+        let (vertical, horizontal) = (deck.vertical(), deck.horizontal());
+        let ends = [i64::MIN, i64::MIN + 1, -20_001, -20_000, -1, 0, 1, 20_000, 20_001, i64::MAX - 1, i64::MAX];
+        for x in ends {
+            for y in ends {
+                check_cost(&bytes, &deck, (x, y));
+                for u in ends {
+                    for v in ends {
+                        check_rect(&bytes, &deck, &vertical, &horizontal, Rect { xlo: x, ylo: y, xhi: u, yhi: v });
+                    }
                 }
             }
         }

@@ -1,9 +1,10 @@
 //! The program by pipes, against the reference.
 
 use siting_tests::decks::CASE_A;
-use siting_tests::generate::{damaged, job, noise, seed, Random};
+use siting_tests::generate::{damaged, job, largest, noise, seed, spelled, Random};
 use siting_tests::program::{command, printed, redirected};
-use siting_tests::reference::{answer_text, spell};
+use siting_tests::reference::answer_text;
+use siting_tests::vectors::{refusals, reports};
 use std::fs::File;
 use std::io::{ErrorKind, Read, Write};
 use std::process::Stdio;
@@ -40,11 +41,24 @@ fn check(bytes: &[u8]) {
 fn jobs_are_answered_as_the_reference_answers_them() {
     let mut random = Random::new(seed());
     for _ in 0..150 {
-        check(&spell(&job(&mut random)));
+        check(&spelled(job)(&mut random));
         check(&damaged(&mut random));
     }
     for _ in 0..50 {
         check(&noise(&mut random));
+    }
+    for _ in 0..5 {
+        check(&spelled(largest)(&mut random));
+    }
+}
+
+#[test]
+fn the_vectors_get_what_they_say() {
+    for (job, report) in reports() {
+        assert_eq!(answer([job.as_bytes()], Duration::ZERO), report, "{job}");
+    }
+    for (job, number, line) in refusals() {
+        assert_eq!(answer([job.as_bytes()], Duration::ZERO), format!("refused={number}\nline={line}\n"), "{job}");
     }
 }
 
@@ -52,7 +66,7 @@ fn jobs_are_answered_as_the_reference_answers_them() {
 fn an_input_in_pieces_is_the_same_input() {
     let mut random = Random::new(seed());
     for _ in 0..30 {
-        let bytes = spell(&job(&mut random));
+        let bytes = spelled(job)(&mut random);
         let longest = bytes.len() as i64 / 6 + 1;
         let mut pieces = Vec::new();
         let mut rest = &bytes[..];

@@ -1,8 +1,10 @@
 //! The proved report call against the reference: answer, text, cell space and all that stays as it was, on random jobs and lent memory.
 
-use siting_tests::generate::{damaged, each_job, job, job_of, largest, noise, seed, special, Random};
-use siting_tests::reference::{brute_force, read, refusal_text, report_text, search, spell, exhaustive, Deck, Found, Job, Rect, Refusal, Stop};
+use siting_tests::generate::{damaged, each_job, job, job_of, largest, noise, seed, special, spelled, Random};
+use siting_tests::reference::{brute_force, exhaustive, read, refusal_text, report_text, search, spell};
+use siting_tests::reference::{Axis, Deck, Found, Job, Rect, Refusal, Stop};
 use siting_tests::trial;
+use siting_tests::vectors::{deep, narrow, refusals, reports};
 
 const LEAST: i64 = i64::MIN;
 
@@ -29,11 +31,14 @@ fn enough(rounds: i64) -> usize {
 
 // ---- what is expected
 
-/// What the call gives for a job, if enough is lent: the search with its rounds, or the refusal.
-type Answer = Result<(i64, Found), Refusal>;
+/// What the call gives for a job, if enough is lent: the job with its search, or the refusal.
+type Answer = Result<(Job, Found), Refusal>;
 
 fn answer(bytes: &[u8]) -> Answer {
-    read(bytes).map(|job| (job.rounds, search(&job)))
+    read(bytes).map(|job| {
+        let found = search(&job);
+        (job, found)
+    })
 }
 
 /// The answer with what is lent, and what the memory holds then.
@@ -41,7 +46,7 @@ fn expected(answer: &Answer, before: &Lent) -> (Result<Found, Refusal>, Lent) {
     let refuse = |number| (Err(Refusal { number, line: 0 }), before.clone());
     match answer {
         Err(r) => (Err(*r), before.clone()),
-        Ok((rounds, _)) if before.cells.len() < enough(*rounds) => refuse(7),
+        Ok((job, _)) if before.cells.len() < enough(job.rounds) => refuse(7),
         Ok(_) if before.out.len() < 128 => refuse(8),
         Ok((_, found)) => {
             let mut cells = found.cells.clone();
@@ -102,6 +107,7 @@ fn text(bytes: &[u8]) -> String {
 #[derive(Default, Debug)]
 struct Seen {
     jobs: usize,
+    axis_costs: usize,
     refusals: [usize; 9],
     done: usize,
     stopped: usize,
@@ -128,7 +134,8 @@ impl Seen {
 fn check_job(random: &mut Random, bytes: &[u8], seen: &mut Seen) {
     let answer = answer(bytes);
     seen.jobs += 1;
-    let need = answer.as_ref().map_or(random.range(0, 60) as usize, |a| enough(a.0));
+    seen.axis_costs += answer.as_ref().is_ok_and(|(job, _)| job.axis != Axis::PLAIN) as usize;
+    let need = answer.as_ref().map_or(random.range(0, 60) as usize, |(job, _)| enough(job.rounds));
     let outs = [127, 128, 129, random.range(0, 600) as usize, random.range(128, 300) as usize];
     let any_out = outs[random.range(0, 4) as usize];
     let large_out = outs[[1, 2, 4][random.range(0, 2) as usize]];
@@ -156,32 +163,32 @@ fn check_jobs(count: usize, bytes: impl Fn(&mut Random) -> Vec<u8>) -> Seen {
 
 #[test]
 fn reports_are_those_of_the_reference() {
-    let seen = check_jobs(20_000, |random| spell(&job(random)));
+    let seen = check_jobs(20_000, spelled(job));
     assert!(seen.done > 5_000 && seen.stopped > 1_000 && seen.negative_low > 50 && seen.most_cells > 20, "{seen:?}");
-    assert!(seen.refusals[7] > 5_000 && seen.refusals[8] > 5_000, "{seen:?}");
+    assert!(seen.refusals[7] > 5_000 && seen.refusals[8] > 5_000 && seen.axis_costs > 8_000, "{seen:?}");
 }
 
 #[test]
 fn reports_of_special_decks_are_those_of_the_reference() {
-    let seen = check_jobs(15_000, |random| spell(&special(random)));
-    assert!(seen.done > 5_000 && seen.stopped > 1_000, "{seen:?}");
+    let seen = check_jobs(15_000, spelled(special));
+    assert!(seen.done > 5_000 && seen.stopped > 1_000 && seen.axis_costs > 6_000, "{seen:?}");
 }
 
 #[test]
 fn reports_of_the_largest_decks_are_those_of_the_reference() {
-    let seen = check_jobs(300, |random| spell(&largest(random)));
-    assert!(seen.done + seen.stopped >= 300, "{seen:?}");
+    let seen = check_jobs(300, spelled(largest));
+    assert!(seen.done + seen.stopped >= 300 && seen.axis_costs > 150, "{seen:?}");
 }
 
 /// Few posts, far away, and a large area: bounds are loose, and most searches end with many cells left.
 #[test]
 fn long_searches_are_those_of_the_reference() {
-    let seen = check_jobs(300, |random| {
+    let seen = check_jobs(300, spelled(|random: &mut Random| {
         let mut j = Job { rounds: random.range(20, 1_000), ..job_of(random, 20_000, 512) };
         j.posts = (0..random.range(1, 2)).map(|_| (random.range(19_000, 20_000), random.range(-20_000, -15_000))).collect();
         j.area = Rect { xlo: random.range(-20_000, -10_000), ylo: random.range(-20_000, -10_000), xhi: random.range(5_000, 20_000), yhi: random.range(5_000, 20_000) };
-        spell(&j)
-    });
+        j
+    }));
     assert!(seen.stopped > 50 && seen.most_rounds > 500 && seen.most_cells > 200, "{seen:?}");
 }
 
@@ -209,7 +216,7 @@ fn reported(random: &mut Random, j: &Job) -> Found {
 #[test]
 fn every_point_of_a_small_area_costs_what_the_report_says() {
     let mut random = Random::new(seed());
-    let (mut done, mut stopped) = (0, 0);
+    let (mut done, mut stopped, mut axis_costs) = (0, 0, 0);
     for i in 0..3_000 {
         let j = if i % 3 == 0 {
             special(&mut random)
@@ -221,6 +228,7 @@ fn every_point_of_a_small_area_costs_what_the_report_says() {
         if (a.xhi - a.xlo + 1) * (a.yhi - a.ylo + 1) > 2_000 {
             continue;
         }
+        axis_costs += (j.axis != Axis::PLAIN) as usize;
         let deck = Deck::new(&j);
         let costs: Vec<i64> = (a.xlo..=a.xhi).flat_map(|x| (a.ylo..=a.yhi).map(move |y| (x, y))).map(|p| deck.cost(p)).collect();
         let cheapest = brute_force(&j);
@@ -253,8 +261,8 @@ fn every_point_of_a_small_area_costs_what_the_report_says() {
         }
         assert!(last.unwrap().done || most_cuts > 1_000);
     }
-    println!("done {done}, stopped {stopped}");
-    assert!(done > 5_000 && stopped > 2_000);
+    println!("done {done}, stopped {stopped}, with axis costs {axis_costs}");
+    assert!(done > 5_000 && stopped > 2_000 && axis_costs > 500);
 }
 
 // ---- the decks of document 01
@@ -302,17 +310,20 @@ fn the_marked_decks_print_what_document_01_says() {
     prints(&d(1), "state=done\nat=5,0\nhigh=0\nlow=0\nbefore=1\nrounds=1\n");
 }
 
+/// The live cells that a report leaves, from a cell space with room for more.
+fn live(job: &str) -> Vec<i64> {
+    let cells = enough(read(job.as_bytes()).unwrap().rounds) + 7;
+    let (r, _, m) = call(job.as_bytes(), cells, 128);
+    assert_eq!(r, 0);
+    let used = m.cells.chunks(5).take_while(|c| c.iter().any(|&v| v != 0)).count() * 5;
+    assert!(m.cells[used..].iter().all(|&v| v == 0));
+    m.cells[..used].to_vec()
+}
+
 /// Worked out by hand. The lines stand at x 2, 4, 8 and y 2, 3, 8, and the load of every cell is 3.
 #[test]
 fn the_live_cells_of_case_a() {
-    let live = |rounds: i64| {
-        let cells = enough(rounds) + 7;
-        let (r, _, m) = call(case_a(rounds).as_bytes(), cells, 128);
-        assert_eq!(r, 0);
-        let used = m.cells.chunks(5).take_while(|c| c.iter().any(|&v| v != 0)).count() * 5;
-        assert!(m.cells[used..].iter().all(|&v| v == 0));
-        m.cells[..used].to_vec()
-    };
+    let live = |rounds: i64| live(&case_a(rounds));
     // corners 22 + 18 and 24 + 20, less 12 * 3, halved
     assert_eq!(live(0), [2, 2, 8, 8, 4]);
     // cut at x 4: (4,2) costs 16 and (4,8) costs 18. Right: 18 + 20 - 10 * 3, left: 22 + 18 - 8 * 3
@@ -322,6 +333,31 @@ fn the_live_cells_of_case_a() {
     // so is the left one
     assert_eq!(live(3), []);
     assert_eq!(live(10), []);
+}
+
+/// Worked out by hand.
+#[test]
+fn the_live_cells_of_decks_with_axis_costs() {
+    let live_narrow = |rounds: i64| live(&narrow("axis=2,1\n", rounds));
+    // corners 14 + 15 and 15 + 11, less (2 * 2 + 8) * 2, halved
+    assert_eq!(live_narrow(0), [1, 1, 3, 9, 3]);
+    // cut at y 4: both new corners cost 11. Front: 14 + 11 - (2 * 2 + 3) * 2; back, of load 1: 11 + 15 - (2 * 2 + 5)
+    assert_eq!(live_narrow(1), [1, 1, 3, 4, 6, 1, 4, 3, 9, 9]);
+    // the front one is cut at x 2: 2,4 costs 9, and the back one's corner is earlier
+    assert_eq!(live_narrow(2), [1, 4, 3, 9, 9]);
+    assert_eq!(live_narrow(3), []);
+    // cut at y 2, as 5 tenths are longer than 3. Front: 22 + 10 - (2 * 3 + 2) * 4; back: 26 + 19 - (2 * 3 + 3) * 4, above the best cost, 4
+    assert_eq!(live(&deep(1)), [0, 0, 3, 2, 0]);
+}
+
+#[test]
+fn the_vectors_get_what_they_say() {
+    for (job, report) in reports() {
+        prints(&job, report);
+    }
+    for (job, number, line) in refusals() {
+        refused(job.as_bytes(), number, line);
+    }
 }
 
 #[test]
@@ -354,7 +390,7 @@ fn the_other_decks_of_document_01() {
     assert_eq!(refusal_text(read(&[b'a'; 16_385]).unwrap_err()), "refused=1\nline=0\n");
 }
 
-/// Large figures: one post in a corner, and all stops with the most visits in the opposite one.
+/// Large figures: one post in a corner, all stops with the most visits in the opposite one, and axis costs up to the most.
 #[test]
 fn the_largest_figures_are_those_of_the_reference() {
     let mut random = Random::new(seed());
@@ -364,10 +400,12 @@ fn the_largest_figures_are_those_of_the_reference() {
     for post in corners {
         for rounds in [0, 1, 1_000] {
             for spread in [0, 1, 40_000] {
-                let mut across = |v: i64| -v + v.signum() * random.range(0, spread);
-                let stops = (0..512).map(|_| Stop { at: (across(post.0), across(post.1)), visits: 65_535 }).collect();
-                let j = Job { area, posts: vec![post], stops, rounds };
-                check_job(&mut random, &spell(&j), &mut seen);
+                for (a, b) in [(1, 1), (9, 9), (1, 9)] {
+                    let mut across = |v: i64| -v + v.signum() * random.range(0, spread);
+                    let stops = (0..512).map(|_| Stop { at: (across(post.0), across(post.1)), visits: 65_535 }).collect();
+                    let j = Job { area, axis: Axis { a, b }, posts: vec![post], stops, rounds };
+                    check_job(&mut random, &spell(&j), &mut seen);
+                }
             }
         }
     }

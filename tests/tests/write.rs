@@ -2,9 +2,10 @@
 //! every byte of the output.
 
 use siting_tests::decks::{folder, CASE_A};
-use siting_tests::generate::{damaged, each_job, job, job_of, largest, noise, seed, special, Random};
-use siting_tests::reference::{read, spell, write, Record, Refusal};
+use siting_tests::generate::{damaged, each_job, job, job_of, largest, noise, seed, special, spelled, Random};
+use siting_tests::reference::{read, saved, spell, spell_out, write, Axis, Job, Record, Refusal};
 use siting_tests::trial;
+use siting_tests::vectors::{behind, refusals, reports};
 
 const LEAST: i64 = i64::MIN;
 
@@ -20,7 +21,7 @@ fn text(bytes: &[u8]) -> String {
 /// The numbers that an answer has, from 0, and one that none has.
 fn figures(random: &mut Random, answer: Result<i64, Refusal>) -> [(u64, i64); 4] {
     let [value, number, line] = answer.map_or_else(|r| [LEAST, r.number, r.line], |value| [value, 0, 0]);
-    let none = pick(random, &[3, 4, 1 << 32, (1 << 32) + 1, 1 << 63, u64::MAX]);
+    let none = random.pick(&[3, 4, 1 << 32, (1 << 32) + 1, 1 << 63, u64::MAX]);
     [(0, value), (1, number), (2, line), (none, LEAST)]
 }
 
@@ -48,22 +49,29 @@ fn check_read(random: &mut Random, bytes: &[u8]) -> Result<Record, Refusal> {
     let want = read(bytes).map(|job| Record::of(&job));
     let after = want.as_ref().unwrap_or(&Record::ZEROS).lists();
     for (which, figure) in figures(random, want.as_ref().map_or_else(|r| Err(*r), |record| Ok(record.rounds as i64))) {
-        let mut coordinates: Vec<i64> = (0..1_156).map(|_| random.next() as i64).collect();
-        let mut naturals: Vec<u64> = (0..514).map(|_| random.next()).collect();
+        let mut coordinates: Vec<i64> = (0..Record::COORDINATES).map(|_| random.next() as i64).collect();
+        let mut naturals: Vec<u64> = (0..Record::NATURALS).map(|_| random.next()).collect();
         assert_eq!(trial::read(bytes, &mut coordinates, &mut naturals, which), figure, "figure {which}\n{}", text(bytes));
         assert!((&coordinates, &naturals) == (&after.0, &after.1), "record {coordinates:?} {naturals:?}\n{}", text(bytes));
     }
     want
 }
 
-/// An accepted job is read, and written into outputs of its length, one byte less, more and none.
-fn check_own_bytes(random: &mut Random, bytes: &[u8]) {
+/// An accepted job is read, and written into outputs of just its length, one byte less, more and none. It comes out in its own bytes, but
+/// for a line `axis=1,1`.
+fn check_saved(random: &mut Random, bytes: &[u8]) {
     let record = check_read(random, bytes).unwrap();
-    for room in [bytes.len(), bytes.len() + 1, bytes.len() + random.range(2, 500) as usize] {
-        assert!(check_write(random, &record, room).as_deref() == Ok(bytes), "{}", text(bytes));
+    let saved = saved(bytes);
+    let length = saved.len();
+    for room in [length, length + 1, length + random.range(2, 500) as usize] {
+        assert!(check_write(random, &record, room).as_ref() == Ok(&saved), "{}", text(bytes));
     }
-    for room in [0, bytes.len() - 1, random.range(1, bytes.len() as i64 - 1) as usize] {
+    for room in [0, length - 1, random.range(1, length as i64 - 1) as usize] {
         assert_eq!(check_write(random, &record, room), Err(Refusal { number: 8, line: 0 }), "{}", text(bytes));
+    }
+    if saved != bytes {
+        assert!(record.axis == [1, 1] && length + "axis=1,1\n".len() == bytes.len(), "{}", text(bytes));
+        assert!(check_read(random, &saved) == Ok(record), "{}", text(bytes));
     }
 }
 
@@ -108,28 +116,25 @@ const COORDINATES: [i64; 27] = [
     i64::MIN, i64::MIN + 1, i64::MAX, i64::MAX - 1,
 ];
 #[rustfmt::skip]
-const NATURALS: [u64; 27] = [
-    0, 1, 2, 63, 64, 65, 511, 512, 513, 999, 1_000, 1_001, 65_534, 65_535, 65_536, 65_537, 999_999_999, 1_000_000_000, 1_000_000_001,
-    1 << 32, (1 << 32) + 1, i64::MAX as u64, 1 << 63, (1 << 63) + 1, 9_999_999_999_999_999_999, 10_000_000_000_000_000_000, u64::MAX,
+const NATURALS: [u64; 29] = [
+    0, 1, 2, 9, 10, 63, 64, 65, 511, 512, 513, 999, 1_000, 1_001, 65_534, 65_535, 65_536, 65_537, 999_999_999, 1_000_000_000,
+    1_000_000_001, 1 << 32, (1 << 32) + 1, i64::MAX as u64, 1 << 63, (1 << 63) + 1, 9_999_999_999_999_999_999,
+    10_000_000_000_000_000_000, u64::MAX,
 ];
 /// One number in so many from these: none.
 const NEVER: i64 = 1 << 40;
 
-fn pick<T: Copy>(random: &mut Random, from: &[T]) -> T {
-    from[random.range(0, from.len() as i64 - 1) as usize]
-}
-
 fn coordinate(random: &mut Random, ends: i64) -> i64 {
     if random.one_in(ends) {
-        return pick(random, &COORDINATES);
+        return random.pick(&COORDINATES);
     }
-    let size = pick(random, &[9, 99, 999, 20_000]);
+    let size = random.pick(&[9, 99, 999, 20_000]);
     random.range(-size, size)
 }
 
 fn natural(random: &mut Random, ends: i64, lo: i64, hi: i64) -> u64 {
     if random.one_in(ends) {
-        return pick(random, &NATURALS);
+        return random.pick(&NATURALS);
     }
     random.range(lo, hi) as u64
 }
@@ -165,8 +170,8 @@ fn items(random: &mut Random, record: &Record) -> (usize, usize) {
 /// An end in the place of a number that counts.
 fn replace(random: &mut Random, record: &mut Record) {
     let (post, stop) = items(random, record);
-    let (z, n) = (pick(random, &COORDINATES), pick(random, &NATURALS));
-    match random.range(1, 9) {
+    let (z, n) = (random.pick(&COORDINATES), random.pick(&NATURALS));
+    match random.range(1, 10) {
         1 => record.area[random.range(0, 3) as usize] = z,
         2 => record.posts = n,
         3 => record.post_x[post] = z,
@@ -175,6 +180,7 @@ fn replace(random: &mut Random, record: &mut Record) {
         6 => record.stop_x[stop] = z,
         7 => record.stop_y[stop] = z,
         8 => record.visits[stop] = n,
+        9 => record.axis[random.range(0, 1) as usize] = n,
         _ => record.rounds = n,
     }
 }
@@ -182,13 +188,13 @@ fn replace(random: &mut Random, record: &mut Record) {
 /// Another number in range in the place of one that counts.
 fn alter(random: &mut Random, record: &mut Record) {
     let (post, stop) = items(random, record);
+    let (which, corner) = (random.range(1, 10), random.range(0, 3) as usize);
     let mut other = |old: i64, lo: i64, hi: i64| loop {
         let new = if random.one_in(2) { random.range(lo, hi) } else { (old + random.range(-1, 1)).clamp(lo, hi) };
         if new != old {
             return new;
         }
     };
-    let (which, corner) = (other(0, 1, 9), other(-1, 0, 3) as usize);
     let mut xy = |z: &mut i64| *z = other(*z, -20_000, 20_000);
     match which {
         1 => xy(&mut record.area[corner]),
@@ -199,20 +205,24 @@ fn alter(random: &mut Random, record: &mut Record) {
         6 => record.posts = other(record.posts as i64, 1, 64) as u64,
         7 => record.stops = other(record.stops as i64, 1, 512) as u64,
         8 => record.visits[stop] = other(record.visits[stop] as i64, 1, 65_535) as u64,
+        9 => record.axis[corner % 2] = other(record.axis[corner % 2] as i64, 1, 9) as u64,
         _ => record.rounds = other(record.rounds as i64, 0, 1_000) as u64,
     }
 }
 
 /// A record of any numbers, one in `ends` of them an end; the area is mostly not an empty one.
 fn drawn(random: &mut Random, ends: i64) -> Record {
-    let mut record = Record::ZEROS;
+    let mut record = Record::PLAIN;
     litter(random, &mut record, ends);
     record.area.iter_mut().for_each(|z| *z = coordinate(random, ends));
     if !random.one_in(4) {
         let [x, y, u, v] = record.area;
         record.area = [x.min(u), y.min(v), x.max(u), y.max(v)];
     }
-    let most = pick(random, &[3, 64, 512]);
+    if !random.one_in(3) {
+        record.axis = [(); 2].map(|()| natural(random, ends, 1, 9));
+    }
+    let most = random.pick(&[3, 64, 512]);
     record.posts = natural(random, ends, 0, most.min(64));
     record.stops = natural(random, ends, 0, most);
     record.rounds = natural(random, ends, 0, 1_000);
@@ -235,21 +245,24 @@ fn without_litter(record: &Record) -> Record {
 
 #[test]
 fn accepted_jobs_come_out_in_their_own_bytes() {
-    each_job(6_000, |random| spell(&job(random)), check_own_bytes);
-    each_job(2_000, |random| spell(&special(random)), check_own_bytes);
-    each_job(100, |random| spell(&largest(random)), check_own_bytes);
+    each_job(6_000, spelled(job), check_saved);
+    each_job(2_000, spelled(special), check_saved);
+    each_job(100, spelled(largest), check_saved);
 }
 
 #[test]
 fn every_output_length_of_one_job() {
     let mut random = Random::new(seed());
-    let bytes = spell(&job_of(&mut random, 30, 6));
-    let record = check_read(&mut random, &bytes).unwrap();
-    let mut seen = Seen::default();
-    for room in 0..=bytes.len() + 40 {
-        seen.add(check_write(&mut random, &record, room));
+    let j = job_of(&mut random, 30, 6);
+    for axis in [Axis::PLAIN, Axis { a: 3, b: 8 }] {
+        let bytes = spell(&Job { axis, ..j.clone() });
+        let record = check_read(&mut random, &bytes).unwrap();
+        let mut seen = Seen::default();
+        for room in 0..=bytes.len() + 40 {
+            seen.add(check_write(&mut random, &record, room));
+        }
+        assert_eq!((seen.accepted, seen.refusals[8]), (41, bytes.len()));
     }
-    assert_eq!((seen.accepted, seen.refusals[8]), (41, bytes.len()));
 }
 
 #[test]
@@ -279,7 +292,7 @@ fn the_files_of_examples_and_seeds() {
                 let bytes = std::fs::read(&file).unwrap();
                 let answer = check_read(&mut random, &bytes);
                 if answer.is_ok() {
-                    check_own_bytes(&mut random, &bytes);
+                    check_saved(&mut random, &bytes);
                 }
                 seen.add(answer);
             }
@@ -289,13 +302,24 @@ fn the_files_of_examples_and_seeds() {
     assert!(seen.accepted >= 12 && (2..=6).all(|i| seen.refusals[i] > 0), "{seen:?}");
 }
 
+#[test]
+fn the_vectors_get_what_they_say() {
+    let mut random = Random::new(seed());
+    for (job, _) in reports() {
+        check_saved(&mut random, job.as_bytes());
+    }
+    for (job, number, line) in refusals() {
+        assert_eq!(check_read(&mut random, job.as_bytes()), Err(Refusal { number, line }), "{job}");
+    }
+}
+
 /// Each number that a job may have, written and read.
 #[test]
 fn every_number_in_range() {
     let mut random = Random::new(seed());
     let mut visits = 0;
     for first in (1..=65_535).step_by(512) {
-        let mut record = Record { posts: 1, stops: 512, ..Record::ZEROS };
+        let mut record = Record { posts: 1, stops: 512, ..Record::PLAIN };
         for i in 0..512 {
             record.visits[i] = (first + i as u64).min(65_535);
             visits = visits.max(record.visits[i]);
@@ -306,40 +330,109 @@ fn every_number_in_range() {
             (record.post_x[i], record.post_y[i]) = (-record.stop_x[i], record.stop_x[i]);
         }
         record.area = [record.stop_x[0].min(0), -20_000, record.stop_x[0].max(0), 20_000];
-        check_own_bytes(&mut random, &record.text());
+        check_saved(&mut random, &record.text());
     }
     assert_eq!(visits, 65_535);
-    let mut record = Record { posts: 1, stops: 1, ..Record::ZEROS };
+    let mut record = Record { posts: 1, stops: 1, ..Record::PLAIN };
     litter(&mut random, &mut record, NEVER);
     record.visits[0] = 1;
     for rounds in 0..=1_000 {
         record.rounds = rounds;
+        record.axis = [rounds % 9 + 1, rounds / 9 % 9 + 1];
         record.posts = rounds % 64 + 1;
         record.stops = rounds % 512 + 1;
-        check_own_bytes(&mut random, &record.text());
+        check_saved(&mut random, &record.text());
     }
 }
 
 #[test]
-fn the_longest_job_has_14_080_bytes() {
+fn the_longest_job_has_14_089_bytes() {
     let mut random = Random::new(seed());
     let low = -20_000;
-    let record = Record {
-        area: [low; 4],
-        posts: 64,
-        post_x: [low; 64],
-        post_y: [low; 64],
-        stops: 512,
-        stop_x: [low; 512],
-        stop_y: [low; 512],
-        visits: [65_535; 512],
-        rounds: 1_000,
-    };
-    let bytes = check_write(&mut random, &record, 14_080).unwrap();
-    assert_eq!(bytes.len(), 14_080);
-    assert_eq!(check_write(&mut random, &record, 14_079), Err(Refusal { number: 8, line: 0 }));
-    assert!(check_read(&mut random, &bytes) == Ok(record));
-    check_own_bytes(&mut random, &bytes);
+    for (axis, length) in [([1, 1], 14_080), ([9, 9], 14_089)] {
+        let record = Record {
+            area: [low; 4],
+            axis,
+            posts: 64,
+            post_x: [low; 64],
+            post_y: [low; 64],
+            stops: 512,
+            stop_x: [low; 512],
+            stop_y: [low; 512],
+            visits: [65_535; 512],
+            rounds: 1_000,
+        };
+        let bytes = check_write(&mut random, &record, length).unwrap();
+        assert_eq!(bytes.len(), length);
+        assert_eq!(check_write(&mut random, &record, length - 1), Err(Refusal { number: 8, line: 0 }));
+        assert!(check_read(&mut random, &bytes) == Ok(record));
+        check_saved(&mut random, &bytes);
+    }
+}
+
+// ---- axis costs
+
+/// 1 for a record whose file has an axis line: all later lines stand one further down.
+fn axis_lines(record: &Record) -> i64 {
+    (record.axis != [1, 1]) as i64
+}
+
+#[test]
+fn the_line_is_left_out_for_1_1_only() {
+    let mut random = Random::new(seed());
+    let plain = Record::of(&read(CASE_A.as_bytes()).unwrap());
+    for a in 1..=9 {
+        for b in 1..=9 {
+            let record = Record { axis: [a, b], ..plain.clone() };
+            let spelled_out = behind(1, &format!("axis={a},{b}\n"));
+            let want = if (a, b) == (1, 1) { CASE_A } else { &spelled_out };
+            assert_eq!(check_write(&mut random, &record, 500).as_deref(), Ok(want.as_bytes()));
+            assert!(check_read(&mut random, spelled_out.as_bytes()) == Ok(record));
+            check_saved(&mut random, spelled_out.as_bytes());
+        }
+    }
+}
+
+/// With the line spelled out and without it: the same record, and the shorter file.
+#[test]
+fn a_job_that_spells_out_1_1_is_saved_without_the_line() {
+    let plain = |random: &mut Random| Job { axis: Axis::PLAIN, ..job(random) };
+    each_job(1_000, |random| spell(&plain(random)), |random, bytes| {
+        let long = spell_out(&read(bytes).unwrap());
+        assert_eq!(long.len(), bytes.len() + 9);
+        let record = check_read(random, &long).unwrap();
+        assert!(check_read(random, bytes).as_ref() == Ok(&record));
+        assert_eq!(check_write(random, &record, bytes.len()).as_deref(), Ok(bytes));
+        assert_eq!(check_write(random, &record, long.len()).as_deref(), Ok(bytes));
+        assert_eq!(check_write(random, &record, bytes.len() - 1), Err(Refusal { number: 8, line: 0 }));
+    });
+}
+
+#[test]
+fn axis_costs_out_of_range_get_the_refusal_of_their_line() {
+    let mut random = Random::new(seed());
+    let short = [0, 10, 11, 256, 257, 65_537, 999_999_999].map(|cost| (cost, 3));
+    let long = [1_000_000_000, 1_000_000_001, (1 << 32) + 1, i64::MAX as u64, 1 << 63, (1 << 63) + 1, u64::MAX].map(|cost| (cost, 2));
+    let wrong = [short, long].concat();
+    // other faults, of later lines and of 4, 5, 6 and 8, do not matter
+    let records = [small([1, 1]), Record { area: [1, 0, 0, 1], ..Record::ZEROS }, Record { posts: u64::MAX, rounds: 1_001, ..small([1, 1]) }];
+    for &(cost, number) in &wrong {
+        for axis in [[cost, 1], [1, cost], [cost, 9], [9, cost], [cost, cost]] {
+            for record in &records {
+                let record = Record { axis, ..record.clone() };
+                let room = random.pick(&[0, 500]);
+                assert_eq!(check_write(&mut random, &record, room), Err(Refusal { number, line: 2 }), "{axis:?}");
+            }
+        }
+        // 2 before 3 over the whole line
+        for &(other, others) in &wrong {
+            let record = Record { axis: [cost, other], ..small([1, 1]) };
+            assert_eq!(check_write(&mut random, &record, 500), Err(Refusal { number: number.min(others), line: 2 }), "{cost},{other}");
+        }
+    }
+    // the area's line comes first
+    let record = Record { area: [20_001, 0, 0, 0], axis: [u64::MAX, 0], ..small([1, 1]) };
+    assert_eq!(check_write(&mut random, &record, 500), Err(Refusal { number: 3, line: 1 }));
 }
 
 // ---- records of any numbers
@@ -349,20 +442,20 @@ fn records_are_written_or_refused_as_the_reference_says() {
     let mut random = Random::new(seed());
     let mut seen = Seen::default();
     for i in 0..24_000 {
-        let ends = pick(&mut random, &[1, 2, 30, NEVER]);
+        let ends = random.pick(&[1, 2, 30, NEVER]);
         let mut record = valid(&mut random, ends);
         if i % 8 == 0 {
             // what 4, 5 and 6 are about
             let corner = random.range(0, 3) as usize;
             record.area.swap(corner, (corner + random.range(0, 1) as usize * 2) % 4);
-            record.posts = pick(&mut random, &[0, 1, record.posts]);
-            record.stops = pick(&mut random, &[0, 1, record.stops]);
+            record.posts = random.pick(&[0, 1, record.posts]);
+            record.stops = random.pick(&[0, 1, record.stops]);
         }
         for _ in 0..i % 4 {
             replace(&mut random, &mut record);
         }
         let length = record.text().len();
-        let room = pick(&mut random, &[length, length, length - 1, 0, length + 1, length + 100]);
+        let room = random.pick(&[length, length, length - 1, 0, length + 1, length + 100]);
         seen.add(check_write(&mut random, &record, room));
     }
     assert!(seen.has(2..=8, 200) && seen.accepted > 2_000);
@@ -373,10 +466,10 @@ fn records_of_any_numbers_are_written_or_refused_as_the_reference_says() {
     let mut random = Random::new(seed());
     let mut seen = Seen::default();
     for _ in 0..8_000 {
-        let ends = pick(&mut random, &[1, 3, 20, 100, 1_000, 10_000, NEVER]);
+        let ends = random.pick(&[1, 3, 20, 100, 1_000, 10_000, NEVER]);
         let record = drawn(&mut random, ends);
         let length = record.text().len();
-        let room = pick(&mut random, &[length, length, length - 1, 0, length + 1, length + 100]);
+        let room = random.pick(&[length, length, length - 1, 0, length + 1, length + 100]);
         seen.add(check_write(&mut random, &record, room));
     }
     assert!(seen.has(2..=8, 50) && seen.accepted > 500);
@@ -386,8 +479,15 @@ fn records_of_any_numbers_are_written_or_refused_as_the_reference_says() {
 #[test]
 fn every_number_of_a_full_record_is_looked_at() {
     let mut random = Random::new(seed());
-    let record = Record { posts: 64, stops: 512, visits: [1; 512], ..Record::ZEROS };
-    let mut refused = |record: Record, refusal: Refusal| assert_eq!(check_write(&mut random, &record, 14_080), Err(refusal));
+    let record = Record { posts: 64, stops: 512, visits: [1; 512], ..Record::PLAIN };
+    // every other record has an axis line
+    let mut turn = 0;
+    let mut refused = |record: Record, number: i64, line: i64| {
+        turn += 1;
+        let record = Record { axis: [1, 1 + turn % 2], ..record };
+        let line = line + axis_lines(&record);
+        assert_eq!(check_write(&mut random, &record, 14_089), Err(Refusal { number, line }));
+    };
     let columns: [(fn(&mut Record, usize) -> &mut i64, usize, i64); 4] = [
         (|r, i| &mut r.post_x[i], 64, 3),
         (|r, i| &mut r.post_y[i], 64, 3),
@@ -399,7 +499,7 @@ fn every_number_of_a_full_record_is_looked_at() {
             for (value, number) in [(20_001, 3), (-20_001, 3), ((1 << 32) + 1, 2), (i64::MIN, 2)] {
                 let mut record = record.clone();
                 *number_of(&mut record, i) = value;
-                refused(record, Refusal { number, line: first + i as i64 });
+                refused(record, number, first + i as i64);
             }
         }
     }
@@ -407,7 +507,7 @@ fn every_number_of_a_full_record_is_looked_at() {
         for (value, number) in [(0, 3), (65_536, 3), (65_537, 3), (1_000_000_000, 2), ((1 << 32) + 1, 2), ((1 << 63) + 1, 2)] {
             let mut record = record.clone();
             record.visits[i] = value;
-            refused(record, Refusal { number, line: 68 + i as i64 });
+            refused(record, number, 68 + i as i64);
         }
     }
 }
@@ -422,20 +522,21 @@ fn files_of_more_than_16_384_bytes() {
         (-1_000_000_000, 0, 10_000_000_000_000_000_000, 2),
         (-999_999_999, -999_999_999, 999_999_999, 3),
     ] {
-        let mut record = Record { posts: 64, stops: 512, visits: [1; 512], ..Record::ZEROS };
+        let mut record = Record { posts: 64, stops: 512, visits: [1; 512], axis: [1, random.range(1, 2) as u64], ..Record::ZEROS };
+        let more = axis_lines(&record);
         for good in (0..512).rev() {
             // from this stop on
             (record.stop_x[good], record.stop_y[good], record.visits[good]) = (x, y, visits);
             if good % 37 == 0 || good > 500 {
                 let room = record.text().len() - good % 2;
-                assert_eq!(check_write(&mut random, &record, room), Err(Refusal { number, line: 68 + good as i64 }));
+                assert_eq!(check_write(&mut random, &record, room), Err(Refusal { number, line: 68 + good as i64 + more }));
             }
         }
         let length = record.text().len();
         assert!(length > 16_384 && read(&record.text()) == Err(Refusal { number: 1, line: 0 }), "{length}");
         // the posts, then the area as well
         (record.post_x, record.post_y) = ([x; 64], [y; 64]);
-        assert_eq!(check_write(&mut random, &record, 40_000), Err(Refusal { number, line: 3 }));
+        assert_eq!(check_write(&mut random, &record, 40_000), Err(Refusal { number, line: 3 + more }));
         record.area = [x; 4];
         assert_eq!(check_write(&mut random, &record, 40_000), Err(Refusal { number, line: 1 }));
         record.rounds = u64::MAX;
@@ -451,23 +552,23 @@ fn counts_beyond_the_arrays() {
         let number = if n < 1_000_000_000 { 3 } else { 2 };
         let mut record = valid(&mut random, NEVER);
         record.posts = n;
-        let want = check_write(&mut random, &record, 14_080);
+        let want = check_write(&mut random, &record, 14_089);
         if n > 64 {
-            assert_eq!(want, Err(Refusal { number, line: 2 }));
+            assert_eq!(want, Err(Refusal { number, line: 2 + axis_lines(&record) }));
         }
         seen.add(want);
         let mut record = valid(&mut random, NEVER);
         record.stops = n;
-        let want = check_write(&mut random, &record, 14_080);
+        let want = check_write(&mut random, &record, 14_089);
         if n > 512 {
-            assert_eq!(want, Err(Refusal { number, line: 3 + record.posts as i64 }));
+            assert_eq!(want, Err(Refusal { number, line: 3 + record.posts as i64 + axis_lines(&record) }));
         }
         seen.add(want);
         let mut record = valid(&mut random, 1);
         record.rounds = n;
-        let want = check_write(&mut random, &record, 14_080);
+        let want = check_write(&mut random, &record, 14_089);
         if n > 1_000 {
-            assert_eq!(want, Err(Refusal { number, line: 4 + (record.posts + record.stops) as i64 }));
+            assert_eq!(want, Err(Refusal { number, line: 4 + (record.posts + record.stops) as i64 + axis_lines(&record) }));
         }
         seen.add(want);
     }
@@ -479,12 +580,12 @@ fn lists_of_other_lengths_get_nothing() {
     let mut random = Random::new(seed());
     let record = Record::of(&read(CASE_A.as_bytes()).unwrap());
     let (coordinates, naturals) = record.lists();
-    assert_eq!((coordinates.len(), naturals.len()), (1_156, 514));
-    for (c, n) in [(1_155, 514), (1_157, 514), (1_156, 513), (1_156, 515), (0, 514), (1_156, 0), (0, 0), (514, 1_156), (2_312, 1_028)] {
+    assert_eq!((coordinates.len(), naturals.len()), (1_156, 516));
+    for (c, n) in [(1_155, 516), (1_157, 516), (1_156, 514), (1_156, 515), (1_156, 517), (0, 516), (1_156, 0), (0, 0), (516, 1_156), (2_312, 1_032)] {
         let mut lists = (coordinates.clone(), naturals.clone());
         lists.0.resize(c, 0);
         lists.1.resize(n, 0);
-        let job = pick(&mut random, &[CASE_A, "", "area=1,1,0,0\n"]);
+        let job = random.pick(&[CASE_A, "", "area=1,1,0,0\n"]);
         for which in [0, 1, 2, 3, u64::MAX] {
             let mut out = [7; 200];
             assert_eq!(trial::write(&lists.0, &lists.1, 10, &mut out, which), LEAST);
@@ -498,17 +599,29 @@ fn lists_of_other_lengths_get_nothing() {
 
 // ---- the order of refusals
 
-/// A record of two posts and three stops: line 1 is the area's, 3 and 4 are posts, 6 to 8 stops, 9 the rounds.
-fn small() -> Record {
-    Record::of(
-        &read(b"area=-5,-6,7,8\nposts=2\npost=1,-2\npost=3,4\nstops=3\nstop=5,6,7\nstop=-8,9,10\nstop=0,0,65535\nrounds=1000\n").unwrap(),
-    )
+/// A record of two posts and three stops: line 1 is the area's, 3 and 4 are posts, 6 to 8 stops, 9 the rounds. Axis costs other than 1,1
+/// have line 2, and all behind it stand one further down.
+fn small(axis: [u64; 2]) -> Record {
+    let job = b"area=-5,-6,7,8\nposts=2\npost=1,-2\npost=3,4\nstops=3\nstop=5,6,7\nstop=-8,9,10\nstop=0,0,65535\nrounds=1000\n";
+    Record { axis, ..Record::of(&read(job).unwrap()) }
 }
+
+/// Axis costs without a line, and with one; and the last line of `small`.
+const SMALL: [([u64; 2], usize); 2] = [([1, 1], 9), ([7, 2], 10)];
 
 /// The numbers of a line of `small`.
 fn line_of(record: &mut Record, line: usize) -> (Vec<&mut i64>, Vec<&mut u64>) {
+    let more = axis_lines(record) as usize;
     match line {
         1 => (record.area.iter_mut().collect(), vec![]),
+        2 if more == 1 => (vec![], record.axis.iter_mut().collect()),
+        _ => line_behind(record, line - more),
+    }
+}
+
+/// The same of a line behind the area, without an axis line.
+fn line_behind(record: &mut Record, line: usize) -> (Vec<&mut i64>, Vec<&mut u64>) {
+    match line {
         2 => (vec![], vec![&mut record.posts]),
         3 | 4 => (vec![&mut record.post_x[line - 3], &mut record.post_y[line - 3]], vec![]),
         5 => (vec![], vec![&mut record.stops]),
@@ -522,7 +635,7 @@ fn spoil(random: &mut Random, record: &mut Record, line: usize, i: usize, refusa
     let (coordinates, naturals) = line_of(record, line);
     let z = if refusal == 2 { [1_000_000_000, -1_000_000_000, i64::MIN, i64::MAX] } else { [20_001, -20_001, 999_999_999, -999_999_999] };
     let n = if refusal == 2 { [1_000_000_000, 1 << 32, 1 << 63, u64::MAX] } else { [65_536, 65_537, 1_000_000, 999_999_999] };
-    let (z, n) = (pick(random, &z), pick(random, &n));
+    let (z, n) = (random.pick(&z), random.pick(&n));
     let count = coordinates.len();
     if let Some(number) = coordinates.into_iter().nth(i) {
         *number = z;
@@ -538,40 +651,44 @@ fn spoil(random: &mut Random, record: &mut Record, line: usize, i: usize, refusa
 fn in_one_line_2_comes_before_3() {
     let mut random = Random::new(seed());
     let mut pairs = 0;
-    for line in 1..=9 {
-        for i in 0..4 {
-            let mut record = small();
-            if !spoil(&mut random, &mut record, line, i, 3) {
-                continue;
-            }
-            assert_eq!(check_write(&mut random, &record, 500), Err(Refusal { number: 3, line: line as i64 }));
-            for j in (0..4).filter(|&j| j != i) {
-                let mut record = record.clone();
-                if spoil(&mut random, &mut record, line, j, 2) {
-                    assert_eq!(check_write(&mut random, &record, 500), Err(Refusal { number: 2, line: line as i64 }));
-                    pairs += 1;
+    for (axis, last) in SMALL {
+        for line in 1..=last {
+            for i in 0..4 {
+                let mut record = small(axis);
+                if !spoil(&mut random, &mut record, line, i, 3) {
+                    continue;
+                }
+                assert_eq!(check_write(&mut random, &record, 500), Err(Refusal { number: 3, line: line as i64 }));
+                for j in (0..4).filter(|&j| j != i) {
+                    let mut record = record.clone();
+                    if spoil(&mut random, &mut record, line, j, 2) {
+                        assert_eq!(check_write(&mut random, &record, 500), Err(Refusal { number: 2, line: line as i64 }));
+                        pairs += 1;
+                    }
                 }
             }
         }
     }
-    // 12 of the area's, 2 of each post's, 6 of each stop's
-    assert_eq!(pairs, 34);
+    // 12 of the area's, 2 of each post's, 6 of each stop's, twice; and 2 of the axis costs
+    assert_eq!(pairs, 70);
 }
 
 #[test]
 fn an_earlier_line_comes_before_a_later_one() {
     let mut random = Random::new(seed());
-    for first in 1..=9 {
-        for second in first + 1..=9 {
-            for (number, other) in [(2, 2), (2, 3), (3, 2), (3, 3)] {
-                for empty in [false, true] {
-                    let mut record = small();
-                    if empty && first > 1 {
-                        record.area.swap(1, 3);
+    for (axis, last) in SMALL {
+        for first in 1..=last {
+            for second in first + 1..=last {
+                for (number, other) in [(2, 2), (2, 3), (3, 2), (3, 3)] {
+                    for empty in [false, true] {
+                        let mut record = small(axis);
+                        if empty && first > 1 {
+                            record.area.swap(1, 3);
+                        }
+                        assert!(spoil(&mut random, &mut record, first, 0, number) && spoil(&mut random, &mut record, second, 0, other));
+                        let room = if empty { 0 } else { 500 };
+                        assert_eq!(check_write(&mut random, &record, room), Err(Refusal { number, line: first as i64 }));
                     }
-                    assert!(spoil(&mut random, &mut record, first, 0, number) && spoil(&mut random, &mut record, second, 0, other));
-                    let room = if empty { 0 } else { 500 };
-                    assert_eq!(check_write(&mut random, &record, room), Err(Refusal { number, line: first as i64 }));
                 }
             }
         }
@@ -581,14 +698,16 @@ fn an_earlier_line_comes_before_a_later_one() {
 #[test]
 fn a_count_out_of_range_comes_before_its_list() {
     let mut random = Random::new(seed());
-    for item in [i64::MIN, 20_001, 5] {
-        for (count, number) in [(65, 3), (513, 3), (999_999_999, 3), (1_000_000_000, 2), (u64::MAX, 2)] {
-            let mut record = Record { posts: count, post_x: [item; 64], ..small() };
-            assert_eq!(check_write(&mut random, &record, 500), Err(Refusal { number, line: 2 }));
-            record = Record { stops: count.max(513), stop_y: [item; 512], ..small() };
-            assert_eq!(check_write(&mut random, &record, 500), Err(Refusal { number, line: 5 }));
-            record.rounds = 1_001;
-            assert_eq!(check_write(&mut random, &record, 500), Err(Refusal { number, line: 5 }));
+    for (axis, last) in SMALL {
+        for item in [i64::MIN, 20_001, 5] {
+            for (count, number) in [(65, 3), (513, 3), (999_999_999, 3), (1_000_000_000, 2), (u64::MAX, 2)] {
+                let mut record = Record { posts: count, post_x: [item; 64], ..small(axis) };
+                assert_eq!(check_write(&mut random, &record, 500), Err(Refusal { number, line: last as i64 - 7 }));
+                record = Record { stops: count.max(513), stop_y: [item; 512], ..small(axis) };
+                assert_eq!(check_write(&mut random, &record, 500), Err(Refusal { number, line: last as i64 - 4 }));
+                record.rounds = 1_001;
+                assert_eq!(check_write(&mut random, &record, 500), Err(Refusal { number, line: last as i64 - 4 }));
+            }
         }
     }
 }
@@ -598,9 +717,9 @@ fn a_count_out_of_range_comes_before_its_list() {
 fn two_and_three_then_4_5_6_8() {
     let mut random = Random::new(seed());
     let mut seen = Seen::default();
-    for faults in 0..1 << 7 {
+    for faults in 0..1 << 10 {
         let has = |i: u32| faults >> i & 1 == 1;
-        let mut record = small();
+        let mut record = small(if has(7) { [7, 2] } else { [1, 1] });
         let (x, y) = (has(0), has(1));
         if x {
             record.area.swap(0, 2);
@@ -614,24 +733,29 @@ fn two_and_three_then_4_5_6_8() {
         if has(3) {
             record.stops = 0;
         }
-        let last = 4 + (record.posts + record.stops) as i64;
+        let axis = if has(8) { Some((2, 1_000_000_000)) } else { has(9).then_some((3, 10)) };
+        if let Some((_, cost)) = axis {
+            record.axis[1] = cost;
+        }
         let rounds = if has(5) { Some((2, 1_000_000_000)) } else { has(6).then_some((3, 1_001)) };
         if let Some((_, n)) = rounds {
             record.rounds = n;
         }
-        let want = match rounds {
-            Some((number, _)) => Some((number, last)),
-            None if x || y => Some((4, 0)),
-            None if has(2) => Some((5, 0)),
-            None if has(3) => Some((6, 0)),
-            None => has(4).then_some((8, 0)),
+        let last = 4 + (record.posts + record.stops) as i64 + axis_lines(&record);
+        let want = match (axis, rounds) {
+            (Some((number, _)), _) => Some((number, 2)),
+            (None, Some((number, _))) => Some((number, last)),
+            _ if x || y => Some((4, 0)),
+            _ if has(2) => Some((5, 0)),
+            _ if has(3) => Some((6, 0)),
+            _ => has(4).then_some((8, 0)),
         };
         let room = record.text().len() - has(4) as usize;
         let got = check_write(&mut random, &record, room);
         assert_eq!(got.as_ref().err().copied(), want.map(|(number, line)| Refusal { number, line }), "{faults:b}");
         seen.add(got);
     }
-    assert!(seen.has(2..=8, 1) && seen.accepted == 1);
+    assert!(seen.has(2..=8, 1) && seen.accepted == 2);
 }
 
 // ---- what is saved
@@ -641,7 +765,7 @@ fn numbers_behind_the_lists_are_left_out() {
     let mut random = Random::new(seed());
     let mut littered = 0;
     for _ in 0..3_000 {
-        let ends = pick(&mut random, &[1, 2, 30, NEVER]);
+        let ends = random.pick(&[1, 2, 30, NEVER]);
         let record = valid(&mut random, ends);
         let clean = without_litter(&record);
         let bytes = written(&record).unwrap();
