@@ -71,7 +71,6 @@ line-length j e =
     )
 
 -- ---- bytes put over the front
--- ---- bytes put over the front
 module _ (text out : List ℕ) where
   front-taken : take (length text) (overwritten text out) ≡ text
   unfolding overwritten
@@ -214,7 +213,7 @@ module _ (deck : Deck) (rounds : ℕ) (out : List ℕ) (sized : Sized deck) wher
       found : (why : Refusal) → refusal {A = ℕ} why ≡ refuses number line → Condition (fileText deck rounds) why →
           writeCall deck rounds out .answer ≡ refuses number line
       found _ q (too-long h) = absurd (apart (sym (same-number {A = ℕ} _ _ _ _ q)))
-      found why q (in-text short c) = answer-of (file-refused deck rounds out why (refused-law missingAxis (fileText deck rounds) why .exactly-in-text .1 c)) ∙ q
+      found why q (in-text short c) = applied why (in-file c) ∙ q
 
       go : (r : Result) → readJob (fileText deck rounds) ≡ r → writeCall deck rounds out .answer ≡ refuses number line
       go (refused why) p = found why (sym (ap (λ (r : Read). r .answer) (read-refused (fileText deck rounds) why p)) ∙ e)

@@ -36,6 +36,7 @@ write-table = record {
   others-before-eight = refl;
   large-file = refl;
   large-file-length = refl;
+  longest-job = refl;
   longest = refl;
   axis-written = refl;
   spelled-out = refl;

@@ -1,5 +1,5 @@
 -- Document 02, card 2: rows of the axis line, from a job's bytes to the number and the line that it gets, and a deck with axis costs
--- through each call. 0 and 0 stand for a report.
+-- through each call that searches. 0 and 0 stand for a report. The rows of reading and writing records are in WriteTable.
 -- Assumes nothing.
 use Prim.Native.Nat.{ℕ}
 use Prim.Native.String.{String}
@@ -15,11 +15,7 @@ use Rattle.calls.specs.Call.{reportCall}
 use Rattle.calls.specs.Entry.{entry}
 use Rattle.calls.specs.Program.{answerText}
 use Rattle.calls.specs.CheapestCall.{exhaustiveCall}
-use Rattle.calls.specs.RefusalTable.{caseA, ended, asked}
-
--- case A with these lines behind its line n
-abbrev pub behind : ℕ → List String → List String
-behind n lines = take n caseA ++ (lines ++ drop n caseA)
+use Rattle.calls.specs.RefusalTable.{caseA, behind, ended, asked}
 
 -- with another second line, one after another
 abbrev pub second : List String → List (ℕ × ℕ)
@@ -48,8 +44,8 @@ pub record AxisTable : Type 0 where
   pub form-before-range : second ("axis=0,x" ∷ "axis=10,01" ∷ "axis=0,1000000000" ∷ []) ≡ replicate 3 (2, 2)
   -- once, and as the second line
   pub twice : asked (ended (behind 1 ("axis=1,1" ∷ "axis=1,1" ∷ []))) ≡ (2, 3)
-  pub elsewhere : map (λ n. asked (ended (behind n ("axis=1,1" ∷ [])))) (0 ∷ 2 ∷ 3 ∷ 6 ∷ 7 ∷ [])
-      ≡ (2, 1) ∷ (2, 3) ∷ (2, 4) ∷ (2, 7) ∷ (2, 8) ∷ []
+  pub elsewhere : map (λ n. asked (ended (behind n ("axis=1,1" ∷ [])))) (0 ∷ 2 ∷ 3 ∷ 4 ∷ 5 ∷ 6 ∷ 7 ∷ [])
+      ≡ (2, 1) ∷ (2, 3) ∷ (2, 4) ∷ (2, 5) ∷ (2, 6) ∷ (2, 7) ∷ (2, 8) ∷ []
   pub ends-early : asked (ended (take 2 (behind 1 ("axis=1,1" ∷ [])))) ≡ (2, 3)
   pub no-end : map (λ text. asked (ended (take 1 caseA) ++ bytes text)) ("axis=1,1" ∷ "axis=10,1" ∷ "axis=" ∷ []) ≡ replicate 3 (2, 2)
   -- every later line's number moves by one, and an earlier line comes first
@@ -57,7 +53,7 @@ pub record AxisTable : Type 0 where
       ≡ (3, 3) ∷ (2, 4) ∷ (3, 5) ∷ (3, 7) ∷ (3, 8) ∷ []
   pub earlier-line : asked (ended ("area=20001,2,8,8" ∷ "axis=1" ∷ [])) ∷ asked (ended (take 1 caseA ++ ("axis=10,1" ∷ "posts=x" ∷ [])))
       ∷ [] ≡ (3, 1) ∷ (3, 2) ∷ []
-  -- through each call
+  -- through each call that searches
   pub report-done : reportCall (narrow "rounds=10") (replicate 55 (pos 9)) (replicate 130 7)
       ≡ record { answer = gives (report done (at 2 4) 9 (pos 9) 15 3); cells = replicate 55 (pos 0); out = printed ++ replicate 80 7 }
   pub report-stopped : reportCall (narrow "rounds=1") (replicate 12 (pos 9)) (replicate 128 7)

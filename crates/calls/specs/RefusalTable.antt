@@ -11,10 +11,15 @@ use Rattle.text.specs.Ascii.{bytes, newline}
 use Rattle.calls.specs.Answers.{AnswerOf, gives, refuses}
 use Rattle.calls.specs.Call.{reportCall}
 
--- the lines of case A, and lines as bytes
+-- the lines of case A
 abbrev pub caseA : List String
 caseA = "area=2,2,8,8" ∷ "posts=1" ∷ "post=0,0" ∷ "stops=2" ∷ "stop=4,3,2" ∷ "stop=8,12,1" ∷ "rounds=10" ∷ []
 
+-- case A with other lines behind its line n
+abbrev pub behind : ℕ → List String → List String
+behind n lines = take n caseA ++ (lines ++ drop n caseA)
+
+-- lines as bytes
 abbrev pub ended : List String → List ℕ
 ended lines = flatMap (λ line. bytes line ++ (newline ∷ [])) lines
 

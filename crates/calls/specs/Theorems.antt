@@ -33,7 +33,7 @@ pub record Theorems : Type 0 where
   -- document 02, card 1: reading a job, and writing every record that the code can hold, with every output
   pub read : (job : List ℕ) → ReadLaw job
   pub write : (deck : Deck) (rounds : ℕ) (out : List ℕ) → Sized deck → WriteLaw deck rounds out
-  -- document 02, card 2: reading, whatever a missing axis line means
+  -- document 02, card 2: what is read, where a missing axis line means any costs in range, and what is refused, whatever it means
   pub reading : (missing : AxisCosts) (job : List ℕ) (j : Job) → AcceptedLaw missing job j
   pub refusing : (missing : AxisCosts) (job : List ℕ) (why : Refusal) → RefusedLaw missing job why
   -- no bytes spell two allowed jobs, and 128 bytes hold every report

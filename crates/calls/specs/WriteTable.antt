@@ -6,17 +6,18 @@ use Prim.Native.String.{String}
 use mathlib.Core.Path.{_≡_}
 use mathlib.Core.List.{List, [], _∷_, _++_, map}
 use lib.IntN.{ℤ, pos, negsuc, negℤ}
-use lib.ListN.{length, replicate, getD, set, take, drop}
+use lib.ListN.{length, replicate, getD, set}
 use Rattle.numbers.specs.Padded.{padded}
 use Rattle.query.specs.Range.{postsLimit, stopsLimit}
 use Rattle.query.specs.Marked.{deckA}
 use Rattle.deck.specs.DeckOf.{deckRecord}
 use Rattle.deck.specs.declared.Deck.{Deck}
 use Rattle.job.specs.File.{fileText}
+use Rattle.job.specs.Meaning.{longestJob}
 use Rattle.calls.specs.Answers.{gives, refuses}
 use Rattle.calls.specs.ReadCall.{readCall}
 use Rattle.calls.specs.WriteCall.{writeCall}
-use Rattle.calls.specs.RefusalTable.{caseA, ended, numberAndLine}
+use Rattle.calls.specs.RefusalTable.{caseA, behind, ended, numberAndLine}
 
 -- a record by its numbers: the axis costs; those of the area; the count of posts and each post's x, y; the count of stops and each stop's
 -- x, y, visits
@@ -65,7 +66,7 @@ withAxis axis = recordOf axis square 1 ((pos 0, pos 0) ∷ []) 2 ((pos 4, pos 3,
 
 -- case A's lines with an axis line
 abbrev pub carrying : String → List String
-carrying line = take 1 caseA ++ (line ∷ drop 1 caseA)
+carrying line = behind 1 (line ∷ [])
 
 -- the ends of the machine types, and the largest number of nine digits and the smallest of ten
 abbrev pub leastWord : ℤ
@@ -151,6 +152,7 @@ pub record WriteTable : Type 0 where
   pub large-file : getsWith mostNatural large ≡ (2, 3)
   pub large-file-length : length (fileText large mostNatural) ≡ 37884
   -- the longest job
+  pub longest-job : longestJob ≡ 14089
   pub longest : length (fileText (recordOf (9, 9) (replicate 4 (negsuc 19999)) 64 (replicate 64 (negsuc 19999, negsuc 19999)) 512
       (replicate 512 (negsuc 19999, negsuc 19999, 65535))) 1000) ≡ 14089
   -- card 2: the line is left out for 1,1 and for no other costs; spelled out, it is not saved

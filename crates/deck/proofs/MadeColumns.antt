@@ -1,4 +1,4 @@
--- The columns of a deck's objects, as they are made: posts and stops are copied, and near is found of the copies.
+-- The columns of a deck's objects, as they are made: places of posts and stops are scaled, and near is found of the scaled ones.
 -- Assumes nothing.
 use mathlib.Core.Path.{_≡_, refl, sym, ap, _∙_}
 use mathlib.Core.List.{List, [], _∷_, _++_, map, append-assoc}

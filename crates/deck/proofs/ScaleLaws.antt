@@ -14,7 +14,7 @@ use Rattle.numbers.specs.Integer.{times}
 use Rattle.numbers.proofs.Integer.{order}
 use Rattle.numbers.proofs.Scaling.{scaled-at, scale-most}
 use Rattle.numbers.proofs.Words.{word-fits}
-use Rattle.deck.specs.Ranges.{CostInRange, Scaled, CoordinatesUpTo, CoordinatesInRange}
+use Rattle.deck.specs.Ranges.{AxisCostInRange, Scaled, CoordinatesUpTo, CoordinatesInRange}
 use Rattle.deck.proofs.WordLaws.{coordinate, wide, narrowed}
 
 natural : (k : ℤ) → pos 1 ≤ℤ k → k ≡ pos (natAbs k)
@@ -24,10 +24,10 @@ natural (negsuc k) h = absurd (omega (arith, order))
 pub natural-word : (n : ℕ) → n ≤ 9 → toZ w32 n ≡ pos n
 natural-word n h = toZ-pos w32 n (omega arith)
 
-cost-of : (n : ℕ) → 1 ≤ n → n ≤ 9 → CostInRange (pos n)
+cost-of : (n : ℕ) → 1 ≤ n → n ≤ 9 → AxisCostInRange (pos n)
 cost-of n g h = record { some = omega (arith, order); most = h }
 
-module _ (k v : ℤ) (cost : CostInRange k) (h : natAbs v ≤ 20000) where
+module _ (k v : ℤ) (cost : AxisCostInRange k) (h : natAbs v ≤ 20000) where
   product-is : toZ w32 (ofZ w32 k) *ℤ toZ w32 (ofZ w32 (toZ w64 (ofZ w64 v))) ≡ times (natAbs k) v
   unfolding times
   product-is = (λ i. coordinate k (omega (arith, cost .most)) i *ℤ narrowed v (omega arith) i) ∙ ap (λ (z : ℤ). z *ℤ v) (natural k (cost .some))
@@ -42,7 +42,7 @@ module _ (k v : ℤ) (cost : CostInRange k) (h : natAbs v ≤ 20000) where
   product-scaled = rw (product-is, coordinate (times (natAbs k) v) small) (record { is = refl; small = small })
 
 -- a cost as a word, and what `scaled` gives of words
-pub cost-word : {k : ℤ} → CostInRange k → CostInRange (toZ w32 (ofZ w32 k))
+pub cost-word : {k : ℤ} → AxisCostInRange k → AxisCostInRange (toZ w32 (ofZ w32 k))
 cost-word {k} cost = rw (coordinate k (omega (arith, cost .most))) cost
 
 pub coordinate-word : (v : ℤ) → natAbs v ≤ 20000 → natAbs (toZ w64 (ofZ w64 v)) ≤ 20000
@@ -58,7 +58,7 @@ scaled-range k xs n h range = record {
   range = λ i l. rw (scaled-at k xs i) (scale-most k 9 20000 (getD xs i (pos 0)) h (range .range i l));
 }
 
-pub cost-natural : (n : ℕ) → (1 ≤ n) × (n ≤ 9) → CostInRange (toZ w32 n)
+pub cost-natural : (n : ℕ) → (1 ≤ n) × (n ≤ 9) → AxisCostInRange (toZ w32 n)
 cost-natural n h = rw (natural-word n (h .1)) (cost-of n (h .0) (h .1))
 
 pub cost-fits : (n : ℕ) → n ≤ 9 → SFits w32 (pos n)

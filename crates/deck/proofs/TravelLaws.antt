@@ -63,10 +63,3 @@ module _ (x y px py : ℤ) (at : Near180000 x y) (post : Near180000 px py) where
 
   pub post-small : far (toZ w32 (ofZ w32 x)) (toZ w32 (ofZ w32 y)) px py < 2 ^ 31
   post-small = far-small (toZ w32 (ofZ w32 x)) (toZ w32 (ofZ w32 y)) px py (place-word at) post
-
--- ---- stops, whose coordinates are narrowed from 64-bit words
-abbrev pub narrow : ℤ → ℤ
-narrow z = toZ w32 (ofZ w32 (toZ w64 (ofZ w64 z)))
-
-pub narrow-place : (x y : ℤ) → natAbs x ≤ 180000 → natAbs y ≤ 180000 → Near180000 (narrow x) (narrow y)
-narrow-place x y g h = rw (narrowed x g, narrowed y h) (record { x-range = g; y-range = h })

@@ -14,11 +14,11 @@ use Rattle.deck.specs.declared.Deck.{Deck}
 use Rattle.query.specs.Range.{postsLimit, stopsLimit}
 
 -- axis costs of document 02 that a record of the code holds, and the record that holds axis costs
-abbrev pub costsOf : AxisCosts → Query.AxisCosts
-costsOf c = record { a = c .a; b = c .b }
+abbrev pub heldAxis : AxisCosts → Query.AxisCosts
+heldAxis c = record { a = c .a; b = c .b }
 
-abbrev pub costsRecord : Query.AxisCosts → AxisCosts
-costsRecord c = record { a = c .a; b = c .b }
+abbrev pub axisRecord : Query.AxisCosts → AxisCosts
+axisRecord c = record { a = c .a; b = c .b }
 
 unfoldable pub places : List ℤ → List ℤ → List Place
 unfolding zipWith
@@ -40,7 +40,7 @@ pub record Sized (deck : Deck) : Type 0 where
 unfoldable pub deckOf : Deck → Query.Deck
 unfolding places stopsOf
 deckOf deck = record {
-  axis = costsOf (deck .axis);
+  axis = heldAxis (deck .axis);
   area = record { xlo = deck .xlo; ylo = deck .ylo; xhi = deck .xhi; yhi = deck .yhi };
   posts = take (deck .posts) (places (deck .«post_x») (deck .«post_y»));
   stops = take (deck .stops) (stopsOf (places (deck .«stop_x») (deck .«stop_y»)) (deck .visits));
@@ -50,7 +50,7 @@ deckOf deck = record {
 unfoldable pub deckRecord : Query.Deck → Deck
 unfolding padded
 deckRecord deck = record {
-  axis = costsRecord (deck .axis);
+  axis = axisRecord (deck .axis);
   xlo = deck .area .xlo;
   ylo = deck .area .ylo;
   xhi = deck .area .xhi;

@@ -14,7 +14,7 @@ pub record Near180000 (x y : ℤ) : Type 0 where
   pub y-range : natAbs y ≤ 180000
 
 -- an axis cost, from 1 to 9
-pub record CostInRange (c : ℤ) : Type 0 where
+pub record AxisCostInRange (c : ℤ) : Type 0 where
   pub some : pos 1 ≤ℤ c
   pub most : natAbs c ≤ axisCostLimit
 

@@ -22,14 +22,8 @@ ghost use Rattle.query.specs.Range.{InRange};
 ghost use Rattle.deck.specs.DeckOf.{places, deckOf};
 ghost use Rattle.deck.specs.Objects.{pricingOf};
 ghost use Rattle.deck.specs.ObjectColumns.{columnsOf};
-ghost use Rattle.deck.specs.Ranges.{
-  Near180000,
-  CostInRange,
-  Scaled,
-  CoordinatesUpTo,
-  CoordinatesInRange,
-  VisitsInRange,
-};
+ghost use Rattle.deck.specs.Ranges.{Near180000, AxisCostInRange, Scaled};
+ghost use Rattle.deck.specs.Ranges.{CoordinatesUpTo, CoordinatesInRange, VisitsInRange};
 
 // A rectangle, its edges included.
 pub struct Rect {
@@ -79,7 +73,7 @@ pub fn travelled(ux: i32, uy: i32, vx: i32, vy: i32) -> i32
 
 // A coordinate multiplied by an axis cost.
 pub fn scaled(k: i32, v: i64) -> i32
-    requires { ⌜ CostInRange k × (natAbs v ≤ 20000) ⌝ }
+    requires { ⌜ AxisCostInRange k × (natAbs v ≤ 20000) ⌝ }
     ensures { λ r. ⌜ Scaled k v r ⌝ }
 {
     let narrow = v as i32;
@@ -88,7 +82,7 @@ pub fn scaled(k: i32, v: i64) -> i32
 
 // The first n coordinates of a column, multiplied by an axis cost, put into an array from a place on.
 fn copy_coordinates(from: &[i64], k: i32, to: &mut [i32], at: usize, n: usize)
-    requires { ⌜ CoordinatesUpTo 20000 (now from) n × CostInRange k × (at + n ≤ length (now to)) ⌝ }
+    requires { ⌜ CoordinatesUpTo 20000 (now from) n × AxisCostInRange k × (at + n ≤ length (now to)) ⌝ }
     ensures { λ r. ⌜ now (to .exit) ≡ paste (now (to .entry)) at (map (times (natAbs k)) (now (from .entry))) n ⌝ }
 {
     let mut i: usize = 0;

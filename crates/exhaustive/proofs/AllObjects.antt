@@ -13,7 +13,7 @@ use Rattle.numbers.proofs.Scaling.{scaled-at}
 use Rattle.numbers.proofs.Words.{word-fits}
 use Rattle.numbers.proofs.WordTests.{back}
 use Rattle.query.specs.Place.{Place}
-use Rattle.deck.specs.Ranges.{CostInRange, Scaled}
+use Rattle.deck.specs.Ranges.{AxisCostInRange, Scaled}
 use Rattle.deck.specs.Objects.{scaledPlace}
 use Rattle.deck.specs.ObjectColumns.{objectAt, axisIn, pricingIn}
 use Rattle.deck.proofs.WordLaws.{coordinate}
@@ -43,7 +43,7 @@ module _ (z : ℤ) (h : natAbs z ≤ 180000) where
   wide-is = rw (coordinate z h) (small-back z (omega arith))
 
 -- a coordinate that was scaled
-pub scaled-wide : {k r : ℤ} (v : ℤ) → CostInRange k → natAbs v ≤ 20000 → Scaled (word k) (back v) r → widened r ≡ times (natAbs k) v
+pub scaled-wide : {k r : ℤ} (v : ℤ) → AxisCostInRange k → natAbs v ≤ 20000 → Scaled (word k) (back v) r → widened r ≡ times (natAbs k) v
 scaled-wide {k} v cost h e = ap back (scaled-by cost v h e) ∙ small-back (times (natAbs k) v) (omega (arith, scaled-small cost v h))
 
 -- ---- no object

@@ -6,14 +6,14 @@ use native.Mathlib.Nat.{mul-le-mul, mul-le-mul-left, div-le-self, div-mul-le-sel
 use native.Mathlib.Omega.{arith}
 use lib.IntN.{ℤ, pos, natAbs}
 use Rattle.numbers.proofs.Integer.{order}
-use Rattle.deck.specs.Ranges.{CostInRange}
+use Rattle.deck.specs.Ranges.{AxisCostInRange}
 use Rattle.pricing.proofs.NarrowLaws.{natural}
 
 -- an axis cost is a natural number that is not 0
-pub cost-natural : {k : ℤ} → CostInRange k → k ≡ pos (natAbs k)
+pub cost-natural : {k : ℤ} → AxisCostInRange k → k ≡ pos (natAbs k)
 cost-natural {k} h = natural k (omega (arith, order, h .some))
 
-pub cost-some : {k : ℤ} → CostInRange k → 1 ≤ natAbs k
+pub cost-some : {k : ℤ} → AxisCostInRange k → 1 ≤ natAbs k
 cost-some {k} h = omega (arith, order, h .some, cost-natural h)
 
 -- n / b is n × m / P, where P = 2 ^ 32, m = P / b + 1, and n and b are small

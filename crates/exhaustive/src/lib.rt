@@ -19,10 +19,10 @@ ghost use lib.IntN.{pos, natAbs};
 ghost use lib.ListN.{length};
 ghost use Rattle.query.specs.Range.{costLimit};
 ghost use Rattle.query.specs.Exhaustive.{exhaustive};
-ghost use Rattle.deck.specs.Ranges.{CostInRange};
+ghost use Rattle.deck.specs.Ranges.{AxisCostInRange};
 ghost use Rattle.deck.specs.ObjectColumns.{axisIn, pricingIn};
 ghost use Rattle.pricing.specs.ObjectFigures.{beforeOf};
-ghost use Rattle.pricing.specs.Columns.{CostsInRange, Priceable, ObjectInRange, Figure};
+ghost use Rattle.pricing.specs.Columns.{AxisCostsInRange, Priceable, ObjectInRange, Figure};
 ghost use Rattle.lines.specs.LineRecord.{FirstAtLeast};
 ghost use Rattle.problem.specs.ObjectProblem.{pricedOf};
 ghost use Rattle.problem.specs.Prepared.{problemOf, Prepared};
@@ -90,7 +90,7 @@ pub fn number_lines(h: &[i64], table: &mut [u16; 40001])
 
 // The axis cost of y, to divide by.
 fn divisor_of(columns: &[i32; COLUMNS]) -> Divisor
-    requires { ⌜ CostsInRange (now columns) ⌝ }
+    requires { ⌜ AxisCostsInRange (now columns) ⌝ }
     ensures { λ d. ⌜ DivisorOf (axisIn (now (columns .entry)) .b) d ⌝ }
 {
     let b = columns[Y_COST] as u32;
@@ -266,7 +266,7 @@ fn sweep<'a>(
 )
     requires { ⌜ LinesInRange (now h)
         × Sweepable (scaledLines (natAbs b) (now h)) (now up) (now «up_at») (now down) (now «down_at») before
-        × (length (now costs) ≡ 514) × CostInRange b ⌝ }
+        × (length (now costs) ≡ 514) × AxisCostInRange b ⌝ }
     ensures { λ _.
         ⌜ Swept (now (h .entry)) (natAbs b) (now (up .entry)) (now («up_at» .entry)) (now (down .entry)) (now («down_at» .entry)) before
         (now (costs .entry)) (now (costs .exit)) ⌝ }

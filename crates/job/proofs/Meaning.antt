@@ -15,11 +15,12 @@ use Rattle.numbers.proofs.Truth.{holds, fails, cond-ind, cond-true, cond-false,
 use Rattle.numbers.proofs.Members.{length-nonEmpty, nonEmpty-length, nonEmpty-iff, empty-iff}
 use Rattle.numbers.proofs.Integer.{order}
 use Rattle.query.specs.Place.{Rect, NonEmpty}
-use Rattle.query.specs.Deck.{AxisCosts, plain}
+use Rattle.query.specs.Deck.{AxisCosts}
 use Rattle.query.specs.Range.{InRange}
 use Rattle.job_line.specs.Kinds.{axis, inRanges}
 use Rattle.job_line.specs.OneLine.{Reading, fault, got}
-use Rattle.job.specs.Format.{Job, axisNumbers, jobLines, Result, refused, accepted, emptyArea, checked, readingResult, textWith, readWith, readJob}
+use Rattle.job.specs.Format.{Job, axisNumbers, jobLines, Result, refused, accepted, emptyArea, checked, readingResult}
+use Rattle.job.specs.Format.{textWith, readWith, missingAxis, readJob}
 use Rattle.job.specs.Spelling.{spell, Spells, with-line, without-line, Writable, Allowed}
 use Rattle.job.specs.Meaning.{AcceptedLaw, SpellingLaw, top, Spelled, Condition, too-long, in-text, TextCondition, malformed, out-of-range}
 use Rattle.job.specs.Meaning.{empty-area, no-posts, no-stops, RefusedLaw}
@@ -166,20 +167,20 @@ spelling-law job = record {
     costs missing (with-line e) = absurd (line-tells job e)
     costs missing (without-line e c) = c
 
--- ---- a job as every call reads it: a missing line means 1,1
-pub job-with : (bytes : List ℕ) → readJob bytes ≡ readWith plain bytes
+-- ---- a job as every call reads it
+pub job-with : (bytes : List ℕ) → readJob bytes ≡ readWith missingAxis bytes
 unfolding readJob
 job-with bytes = refl
 
-pub plain-ranged : Ranged axis (axisNumbers plain)
+pub missing-ranged : Ranged axis (axisNumbers missingAxis)
 unfolding inRanges
-plain-ranged = tt
+missing-ranged = tt
 
-pub accepted-job : (bytes : List ℕ) (job : Job) → (readJob bytes ≡ accepted job) ↔ ((length bytes ≤ 16384) × Spells plain bytes job × Allowed job)
-accepted-job bytes job = rw (job-with bytes) (accepted-law plain bytes job .exactly plain-ranged)
+pub accepted-job : (bytes : List ℕ) (job : Job) → (readJob bytes ≡ accepted job) ↔ ((length bytes ≤ 16384) × Spells missingAxis bytes job × Allowed job)
+accepted-job bytes job = rw (job-with bytes) (accepted-law missingAxis bytes job .exactly missing-ranged)
 
 pub refused-job : (bytes : List ℕ) (why : Refusal) → (readJob bytes ≡ refused why) ↔ Condition bytes why
-refused-job bytes why = rw (job-with bytes) (refused-law plain bytes why .exactly)
+refused-job bytes why = rw (job-with bytes) (refused-law missingAxis bytes why .exactly)
 
 -- an accepted job's deck is one of those that the searches are proved for
 pub allowed-in-range : (job : Job) → Allowed job → InRange (job .deck)

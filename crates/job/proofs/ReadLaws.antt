@@ -17,14 +17,14 @@ use Rattle.job_line.specs.OneLine.{Reading, fault, got, Reader, line}
 use Rattle.job.specs.Reader.{andThen, optional, end}
 use Rattle.job.specs.Format as Format
 use Rattle.job.specs.Format.{refused, accepted, areaOf, axisCostsOf, axisNumbers, countOf, postOf, stopOf, jobOf, emptyArea, checked, jobLines}
-use Rattle.job.specs.Format.{readWith, readJob}
+use Rattle.job.specs.Format.{readWith, missingAxis, readJob}
 use Rattle.job.specs.JobRecord.{jobRecord}
 use Rattle.numbers.specs.Padded.{padded}
 use Rattle.job_line.specs.Reading.{areaNumbers, costNumbers, areaAnswer, countAnswer, answerIn, LineAt}
 use Rattle.job.specs.ManyLines.{postLines, stopLines, countedLines, allPosts, allStops, lastLine, restLines, nextIn, PlacesHeld, PostsHold, StopsHold}
 use Rattle.job.specs.ManyLines.{AxisAt, PostsAt, StopsAt, LastAt, RestAt, CheckedAt}
 use Rattle.query.specs.Deck as Query
-use Rattle.deck.specs.DeckOf.{costsOf, costsRecord}
+use Rattle.deck.specs.DeckOf.{heldAxis, axisRecord}
 use Rattle.deck.specs.declared.AxisCosts.{AxisCosts}
 use Rattle.deck.specs.declared.Rect.{Rect}
 use Rattle.job_line.specs.declared.AreaLine.{AreaLine}
@@ -32,7 +32,7 @@ use Rattle.job_line.specs.declared.AreaLine.the-variants as A
 use Rattle.job_line.specs.declared.CountLine.{CountLine}
 use Rattle.job_line.specs.declared.CountLine.the-variants as C
 use Rattle.job.specs.declared.Next.the-variants.{At, Refused}
-use Rattle.job.specs.declared.Axis.{Axis}
+use Rattle.job.specs.declared.AxisRead.{AxisRead}
 use Rattle.job.specs.declared.Posts.{Posts}
 use Rattle.job.specs.declared.Stops.{Stops}
 use Rattle.job.specs.declared.Job.{Job}
@@ -85,7 +85,7 @@ jobOfParts costs xlo ylo xhi yhi p s n = record {
 accepted-is : (a c : List ℤ) (ps ss : List (List ℤ)) (n : List ℤ) → jobRecord (accepted (jobOf a c ps ss n)) ≡ record {
   outcome = Accepted (countOf n);
   deck = record {
-    axis = costsRecord (axisCostsOf c);
+    axis = axisRecord (axisCostsOf c);
     xlo = areaOf a .xlo;
     ylo = areaOf a .ylo;
     xhi = areaOf a .xhi;
@@ -264,25 +264,25 @@ read-long missing s h = rw (lt-ltb 16384 (length s) h)
 
 module _ (missing : AxisCosts) {s : List ℕ} (short : length s ≤ 16384) {area-answer : AreaLine}
     (area-at : LineAt (row area) s 0 1 (areaAnswer area-answer)) where
-  from-area : {r : AreaLine} → area-answer ≡ r → jobLines (costsOf missing) 1 s ≡ andThen (answerIn s 1 (areaAnswer r))
+  from-area : {r : AreaLine} → area-answer ≡ r → jobLines (heldAxis missing) 1 s ≡ andThen (answerIn s 1 (areaAnswer r))
       (λ a n bs. andThen (optional (row axis) (costNumbers missing) n bs) (restLines a))
-  from-area e = rw (lines-are (costsOf missing) 1 s, ← subst (λ (r : AreaLine). LineAt (row area) s 0 1 (areaAnswer r)) e area-at .is)
+  from-area e = rw (lines-are (heldAxis missing) 1 s, ← subst (λ (r : AreaLine). LineAt (row area) s 0 1 (areaAnswer r)) e area-at .is)
 
-  pub read-area : {why : Refusal} → area-answer ≡ A.Refused why → refused why ≡ readWith (costsOf missing) s
-  read-area e = rw (read-short (costsOf missing) s short, from-area e)
+  pub read-area : {why : Refusal} → area-answer ≡ A.Refused why → refused why ≡ readWith (heldAxis missing) s
+  read-area e = rw (read-short (heldAxis missing) s short, from-area e)
 
-  module _ {a : Rect} {at : ℕ} (area-is : area-answer ≡ A.Read a at) {axisRead : Axis} (axis-at : AxisAt s at missing axisRead) where
-    from-axis : jobLines (costsOf missing) 1 s
+  module _ {a : Rect} {at : ℕ} (area-is : area-answer ≡ A.Read a at) {axisRead : AxisRead} (axis-at : AxisAt s at missing axisRead) where
+    from-axis : jobLines (heldAxis missing) 1 s
         ≡ andThen (nextIn s (costNumbers (axisRead .costs)) (axisRead .line) (axisRead .next)) (restLines (areaNumbers a))
     from-axis = rw (from-area area-is, axis-at .is)
 
-    pub read-axis : {why : Refusal} → axisRead .next ≡ Refused why → refused why ≡ readWith (costsOf missing) s
-    read-axis e = rw (read-short (costsOf missing) s short, from-axis, e)
+    pub read-axis : {why : Refusal} → axisRead .next ≡ Refused why → refused why ≡ readWith (heldAxis missing) s
+    read-axis e = rw (read-short (heldAxis missing) s short, from-axis, e)
 
     pub read-rest : {at₂ : ℕ} → axisRead .next ≡ At at₂ → {r : Job} → RestAt s at₂ (axisRead .line) a (axisRead .costs) r →
-        r ≡ jobRecord (readWith (costsOf missing) s)
-    read-rest e rest-at = rw (read-short (costsOf missing) s short, from-axis, e) (rest-at .is)
+        r ≡ jobRecord (readWith (heldAxis missing) s)
+    read-rest e rest-at = rw (read-short (heldAxis missing) s short, from-axis, e) (rest-at .is)
 
--- a missing line means 1,1
-pub read-plain : (s : List ℕ) {r : Job} → r ≡ jobRecord (readWith Query.plain s) → r ≡ jobRecord (readJob s)
-read-plain s e = rw (job-with s) e
+-- where a missing line means what it does for every call
+pub read-missing : (s : List ℕ) {r : Job} → r ≡ jobRecord (readWith missingAxis s) → r ≡ jobRecord (readJob s)
+read-missing s e = rw (job-with s) e

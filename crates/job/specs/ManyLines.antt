@@ -15,7 +15,7 @@ use Rattle.job.specs.JobRecord.{jobRecord}
 use Rattle.numbers.specs.Padded.{padded}
 use Rattle.deck.specs.declared.AxisCosts.{AxisCosts}
 use Rattle.deck.specs.declared.Rect.{Rect}
-use Rattle.job.specs.declared.Axis.{Axis}
+use Rattle.job.specs.declared.AxisRead.{AxisRead}
 use Rattle.job.specs.declared.Job.{Job}
 use Rattle.job_line.specs.declared.CountLine.{CountLine}
 use Rattle.job.specs.declared.Next.{Next}
@@ -30,7 +30,7 @@ nextIn s a n (At at) = got a n (drop at s)
 nextIn s a n (Refused why) = fault why
 
 -- the second line of a job, which may be missing and then stands for these costs
-pub record AxisAt (s : List ℕ) (at : ℕ) (missing : AxisCosts) (r : Axis) : Type 0 where
+pub record AxisAt (s : List ℕ) (at : ℕ) (missing : AxisCosts) (r : AxisRead) : Type 0 where
   pub is : nextIn s (costNumbers (r .costs)) (r .line) (r .next) ≡ optional (row axis) (costNumbers missing) 2 (drop at s)
   pub few : r .line ≤ 3
 

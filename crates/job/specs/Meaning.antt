@@ -76,7 +76,7 @@ pub record FirstOutOfRange (bytes : List ℕ) (n : ℕ) : Type 0 where
   pub form : formOf (row k) rest ≡ some (numbers, after)
   pub range : T (not (inRanges (row k .ranges) numbers))
 
--- the bytes spell a job whose values are all in range, so that only refusals 4 to 6 are left
+-- the bytes spell a job, and the values of all their lines are in range, so that only refusals 4 to 6 are left
 pub record Spelled (bytes : List ℕ) : Type 0 where
   pub carried : Bool
   pub job : Job

@@ -33,7 +33,7 @@ repeated (suc n) one read = do
   a ← one
   repeated n one (read ++ (a ∷ []))
 
--- a line that may be missing: it is there where the text goes on with its key. Numbers that stand for it where it is not
+-- a line that may be missing: it is there where the text goes on with its key. Where it is not, these numbers are taken for its own
 unfoldable pub optional : Row → List ℤ → Reader (List ℤ)
 unfolding startsWith line
 optional row missing n bs = cond (startsWith (row .key) bs) (line row n bs) (got missing n bs)

@@ -72,7 +72,7 @@ unfoldable pub spell : Bool → Job → List ℕ
 unfolding flatMap spellLine
 spell carried job = flatMap spellLine (linesOf carried job)
 
--- 02 card 2: the spellings of a job, where a missing line means these costs. That without the line is one of them where they are the job's
+-- 02 card 2: the spellings of a job, where a missing line means these costs. The one without the line is a spelling only of a job with them
 pub data Spells (missing : AxisCosts) (bs : List ℕ) (job : Job) : Type 0 where
   with-line : bs ≡ spell true job → Spells missing bs job
   without-line : bs ≡ spell false job → job .deck .axis ≡ missing → Spells missing bs job

@@ -16,7 +16,7 @@ use refusal::Refusal;
 ghost use mathlib.Core.Path.{_≡_};
 ghost use Prim.Native.Nat.{_+_, _≤_};
 ghost use lib.ListN.{drop};
-ghost use Rattle.deck.specs.DeckOf.{costsOf};
+ghost use Rattle.deck.specs.DeckOf.{heldAxis};
 ghost use Rattle.job_line.specs.Reading.{areaNumbers};
 ghost use Rattle.job.specs.File.{writesAxis};
 ghost use Rattle.job.specs.Format.{areaOf, emptyArea, readWith, readJob, refused};
@@ -42,7 +42,7 @@ enum Next {
 }
 
 // The axis costs, and the line where reading goes on.
-struct Axis {
+struct AxisRead {
     next: Next,
     costs: AxisCosts,
     line: u64,
@@ -67,23 +67,23 @@ struct Stops {
 // ---- parts
 
 // The line `axis=a,b`, which is the second line where the text goes on with its key. Where it is missing, `missing` stands for it.
-fn read_axis(s: &[u8], at: usize, missing: AxisCosts) -> Axis
+fn read_axis(s: &[u8], at: usize, missing: AxisCosts) -> AxisRead
     ensures { λ r. ⌜ AxisAt (now (s .entry)) at missing r ⌝ }
 {
     if !text::starts(s, at, b"axis=") {
-        return Axis {
+        return AxisRead {
             next: Next::At(at),
             costs: missing,
             line: 2,
         };
     }
     match job_line::axis_line(s, at, 2) {
-        AxisLine::Read(costs, next) => Axis {
+        AxisLine::Read(costs, next) => AxisRead {
             next: Next::At(next),
             costs,
             line: 3,
         },
-        AxisLine::Refused(why) => Axis {
+        AxisLine::Refused(why) => AxisRead {
             next: Next::Refused(why),
             costs: missing,
             line: 2,
@@ -321,7 +321,7 @@ fn read_rest(s: &[u8], at: usize, first: u64, area: Rect, costs: AxisCosts) -> J
 // A job's bytes, read line by line from the top: the deck and the rounds that they spell, or the first refusal. A job without an axis
 // line has the axis costs `missing`.
 pub fn read_with(bytes: &[u8], missing: AxisCosts) -> Job
-    ensures { λ r. ⌜ r ≡ jobRecord (readWith (costsOf missing) (now (bytes .entry))) ⌝ }
+    ensures { λ r. ⌜ r ≡ jobRecord (readWith (heldAxis missing) (now (bytes .entry))) ⌝ }
 {
     if JOB_BYTES < bytes.len() {
         return refuse(Refusal::TooLong);
@@ -348,7 +348,7 @@ pub fn read(bytes: &[u8]) -> Job
 
 // Whether the writer has a line for these axis costs.
 pub fn writes_axis(c: AxisCosts) -> bool
-    ensures { λ r. ⌜ r ≡ writesAxis (costsOf c) ⌝ }
+    ensures { λ r. ⌜ r ≡ writesAxis (heldAxis c) ⌝ }
 {
     if c.a == 1 { c.b != 1 } else { true }
 }

@@ -10,13 +10,13 @@ use lib.Dec.{T, eqb, eqb→eq}
 use lib.ListN.{length}
 use Rattle.query.specs.Deck.{AxisCosts, plain}
 use Rattle.job_line.specs.Kinds.{axis, row}
-use Rattle.job.specs.Format.{Job, axisNumbers}
+use Rattle.job.specs.Format.{Job, missingAxis, axisNumbers}
 use Rattle.job.specs.Spelling.{JobLine, axisLine, spell, Spells, with-line, without-line}
 use Rattle.job.specs.File.{writesAxis, savedSpelling}
 use Rattle.job_check.specs.LineFaults.{numbersFault, firstFault}
 use Rattle.job_check.proofs.FirstFault.{fault-none, fault-more, or-none}
 
--- costs without a line are those that a missing line means
+-- costs without a line are 1 and 1
 pub left-out : (c : AxisCosts) → T (not (writesAxis c)) → c ≡ plain
 unfolding writesAxis
 left-out c = go (eqb (c .a) 1) (eqb (c .b) 1) (eqb→eq (c .a) 1) (eqb→eq (c .b) 1)
@@ -26,11 +26,11 @@ left-out c = go (eqb (c .a) 1) (eqb (c .b) 1) (eqb→eq (c .a) 1) (eqb→eq (c .
     go true false p q u = absurd u
     go false t p q u = absurd u
 
--- so the spelling that is written is one of the job's
-pub saved-spells : (job : Job) → Spells plain (savedSpelling job) job
+-- which is what a missing line means, so the spelling that is written is one of the job's
+pub saved-spells : (job : Job) → Spells missingAxis (savedSpelling job) job
 saved-spells job = go (writesAxis (job .deck .axis)) (left-out (job .deck .axis))
   where
-    go : (carried : Bool) → (T (not carried) → job .deck .axis ≡ plain) → Spells plain (spell carried job) job
+    go : (carried : Bool) → (T (not carried) → job .deck .axis ≡ missingAxis) → Spells missingAxis (spell carried job) job
     go true h = with-line refl
     go false h = without-line refl (h tt)
 

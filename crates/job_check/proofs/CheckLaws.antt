@@ -13,7 +13,7 @@ use mir.Syntax.{w64}
 use mir.Val.{SFits}
 use Rattle.numbers.proofs.WordTests.{back, back-is}
 use Rattle.deck.specs.declared.Deck.{Deck}
-use Rattle.deck.specs.DeckOf.{Sized, costsOf, deckOf}
+use Rattle.deck.specs.DeckOf.{Sized, heldAxis, deckOf}
 use Rattle.job_line.specs.Kinds.{Range, area, axis, posts, stops, rounds, upTo, row}
 use Rattle.job_line.specs.Reading.{costNumbers}
 use Rattle.job.specs.Format.{areaOf, readText}
@@ -37,11 +37,11 @@ stopPart deck = countLine stops (deck .stops) ∷ stopLines (deck .«stop_x») (
 
 -- the number of the first line of the posts
 abbrev pub postsAt : Deck → ℕ
-postsAt deck = cond (writesAxis (costsOf (deck .axis))) 3 2
+postsAt deck = cond (writesAxis (heldAxis (deck .axis))) 3 2
 
 lines-are : (deck : Deck) (n : ℕ) →
     fileLines deck n ≡ record { kind = area; numbers = areaNumbersOf deck }
-    ∷ (axisLines (costsOf (deck .axis)) ++ (postPart deck ++ (stopPart deck ++ (countLine rounds n ∷ []))))
+    ∷ (axisLines (heldAxis (deck .axis)) ++ (postPart deck ++ (stopPart deck ++ (countLine rounds n ∷ []))))
 unfolding deckOf
 lines-are deck n = refl
 
@@ -102,10 +102,10 @@ module _ (deck : Deck) (n : ℕ) where
   lines-fault = rw (
     lines-are deck n,
     fault-more 1 (record { kind = area; numbers = areaNumbersOf deck })
-        (axisLines (costsOf (deck .axis)) ++ (postPart deck ++ (stopPart deck ++ (countLine rounds n ∷ [])))),
-    fault-joined 2 (axisLines (costsOf (deck .axis))) (postPart deck ++ (stopPart deck ++ (countLine rounds n ∷ []))),
-    axis-fault (costsOf (deck .axis)),
-    axis-end (costsOf (deck .axis)),
+        (axisLines (heldAxis (deck .axis)) ++ (postPart deck ++ (stopPart deck ++ (countLine rounds n ∷ [])))),
+    fault-joined 2 (axisLines (heldAxis (deck .axis))) (postPart deck ++ (stopPart deck ++ (countLine rounds n ∷ []))),
+    axis-fault (heldAxis (deck .axis)),
+    axis-end (heldAxis (deck .axis)),
     or-both,
     or-both,
     later-fault (postsAt deck),

@@ -14,14 +14,14 @@ use Rattle.numbers.proofs.Truth.{test, holds, fails}
 use Rattle.numbers.proofs.Members.{each-cons}
 use Rattle.numbers.specs.Lists.{nonEmpty}
 use Rattle.query.specs.Place.{Place, Rect}
-use Rattle.query.specs.Deck.{AxisCosts, Stop, plain}
+use Rattle.query.specs.Deck.{AxisCosts, Stop}
 use Rattle.text.specs.Ascii.{bytes}
 use Rattle.text.specs.TextReading.{startsWith}
 use Rattle.deck.specs.DeckOf.{Sized, deckOf}
 use Rattle.deck.specs.declared.Deck.{Deck}
 use Rattle.deck.proofs.DeckLaws.{posts-counted, stops-counted}
 use Rattle.job_line.specs.Kinds.{Kind, area, posts, post, stops, stop, rounds, row, inRanges}
-use Rattle.job.specs.Format.{Job, Result, refused, accepted, emptyArea, checked, readText}
+use Rattle.job.specs.Format.{Job, Result, refused, accepted, emptyArea, checked, missingAxis, readText}
 use Rattle.job.specs.Spelling.{JobLine, areaLine, axisLine, countLine, postLine, stopLine, laterLines, linesCounting, linesOf, spellLine, spell, Writable}
 use Rattle.job.specs.Spelling.{Allowed}
 use Rattle.job.specs.Meaning.{dueAfter}
@@ -29,7 +29,7 @@ use Rattle.job.specs.File.{heldJob, writesAxis, savedSpelling, fileLines, fileT
 use Rattle.job.proofs.FormLaws.{SomeLong, Fitting, Within, form-spells, form-long}
 use Rattle.job.proofs.RangeLaws.{count-range}
 use Rattle.job.proofs.Faults.{Faults, bad-form, bad-value, further, allDue}
-use Rattle.job.proofs.Meaning.{text-fault, text-checked, text-accepted, plain-ranged}
+use Rattle.job.proofs.Meaning.{text-fault, text-checked, text-accepted, missing-ranged}
 use Rattle.refusal.specs.Refusal.{lineOf}
 use Rattle.refusal.specs.declared.Refusal.{Refusal}
 use Rattle.refusal.specs.declared.Refusal.the-variants.{Malformed, OutOfRange, EmptyArea, NoPosts, NoStops}
@@ -257,7 +257,7 @@ module _ (deck : Deck) (rounds-held : ℕ) (sized : Sized deck) where
       go false (p ∷ ps) (s ∷ ss) = rw (eqb·suc-zero (length ps), eqb·suc-zero (length ss))
 
   all-read : AllFine → readText (fileText deck rounds-held) ≡ checked (heldJob deck rounds-held)
-  all-read f = text-checked plain _ (heldJob deck rounds-held) (f .spelled) (f .writable) (left-out (deckOf deck .axis))
+  all-read f = text-checked missingAxis _ (heldJob deck rounds-held) (f .spelled) (f .writable) (left-out (deckOf deck .axis))
 
   -- what reading the file gives
   pub file-fault : refusalIn (readText (fileText deck rounds-held))
@@ -267,7 +267,7 @@ module _ (deck : Deck) (rounds-held : ℕ) (sized : Sized deck) where
     where
       go : (o : Option Refusal) → firstFault 1 (fileLines deck rounds-held) ≡ o →
           refusalIn (readText (fileText deck rounds-held)) ≡ orElse o (partsFault (deckOf deck .area) (deck .posts) (deck .stops))
-      go (some why) e = ap refusalIn (text-fault plain _ why (lines-fault allDue (fileLines deck rounds-held) 1 why file-follows e))
+      go (some why) e = ap refusalIn (text-fault missingAxis _ why (lines-fault allDue (fileLines deck rounds-held) 1 why file-follows e))
       go none e = let f = all-fine e in ap refusalIn (all-read f) ∙ parts-is f
 
   -- at a line of the file, of which there are at most 581
@@ -299,7 +299,7 @@ module _ (deck : Deck) (rounds-held : ℕ) (sized : Sized deck) where
       held : (r : Result) → readText (fileText deck rounds-held) ≡ r → AllFine → FileIs
       held (refused why) p f = none-some (sym e ∙ ap refusalIn p)
       held (accepted job) p f =
-          let (spelt, allowed) = text-accepted plain _ job plain-ranged p in
+          let (spelt, allowed) = text-accepted missingAxis _ job missing-ranged p in
           let same : job ≡ heldJob deck rounds-held = checked-same (heldJob deck rounds-held) job (sym (all-read f) ∙ p) in
           record { few-posts = f .posts-few; few-stops = f .stops-few; text = f .spelled; allowed = subst Allowed same allowed; read = p ∙ ap accepted same }
 

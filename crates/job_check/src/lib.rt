@@ -13,7 +13,7 @@ ghost use mathlib.Core.List.{[], _∷_, map};
 ghost use Prim.Native.Nat.{_≤_};
 ghost use lib.IntN.{pos};
 ghost use lib.ListN.{length, take};
-ghost use Rattle.deck.specs.DeckOf.{costsOf, places, stopsOf};
+ghost use Rattle.deck.specs.DeckOf.{heldAxis, places, stopsOf};
 ghost use Rattle.job_line.specs.Kinds.{area, axis, posts, post, stops, stop, upTo, row};
 ghost use Rattle.job_line.specs.Reading.{areaNumbers, costNumbers, placeNumbers};
 ghost use Rattle.job.specs.Format.{areaOf, readText};
@@ -178,7 +178,7 @@ fn all_stops<'a>(xs: &'a [i64], ys: &'a [i64], visits: &'a [u64], n: usize, line
 
 // The number of the line `posts=n`.
 fn posts_at(c: AxisCosts) -> u64
-    ensures { λ r. ⌜ r ≡ cond (writesAxis (costsOf c)) 3 2 ⌝ }
+    ensures { λ r. ⌜ r ≡ cond (writesAxis (heldAxis c)) 3 2 ⌝ }
 {
     if job::writes_axis(c) { 3 } else { 2 }
 }

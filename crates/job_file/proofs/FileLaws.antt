@@ -13,7 +13,7 @@ use Rattle.text.specs.Decimal.{spellNat, spellInt}
 use Rattle.write.specs.Written.{Wrote}
 use Rattle.write.proofs.WrittenLaws.{wrote-kept}
 use Rattle.deck.specs.declared.Deck.{Deck}
-use Rattle.deck.specs.DeckOf.{costsOf, places, stopsOf}
+use Rattle.deck.specs.DeckOf.{heldAxis, places, stopsOf}
 use Rattle.job_line.specs.Kinds.{posts, stops, rounds}
 use Rattle.job.specs.Spelling.{areaLine, axisLine, countLine, postLine, stopLine, spellLine}
 use Rattle.job.specs.File.{writesAxis, fileText}
@@ -35,7 +35,7 @@ abbrev pub front₃ : Deck → List ℕ
 front₃ deck = front₂ deck ++ placeText (deck .xhi) (deck .yhi) newline
 
 abbrev pub front₄ : Deck → List ℕ
-front₄ deck = front₃ deck ++ axisText (costsOf (deck .axis))
+front₄ deck = front₃ deck ++ axisText (heldAxis (deck .axis))
 
 abbrev pub front₅ : Deck → List ℕ
 front₅ deck = front₄ deck ++ countPart (bytes "posts=") (deck .posts)
@@ -52,7 +52,7 @@ front₈ deck = front₇ deck ++ stopTexts (deck .«stop_x») (deck .«stop_y»)
 -- the lines, with the deck that the record holds written out
 file-lines : (deck : Deck) (n : ℕ) → fileText deck n ≡
     flatMap spellLine (areaLine (record { xlo = deck .xlo; ylo = deck .ylo; xhi = deck .xhi; yhi = deck .yhi })
-    ∷ (cond (writesAxis (costsOf (deck .axis))) (axisLine (costsOf (deck .axis)) ∷ []) [] ++ (countLine posts (deck .posts)
+    ∷ (cond (writesAxis (heldAxis (deck .axis))) (axisLine (heldAxis (deck .axis)) ∷ []) [] ++ (countLine posts (deck .posts)
     ∷ (map postLine (take (deck .posts) (places (deck .«post_x») (deck .«post_y»))) ++ (countLine stops (deck .stops)
     ∷ (map stopLine (take (deck .stops) (stopsOf (places (deck .«stop_x») (deck .«stop_y»)) (deck .visits))) ++ (countLine rounds n ∷ [])))))))
 unfolding fileText
@@ -78,14 +78,14 @@ nine a b c d e f g h i = simp length-append
 
 pub length-file : (deck : Deck) (n : ℕ) → length (fileText deck n) ≡
     5 + (length (spellInt (deck .xlo)) + length (spellInt (deck .ylo)) + 2) + (length (spellInt (deck .xhi)) + length (spellInt (deck .yhi)) + 2)
-    + length (axisText (costsOf (deck .axis))) + (6 + length (spellNat (deck .posts)) + 1) + length (postTexts (deck .«post_x») (deck .«post_y») (deck .posts))
+    + length (axisText (heldAxis (deck .axis))) + (6 + length (spellNat (deck .posts)) + 1) + length (postTexts (deck .«post_x») (deck .«post_y») (deck .posts))
     + (6 + length (spellNat (deck .stops)) + 1) + length (stopTexts (deck .«stop_x») (deck .«stop_y») (deck .visits) (deck .stops))
     + (7 + length (spellNat n) + 1)
 unfolding bytes
 length-file deck n = omega (
   arith,
   ap length (file-parts deck n),
-  nine (bytes "area=") (placeText (deck .xlo) (deck .ylo) comma) (placeText (deck .xhi) (deck .yhi) newline) (axisText (costsOf (deck .axis)))
+  nine (bytes "area=") (placeText (deck .xlo) (deck .ylo) comma) (placeText (deck .xhi) (deck .yhi) newline) (axisText (heldAxis (deck .axis)))
       (countPart (bytes "posts=") (deck .posts)) (postTexts (deck .«post_x») (deck .«post_y») (deck .posts)) (countPart (bytes "stops=") (deck .stops))
       (stopTexts (deck .«stop_x») (deck .«stop_y») (deck .visits) (deck .stops)) (countPart (bytes "rounds=") n),
   length-place (deck .xlo) (deck .ylo) comma,
@@ -117,7 +117,7 @@ fronts deck n {room} h =
     let six : length (front₆ deck) ≤ room = front (front₆ deck) (countPart (bytes "stops=") (deck .stops)) seven in
     let five : length (front₅ deck) ≤ room = front (front₅ deck) (postTexts (deck .«post_x») (deck .«post_y») (deck .posts)) six in
     let four : length (front₄ deck) ≤ room = front (front₄ deck) (countPart (bytes "posts=") (deck .posts)) five in
-    let three : length (front₃ deck) ≤ room = front (front₃ deck) (axisText (costsOf (deck .axis))) four in
+    let three : length (front₃ deck) ≤ room = front (front₃ deck) (axisText (heldAxis (deck .axis))) four in
     let two : length (front₂ deck) ≤ room = front (front₂ deck) (placeText (deck .xhi) (deck .yhi) newline) three in
     record {
       one = front front₁ (placeText (deck .xlo) (deck .ylo) comma) two;

@@ -9,7 +9,7 @@ ghost use lib.ListN.{length};
 ghost use Rattle.text.specs.Ascii.{newline};
 ghost use Rattle.text.specs.Decimal.{spellInt};
 ghost use Rattle.write.specs.Written.{Overwrote, Wrote};
-ghost use Rattle.deck.specs.DeckOf.{costsOf};
+ghost use Rattle.deck.specs.DeckOf.{heldAxis};
 ghost use Rattle.job.specs.File.{fileText};
 ghost use Rattle.job_file.specs.Texts.{numberText, placeText, axisText, postText, stopText, postTexts, stopTexts};
 
@@ -25,7 +25,7 @@ fn place_len(x: i64, y: i64) -> usize
 
 // The line of axis costs: nothing where the file has none.
 fn axis_len(c: AxisCosts) -> usize
-    ensures { λ r. ⌜ r ≡ length (axisText (costsOf c)) ⌝ }
+    ensures { λ r. ⌜ r ≡ length (axisText (heldAxis c)) ⌝ }
     ensures { λ r. ⌜ r ≤ 47 ⌝ }
 {
     if job::writes_axis(c) {
@@ -121,8 +121,8 @@ fn put_count(out: &mut [u8], at: usize, key: &[u8], n: u64) -> usize
 
 // `axis=a,b`: nothing where the file has no such line.
 fn put_axis(out: &mut [u8], at: usize, c: AxisCosts) -> usize
-    requires { ⌜ at + length (axisText (costsOf c)) ≤ length (now out) ⌝ }
-    ensures { λ r. ⌜ Wrote (now (out .entry)) at (axisText (costsOf c)) (now (out .exit)) r ⌝ }
+    requires { ⌜ at + length (axisText (heldAxis c)) ≤ length (now out) ⌝ }
+    ensures { λ r. ⌜ Wrote (now (out .entry)) at (axisText (heldAxis c)) (now (out .exit)) r ⌝ }
 {
     let has_line = job::writes_axis(c);
     if has_line {

@@ -1,4 +1,4 @@
--- What the functions of this crate answer, as the definitions of `Form`, `Lines` and `OneLine` have it: of the public ones `LineAt`.
+-- What the functions of this crate answer, as the definitions of `Form`, `Kinds` and `OneLine` have it: of the public ones `LineAt`.
 -- Assumes nothing.
 use Prim.Native.Nat.{ℕ, _+_, _≤_}
 use mathlib.Core.Path.{_≡_}

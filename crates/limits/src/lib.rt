@@ -1,4 +1,4 @@
-// The limits of document 01, and the sizes of arrays that follow from them. The definitions have them in query/specs/Range.antt,
+// The limits of documents 01 and 02, and the sizes of arrays that follow from them. The definitions have them in query/specs/Range.antt,
 // job/specs/Format.antt and calls/specs/Call.antt.
 
 // A job's bytes, and the bytes that hold every report.

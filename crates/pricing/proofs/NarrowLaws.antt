@@ -1,4 +1,4 @@
--- Rows, places and rectangles as words: those of a row hold its numbers, and so do 32-bit words that a place or a rectangle is narrowed to.
+-- Rows, scaled places and scaled rectangles as 32-bit words, which hold their numbers.
 -- Assumes nothing.
 use mathlib.Core.Path.{_≡_, refl, sym, ap, subst, _∙_}
 use Prim.Native.Nat.{_+_, _*_, _^_, _≤_, _<_}
@@ -19,7 +19,7 @@ use Rattle.query.specs.Place.{Rect}
 use Rattle.query.specs.Deck.{AxisCosts}
 use Rattle.query.specs.Bound.{span}
 use Rattle.query.specs.Range.{PlaceInRange, travelLimit}
-use Rattle.deck.specs.Ranges.{Near180000, CostInRange, Scaled}
+use Rattle.deck.specs.Ranges.{Near180000, AxisCostInRange, Scaled}
 use Rattle.deck.specs.Objects.{scaledPlace, scaledRect}
 use Rattle.deck.proofs.ScaleLaws.{scaled-word}
 use Rattle.pricing.specs.Columns.{ObjectInRange, Ranged, EdgesInRange, edgesRect, EdgesOf, Figure}
@@ -69,7 +69,7 @@ module _ {x y visits near : ℤ} (row : ObjectInRange x y visits near) where
   near-wide = rw near-word (omega (arith, row .near-range))
 
 -- ---- a place and a rectangle, scaled
-module _ {k : ℤ} (cost : CostInRange k) where
+module _ {k : ℤ} (cost : AxisCostInRange k) where
   pub cost-back : word k ≡ k
   cost-back = number-word k (omega (arith, cost .most))
 
@@ -79,7 +79,7 @@ module _ {k : ℤ} (cost : CostInRange k) where
   pub scaled-small : (v : ℤ) → natAbs v ≤ 20000 → natAbs (times (natAbs k) v) ≤ 180000
   scaled-small v h = scale-most (natAbs k) 9 20000 v (cost .most) h
 
-module _ {k l : ℤ} (across : CostInRange k) (deep : CostInRange l) where
+module _ {k l : ℤ} (across : AxisCostInRange k) (deep : AxisCostInRange l) where
   pub place-scaled : (x y : ℤ) → PlaceInRange (record { x = x; y = y }) → Near180000 (times (natAbs k) x) (times (natAbs l) y)
   place-scaled x y h = record { x-range = scaled-small across x (h .x-range); y-range = scaled-small deep y (h .y-range) }
 

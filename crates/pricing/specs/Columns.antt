@@ -11,7 +11,7 @@ use Rattle.numbers.specs.Integer.{dist}
 use Rattle.query.specs.Place.{Rect, NonEmpty}
 use Rattle.query.specs.Range.{RectInRange, travelLimit, loadLimit, costLimit, stopsLimit, visitsLimit}
 use Rattle.query.specs.Deck.{AxisCosts}
-use Rattle.deck.specs.Ranges.{Near180000, CostInRange}
+use Rattle.deck.specs.Ranges.{Near180000, AxisCostInRange}
 use Rattle.deck.specs.Objects.{scaledRect}
 use Rattle.pricing.specs.declared.Edges.{Edges}
 
@@ -24,10 +24,10 @@ pub record ObjectInRange (x y visits near : ℤ) : Type 0 where
   pub near-range : natAbs near ≤ travelLimit
 
 -- two axis costs behind columns of 512 rows each
-pub record CostsInRange (columns : List ℤ) : Type 0 where
+pub record AxisCostsInRange (columns : List ℤ) : Type 0 where
   pub long : length columns ≡ 2050
-  pub x-cost : CostInRange (getD columns 2048 (pos 0))
-  pub y-cost : CostInRange (getD columns 2049 (pos 0))
+  pub x-cost : AxisCostInRange (getD columns 2048 (pos 0))
+  pub y-cost : AxisCostInRange (getD columns 2049 (pos 0))
 
 -- and the columns, of which the first n rows count
 pub record Priceable (columns : List ℤ) (n : ℕ) : Type 0 where
@@ -35,7 +35,7 @@ pub record Priceable (columns : List ℤ) (n : ℕ) : Type 0 where
   pub row : (i : ℕ) → i < stopsLimit
       → ObjectInRange (getD columns i (pos 0)) (getD columns (512 + i) (pos 0)) (getD columns (1024 + i) (pos 0))
       (getD columns (1536 + i) (pos 0))
-  pub costs : CostsInRange columns
+  pub costs : AxisCostsInRange columns
 
 -- a rectangle in range that has a point
 pub record Ranged (r : Rect) : Type 0 where

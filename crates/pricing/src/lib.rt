@@ -25,7 +25,7 @@ ghost use Rattle.deck.specs.Rectangle.{rectOf};
 ghost use Rattle.deck.specs.ObjectColumns.{axisIn, pricingIn};
 ghost use Rattle.pricing.specs.ObjectFigures.{costOf, beforeOf, loadOf, flagsOf};
 ghost use Rattle.pricing.specs.Columns.{
-  CostsInRange,
+  AxisCostsInRange,
   Priceable,
   Ranged,
   ObjectInRange,
@@ -80,7 +80,7 @@ pub fn cost(columns: &[i32; COLUMNS], n: usize, x: i64, y: i64) -> u64
 
 // The edges of a rectangle as the passes take them.
 fn edges_of(columns: &[i32; COLUMNS], r: Rect) -> Edges
-    requires { ⌜ CostsInRange (now columns) × Ranged (rectOf r) ⌝ }
+    requires { ⌜ AxisCostsInRange (now columns) × Ranged (rectOf r) ⌝ }
     ensures { λ e. ⌜ EdgesOf (axisIn (now (columns .entry))) (rectOf r) e ⌝ }
 {
     let a = columns[X_COST];
@@ -177,7 +177,7 @@ pub fn before(columns: &[i32; COLUMNS], n: usize) -> u64
 
 // The width and the height of a rectangle, each multiplied by its axis cost, added.
 pub fn span(columns: &[i32; COLUMNS], r: Rect) -> u64
-    requires { ⌜ CostsInRange (now columns) × Ranged (rectOf r) ⌝ }
+    requires { ⌜ AxisCostsInRange (now columns) × Ranged (rectOf r) ⌝ }
     ensures { λ s. ⌜ Figure (Bound.span (axisIn (now (columns .entry))) (rectOf r)) travelLimit s ⌝ }
 {
     let e = edges_of(columns, r);

@@ -20,7 +20,7 @@ cornerSum deck r = max (cost deck (record { x = r .xlo; y = r .ylo }) + cost dec
     (cost deck (record { x = r .xlo; y = r .yhi }) + cost deck (record { x = r .xhi; y = r .ylo }))
 
 -- 01 "bound", 000 the data-dependent lower bound of Theorem 4: add the costs of opposite corners, take the larger of the two sums,
--- subtract (width + height) × load(cell), halve towards plus infinity
+-- subtract (width + height) × load(cell), which card 2 of 02 makes span × load(cell), halve towards plus infinity
 unfoldable pub bound : Deck → Rect → ℤ
 unfolding halfUp cornerSum span load
 bound deck r = halfUp (pos (cornerSum deck r) -ℤ pos (span (deck .axis) r * load deck r))

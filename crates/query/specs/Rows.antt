@@ -1,5 +1,5 @@
 -- Rows beside the eight marked decks: figures of small decks, each chosen so that a rule told wrongly gives another figure.
--- The figures are those of a program written from document 01 alone; `proofs/Rows.antt` proves that the definitions give them.
+-- The figures are those of a program written from documents 01 and 02 alone; `proofs/Rows.antt` proves that the definitions give them.
 -- Assumes nothing.
 use Prim.Native.Nat.{ℕ, _-_, _*_, _<_}
 use mathlib.Core.Path.{_≡_}
@@ -84,6 +84,10 @@ deckNarrow a b = record {
 abbrev pub deckSide : Deck
 deckSide = record { axis = record { a = 2; b = 1 }; area = rect 0 0 3 5; posts = at 0 4 ∷ []; stops = stop 1 2 1 ∷ stop 3 0 3 ∷ [] }
 
+-- two axis costs that are not 1: with one of them left out of reach, or the area's longer side by them, a stopped search has other figures
+abbrev pub deckBoth : Deck
+deckBoth = record { axis = record { a = 2; b = 3 }; area = rect 0 0 5 4; posts = at 5 6 ∷ []; stops = stop 1 6 1 ∷ stop 2 2 2 ∷ [] }
+
 abbrev pub lowest : Place
 lowest = record { x = negsuc 19999; y = negsuc 19999 }
 
@@ -140,6 +144,9 @@ pub record Rows : Type 0 where
   pub narrow : figures (deckNarrow 2 1) 10 ≡ report done (at 2 4) 9 (pos 9) 15 3
   pub narrow-deep : figures (deckNarrow 1 2) 10 ≡ report done (at 3 1) 9 (pos 9) 18 3
   pub side-1 : figures deckSide 1 ≡ report stopped (at 3 0) 4 (pos 0) 34 1
+  pub both-1 : figures deckBoth 1 ≡ report stopped (at 2 0) 20 (pos 0) 44 1
+  pub both-2 : figures deckBoth 2 ≡ report stopped (at 2 2) 8 (pos 3) 44 2
+  pub both : figures deckBoth 10 ≡ report done (at 2 2) 8 (pos 8) 44 5
   pub ends : figures (deckEnds lowest (at 20000 20000)) 1000 ≡ report done (at 20000 20000) 0 (pos 0) 24158822400000 0
   pub ends-low : figures (deckEnds (at 0 1) (at 0 0)) 0 ≡ report stopped lowest 301985280 (negsuc 12079109214719) 301985280 0
   -- the cell space, with two numbers more than suffice

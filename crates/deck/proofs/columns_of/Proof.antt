@@ -1,4 +1,4 @@
--- `deck::columns_of` meets its contract: each column is copied of the deck's, whose numbers are in range, or found of such copies.
+-- `deck::columns_of` meets its contract: each column is made of the deck's, whose numbers are in range, and near of the scaled places.
 -- Assumes nothing.
 use native.Mathlib.Omega.{arith}
 use borrow.Author.Needs.{needs}

@@ -9,13 +9,13 @@ use lib.ListN.{getD}
 use denote.Ref.{now}
 use borrow.Author.Needs.{needs}
 use Rattle.numbers.proofs.Words.{natural-cast}
-use Rattle.deck.specs.Ranges.{CostInRange}
+use Rattle.deck.specs.Ranges.{AxisCostInRange}
 use Rattle.pricing.proofs.NarrowLaws.{word, cost-back}
 use Rattle.exhaustive.proofs.Division.{cost-some, cost-natural}
 use Rattle.exhaustive.proofs.divisor_of.Statement.{statement}
 use Rattle.exhaustive.proofs.divisor_of.Tie as tie
 
-cost : (c : tie.After-b) → CostInRange (getD (now (c .before .args .columns)) 2049 (pos 0))
+cost : (c : tie.After-b) → AxisCostInRange (getD (now (c .before .args .columns)) 2049 (pos 0))
 cost c = c .before .pre .y-cost
 
 by-is : (c : tie.After-b) → natAbs (word (getD (now (c .before .args .columns)) 2049 (pos 0))) ≡ natAbs (getD (now (c .before .args .columns)) 2049 (pos 0))

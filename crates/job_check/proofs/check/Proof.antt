@@ -5,7 +5,7 @@ use mathlib.Core.Option.{Option}
 use Prim.Native.Nat.{ℕ, _+_, _≤_}
 use native.Mathlib.Omega.{arith}
 use borrow.Author.Needs.{needs}
-use Rattle.deck.specs.DeckOf.{Sized, costsOf}
+use Rattle.deck.specs.DeckOf.{Sized, heldAxis}
 use Rattle.deck.specs.declared.Deck.{Deck}
 use Rattle.job_line.specs.Kinds.{area, row}
 use Rattle.job.specs.File.{writesAxis}
@@ -53,7 +53,7 @@ module _ (c : tie.After-posts-at) where
       (part-fine _ (left-area area-passed) (a .axis-line .ensures) (ap checkedAs (c .before .before .enum-told2 .given .1)))
 
   first-few : c .posts-at .result ≤ 3
-  first-few = omega (arith, c .posts-at .ensures, third-line (writesAxis (costsOf (start-axis .args .t1 .axis))))
+  first-few = omega (arith, c .posts-at .ensures, third-line (writesAxis (heldAxis (start-axis .args .t1 .axis))))
 
 -- behind the posts
 module _ (c : tie.After-enum-told3) where

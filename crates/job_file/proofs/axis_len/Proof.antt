@@ -4,7 +4,7 @@ use mathlib.Core.Path.{sym, ap, _∙_}
 use native.Mathlib.Omega.{arith}
 use lib.ListN.{length}
 use borrow.Author.Needs.{needs}
-use Rattle.deck.specs.DeckOf.{costsOf}
+use Rattle.deck.specs.DeckOf.{heldAxis}
 use Rattle.job_file.proofs.TextLaws.{axis-left-out, length-axis}
 use Rattle.job_file.proofs.axis_len.Statement.{statement}
 use Rattle.job_file.proofs.axis_len.Tie as tie
@@ -30,12 +30,12 @@ add-result-3 c = search needs
 returns : tie.Need-returns
 returns c =
     let test = c .before .before in
-    let line = length-axis (costsOf (test .before .before .args .c)) (sym (test .before .writes-axis .ensures) ∙ test .if1 .taken) in
+    let line = length-axis (heldAxis (test .before .before .args .c)) (sym (test .before .writes-axis .ensures) ∙ test .if1 .taken) in
     (omega (arith, line), omega arith)
 
 returns-2 : tie.Need-returns-2
 returns-2 c =
-    let none = ap length (axis-left-out (costsOf (c .before .before .args .c)) (sym (c .before .writes-axis .ensures) ∙ c .if1 .left)) in
+    let none = ap length (axis-left-out (heldAxis (c .before .before .args .c)) (sym (c .before .writes-axis .ensures) ∙ c .if1 .left)) in
     (omega (arith, none), omega arith)
 
 pub axis-len-spec : {M : Type 1} → statement M

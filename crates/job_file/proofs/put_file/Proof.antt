@@ -13,7 +13,7 @@ use mir.ValLaws.{toZ-ofZ}
 use Rattle.text.specs.Ascii.{bytes, comma, newline}
 use Rattle.write.specs.Written.{Wrote}
 use Rattle.write.proofs.WrittenLaws.{wrote-kept, wrote-both, wrote-front}
-use Rattle.deck.specs.DeckOf.{costsOf}
+use Rattle.deck.specs.DeckOf.{heldAxis}
 use Rattle.job.specs.File.{fileText}
 use Rattle.job_file.specs.Texts.{placeText, axisText, postTexts, stopTexts}
 use Rattle.job_file.proofs.FileLaws.{countPart, front₁, front₂, front₃, front₄, front₅, front₆, front₇, front₈, file-parts, Fronts, fronts, part-room}
@@ -172,7 +172,7 @@ unfolding bytes
 put-axis-requires c κs =
     let w = c .before .before .before .before in
     let s = start-put-place2 w in
-    part-room _ (axisText (costsOf (s .args .t1 .axis))) (wrote-put-place2 w) (rooms s .four)
+    part-room _ (axisText (heldAxis (s .args .t1 .axis))) (wrote-put-place2 w) (rooms s .four)
 
 slice-aggregate-put-count : tie.Need-slice-aggregate-put-count
 slice-aggregate-put-count c = search needs
