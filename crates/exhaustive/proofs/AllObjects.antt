@@ -2,13 +2,17 @@
 -- Assumes nothing.
 use mathlib.Core.Path.{_≡_, ap, _∙_}
 use mathlib.Core.List.{List}
+use mathlib.Core.Logic.{⊎-elim}
 use Prim.Native.Nat.{ℕ, _+_, _*_, _≤_, _<_, min}
 use native.Mathlib.Omega.{arith}
 use lib.IntN.{ℤ, pos, natAbs}
-use lib.ListN.{getD, length-map}
+use lib.Dec.{ltb, ltb→lt, nltb→le}
+use lib.ListN.{length, getD, set, length-set, length-map}
+use lib.Seq.{getD-set-same, getD-set-other}
 use mir.Syntax.{w64}
 use mir.Val.{SFits}
 use Rattle.numbers.specs.Integer.{times}
+use Rattle.numbers.proofs.Truth.{test}
 use Rattle.numbers.proofs.Scaling.{scaled-at}
 use Rattle.numbers.proofs.Words.{word-fits}
 use Rattle.numbers.proofs.WordTests.{back}
@@ -18,13 +22,14 @@ use Rattle.deck.specs.Objects.{scaledPlace}
 use Rattle.deck.specs.ObjectColumns.{objectAt, axisIn, pricingIn}
 use Rattle.deck.proofs.WordLaws.{coordinate}
 use Rattle.deck.proofs.TravelLaws.{far, travel-plain}
+use Rattle.lines.specs.LineRecord.{FirstAtLeast}
 use Rattle.pricing.specs.ObjectFigures.{costOf, beforeOf}
 use Rattle.pricing.specs.Columns.{Priceable, ObjectInRange}
 use Rattle.pricing.proofs.NarrowLaws.{word, natural, visits-word, near-word, scaled-by, scaled-small}
 use Rattle.pricing.proofs.ObjectLaws.{paidBy, paidNow, costOf-sum, beforeOf-sum}
 use Rattle.pricing.proofs.ColumnLaws.{sum-none, sum-more}
 use Rattle.pricing.proofs.TurnLaws.{row}
-use Rattle.exhaustive.specs.Ramps.{scaledLines, prefixSum, ObjectSums, ObjectAdded, ObjectsAdded}
+use Rattle.exhaustive.specs.Ramps.{scaledLines, ObjectLines, prefixSum, ObjectSums, ObjectAdded, ObjectsAdded}
 use Rattle.exhaustive.proofs.Prefixes.{prefix-most}
 use Rattle.exhaustive.proofs.ObjectRamps.{sums-more, small-back}
 
@@ -45,6 +50,9 @@ module _ (z : ℤ) (h : natAbs z ≤ 180000) where
 -- a coordinate that was scaled
 pub scaled-wide : {k r : ℤ} (v : ℤ) → AxisCostInRange k → natAbs v ≤ 20000 → Scaled (word k) (back v) r → widened r ≡ times (natAbs k) v
 scaled-wide {k} v cost h e = ap back (scaled-by cost v h e) ∙ small-back (times (natAbs k) v) (omega (arith, scaled-small cost v h))
+
+pub lines-none : {columns : List ℤ} (ls : List ℤ) (rows : List ℕ) → length rows ≡ 512 → ObjectLines columns 0 ls rows
+lines-none ls rows e = record { long = e; first = λ i h. absurd (omega arith) }
 
 -- ---- no object
 empty : (xs : List ℕ) (m n : ℕ) → ((k : ℕ) → getD xs k 0 ≤ 0 * m) → prefixSum xs n ≡ 0
@@ -111,6 +119,23 @@ module _ {columns : List ℤ} {n i : ℕ} (priceable : Priceable columns n) (h :
   object-range =
       let r = row priceable h in
       rw (x-is, y-is, visits-word r, near-word r, ← natural (visits columns i) (r .visits-some), ← natural (near columns i) (r .near-some)) r
+
+  pub y-small : natAbs (widened (y columns i)) ≤ 900000
+  y-small = rw y-is (omega (arith, row priceable h .place .y-range))
+
+  -- the first line that is not below object i
+  pub lines-more : (ls : List ℤ) (rows : List ℕ) (b k : ℕ) → b ≡ axisIn columns .b → FirstAtLeast (scaledLines b ls) (widened (y columns i)) k
+      → ObjectLines columns i ls rows → ObjectLines columns (i + 1) ls (set rows i k)
+  lines-more ls rows b k e f so-far = record {
+    long = length-set rows i k ∙ so-far .long;
+    first = λ j l. ⊎-elim (λ u. rw (getD-set-other rows i j k 0 (λ q. omega (arith, ltb→lt))) (so-far .first j (ltb→lt j i u)))
+        (λ u. let q : i ≡ j = omega (arith, nltb→le) in
+        rw (← q, getD-set-same rows i k 0 (omega (arith, so-far .long, priceable .count))) (rw (y-is, e) at f)) (test (ltb j i));
+  }
+
+  pub first-at : (ls : List ℤ) (rows : List ℕ) (b : ℕ) → b ≡ axisIn columns .b → ObjectLines columns n ls rows
+      → FirstAtLeast (scaledLines b ls) (widened (y columns i)) (getD rows i 0)
+  first-at ls rows b e all = rw (y-is, e) (all .first i h)
 
   pub objects-more : (ls : List ℤ) (v u : ℤ) (b : ℕ) (up us down ds up′ us′ down′ ds′ : List ℕ) → u ≡ times (axisIn columns .a) v
       → b ≡ axisIn columns .b → ObjectsAdded (pricingIn columns i) i ls v up us down ds

@@ -11,7 +11,7 @@ use lib.IntN.{ℤ, pos, natAbs}
 use lib.ListN.{length, getD, set, length-set}
 use Rattle.numbers.proofs.Truth.{test}
 use Rattle.lines.specs.LineRecord.{FirstAtLeast}
-use Rattle.exhaustive.specs.Ramps.{heightOf, weightsAt, startsAt, RampSums, RampInRange, RampAdded}
+use Rattle.exhaustive.specs.Ramps.{heightOf, weightsAt, startsAt, RampSums, RampInRange, RampPut, RampAdded}
 use Rattle.exhaustive.proofs.Heights.{height-most, height-le, height-lt}
 use Rattle.exhaustive.proofs.ScaledLines.{ScaledInRange}
 use Rattle.exhaustive.proofs.Prefixes.{prefix-before, prefix-behind, set-each}
@@ -20,11 +20,11 @@ use Rattle.exhaustive.proofs.Prefixes.{prefix-before, prefix-behind, se
 abbrev pub raisedBy : List ℕ → ℕ → ℕ → List ℕ
 raisedBy xs k w = set xs k (getD xs k 0 + w)
 
+pub ramp-weight : {start : ℤ} {w : ℕ} → RampInRange start w → w * heightOf start ≤ 262140000000
+ramp-weight {start} range = omega (arith, mul-le-mul (range .weight-range) (height-most start 900000 (range .start-range) (omega arith)))
+
 module _ (ls : List ℤ) (start : ℤ) (w k : ℕ) (ws us : List ℕ) (lines : ScaledInRange ls) (range : RampInRange start w) (first : FirstAtLeast ls start k)
     (sums : RampSums ws us 2000) where
-  pub ramp-weight : w * heightOf start ≤ 262140000000
-  ramp-weight = omega (arith, mul-le-mul (range .weight-range) (height-most start 900000 (range .start-range) (omega arith)))
-
   line-range : (j : ℕ) → j < length ls → natAbs (getD ls j (pos 0)) ≤ 1000000
   line-range j h = omega (arith, lines .range j h)
 
@@ -62,8 +62,11 @@ module _ (ls : List ℤ) (start : ℤ) (w k : ℕ) (ws us : List ℕ) (lines : S
       starts-long = length-set us k _ ∙ old .starts-long;
       weights-most = set-each (λ (z : ℕ). z ≤ (m + 1) * 131070) ws k _ (omega (arith, old .weights-most k, range .weight-range))
           (λ i. omega (arith, old .weights-most i));
-      starts-most = set-each (λ (z : ℕ). z ≤ (m + 1) * 262140000000) us k _ (omega (arith, old .starts-most k, ramp-weight))
+      starts-most = set-each (λ (z : ℕ). z ≤ (m + 1) * 262140000000) us k _ (omega (arith, old .starts-most k, ramp-weight range))
           (λ i. omega (arith, old .starts-most i));
     };
     added = added;
   }
+
+  pub put-added : {ws′ us′ : List ℕ} → RampPut k start w ws us ws′ us′ → RampAdded ls start w ws us ws′ us′
+  put-added p = rw (p .weights-are, p .starts-are) ramp-added

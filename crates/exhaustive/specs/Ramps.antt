@@ -6,12 +6,13 @@ use Prim.Native.Nat.{ℕ, zero, suc, _+_, _*_, _-_, _/_, _≤_, _<_, min, _^_}
 use mathlib.Core.Path.{_≡_}
 use mathlib.Core.List.{List, map}
 use lib.IntN.{ℤ, pos, natAbs, _+ℤ_}
-use lib.ListN.{length, getD}
+use lib.ListN.{length, getD, set}
 use Rattle.numbers.specs.Integer.{dist, times}
-use Rattle.query.specs.Range.{costLimit, coordinateLimit, axisCostLimit}
+use Rattle.query.specs.Range.{costLimit, coordinateLimit, axisCostLimit, stopsLimit}
 use Rattle.deck.specs.Objects.{Pricing}
+use Rattle.deck.specs.ObjectColumns.{axisIn}
 use Rattle.pricing.specs.ObjectFigures.{costOf, beforeOf}
-use Rattle.lines.specs.LineRecord.{LinesInOrder}
+use Rattle.lines.specs.LineRecord.{LinesInOrder, FirstAtLeast}
 use Rattle.exhaustive.specs.declared.Divisor.{Divisor}
 
 -- how far a coordinate lies above −1,000,000
@@ -59,6 +60,11 @@ pub record LineTable (ls : List ℤ) (table : List ℕ) : Type 0 where
   pub long : length table ≡ 40001
   pub parted : (t : ℕ) → t ≤ 40000 → Parted ls (t + 980000) (getD table t 0)
 
+-- for each of the first n objects the first line that is not below it
+pub record ObjectLines (columns : List ℤ) (n : ℕ) (ls : List ℤ) (rows : List ℕ) : Type 0 where
+  pub long : length rows ≡ stopsLimit
+  pub first : (i : ℕ) → i < n → FirstAtLeast (scaledLines (axisIn columns .b) ls) (getD columns (512 + i) (pos 0)) (getD rows i 0)
+
 -- ramps are held by line, at the first line that is not below the start, in two columns: the sum of their weights, and that of weight ×
 -- height of the start. Up to line j the weights times the height of that line, and the starts
 abbrev pub weightsAt : List ℤ → List ℕ → ℕ → ℕ
@@ -77,6 +83,11 @@ pub record RampSums (weights starts : List ℕ) (m : ℕ) : Type 0 where
 pub record RampInRange (start : ℤ) (w : ℕ) : Type 0 where
   pub start-range : natAbs start ≤ 900000
   pub weight-range : w ≤ 131070
+
+-- a ramp put at index k
+pub record RampPut (k : ℕ) (start : ℤ) (w : ℕ) (weights starts weights′ starts′ : List ℕ) : Type 0 where
+  pub weights-are : weights′ ≡ set weights k (getD weights k 0 + w)
+  pub starts-are : starts′ ≡ set starts k (getD starts k 0 + w * heightOf start)
 
 -- one ramp more
 pub record RampAdded (ls : List ℤ) (start : ℤ) (w : ℕ) (weights starts weights′ starts′ : List ℕ) : Type 0 where

@@ -6,6 +6,7 @@ use deck::scaled;
 use limits::COLUMNS;
 use limits::LINES;
 use limits::NEAR_COLUMN;
+use limits::STOPS;
 use limits::VISITS_COLUMN;
 use limits::X_COST;
 use limits::Y_COLUMN;
@@ -34,8 +35,10 @@ ghost use Rattle.exhaustive.specs.Ramps.{
   DivisorOf,
   SlotsFilled,
   LineTable,
+  ObjectLines,
   RampSums,
   RampInRange,
+  RampPut,
   RampAdded,
   ObjectSums,
   ObjectAdded,
@@ -128,8 +131,37 @@ fn line_from(h: &[i64], table: &[u16; 40001], d: Divisor, start: i64) -> usize
     table[slot as usize] as usize
 }
 
-// Adds a ramp of weight `w` from `start` on, at the first line that, scaled, is not below `start`. Ramps are held in two columns, by line:
-// their weights, and their weights times the heights at which they start.
+// For each of the first n objects the number of the first line that, scaled, is not below it.
+pub fn number_objects<'a>(
+    columns: &'a [i32; COLUMNS],
+    n: usize,
+    h: &'a [i64],
+    table: &'a [u16; 40001],
+    rows: &mut [u16; STOPS],
+)
+    requires { ⌜ Priceable (now columns) n × LinesInRange (now h) × LineTable (now h) (now table) × (length (now rows) ≡ 512) ⌝ }
+    ensures { λ _. ⌜ ObjectLines (now (columns .entry)) n (now (h .entry)) (now (rows .exit)) ⌝ }
+{
+    let d = divisor_of(columns);
+    let mut i: usize = 0;
+    while i < n {
+        let sy = columns[Y_COLUMN + i] as i64;
+        rows[i] = line_from(h, table, d, sy) as u16;
+        i += 1;
+    }
+}
+
+// Puts a ramp of weight `w` from `start` on at line k. Ramps are held in two columns, by line: their weights, and their weights times the
+// heights at which they start.
+fn put_ramp(weights: &mut [u64; 515], starts: &mut [u64; 515], k: usize, start: i64, w: u64)
+    requires { ⌜ RampSums (now weights) (now starts) 2000 × RampInRange start w × (k ≤ 514) ⌝ }
+    ensures { λ _. ⌜ RampPut k start w (now (weights .entry)) (now (starts .entry)) (now (weights .exit)) (now (starts .exit)) ⌝ }
+{
+    weights[k] = weights[k] + w;
+    starts[k] = starts[k] + w * height(start);
+}
+
+// Adds a ramp of weight `w` from `start` on, at the first line that, scaled, is not below `start`.
 fn add_ramp(
     h: &[i64],
     table: &[u16; 40001],
@@ -146,17 +178,17 @@ fn add_ramp(
         (now (starts .exit)) ⌝ }
 {
     let k = line_from(h, table, d, start);
-    weights[k] = weights[k] + w;
-    starts[k] = starts[k] + w * height(start);
+    put_ramp(weights, starts, k, start, w);
 }
 
 // Adds the ramps of an object along the vertical line that is at `v` when it is scaled. An object that is not nearer to the line than to
-// its closest post has none.
+// its closest post has none. `row` is the first line that, scaled, is not below the object.
 fn add_object(
     h: &[i64],
     table: &[u16; 40001],
     d: Divisor,
     v: i64,
+    row: usize,
     up: &mut [u64; 515],
     up_at: &mut [u64; 515],
     down: &mut [u64; 515],
@@ -167,7 +199,8 @@ fn add_object(
     near: u64,
 )
     requires { ⌜ LinesInRange (now h) × (natAbs v ≤ 180000) × ObjectSums (now up) (now «up_at») (now down) (now «down_at») 600
-        × ObjectInRange sx sy (pos visits) (pos near) × LineTable (now h) (now table) × Dividing d ⌝ }
+        × ObjectInRange sx sy (pos visits) (pos near) × LineTable (now h) (now table) × Dividing d
+        × FirstAtLeast (scaledLines (d .by) (now h)) sy row ⌝ }
     ensures { λ _.
         ⌜ ObjectAdded (scaledLines (d .by) (now (h .entry))) v sx sy visits near (now (up .entry)) (now («up_at» .entry))
         (now (down .entry)) (now («down_at» .entry)) (now (up .exit)) (now («up_at» .exit)) (now (down .exit)) (now («down_at» .exit)) ⌝ }
@@ -178,7 +211,7 @@ fn add_object(
     }
     let r = (near - far) as i64;
     add_ramp(h, table, d, down, down_at, sy - r, visits);
-    add_ramp(h, table, d, up, up_at, sy, 2 * visits);
+    put_ramp(up, up_at, row, sy, 2 * visits);
     add_ramp(h, table, d, down, down_at, sy + r, visits);
 }
 
@@ -188,6 +221,7 @@ fn add_objects<'a>(
     n: usize,
     h: &'a [i64],
     table: &'a [u16; 40001],
+    rows: &'a [u16; STOPS],
     v: i64,
     up: &mut [u64; 515],
     up_at: &mut [u64; 515],
@@ -195,7 +229,8 @@ fn add_objects<'a>(
     down_at: &mut [u64; 515],
 )
     requires { ⌜ Priceable (now columns) n × LinesInRange (now h) × (natAbs v ≤ 20000)
-        × ObjectSums (now up) (now «up_at») (now down) (now «down_at») 0 × LineTable (now h) (now table) ⌝ }
+        × ObjectSums (now up) (now «up_at») (now down) (now «down_at») 0 × LineTable (now h) (now table)
+        × ObjectLines (now columns) n (now h) (now rows) ⌝ }
     ensures { λ _.
         ⌜ ObjectsAdded (pricingIn (now (columns .entry)) n) n (now (h .entry)) v
         (now (up .exit)) (now («up_at» .exit)) (now (down .exit)) (now («down_at» .exit)) ⌝ }
@@ -208,11 +243,13 @@ fn add_objects<'a>(
         let sy = columns[Y_COLUMN + i] as i64;
         let visits = columns[VISITS_COLUMN + i] as u32;
         let near = columns[NEAR_COLUMN + i] as u32;
+        let row = rows[i] as usize;
         add_object(
             h,
             table,
             d,
             x,
+            row,
             up,
             up_at,
             down,
@@ -289,19 +326,21 @@ fn sweep<'a>(
 }
 
 // Writes the cost of each crossing of the vertical line at `v` with the horizontal lines into `costs`, in their order.
-// The entries behind them stay as they are. `table` is that of `number_lines`, and `before` that of `pricing`.
+// The entries behind them stay as they are. `table` is that of `number_lines`, `rows` those of `number_objects`, and `before` that of
+// `pricing`.
 pub fn costs_along<'a>(
     columns: &'a [i32; COLUMNS],
     n: usize,
     h: &'a [i64],
     table: &'a [u16; 40001],
+    rows: &'a [u16; STOPS],
     v: i64,
     before: u64,
     costs: &mut [u64; LINES],
 )
     requires { ⌜ Priceable (now columns) n × LinesInRange (now h) × (natAbs v ≤ 20000)
         × Figure (beforeOf (pricingIn (now columns) n)) costLimit before × LineTable (now h) (now table)
-        × (length (now costs) ≡ 514) ⌝ }
+        × (length (now costs) ≡ 514) × ObjectLines (now columns) n (now h) (now rows) ⌝ }
     ensures { λ _. ⌜ now (costs .exit)
         ≡ costsAlong (pricingIn (now (columns .entry)) n) (now (h .entry)) v
         (now (costs .entry)) ⌝ }
@@ -315,6 +354,7 @@ pub fn costs_along<'a>(
         n,
         h,
         table,
+        rows,
         v,
         &mut up,
         &mut up_at,
@@ -347,6 +387,7 @@ fn cheapest_on<'a>(
     n: usize,
     h: &'a [i64],
     table: &'a [u16; 40001],
+    rows: &'a [u16; STOPS],
     v: i64,
     before: u64,
     costs: &mut [u64; LINES],
@@ -354,7 +395,7 @@ fn cheapest_on<'a>(
 ) -> Spot
     requires { ⌜ Priceable (now columns) n × LinesInRange (now h) × (natAbs v ≤ 20000)
         × Figure (beforeOf (pricingIn (now columns) n)) costLimit before × LineTable (now h) (now table)
-        × (length (now costs) ≡ 514) ⌝ }
+        × (length (now costs) ≡ 514) × ObjectLines (now columns) n (now h) (now rows) ⌝ }
     ensures chosen { λ r. ⌜ r
         ≡ firstCheapest (pricingIn (now (columns .entry)) n) first
         (along (now (h .entry)) v) ⌝ }
@@ -362,7 +403,7 @@ fn cheapest_on<'a>(
         ≡ costsAlong (pricingIn (now (columns .entry)) n) (now (h .entry)) v
         (now (costs .entry)) ⌝ }
 {
-    costs_along(columns, n, h, table, v, before, costs);
+    costs_along(columns, n, h, table, rows, v, before, costs);
     choose(h, v, costs, first)
 }
 
@@ -373,11 +414,13 @@ fn cheapest_of<'a>(
     v: &'a [i64],
     h: &'a [i64],
     table: &'a [u16; 40001],
+    rows: &'a [u16; STOPS],
     before: u64,
     first: Spot,
 ) -> Spot
     requires { ⌜ Priceable (now columns) n × LinesInRange (now v) × LinesInRange (now h)
-        × Figure (beforeOf (pricingIn (now columns) n)) costLimit before × LineTable (now h) (now table) ⌝ }
+        × Figure (beforeOf (pricingIn (now columns) n)) costLimit before × LineTable (now h) (now table)
+        × ObjectLines (now columns) n (now h) (now rows) ⌝ }
     ensures { λ r. ⌜ r
         ≡ firstCheapest (pricingIn (now (columns .entry)) n) first
         (flatMap (along (now (h .entry))) (now (v .entry))) ⌝ }
@@ -386,7 +429,7 @@ fn cheapest_of<'a>(
     let mut found = first;
     let mut i: usize = 0;
     while i < v.len() {
-        found = cheapest_on(columns, n, h, table, v[i], before, &mut costs, found);
+        found = cheapest_on(columns, n, h, table, rows, v[i], before, &mut costs, found);
         i += 1;
     }
     found
@@ -405,7 +448,9 @@ pub fn cheapest<'a>(
 {
     let mut table = [0u16; 40001];
     number_lines(h, &mut table);
+    let mut rows = [0u16; STOPS];
+    number_objects(columns, n, h, &table, &mut rows);
     let before = pricing::before(columns, n);
     let first = problem::priced(columns, n, area.xlo, area.ylo);
-    cheapest_of(columns, n, v, h, &table, before, first)
+    cheapest_of(columns, n, v, h, &table, &rows, before, first)
 }

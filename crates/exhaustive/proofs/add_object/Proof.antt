@@ -5,6 +5,7 @@ use borrow.Author.Needs.{needs}
 use denote.Ref.{now}
 use Rattle.exhaustive.specs.Ramps.{scaledLines}
 use Rattle.exhaustive.proofs.ScaledLines.{ScaledInRange, scaled-in-range}
+use Rattle.exhaustive.proofs.RampLaws.{put-added}
 use Rattle.exhaustive.proofs.ObjectRamps.{sums-more, small-back, low-fits, high-fits, low-range, middle-range, high-range, object-none, object-added}
 use Rattle.exhaustive.proofs.add_object.Statement.{statement}
 use Rattle.exhaustive.proofs.add_object.Tie as tie
@@ -44,18 +45,16 @@ add-ramp-requires c κs =
       s .pre .5,
     )
 
-mul-add-ramp : tie.Need-mul-add-ramp
-mul-add-ramp c = search needs
+mul-put-ramp : tie.Need-mul-put-ramp
+mul-put-ramp c = search needs
 
-add-ramp-requires-2 : tie.Need-add-ramp-requires-2
-add-ramp-requires-2 c κs =
+put-ramp-requires : tie.Need-put-ramp-requires
+put-ramp-requires c κs =
     let s = c .before .before .before .before .before .before .before in (
-      s .pre .0,
       sums-more 600 2000 (s .pre .2 .up-sums) (omega arith),
       middle-range (s .args .v) (s .args .sx) (s .args .sy) (s .args .visits) (s .args .near) _ (s .pre .1) (s .pre .3)
           (c .before .before .before .before .before .before .abs-diff .ensures),
-      s .pre .4,
-      s .pre .5,
+      omega (arith, s .pre .6 .within, lines s .few),
     )
 
 add-add-ramp : tie.Need-add-add-ramp
@@ -63,8 +62,8 @@ add-add-ramp c = let s = c .before .before .before .before .before .before .befo
     high-fits (s .args .v) (s .args .sx) (s .args .sy) (s .args .visits) (s .args .near) _ (s .pre .1) (s .pre .3)
     (c .before .before .before .before .before .before .before .before .before .abs-diff .ensures)
 
-add-ramp-requires-3 : tie.Need-add-ramp-requires-3
-add-ramp-requires-3 c κs =
+add-ramp-requires-2 : tie.Need-add-ramp-requires-2
+add-ramp-requires-2 c κs =
     let s = c .before .before .before .before .before .before .before .before .before .before in (
       s .pre .0,
       sums-more 1201 2000 (c .before .before .before .before .before .add-ramp .ensures .sums 1200 (s .pre .2 .down-sums)) (omega arith),
@@ -76,11 +75,15 @@ add-ramp-requires-3 c κs =
 
 returns-2 : tie.Need-returns-2
 returns-2 c =
-    let s = c .before .before .before .before .before .before .before .before .before .before .before in
-    object-added (s .args .v) (s .args .sx) (s .args .sy) (s .args .visits) (s .args .near) _ (s .pre .1) (s .pre .3)
-    (c .before .before .before .before .before .before .before .before .before .before .abs-diff .ensures) _ (lines s) _ _ _ _ _ _ _ _ _ _
-    (c .before .before .before .before .before .before .before .before .before .if1 .left)
-    (c .before .before .before .before .before .before .add-ramp .ensures) (c .before .before .before .add-ramp2 .ensures) (c .add-ramp3 .ensures)
+    let far = c .before .before .before .before .before .before .before .before .before .before in
+    let s = far .before in
+    let range = middle-range (s .args .v) (s .args .sx) (s .args .sy) (s .args .visits) (s .args .near) _ (s .pre .1) (s .pre .3) (far .abs-diff .ensures) in
+    let first = rw (← small-back (s .args .sy) (omega (arith, s .pre .3 .place .y-range))) at (s .pre .6) in
+    let sums = sums-more 600 2000 (s .pre .2 .up-sums) (omega arith) in
+    let middle = put-added _ _ _ _ _ _ (lines s) range first sums (c .before .before .before .put-ramp .ensures) in
+    object-added (s .args .v) (s .args .sx) (s .args .sy) (s .args .visits) (s .args .near) _ (s .pre .1) (s .pre .3) (far .abs-diff .ensures) _ (lines s)
+    _ _ _ _ _ _ _ _ _ _ (c .before .before .before .before .before .before .before .before .before .if1 .left)
+    (c .before .before .before .before .before .before .add-ramp .ensures) middle (c .add-ramp2 .ensures)
 
 pub add-object-spec : {M : Type 1} → statement M
 add-object-spec =
@@ -92,8 +95,8 @@ add-object-spec =
     cast-r
     sub-add-ramp
     add-ramp-requires
-    mul-add-ramp
-    add-ramp-requires-2
+    mul-put-ramp
+    put-ramp-requires
     add-add-ramp
-    add-ramp-requires-3
+    add-ramp-requires-2
     returns-2)

@@ -1,8 +1,10 @@
 -- `exhaustive::add_objects` meets its contract: after i turns the columns hold the ramps of the first i objects.
 -- Assumes nothing.
-use Prim.Native.Nat.{_-_, _≤_}
+use Prim.Native.Nat.{_+_, _-_, _≤_}
 use mathlib.Core.Path.{_≡_, ap, sym, _∙_}
 use native.Mathlib.Omega.{arith}
+use lib.IntN.{pos}
+use lib.ListN.{getD}
 use mir.Syntax.{w64}
 use mir.Val.{toZ}
 use denote.Ref.{now}
@@ -12,19 +14,21 @@ use Rattle.deck.specs.ObjectColumns.{axisIn, pricingIn}
 use Rattle.deck.proofs.ScaleLaws.{cost-word, coordinate-word}
 use Rattle.pricing.proofs.NarrowLaws.{visits-cast, visits-wide, near-cast, near-wide, scaled-small}
 use Rattle.pricing.proofs.TurnLaws.{row}
-use Rattle.exhaustive.specs.Ramps.{ObjectsAdded}
+use Rattle.lines.specs.LineRecord.{FirstAtLeast}
+use Rattle.exhaustive.specs.Ramps.{scaledLines, ObjectsAdded}
+use Rattle.exhaustive.proofs.ScaledLines.{scaled-in-range}
 use Rattle.exhaustive.proofs.ObjectRamps.{small-back}
 use Rattle.exhaustive.proofs.AllObjects.{widened, wide-fits, scaled-wide}
-use Rattle.exhaustive.proofs.AllObjects.{x-fits, y-fits, objects-none, object-range, objects-more, sums-few}
+use Rattle.exhaustive.proofs.AllObjects.{x-fits, y-fits, first-at, objects-none, object-range, objects-more, sums-few}
 use Rattle.exhaustive.proofs.add_objects.Statement.{statement}
 use Rattle.exhaustive.proofs.add_objects.Tie as tie
 
 abbrev Inv-loop : tie.InvT-loop
-Inv-loop columns n h table v up₀ up-at₀ down₀ down-at₀ d x i₀ up up-at down down-at i =
+Inv-loop columns n h table rows v up₀ up-at₀ down₀ down-at₀ d x i₀ up up-at down down-at i =
     (i ≤ n) × ObjectsAdded (pricingIn columns i) i h (toZ w64 v) up up-at down down-at
 
 abbrev μ-loop : tie.MeasureT-loop
-μ-loop columns n h table v up₀ up-at₀ down₀ down-at₀ d x i₀ up up-at down down-at i = n - i
+μ-loop columns n h table rows v up₀ up-at₀ down₀ down-at₀ d x i₀ up up-at down down-at i = n - i
 
 divisor-of-requires : tie.Need-divisor-of-requires Inv-loop μ-loop
 divisor-of-requires c κs = c .pre .0 .costs
@@ -96,19 +100,41 @@ element-copy-out-near c = omega arith
 cast-near : tie.Need-cast-near Inv-loop μ-loop
 cast-near c = let turn = c .before .before .before .before in near-cast (row (start turn .pre .0) (turn .loop-test .taken))
 
+mul-row : tie.Need-mul-row Inv-loop μ-loop
+mul-row c = omega arith
+
+element-copy-out-row : tie.Need-element-copy-out-row Inv-loop μ-loop
+element-copy-out-row c = omega arith
+
+-- the first line that is not below the object
+row-first : (turn : tie.In-loop Inv-loop μ-loop) → let s = start turn in
+    let i = turn .before .loop .i in
+    FirstAtLeast (scaledLines (turn .before .before .before .before .divisor-of .result .by) (now (s .args .h)))
+    (widened (getD (now (s .args .columns)) (512 + i) (pos 0))) (getD (now (s .args .rows)) i 0)
+row-first turn =
+    let s = start turn in
+    first-at (s .pre .0) (turn .loop-test .taken) _ _ _ (turn .before .before .before .before .divisor-of .ensures .is) (s .pre .5)
+
+cast-row : tie.Need-cast-row Inv-loop μ-loop
+cast-row c =
+    let turn = c .before .before .before .before .before in
+    let s = start turn in
+    let few = scaled-in-range _ (turn .before .before .before .before .divisor-of .ensures .dividing .most) _ (s .pre .1) in
+    omega (arith, row-first turn .within, few .few)
+
 cast-add-object : tie.Need-cast-add-object Inv-loop μ-loop
 cast-add-object c =
-    let turn = c .before .before .before .before .before .before .before .before in
+    let turn = c .before .before .before .before .before .before .before .before .before in
     visits-wide (row (start turn .pre .0) (turn .loop-test .taken))
 
 cast-add-object-2 : tie.Need-cast-add-object-2 Inv-loop μ-loop
 cast-add-object-2 c =
-    let turn = c .before .before .before .before .before .before .before .before in
+    let turn = c .before .before .before .before .before .before .before .before .before in
     near-wide (row (start turn .pre .0) (turn .loop-test .taken))
 
 add-object-requires : tie.Need-add-object-requires Inv-loop μ-loop
 add-object-requires c κs =
-    let turn = c .before .before .before .before .before .before .before .before in
+    let turn = c .before .before .before .before .before .before .before .before .before in
     let at = turn .before in
     let pre = start turn .pre in (
       pre .1,
@@ -118,6 +144,7 @@ add-object-requires c κs =
       object-range (pre .0) (turn .loop-test .taken),
       pre .4,
       turn .before .before .before .before .divisor-of .ensures .dividing,
+      row-first turn,
     )
 
 add-i : tie.Need-add-i Inv-loop μ-loop
@@ -128,7 +155,7 @@ loop-less c = omega arith
 
 loop-again : tie.Need-loop-again Inv-loop μ-loop
 loop-again c =
-    let turn = c .before .before .before .before .before .before .before .before .before in
+    let turn = c .before .before .before .before .before .before .before .before .before .before in
     let at = turn .before in
     let taken = turn .loop-test .taken in
     let b-is = at .before .before .before .divisor-of .ensures .is in
@@ -166,6 +193,9 @@ add-objects-spec =
     mul-near
     element-copy-out-near
     cast-near
+    mul-row
+    element-copy-out-row
+    cast-row
     cast-add-object
     cast-add-object-2
     add-object-requires

@@ -14,10 +14,10 @@ use Rattle.exhaustive.proofs.cheapest_of.Statement.{statement}
 use Rattle.exhaustive.proofs.cheapest_of.Tie as tie
 
 abbrev Inv-loop : tie.InvT-loop
-Inv-loop columns n v h table before costs₀ found₀ i₀ costs found i = (length costs ≡ 514) × Compared (pricingIn columns n) h v found₀ found i
+Inv-loop columns n v h table rows before costs₀ found₀ i₀ costs found i = (length costs ≡ 514) × Compared (pricingIn columns n) h v found₀ found i
 
 abbrev μ-loop : tie.MeasureT-loop
-μ-loop columns n v h table before costs₀ found₀ i₀ costs found i = length v - i
+μ-loop columns n v h table rows before costs₀ found₀ i₀ costs found i = length v - i
 
 loop-holds : tie.Need-loop-holds Inv-loop μ-loop
 loop-holds c = (length-replicate {A = ℕ} 514 0, compared-none _ _ _ _)
@@ -33,7 +33,8 @@ cheapest-on-requires c κs =
     let at = c .before .before .before in
     let s = at .before in
     let r = s .pre .1 .range (at .loop .i) (c .before .before .loop-test .taken) in
-    (s .pre .0, s .pre .2, rw (small-back (getD (now (s .args .v)) (at .loop .i) (pos 0)) (omega (arith, r))) r, s .pre .3, s .pre .4, at .loop .inv .0)
+    let v = getD (now (s .args .v)) (at .loop .i) (pos 0) in
+    (s .pre .0, s .pre .2, rw (small-back v (omega (arith, r))) r, s .pre .3, s .pre .4, at .loop .inv .0, s .pre .5)
 
 add-i : tie.Need-add-i Inv-loop μ-loop
 add-i c = omega arith

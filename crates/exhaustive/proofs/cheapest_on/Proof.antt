@@ -5,7 +5,7 @@ use Rattle.exhaustive.proofs.cheapest_on.Statement.{statement}
 use Rattle.exhaustive.proofs.cheapest_on.Tie as tie
 
 costs-along-requires : tie.Need-costs-along-requires
-costs-along-requires c κs = let s = c .before in (s .pre .0, s .pre .1, rw (back-is (s .fits .v)) (s .pre .2), s .pre .3, s .pre .4, s .pre .5)
+costs-along-requires c κs = let s = c .before in (s .pre .0, s .pre .1, rw (back-is (s .fits .v)) (s .pre .2), s .pre .3, s .pre .4, s .pre .5, s .pre .6)
 
 choose-requires : tie.Need-choose-requires
 choose-requires c κs = c .before .before .before .pre .1

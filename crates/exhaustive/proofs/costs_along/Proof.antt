@@ -10,7 +10,9 @@ use Rattle.exhaustive.proofs.costs_along.Statement.{statement}
 use Rattle.exhaustive.proofs.costs_along.Tie as tie
 
 add-objects-requires : tie.Need-add-objects-requires
-add-objects-requires c κs = let s = c .before .before .before .before in (s .pre .0, s .pre .1, rw (back-is (s .fits .v)) (s .pre .2), zero-sums, s .pre .4)
+add-objects-requires c κs =
+    let s = c .before .before .before .before in
+    (s .pre .0, s .pre .1, rw (back-is (s .fits .v)) (s .pre .2), zero-sums, s .pre .4, s .pre .6)
 
 element-copy-out-b : tie.Need-element-copy-out-b
 element-copy-out-b c = omega (arith, c .before .before .before .before .before .pre .0 .costs .long)
