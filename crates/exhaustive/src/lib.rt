@@ -145,8 +145,8 @@ pub fn number_objects<'a>(
     let d = divisor_of(columns);
     let mut i: usize = 0;
     while i < n {
-        let sy = columns[Y_COLUMN + i] as i64;
-        rows[i] = line_from(h, table, d, sy) as u16;
+        let y = columns[Y_COLUMN + i] as i64;
+        rows[i] = line_from(h, table, d, y) as u16;
         i += 1;
     }
 }

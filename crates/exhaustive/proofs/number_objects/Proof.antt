@@ -22,17 +22,17 @@ divisor-of-requires c κs = c .pre .0 .costs
 loop-holds : tie.Need-loop-holds Inv-loop μ-loop
 loop-holds c = (omega arith, lines-none _ _ (c .before .pre .3))
 
-add-sy : tie.Need-add-sy Inv-loop μ-loop
-add-sy c = omega (arith, c .loop-test .taken, c .before .before .before .pre .0 .count)
+add-y : tie.Need-add-y Inv-loop μ-loop
+add-y c = omega (arith, c .loop-test .taken, c .before .before .before .pre .0 .count)
 
-mul-sy : tie.Need-mul-sy Inv-loop μ-loop
-mul-sy c = omega (arith, c .loop-test .taken, c .before .before .before .pre .0 .count)
+mul-y : tie.Need-mul-y Inv-loop μ-loop
+mul-y c = omega (arith, c .loop-test .taken, c .before .before .before .pre .0 .count)
 
-element-copy-out-sy : tie.Need-element-copy-out-sy Inv-loop μ-loop
-element-copy-out-sy c = omega (arith, c .loop-test .taken, c .before .before .before .pre .0 .count)
+element-copy-out-y : tie.Need-element-copy-out-y Inv-loop μ-loop
+element-copy-out-y c = omega (arith, c .loop-test .taken, c .before .before .before .pre .0 .count)
 
-cast-sy : tie.Need-cast-sy Inv-loop μ-loop
-cast-sy c = let turn = c .before in y-fits (turn .before .before .before .pre .0) (turn .loop-test .taken)
+cast-y : tie.Need-cast-y Inv-loop μ-loop
+cast-y c = let turn = c .before in y-fits (turn .before .before .before .pre .0) (turn .loop-test .taken)
 
 line-from-requires : tie.Need-line-from-requires Inv-loop μ-loop
 line-from-requires c κs =
@@ -82,10 +82,10 @@ number-objects-spec =
     μ-loop
     divisor-of-requires
     loop-holds
-    add-sy
-    mul-sy
-    element-copy-out-sy
-    cast-sy
+    add-y
+    mul-y
+    element-copy-out-y
+    cast-y
     line-from-requires
     cast-rows
     mul-rows
