@@ -1,6 +1,6 @@
 -- The ramps of all objects, one object after another: what they come to at a line is the cost there.
 -- Assumes nothing.
-use mathlib.Core.Path.{_≡_, ap, _∙_}
+use mathlib.Core.Path.{_≡_, refl, ap, _∙_}
 use mathlib.Core.List.{List}
 use mathlib.Core.Logic.{⊎-elim}
 use Prim.Native.Nat.{ℕ, _+_, _*_, _≤_, _<_, min}
@@ -29,7 +29,7 @@ use Rattle.pricing.proofs.NarrowLaws.{word, natural, visits-word, near-word, sc
 use Rattle.pricing.proofs.ObjectLaws.{paidBy, paidNow, costOf-sum, beforeOf-sum}
 use Rattle.pricing.proofs.ColumnLaws.{sum-none, sum-more}
 use Rattle.pricing.proofs.TurnLaws.{row}
-use Rattle.exhaustive.specs.Ramps.{scaledLines, ObjectLines, prefixSum, ObjectSums, ObjectAdded, ObjectsAdded}
+use Rattle.exhaustive.specs.Ramps.{scaledLines, ObjectLines, LinesFound, prefixSum, ObjectSums, ObjectAdded, ObjectsAdded}
 use Rattle.exhaustive.proofs.Prefixes.{prefix-most}
 use Rattle.exhaustive.proofs.ObjectRamps.{sums-more, small-back}
 
@@ -51,8 +51,8 @@ module _ (z : ℤ) (h : natAbs z ≤ 180000) where
 pub scaled-wide : {k r : ℤ} (v : ℤ) → AxisCostInRange k → natAbs v ≤ 20000 → Scaled (word k) (back v) r → widened r ≡ times (natAbs k) v
 scaled-wide {k} v cost h e = ap back (scaled-by cost v h e) ∙ small-back (times (natAbs k) v) (omega (arith, scaled-small cost v h))
 
-pub lines-none : {columns : List ℤ} (ls : List ℤ) (rows : List ℕ) → length rows ≡ 512 → ObjectLines columns 0 ls rows
-lines-none ls rows e = record { long = e; first = λ i h. absurd (omega arith) }
+pub lines-none : {columns : List ℤ} (ls : List ℤ) (rows : List ℕ) → length rows ≡ 512 → LinesFound columns 0 ls rows rows
+lines-none ls rows e = record { lines = record { long = e; first = λ i h. absurd (omega arith) }; kept = λ i h. refl }
 
 -- ---- no object
 empty : (xs : List ℕ) (m n : ℕ) → ((k : ℕ) → getD xs k 0 ≤ 0 * m) → prefixSum xs n ≡ 0
@@ -124,13 +124,16 @@ module _ {columns : List ℤ} {n i : ℕ} (priceable : Priceable columns n) (h :
   y-small = rw y-is (omega (arith, row priceable h .place .y-range))
 
   -- the first line that is not below object i
-  pub lines-more : (ls : List ℤ) (rows : List ℕ) (b k : ℕ) → b ≡ axisIn columns .b → FirstAtLeast (scaledLines b ls) (widened (y columns i)) k
-      → ObjectLines columns i ls rows → ObjectLines columns (i + 1) ls (set rows i k)
-  lines-more ls rows b k e f so-far = record {
-    long = length-set rows i k ∙ so-far .long;
-    first = λ j l. ⊎-elim (λ u. rw (getD-set-other rows i j k 0 (λ q. omega (arith, ltb→lt))) (so-far .first j (ltb→lt j i u)))
-        (λ u. let q : i ≡ j = omega (arith, nltb→le) in
-        rw (← q, getD-set-same rows i k 0 (omega (arith, so-far .long, priceable .count))) (rw (y-is, e) at f)) (test (ltb j i));
+  pub lines-more : (ls : List ℤ) (old rows : List ℕ) (b k : ℕ) → b ≡ axisIn columns .b → FirstAtLeast (scaledLines b ls) (widened (y columns i)) k
+      → LinesFound columns i ls old rows → LinesFound columns (i + 1) ls old (set rows i k)
+  lines-more ls old rows b k e f so-far = record {
+    lines = record {
+      long = length-set rows i k ∙ so-far .lines .long;
+      first = λ j l. ⊎-elim (λ u. rw (getD-set-other rows i j k 0 (λ q. omega (arith, ltb→lt))) (so-far .lines .first j (ltb→lt j i u)))
+          (λ u. let q : i ≡ j = omega (arith, nltb→le) in
+          rw (← q, getD-set-same rows i k 0 (omega (arith, so-far .lines .long, priceable .count))) (rw (y-is, e) at f)) (test (ltb j i));
+    };
+    kept = λ j l. getD-set-other rows i j k 0 (λ q. omega arith) ∙ so-far .kept j (omega arith);
   }
 
   pub first-at : (ls : List ℤ) (rows : List ℕ) (b : ℕ) → b ≡ axisIn columns .b → ObjectLines columns n ls rows

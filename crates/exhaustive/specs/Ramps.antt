@@ -84,6 +84,11 @@ pub record RampInRange (start : ℤ) (w : ℕ) : Type 0 where
   pub start-range : natAbs start ≤ 900000
   pub weight-range : w ≤ 131070
 
+-- such lines found, in an array whose entries behind them are as they were
+pub record LinesFound (columns : List ℤ) (n : ℕ) (ls : List ℤ) (old rows : List ℕ) : Type 0 where
+  pub lines : ObjectLines columns n ls rows
+  pub kept : (i : ℕ) → n ≤ i → getD rows i 0 ≡ getD old i 0
+
 -- a ramp put at index k
 pub record RampPut (k : ℕ) (start : ℤ) (w : ℕ) (weights starts weights′ starts′ : List ℕ) : Type 0 where
   pub weights-are : weights′ ≡ set weights k (getD weights k 0 + w)

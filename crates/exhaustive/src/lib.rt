@@ -36,6 +36,7 @@ ghost use Rattle.exhaustive.specs.Ramps.{
   SlotsFilled,
   LineTable,
   ObjectLines,
+  LinesFound,
   RampSums,
   RampInRange,
   RampPut,
@@ -104,7 +105,7 @@ fn divisor_of(columns: &[i32; COLUMNS]) -> Divisor
     }
 }
 
-// n / d.by. A multiplication is several times faster than a division, and there are three for each object and vertical line.
+// n / d.by. A multiplication is several times faster than a division, and there are two for each object and vertical line.
 fn divided(n: u64, d: Divisor) -> u64
     requires { ⌜ Dividing d × (n ≤ 2000000) ⌝ }
     ensures { λ r. ⌜ r ≡ n / d .by ⌝ }
@@ -131,7 +132,7 @@ fn line_from(h: &[i64], table: &[u16; 40001], d: Divisor, start: i64) -> usize
     table[slot as usize] as usize
 }
 
-// For each of the first n objects the number of the first line that, scaled, is not below it.
+// For each of the first n objects the number of the first line that, scaled, is not below it. The entries behind them stay as they are.
 pub fn number_objects<'a>(
     columns: &'a [i32; COLUMNS],
     n: usize,
@@ -140,7 +141,7 @@ pub fn number_objects<'a>(
     rows: &mut [u16; STOPS],
 )
     requires { ⌜ Priceable (now columns) n × LinesInRange (now h) × LineTable (now h) (now table) × (length (now rows) ≡ 512) ⌝ }
-    ensures { λ _. ⌜ ObjectLines (now (columns .entry)) n (now (h .entry)) (now (rows .exit)) ⌝ }
+    ensures { λ _. ⌜ LinesFound (now (columns .entry)) n (now (h .entry)) (now (rows .entry)) (now (rows .exit)) ⌝ }
 {
     let d = divisor_of(columns);
     let mut i: usize = 0;

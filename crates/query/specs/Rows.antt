@@ -84,7 +84,7 @@ deckNarrow a b = record {
 abbrev pub deckSide : Deck
 deckSide = record { axis = record { a = 2; b = 1 }; area = rect 0 0 3 5; posts = at 0 4 ∷ []; stops = stop 1 2 1 ∷ stop 3 0 3 ∷ [] }
 
--- two axis costs that are not 1: with one of them left out of reach, or the area's longer side by them, a stopped search has other figures
+-- two axis costs that are not 1: if reach counted one of them only, or the longer side went by them, a stopped search had other figures
 abbrev pub deckBoth : Deck
 deckBoth = record { axis = record { a = 2; b = 3 }; area = rect 0 0 5 4; posts = at 5 6 ∷ []; stops = stop 1 6 1 ∷ stop 2 2 2 ∷ [] }
 

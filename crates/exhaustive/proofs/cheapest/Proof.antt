@@ -35,7 +35,7 @@ cheapest-of-requires c κs =
       horizontal-lines pre,
       summed .before2 .ensures,
       numbered .number-lines .ensures,
-      rows .number-objects .ensures,
+      rows .number-objects .ensures .lines,
     )
 
 returns : tie.Need-returns

@@ -4,14 +4,14 @@ use mathlib.Core.Path.{_≡_}
 use Prim.Native.Nat.{_-_, _≤_}
 use native.Mathlib.Omega.{arith}
 use denote.Ref.{now}
-use Rattle.exhaustive.specs.Ramps.{scaledLines, ObjectLines}
+use Rattle.exhaustive.specs.Ramps.{scaledLines, LinesFound}
 use Rattle.exhaustive.proofs.ScaledLines.{ScaledInRange, scaled-in-range}
 use Rattle.exhaustive.proofs.AllObjects.{y-fits, y-small, lines-none, lines-more}
 use Rattle.exhaustive.proofs.number_objects.Statement.{statement}
 use Rattle.exhaustive.proofs.number_objects.Tie as tie
 
 abbrev Inv-loop : tie.InvT-loop
-Inv-loop columns n h table rows₀ d i₀ rows i = (i ≤ n) × ObjectLines columns i h rows
+Inv-loop columns n h table rows₀ d i₀ rows i = (i ≤ n) × LinesFound columns i h rows₀ rows
 
 abbrev μ-loop : tie.MeasureT-loop
 μ-loop columns n h table rows₀ d i₀ rows i = n - i
@@ -67,7 +67,7 @@ loop-again c =
     let turn = c .before .before in
     let of = turn .before .before in
     let taken = turn .loop-test .taken in
-    (omega (arith, taken), lines-more (of .before .pre .0) taken _ _ _ _ (of .divisor-of .ensures .is) (c .line-from .ensures) (turn .before .loop .inv .1))
+    (omega (arith, taken), lines-more (of .before .pre .0) taken _ _ _ _ _ (of .divisor-of .ensures .is) (c .line-from .ensures) (turn .before .loop .inv .1))
 
 returns : tie.Need-returns Inv-loop μ-loop
 returns c =
