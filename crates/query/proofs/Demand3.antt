@@ -3,14 +3,13 @@
 use mathlib.Core.Path.{_≡_, refl}
 use mathlib.Core.Logic.{_↔_}
 use mathlib.Core.List.{List, [], _∷_}
-use Prim.Native.Nat.{ℕ, suc, _-_, _*_, _≤_}
+use Prim.Native.Nat.{ℕ, suc, _≤_}
 use native.Mathlib.Omega.{arith}
 use lib.Dec.{T}
 use lib.Signed.{_≤ℤ_}
 use Rattle.numbers.specs.Lists.{nonEmpty}
-use Rattle.query.specs.Place.{NonEmpty, x-axis, y-axis, low-edge, high-edge}
+use Rattle.query.specs.Place.{NonEmpty, low-edge, high-edge}
 use Rattle.query.specs.Deck.{Deck}
-use Rattle.query.specs.Lines.{gaps}
 use Rattle.query.specs.Problem.{problem}
 use Rattle.query.specs.Order.{Cell}
 use Rattle.query.specs.Search.{round, run}
@@ -18,14 +17,14 @@ use Rattle.query.specs.Figures.{done, stopped, stateOf, high, low, figur
 use Rattle.query.specs.Laws.{edge-low, edge-high}
 use Rattle.query.specs.Demand3.{Demand3}
 use Rattle.query.proofs.BoundLaws as BoundLaws
-use Rattle.query.proofs.LineLaws.{lines-along, lines-law, gaps-law}
+use Rattle.query.proofs.LineLaws.{lines-along, lines-law}
 use Rattle.query.proofs.CutLaws.{cut-law}
 use Rattle.query.proofs.Crossing as Crossing
 use Rattle.query.proofs.Lawful.{Lawful}
 use Rattle.query.proofs.Invariant.{Ok, run-ok}
 use Rattle.query.proofs.FigureLaws as FigureLaws
 use Rattle.query.proofs.Beaten.{Cheapest, best-costs, cheapest-beats}
-use Rattle.query.proofs.CutLimit.{run-limit}
+use Rattle.query.proofs.EstimateLaws.{cuts-within}
 use Rattle.query.proofs.Counts.{live-cuts, cuts-made}
 
 -- the rules of document 01 are lawful: Theorem 2, Theorem 4 and its like for parts
@@ -66,13 +65,6 @@ module _ (deck : Deck) (full : NonEmpty (deck .area)) where
     none-better = FigureLaws.done-best (problem deck) (lawful deck full) (cut-law (problem deck .rules .grid)) (run (problem deck) n) (ok n) e;
   }
 
-  limit : (n : ℕ) → run (problem deck) n .cuts ≤ gaps deck x-axis * gaps deck y-axis - 1
-  unfolding problem
-  limit n = rw (
-    gaps-law deck x-axis .inside-and-one full,
-    gaps-law deck y-axis .inside-and-one full,
-  ) (run-limit (problem deck) (lawful deck full) (cut-law (problem deck .rules .grid)) n)
-
   one-more-low : (n : ℕ) → low (run (problem deck) n) ≤ℤ low (run (problem deck) (suc n))
   unfolding run round
   one-more-low n = FigureLaws.low-rises (problem deck) (lawful deck full) (cut-law (problem deck .rules .grid)) (run (problem deck) n)
@@ -95,5 +87,5 @@ module _ (deck : Deck) (full : NonEmpty (deck .area)) where
     done-exactly = done-exactly (run (problem deck) n .live);
     stopped-exactly = stopped-exactly n (run (problem deck) n .cuts) (run (problem deck) n .live) (live-cuts (problem deck) n);
     rounds-are-cuts = cuts-made (problem deck) n;
-    cut-limit = limit n;
+    cut-limit = cuts-within deck n;
   }

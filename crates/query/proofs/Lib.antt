@@ -17,9 +17,10 @@ pub mod Best
 pub mod Lawful
 pub mod Invariant
 pub mod FigureLaws
-pub mod CutLimit
 pub mod Counts
 pub mod SearchLaws
+pub mod CutLimit
+pub mod EstimateLaws
 pub mod Beaten
 pub mod Demand3
 pub mod SpaceLaws

@@ -3,16 +3,19 @@
 use mathlib.Core.Path.{_≡_, refl, sym}
 use mathlib.Core.Logic.{⊎-elim}
 use mathlib.Core.List.{List, [], foldr, map, List·Memᴰ, Memᴰ·cast, Memᴰ·map, Memᴰ·of-map}
+use Prim.Native.Nat.{_+_, _≤_}
 use native.Mathlib.Omega.{arith}
-use lib.Dec.{T}
+use lib.Dec.{T, not-T}
 use lib.IntN.{ℤ}
-use lib.Signed.{_≤ℤ_}
-use Rattle.numbers.specs.Integer.{between}
+use lib.ListN.{length}
+use lib.Signed.{leZ, _≤ℤ_, _<ℤ_}
+use Rattle.numbers.specs.Integer.{between, strictlyBetween}
 use Rattle.numbers.specs.Lists.{keep, insertOnce}
+use Rattle.numbers.proofs.Truth.{test}
 use Rattle.numbers.proofs.Integer.{order}
-use Rattle.numbers.proofs.Ranges.{between-range, range-between}
+use Rattle.numbers.proofs.Ranges.{between-range, range-between, strictly-range}
 use Rattle.numbers.proofs.Members.{keep-test, keep-from, keep-all, insertOnce-cases, insertOnce-new, insertOnce-old, insertOnce-increasing}
-use Rattle.numbers.proofs.Increasing.{inserted-increasing, inserted-from, inserted-all, inside-gaps}
+use Rattle.numbers.proofs.Increasing.{keep-none, inserted-increasing, inserted-from, inserted-all, inside-gaps}
 use Rattle.query.specs.Place.{NonEmpty, Axis, x-axis, y-axis, coordinate, low-edge, high-edge}
 use Rattle.query.specs.Deck.{Stop, Deck}
 use Rattle.query.specs.Reach.{reach}
@@ -78,22 +81,44 @@ lines-law deck axis = record {
     all v (of-stop stop m t e h k) = insertOnce-old lo (insertOnce hi others)
         (insertOnce-old hi others (inserted-all (stopCoordinates deck axis) (named-stop deck axis stop m t e h k)))
 
--- in an area with a point, every line lies between its edges
-pub lines-range : (deck : Deck) (axis : Axis) → NonEmpty (deck .area) → (v : ℤ) → List·Memᴰ v (lines deck axis) →
+-- where the edges of an axis are in order, every line lies between them
+lines-between : (deck : Deck) (axis : Axis) → low-edge axis (deck .area) ≤ℤ high-edge axis (deck .area) → (v : ℤ) → List·Memᴰ v (lines deck axis) →
     (low-edge axis (deck .area) ≤ℤ v) × (v ≤ℤ high-edge axis (deck .area))
-lines-range deck axis h v m = go (edges-in h axis) (lines-law deck axis .named v .0 m)
+lines-between deck axis h v m = go h (lines-law deck axis .named v .0 m)
   where
     go : low-edge axis (deck .area) ≤ℤ high-edge axis (deck .area) → Named deck axis v → (low-edge axis (deck .area) ≤ℤ v) × (v ≤ℤ high-edge axis (deck .area))
     go k (edge-low e) = omega (arith, order)
     go k (edge-high e) = omega (arith, order)
     go k (of-stop stop m t e a b) = (a, b)
 
-pub gaps-law : (deck : Deck) (axis : Axis) → GapsLaw deck axis
+pub lines-range : (deck : Deck) (axis : Axis) → NonEmpty (deck .area) → (v : ℤ) → List·Memᴰ v (lines deck axis) →
+    (low-edge axis (deck .area) ≤ℤ v) × (v ≤ℤ high-edge axis (deck .area))
+lines-range deck axis h = lines-between deck axis (edges-in h axis)
+
+inside-and-one : (deck : Deck) (axis : Axis) → low-edge axis (deck .area) ≤ℤ high-edge axis (deck .area) →
+    gaps deck axis ≡ length (inside (grid deck) axis (deck .area)) + 1
 unfolding gaps inside
-gaps-law deck axis = record {
-  at-least-one = omega arith;
-  inside-and-one = λ h.
-      let law = lines-law deck axis in
-      rw lines-along (sym (inside-gaps (low-edge axis (deck .area)) (high-edge axis (deck .area)) (lines deck axis) (law .increasing) (edges-in h axis)
-      (law .named _ .1 (edge-low refl)) (law .named _ .1 (edge-high refl)) (lines-range deck axis h)));
-}
+inside-and-one deck axis h =
+    let law = lines-law deck axis in
+    rw lines-along (sym (inside-gaps (low-edge axis (deck .area)) (high-edge axis (deck .area)) (lines deck axis) (law .increasing) h
+    (law .named _ .1 (edge-low refl)) (law .named _ .1 (edge-high refl)) (lines-between deck axis h)))
+
+pub gaps-law : (deck : Deck) (axis : Axis) → GapsLaw deck axis
+unfolding gaps
+gaps-law deck axis = record { at-least-one = omega arith; inside-and-one = λ h. inside-and-one deck axis (edges-in h axis) }
+
+-- where they are not in order, no line is inside, so that there are enough gaps in every deck
+pub inside-most : (deck : Deck) (axis : Axis) → length (inside (grid deck) axis (deck .area)) + 1 ≤ gaps deck axis
+unfolding inside
+inside-most deck axis = ⊎-elim (λ t. omega (arith, inside-and-one deck axis (omega (arith, order))))
+    (λ t. omega (arith, gaps-law deck axis .at-least-one, none (omega (arith, order)))) (test (leZ lo hi))
+  where
+    lo : ℤ
+    lo = low-edge axis (deck .area)
+
+    hi : ℤ
+    hi = high-edge axis (deck .area)
+
+    none : hi <ℤ lo → length (inside (grid deck) axis (deck .area)) ≡ 0
+    none h = keep-none (strictlyBetween lo hi) (linesAlong (grid deck) axis) (λ x i. not-T (strictlyBetween lo hi x)
+        (λ t. omega (arith, order, strictly-range lo hi x t)))

@@ -12,6 +12,7 @@ use Rattle.query.proofs.Crossing.{crossing}
 use Rattle.query.proofs.Counts.{round-law}
 use Rattle.query.proofs.SearchLaws.{taken-law, partition-law}
 use Rattle.query.proofs.Demand3.{demand-3}
+use Rattle.query.proofs.EstimateLaws.{estimate-law}
 use Rattle.query.proofs.SpaceLaws.{space-law}
 use Rattle.query.proofs.ExhaustiveLaws.{exhaustive-law}
 use Rattle.query.proofs.Ranges.{figure-limits}
@@ -35,6 +36,7 @@ query-theorems = record {
   round = round-law;
   taken = taken-law;
   partition = partition-law;
+  estimate = estimate-law;
   space = space-law;
   figure-limits = figure-limits;
   run-in-range = run-in-range;

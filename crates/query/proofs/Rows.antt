@@ -4,13 +4,14 @@ use lib.Dec.{ltb→lt}
 use Rattle.numbers.specs.Integer.{halfUp}
 use Rattle.query.specs.Lines.{gaps}
 use Rattle.query.specs.Figures.{figures}
+use Rattle.query.specs.Estimate.{estimate}
 use Rattle.query.specs.Space.{space}
 use Rattle.query.specs.Exhaustive.{exhaustive}
 use Rattle.query.specs.Demand3.{further-right}
 use Rattle.query.specs.Rows.{Rows}
 
 pub rows : Rows
-unfolding halfUp gaps figures space exhaustive
+unfolding halfUp gaps figures estimate space exhaustive
 rows = record {
   half-3 = refl;
   half-minus-3 = refl;
@@ -23,6 +24,19 @@ rows = record {
   high-falls = ltb→lt 16 18 tt;
   low-rises = record { lt = tt };
   further-right = further-right refl (record { lt = tt });
+  estimate-A-0 = refl;
+  estimate-A-2 = refl;
+  estimate-A-3 = refl;
+  estimate-A-10 = refl;
+  estimate-B = refl;
+  estimate-C = refl;
+  estimate-D-0 = refl;
+  estimate-D-1 = refl;
+  estimate-both = refl;
+  estimate-far = refl;
+  estimate-plain = refl;
+  estimate-x-cost = refl;
+  estimate-y-cost = refl;
   equal = refl;
   level = refl;
   reach = refl;

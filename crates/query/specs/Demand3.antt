@@ -1,7 +1,7 @@
 -- Demand 3, one field for each clause, of the figures f that a report of a deck carries after at most n rounds.
 -- It holds of `figures deck n`, for every deck with a non-empty area and every n (QueryTheorems.antt).
 -- Assumes nothing.
-use Prim.Native.Nat.{ℕ, suc, _-_, _*_, _≤_, _<_}
+use Prim.Native.Nat.{ℕ, suc, _≤_, _<_}
 use mathlib.Core.Path.{_≡_}
 use mathlib.Core.Logic.{_↔_, _≢_}
 use mathlib.Core.List.{[]}
@@ -10,10 +10,10 @@ use lib.IntN.{pos}
 use lib.ListN.{length}
 use lib.Signed.{_≤ℤ_, _<ℤ_}
 use Rattle.numbers.specs.Lists.{nonEmpty}
-use Rattle.query.specs.Place.{Place, In, x-axis, y-axis}
+use Rattle.query.specs.Place.{Place, In}
 use Rattle.query.specs.Deck.{Deck}
 use Rattle.query.specs.Cost.{cost}
-use Rattle.query.specs.Lines.{gaps}
+use Rattle.query.specs.Estimate.{cutLimit}
 use Rattle.query.specs.Problem.{problem}
 use Rattle.query.specs.Search.{run}
 use Rattle.query.specs.Figures.{Figures, figures, done, stopped}
@@ -42,4 +42,4 @@ pub record Demand3 (deck : Deck) (n : ℕ) (f : Figures) : Type 0 where
   pub stopped-exactly : (f .state ≡ stopped) ↔ ((f .rounds ≡ n) × T (nonEmpty (run (problem deck) n .live)))
   -- "the reported rounds are the cuts made, and they are at most (gaps across × gaps deep − 1)"
   pub rounds-are-cuts : f .rounds ≡ length (cutsMade (problem deck) n)
-  pub cut-limit : f .rounds ≤ gaps deck x-axis * gaps deck y-axis - 1
+  pub cut-limit : f .rounds ≤ cutLimit deck

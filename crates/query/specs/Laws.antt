@@ -1,6 +1,6 @@
 -- What a reader may hold the definitions to, in plain terms. QueryTheorems.antt states for which parameters each holds.
 -- Assumes nothing.
-use Prim.Native.Nat.{ℕ, suc, _+_, _≤_}
+use Prim.Native.Nat.{ℕ, suc, _+_, _*_, _≤_}
 use mathlib.Core.Path.{_≡_}
 use mathlib.Core.Bool.{not}
 use mathlib.Core.Logic.{_↔_}
@@ -23,6 +23,7 @@ use Rattle.query.specs.Problem.{Problem, problem}
 use Rattle.query.specs.Cut.{inside, canCut, side, offMiddle, cutLine}
 use Rattle.query.specs.Order.{Cell, better, cellBefore, CellsInOrder}
 use Rattle.query.specs.Search.{isLive, run}
+use Rattle.query.specs.Estimate.{cellsNeeded, estimate}
 use Rattle.query.specs.Space.{allNumbers, space, spaceNeeded}
 use Rattle.query.specs.Partition.{dead, partition}
 use Rattle.query.specs.History.{cellCut, cutsMade}
@@ -115,10 +116,20 @@ pub record PartitionLaw (P : Problem) (n : ℕ) : Type 0 where
   pub dead-are-not : (c : Cell) → List·Memᴰ c (dead P n) → T (not (isLive (P .rules .grid) (run P n .best) c))
   pub covers : (p : Place) → In (P .area) p → (c : Cell) × List·Memᴰ c (partition P n) × In (c .rect) p
 
--- after n rounds at most n + 1 cells are live, so that 5 × (n + 1) numbers of cell space always suffice, and are all written;
--- the cells in it are ordered by bound, then by (xlo, ylo)
+-- what the estimate of a deck and rounds is held to (02, card 3)
+pub record EstimateLaw (deck : Deck) (rounds : ℕ) : Type 0 where
+  -- "their product less one": at least one gap each way, so that there is a product to take one from
+  pub less-one : estimate deck rounds .limit + 1 ≡ estimate deck rounds .across * estimate deck rounds .deep
+  -- "which no search of this deck passes": whatever its number of rounds; and with as many rounds it is done
+  pub cuts : (n : ℕ) → run (problem deck) n .cuts ≤ estimate deck rounds .limit
+  pub done : (n : ℕ) → estimate deck rounds .limit ≤ n → run (problem deck) n .live ≡ []
+  -- "the cells that suffice": in none of these rounds more are live
+  pub live : (n : ℕ) → n ≤ rounds → length (run (problem deck) n .live) ≤ estimate deck rounds .cells
+
+-- after n rounds no more cells are live than the estimate says, so that five times as many numbers of cell space always suffice, and are
+-- all written; the cells in it are ordered by bound, then by (xlo, ylo)
 pub record SpaceLaw (deck : Deck) (n : ℕ) : Type 0 where
   pub in-order : CellsInOrder (run (problem deck) n .live)
-  pub live-cells : length (run (problem deck) n .live) ≤ n + 1
-  pub numbers : length (allNumbers (run (problem deck) n .live)) ≤ spaceNeeded n
-  pub whole : (lent : ℕ) → spaceNeeded n ≤ lent → length (space deck n lent) ≡ lent
+  pub live-cells : length (run (problem deck) n .live) ≤ cellsNeeded deck n
+  pub numbers : length (allNumbers (run (problem deck) n .live)) ≤ spaceNeeded deck n
+  pub whole : (lent : ℕ) → spaceNeeded deck n ≤ lent → length (space deck n lent) ≡ lent

@@ -11,6 +11,7 @@ pub mod Cut
 pub mod Order
 pub mod Search
 pub mod Figures
+pub mod Estimate
 pub mod Space
 pub mod Exhaustive
 pub mod Partition

@@ -14,7 +14,7 @@ use Rattle.query.specs.Order.{Cell}
 use Rattle.query.specs.Search.{run}
 use Rattle.query.specs.Figures.{figures}
 use Rattle.query.specs.Laws.{HalfLaw, NearLaw, TravelToLaw, BoundLaw, LinesLaw, GapsLaw, AsGood, CutLaw, RoundLaw, TakenLaw}
-use Rattle.query.specs.Laws.{PartitionLaw, SpaceLaw}
+use Rattle.query.specs.Laws.{PartitionLaw, EstimateLaw, SpaceLaw}
 use Rattle.query.specs.Demand3.{Demand3}
 use Rattle.query.specs.ExhaustiveLaw.{ExhaustiveLaw}
 use Rattle.query.specs.Range.{InRange, FigureLimits, RunInRange}
@@ -45,6 +45,8 @@ pub record QueryTheorems : Type 0 where
   pub round : (P : Problem) (n : ℕ) → RoundLaw P n
   pub taken : (P : Problem) (n : ℕ) (c : Cell) (others : List Cell) → run P n .live ≡ c ∷ others → TakenLaw P n c
   pub partition : (P : Problem) (n : ℕ) → PartitionLaw P n
+  -- what a search needs, of every deck
+  pub estimate : (deck : Deck) (rounds : ℕ) → EstimateLaw deck rounds
   pub space : (deck : Deck) (n : ℕ) → SpaceLaw deck n
   -- figures of decks whose values are in range
   pub figure-limits : (deck : Deck) → InRange deck → FigureLimits deck

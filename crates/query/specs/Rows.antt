@@ -13,6 +13,7 @@ use Rattle.query.specs.Deck.{Deck, plain}
 use Rattle.query.specs.Lines.{gaps}
 use Rattle.query.specs.Problem.{problem}
 use Rattle.query.specs.Figures.{figures, done, stopped}
+use Rattle.query.specs.Estimate.{Estimate, estimate}
 use Rattle.query.specs.Space.{space}
 use Rattle.query.specs.Exhaustive.{exhaustive}
 use Rattle.query.specs.Demand3.{Beaten}
@@ -88,6 +89,15 @@ deckSide = record { axis = record { a = 2; b = 1 }; area = rect 0 0 3 5; posts =
 abbrev pub deckBoth : Deck
 deckBoth = record { axis = record { a = 2; b = 3 }; area = rect 0 0 5 4; posts = at 5 6 ∷ []; stops = stop 1 6 1 ∷ stop 2 2 2 ∷ [] }
 
+-- two stops to the right of the area: both, one or none is within reach of it
+abbrev pub deckBeside : ℕ → ℕ → Deck
+deckBeside a b = record {
+  axis = record { a = a; b = b };
+  area = rect 0 0 2 4;
+  posts = at 4 5 ∷ [];
+  stops = stop 6 3 1 ∷ stop 8 1 1 ∷ [];
+}
+
 abbrev pub lowest : Place
 lowest = record { x = negsuc 19999; y = negsuc 19999 }
 
@@ -99,6 +109,9 @@ deckEnds post at = record {
   posts = replicate 64 post;
   stops = replicate 512 (record { at = at; visits = 65535 });
 }
+
+abbrev pub needs : ℕ → ℕ → ℕ → ℕ → Estimate
+needs across deep limit cells = record { across = across; deep = deep; limit = limit; cells = cells }
 
 pub record Rows : Type 0 where
   -- 01 "Half of 3 is 2, half of −3 is −1, half of −4 is −2"
@@ -116,6 +129,22 @@ pub record Rows : Type 0 where
   pub high-falls : figures deckA 1 .high < figures deckA 0 .high
   pub low-rises : figures deckA 1 .low <ℤ figures deckA 2 .low
   pub further-right : Beaten deckB (at 0 0) (at 10 0)
+  -- 02, card 3: the estimate of case A, with rounds + 1 below the product, equal to it and above it
+  pub estimate-A-0 : estimate deckA 0 ≡ needs 2 2 3 1
+  pub estimate-A-2 : estimate deckA 2 ≡ needs 2 2 3 3
+  pub estimate-A-3 : estimate deckA 3 ≡ needs 2 2 3 4
+  pub estimate-A-10 : estimate deckA 10 ≡ needs 2 2 3 4
+  -- one gap in a row, one point, two gaps in a row
+  pub estimate-B : estimate deckB 10 ≡ needs 1 1 0 1
+  pub estimate-C : estimate deckC 10 ≡ needs 1 1 0 1
+  pub estimate-D-0 : estimate deckD 0 ≡ needs 2 1 1 1
+  pub estimate-D-1 : estimate deckD 1 ≡ needs 2 1 1 2
+  pub estimate-both : estimate deckBoth 3 ≡ needs 3 2 5 4
+  -- no line of a stop out of reach, which goes by axis costs
+  pub estimate-far : estimate deckFar 10 ≡ needs 1 2 1 2
+  pub estimate-plain : estimate (deckBeside 1 1) 10 ≡ needs 1 2 1 2
+  pub estimate-x-cost : estimate (deckBeside 2 1) 10 ≡ needs 1 1 0 1
+  pub estimate-y-cost : estimate (deckBeside 1 2) 10 ≡ needs 1 3 2 3
   -- when a cell is live
   pub equal : figures deckEqual 10 ≡ report done (at 0 3) 5 (pos 5) 9 4
   pub level : figures deckLevel 10 ≡ report done (at 1 1) 11 (pos 11) 32 1

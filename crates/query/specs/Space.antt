@@ -1,6 +1,6 @@
 -- Document 01, "Lines, cells and bounds": what the cell space holds at the end.
 -- Assumes nothing.
-use Prim.Native.Nat.{ℕ, _+_, _*_}
+use Prim.Native.Nat.{ℕ, _*_}
 use mathlib.Core.List.{List, [], _∷_, flatMap}
 use lib.IntN.{ℤ, pos}
 use Rattle.numbers.specs.Padded.{padded}
@@ -8,14 +8,15 @@ use Rattle.query.specs.Deck.{Deck}
 use Rattle.query.specs.Problem.{problem}
 use Rattle.query.specs.Order.{Cell}
 use Rattle.query.specs.Search.{run}
+use Rattle.query.specs.Estimate.{cellsNeeded}
 
 -- 01 "each as xlo, ylo, xhi, yhi, bound"
 abbrev pub cellNumbers : Cell → List ℤ
 cellNumbers c = c .rect .xlo ∷ c .rect .ylo ∷ c .rect .xhi ∷ c .rect .yhi ∷ c .bound ∷ []
 
--- 01 refusal 7, "5 × (rounds + 1) numbers"
-abbrev pub spaceNeeded : ℕ → ℕ
-spaceNeeded rounds = 5 * (rounds + 1)
+-- 02, card 3 "Refusal 7 now compares with five times that number", of the cells that suffice
+abbrev pub spaceNeeded : Deck → ℕ → ℕ
+spaceNeeded deck rounds = 5 * cellsNeeded deck rounds
 
 unfoldable pub allNumbers : List Cell → List ℤ
 unfolding flatMap
