@@ -13,6 +13,8 @@ pub case-A : CaseA
 unfolding reportCall entry answerText exhaustiveCall bytes flatMap
 case-A = record {
   report-done = refl;
+  report-just-enough = refl;
+  report-small-space = refl;
   report-stopped = refl;
   report-refused = refl;
   entry-done = refl;

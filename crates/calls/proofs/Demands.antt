@@ -13,7 +13,7 @@ use lib.ListN.{length}
 use lib.Signed.{_≤ℤ_}
 use Rattle.numbers.proofs.Truth.{test, cond-true, cond-false}
 use Rattle.query.specs.Figures.{Figures}
-use Rattle.query.specs.Space.{space}
+use Rattle.query.specs.Space.{space, spaceNeeded}
 use Rattle.query.specs.Demand3.{Demand3}
 use Rattle.query.proofs.Demand3 as Query
 use Rattle.query.specs.Range.{FiguresInRange}
@@ -79,19 +79,19 @@ module _ (job : List ℕ) (cells : List ℤ) (out : List ℕ) where
   unfolding reportCall answered
   refused-call why e = ap (λ (r : Result). answered r cells out) e
 
-  pub space-call : (j : Job) → readJob job ≡ accepted j → length cells < 5 * (j .rounds + 1) → reportCall job cells out ≡ turnedDown SmallSpace cells out
+  pub space-call : (j : Job) → readJob job ≡ accepted j → length cells < spaceNeeded (j .deck) (j .rounds) → reportCall job cells out ≡ turnedDown SmallSpace cells out
   unfolding reportCall answered
-  space-call j e h = ap (λ (r : Result). answered r cells out) e ∙ cond-true (ltb (length cells) (5 * (j .rounds + 1))) _ _ (lt→ltb _ _ h)
+  space-call j e h = ap (λ (r : Result). answered r cells out) e ∙ cond-true (ltb (length cells) (spaceNeeded (j .deck) (j .rounds))) _ _ (lt→ltb _ _ h)
 
-  pub output-call : (j : Job) → readJob job ≡ accepted j → 5 * (j .rounds + 1) ≤ length cells → length out < 128 →
+  pub output-call : (j : Job) → readJob job ≡ accepted j → spaceNeeded (j .deck) (j .rounds) ≤ length cells → length out < 128 →
       reportCall job cells out ≡ turnedDown ShortOutput cells out
   unfolding reportCall answered
-  output-call j e h k = ap (λ (r : Result). answered r cells out) e ∙ cond-false (ltb (length cells) (5 * (j .rounds + 1))) _ _ (le→nltb _ _ h)
+  output-call j e h k = ap (λ (r : Result). answered r cells out) e ∙ cond-false (ltb (length cells) (spaceNeeded (j .deck) (j .rounds))) _ _ (le→nltb _ _ h)
       ∙ cond-true (ltb (length out) 128) _ _ (lt→ltb _ _ k)
 
   pub call-accepted : (j : Job) → Accepted job cells out j → reportCall job cells out ≡ reported j cells out
   unfolding reportCall answered
-  call-accepted j a = ap (λ (r : Result). answered r cells out) (a .read) ∙ cond-false (ltb (length cells) (5 * (j .rounds + 1))) _ _ (le→nltb _ _ (a .space))
+  call-accepted j a = ap (λ (r : Result). answered r cells out) (a .read) ∙ cond-false (ltb (length cells) (spaceNeeded (j .deck) (j .rounds))) _ _ (le→nltb _ _ (a .space))
       ∙ cond-false (ltb (length out) 128) _ _ (le→nltb _ _ (a .output))
 
   -- in one of these ways: a refusal applies, or the job is accepted
@@ -109,7 +109,7 @@ module _ (job : List ℕ) (cells : List ℤ) (out : List ℕ) where
           (λ t. let h = nltb→le _ _ t in ⊎-elim (λ u. let k = ltb→lt _ _ u in
           refusing ShortOutput (short-output j e h k) (output-call j e h k)) (λ u. reporting j (record { read = e; space = h; output = nltb→le _ _ u }))
           (test (ltb (length out) 128)))
-          (test (ltb (length cells) (5 * (j .rounds + 1))))
+          (test (ltb (length cells) (spaceNeeded (j .deck) (j .rounds))))
 
   answer-of : (left : Left) → reportCall job cells out ≡ left → reportCall job cells out .answer ≡ left .answer
   answer-of left e = ap (λ (l : Left). l .answer) e

@@ -1,6 +1,7 @@
 -- What the call `exhaustive` is held to, over a job's bytes.
 -- Assumes nothing.
-use mathlib.Core.Path.{_≡_, refl, sym, ap, _∙_}
+use mathlib.Core.Path.{_≡_, sym, ap, _∙_}
+use mathlib.Core.Logic.{_↔_}
 use Prim.Native.Nat.{ℕ}
 use mathlib.Core.List.{List}
 use lib.IntN.{ℤ}
@@ -10,36 +11,28 @@ use Rattle.query.specs.Problem.{problem}
 use Rattle.query.specs.Exhaustive as Query
 use Rattle.query.specs.ExhaustiveLaw.{ExhaustiveLaw}
 use Rattle.query.proofs.ExhaustiveLaws.{exhaustive-law}
-use Rattle.refusal.specs.Refusal.{numberOf, lineOf}
 use Rattle.refusal.specs.declared.Refusal.{Refusal}
-use Rattle.job.specs.Format.{Job, Result, refused, accepted, readJob}
-use Rattle.job.proofs.Meaning.{refused-job}
+use Rattle.job.specs.Format.{Job, refused, accepted, readJob}
+use Rattle.job.specs.Meaning.{Condition}
 use Rattle.calls.specs.Answers.{gives, refusal}
 use Rattle.calls.specs.Call.{jobFigures, reportCall}
-use Rattle.calls.specs.CheapestCall.{cheapestOf, exhaustiveCall}
+use Rattle.calls.specs.CheapestCall.{exhaustiveCall}
 use Rattle.calls.specs.ExhaustiveCallLaw.{ExhaustiveCallLaw}
-use Rattle.calls.proofs.AnswerLaws.{same-refusal, not-refused}
+use Rattle.calls.proofs.AcceptedCall.{for-accepted, for-refused, refused-exactly}
 use Rattle.calls.proofs.Demands.{read-exactly, figures-are, accepted-one}
 
 module _ (job : List ℕ) where
-  call-of : (r : Result) → readJob job ≡ r → exhaustiveCall job ≡ cheapestOf r
-  unfolding exhaustiveCall
-  call-of r e = ap cheapestOf e
-
   pub call-accepted : (j : Job) → readJob job ≡ accepted j → exhaustiveCall job ≡ gives (Query.exhaustive (problem (j .deck)))
-  unfolding cheapestOf
-  call-accepted j e = call-of (accepted j) e
+  unfolding exhaustiveCall
+  call-accepted = for-accepted (λ j. Query.exhaustive (problem (j .deck))) job
 
   pub call-refused : (why : Refusal) → readJob job ≡ refused why → exhaustiveCall job ≡ refusal why
-  unfolding cheapestOf
-  call-refused why e = call-of (refused why) e
+  unfolding exhaustiveCall
+  call-refused = for-refused (λ j. Query.exhaustive (problem (j .deck))) job
 
-  refused-call : (why : Refusal) → exhaustiveCall job ≡ refusal why → readJob job ≡ refused why
-  refused-call why f = go (readJob job) refl
-    where
-      go : (r : Result) → readJob job ≡ r → readJob job ≡ refused why
-      go (refused w) e = e ∙ ap refused (same-refusal w why (sym (call-refused w e) ∙ f))
-      go (accepted j) e = absurd (not-refused (Query.exhaustive (problem (j .deck))) (numberOf why) (lineOf why) (sym (call-accepted j e) ∙ f))
+  call-refuses : (why : Refusal) → (exhaustiveCall job ≡ refusal why) ↔ Condition job why
+  unfolding exhaustiveCall
+  call-refuses = refused-exactly (λ j. Query.exhaustive (problem (j .deck))) job
 
   law : (j : Job) → readJob job ≡ accepted j → ExhaustiveLaw (j .deck)
   law j e = exhaustive-law (j .deck) (read-exactly job j .0 e .1 .area-full)
@@ -56,7 +49,7 @@ module _ (job : List ℕ) where
 
   pub exhaustive-call-law : ExhaustiveCallLaw job
   exhaustive-call-law = record {
-    refused-exactly = λ why. (λ f. refused-job job why .0 (refused-call why f), λ h. call-refused why (refused-job job why .1 h));
+    refused-exactly = call-refuses;
     given = call-accepted;
     law = law;
     done-report = done-report;

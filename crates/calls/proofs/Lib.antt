@@ -3,10 +3,13 @@ pub mod Demands
 pub mod OwnSpace
 pub mod EntryLaw
 pub mod ProgramLaw
+pub mod AcceptedCall
 pub mod ExhaustiveCall
 pub mod SavingLaw
 pub mod RefusalTable
 pub mod CaseA
 pub mod WriteTable
 pub mod AxisTable
+pub mod EstimateCall
+pub mod EstimateTable
 pub mod Theorems

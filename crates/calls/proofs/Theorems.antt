@@ -10,11 +10,13 @@ use Rattle.calls.proofs.Demands.{demands}
 use Rattle.calls.proofs.EntryLaw.{entry-law}
 use Rattle.calls.proofs.ProgramLaw.{program-law}
 use Rattle.calls.proofs.ExhaustiveCall.{exhaustive-call-law}
+use Rattle.calls.proofs.EstimateCall.{estimate-call-law}
 use Rattle.calls.proofs.SavingLaw.{read-law, write-law}
 use Rattle.calls.proofs.RefusalTable.{refusal-table}
 use Rattle.calls.proofs.CaseA.{case-A}
 use Rattle.calls.proofs.WriteTable.{write-table}
 use Rattle.calls.proofs.AxisTable.{axis-table}
+use Rattle.calls.proofs.EstimateTable.{estimate-table}
 
 pub theorems : Theorems
 theorems = record {
@@ -26,12 +28,14 @@ theorems = record {
   write = write-law;
   reading = accepted-law;
   refusing = refused-law;
+  estimate = estimate-call-law;
   spelling = spelling-law;
   report-fits = report-fits;
   refusal-table = refusal-table;
   case-A = case-A;
   write-table = write-table;
   axis-table = axis-table;
+  estimate-table = estimate-table;
   job-vectors = JobVectors.vectors;
   report-vectors = ReportVectors.vectors;
   rules = query-theorems;

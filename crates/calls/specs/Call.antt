@@ -1,12 +1,13 @@
 -- Document 01, "Job and report" and "Turned down": what the call `report` answers, and what it leaves in the memory that it is lent.
 -- Assumes nothing.
-use Prim.Native.Nat.{ℕ}
+use Prim.Native.Nat.{ℕ, _+_, _*_}
 use mathlib.Core.Bool.{cond}
 use mathlib.Core.List.{List}
 use lib.Dec.{ltb}
 use lib.IntN.{ℤ, pos}
 use lib.ListN.{length, replicate}
 use Rattle.query.specs.Figures.{Figures, figures}
+use Rattle.query.specs.Estimate.{cellsNeeded}
 use Rattle.query.specs.Space.{space, spaceNeeded}
 use Rattle.query.specs.Range.{roundsLimit}
 use Rattle.job.specs.Format.{Job, Result, refused, accepted, readJob}
@@ -44,9 +45,9 @@ outputSize = 128
 
 -- 01 refusals 7 and 8, "all before any place is priced"
 unfoldable pub answered : Result → List ℤ → List ℕ → Left
-unfolding reported
+unfolding cellsNeeded reported
 answered (refused why) cells out = turnedDown why cells out
-answered (accepted job) cells out = cond (ltb (length cells) (spaceNeeded (job .rounds))) (turnedDown SmallSpace cells out)
+answered (accepted job) cells out = cond (ltb (length cells) (spaceNeeded (job .deck) (job .rounds))) (turnedDown SmallSpace cells out)
     (cond (ltb (length out) outputSize) (turnedDown ShortOutput cells out) (reported job cells out))
 
 -- the call: of a job's bytes and what is lent
@@ -56,4 +57,4 @@ reportCall job cells out = answered (readJob job) cells out
 
 -- the cell space that the C entry and the program have of their own, enough for every job: 5,005 numbers
 abbrev pub ownSpace : List ℤ
-ownSpace = replicate (spaceNeeded roundsLimit) (pos 0)
+ownSpace = replicate (5 * (roundsLimit + 1)) (pos 0)

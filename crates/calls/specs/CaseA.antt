@@ -25,6 +25,10 @@ printedFirst = bytes "state=stopped\nat=4,2\nhigh=16\nlow=4\nbefore=34\nrounds=1
 pub record CaseA : Type 0 where
   pub report-done : reportCall (ended caseA) (replicate 55 (pos 9)) (replicate 130 7)
       ≡ record { answer = gives (report done (at 4 3) 13 (pos 13) 34 3); cells = replicate 55 (pos 0); out = printed ++ replicate 78 7 }
+  pub report-just-enough : reportCall (ended caseA) (replicate 20 (pos 9)) (replicate 128 7)
+      ≡ record { answer = gives (report done (at 4 3) 13 (pos 13) 34 3); cells = replicate 20 (pos 0); out = printed ++ replicate 76 7 }
+  pub report-small-space : reportCall (ended caseA) (replicate 19 (pos 9)) (replicate 128 7)
+      ≡ record { answer = refuses 7 0; cells = replicate 19 (pos 9); out = replicate 128 7 }
   pub report-stopped : reportCall (ended (set caseA 6 "rounds=1")) (replicate 12 (pos 9)) (replicate 128 7)
       ≡ record {
         answer = gives (report stopped (at 4 2) 16 (pos 4) 34 1);

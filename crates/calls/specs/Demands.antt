@@ -28,15 +28,15 @@ use Rattle.query.specs.Range.{roundsLimit}
 -- lent
 pub record Accepted (job : List ℕ) (cells : List ℤ) (out : List ℕ) (j : Job) : Type 0 where
   pub read : readJob job ≡ accepted j
-  pub space : spaceNeeded (j .rounds) ≤ length cells
+  pub space : spaceNeeded (j .deck) (j .rounds) ≤ length cells
   pub output : outputSize ≤ length out
 
 -- ---- demand 1
 -- document 01, "Turned down": a refusal applies to a job and to what is lent. 1 to 6 are those of reading; then 7, then 8
 pub data Applies (job : List ℕ) (cells : List ℤ) (out : List ℕ) : Refusal → Type 0 where
   in-reading : {why : Refusal} → Condition job why → Applies job cells out why
-  small-space : (j : Job) → readJob job ≡ accepted j → length cells < spaceNeeded (j .rounds) → Applies job cells out SmallSpace
-  short-output : (j : Job) → readJob job ≡ accepted j → spaceNeeded (j .rounds) ≤ length cells → length out < outputSize →
+  small-space : (j : Job) → readJob job ≡ accepted j → length cells < spaceNeeded (j .deck) (j .rounds) → Applies job cells out SmallSpace
+  short-output : (j : Job) → readJob job ≡ accepted j → spaceNeeded (j .deck) (j .rounds) ≤ length cells → length out < outputSize →
       Applies job cells out ShortOutput
 
 -- "A job file, however garbled, short or long, gets a report or one of the eight numbered refusals .. A refusal changes neither the

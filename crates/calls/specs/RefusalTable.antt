@@ -38,7 +38,7 @@ numberAndLine (refuses number line) = (number, line)
 abbrev pub answerTo : List ℕ → ℕ → ℕ → ℕ × ℕ
 answerTo job cells out = numberAndLine (reportCall job (replicate cells (pos 0)) (replicate out 0) .answer)
 
--- with just enough for case A
+-- with enough for every deck with at most 10 rounds
 abbrev pub asked : List ℕ → ℕ × ℕ
 asked job = answerTo job 55 128
 
@@ -79,7 +79,7 @@ pub record RefusalTable : Type 0 where
   pub stops-beyond : changed 4 ("stops=-1" ∷ "stops=513" ∷ []) ≡ replicate 2 (3, 4)
   pub stops-512 : asked (manyStops "stops=512" 512) ≡ (0, 0)
   pub stops-513 : asked (manyStops "stops=513" 513) ≡ (3, 4)
-  pub rounds-ends : answerTo (ended (set caseA 6 "rounds=1000")) 5005 128 ≡ (0, 0)
+  pub rounds-ends : answerTo (ended (set caseA 6 "rounds=1000")) 20 128 ≡ (0, 0)
   pub rounds-none : changed 7 ("rounds=0" ∷ []) ≡ (0, 0) ∷ []
   pub rounds-beyond : changed 7 ("rounds=-1" ∷ "rounds=1001" ∷ []) ≡ replicate 2 (3, 7)
   -- 2 before 3 in a line, and an earlier line before a later one
@@ -91,9 +91,13 @@ pub record RefusalTable : Type 0 where
   pub no-stops : asked (manyStops "stops=0" 0) ≡ (6, 0)
   pub four-before-five : asked (ended ("area=8,2,2,8" ∷ "posts=0" ∷ "stops=0" ∷ "rounds=0" ∷ [])) ≡ (4, 0)
   pub five-before-six : asked (ended ("area=2,2,8,8" ∷ "posts=0" ∷ "stops=0" ∷ "rounds=0" ∷ [])) ≡ (5, 0)
-  -- 7 and 8, which come last
-  pub space-54 : answerTo (ended caseA) 54 128 ≡ (7, 0)
-  pub space-55 : answerTo (ended caseA) 55 128 ≡ (0, 0)
-  pub output-127 : answerTo (ended caseA) 55 127 ≡ (8, 0)
-  pub seven-before-eight : answerTo (ended caseA) 54 127 ≡ (7, 0)
+  -- 7 and 8, which come last. 7 by the product of gaps where it is at most rounds + 1, else by the rounds; also where no cell is live
+  pub space-19 : answerTo (ended caseA) 19 128 ≡ (7, 0)
+  pub space-20 : answerTo (ended caseA) 20 128 ≡ (0, 0)
+  pub space-9 : answerTo (ended (set caseA 6 "rounds=1")) 9 128 ≡ (7, 0)
+  pub space-10 : answerTo (ended (set caseA 6 "rounds=1")) 10 128 ≡ (0, 0)
+  pub space-4 : answerTo (ended (set caseA 0 "area=5,5,5,5")) 4 128 ≡ (7, 0)
+  pub space-5 : answerTo (ended (set caseA 0 "area=5,5,5,5")) 5 128 ≡ (0, 0)
+  pub output-127 : answerTo (ended caseA) 20 127 ≡ (8, 0)
+  pub seven-before-eight : answerTo (ended caseA) 19 127 ≡ (7, 0)
   pub six-before-seven : answerTo (manyStops "stops=0" 0) 0 0 ≡ (6, 0)

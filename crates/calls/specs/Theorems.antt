@@ -17,11 +17,13 @@ use Rattle.calls.specs.Demands.{Demands}
 use Rattle.calls.specs.EntryLaw.{EntryLaw}
 use Rattle.calls.specs.ProgramLaw.{ProgramLaw}
 use Rattle.calls.specs.ExhaustiveCallLaw.{ExhaustiveCallLaw}
+use Rattle.calls.specs.EstimateCallLaw.{EstimateCallLaw}
 use Rattle.calls.specs.SavingLaw.{ReadLaw, WriteLaw}
 use Rattle.calls.specs.RefusalTable.{RefusalTable}
 use Rattle.calls.specs.CaseA.{CaseA}
 use Rattle.calls.specs.WriteTable.{WriteTable}
 use Rattle.calls.specs.AxisTable.{AxisTable}
+use Rattle.calls.specs.EstimateTable.{EstimateTable}
 use Rattle.refusal.specs.declared.Refusal.{Refusal}
 
 pub record Theorems : Type 0 where
@@ -36,6 +38,8 @@ pub record Theorems : Type 0 where
   -- document 02, card 2: what is read, where a missing axis line means any costs in range, and what is refused, whatever it means
   pub reading : (missing : AxisCosts) (job : List ℕ) (j : Job) → AcceptedLaw missing job j
   pub refusing : (missing : AxisCosts) (job : List ℕ) (why : Refusal) → RefusedLaw missing job why
+  -- document 02, card 3: what a job needs
+  pub estimate : (job : List ℕ) → EstimateCallLaw job
   -- no bytes spell two allowed jobs, and 128 bytes hold every report
   pub spelling : (job : Job) → SpellingLaw job
   pub report-fits : ReportFits
@@ -47,5 +51,6 @@ pub record Theorems : Type 0 where
   -- rows of the calls of document 02
   pub write-table : WriteTable
   pub axis-table : AxisTable
+  pub estimate-table : EstimateTable
   -- the rules, for every deck and every number of rounds
   pub rules : QueryTheorems

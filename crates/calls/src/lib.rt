@@ -16,6 +16,20 @@ pub enum Cheapest {
     Refused(Refusal),
 }
 
+// What a job needs: the gaps across and deep, the cut limit, and the cells that suffice.
+pub struct Estimate {
+    pub across: u64,
+    pub deep: u64,
+    pub limit: u64,
+    pub cells: u64,
+}
+
+// What a job needs, or one refusal.
+pub enum Estimated {
+    Needs(Estimate),
+    Refused(Refusal),
+}
+
 // The number of bytes that a job was written in, or one refusal.
 pub enum Written {
     Bytes(usize),

@@ -47,7 +47,11 @@ module _ (deck : Deck) where
   unfolding cellsNeeded
   live-within n = omega (arith, live-count (problem deck) n, within n)
 
-  -- more rounds need no fewer cells
+  -- rounds + 1 cells are enough, and more rounds need no fewer
+  pub needs-most : (n : ℕ) → cellsNeeded deck n ≤ n + 1
+  unfolding cellsNeeded
+  needs-most n = omega arith
+
   needs-grow : (m n : ℕ) → m ≤ n → cellsNeeded deck m ≤ cellsNeeded deck n
   unfolding cellsNeeded
   needs-grow m n h = omega arith

@@ -4,7 +4,7 @@ use mathlib.Core.Path.{_≡_, refl, sym, ap, subst, _∙_}
 use mathlib.Core.Bool.{Bool, true, false, cond, not}
 use mathlib.Core.Logic.{_⊎_, inl, inr, ⊎-elim}
 use mathlib.Core.List.{List, [], _∷_, map, List·Memᴰ, List·Memᴰ·head, List·Memᴰ·tail, Memᴰ·map, Memᴰ·of-map, Pairwise, rel-of-pairwise-cons}
-use Prim.Native.Nat.{ℕ, zero, suc, _+_, _-_, _^_, _≤_, _<_}
+use Prim.Native.Nat.{ℕ, zero, suc, _+_, _-_, _*_, _^_, _≤_, _<_}
 use native.Mathlib.Nat.{eq-or-lt-of-le}
 use native.Mathlib.Numerals.{add-one}
 use native.Mathlib.Omega.{arith}
@@ -22,8 +22,10 @@ use Rattle.query.specs.Order as Query
 use Rattle.query.specs.Order.{precedes, pricedKey, cellKey, cellBefore}
 use Rattle.query.specs.Search.{Search, isLive, start, roundOn, round, run}
 use Rattle.query.specs.Figures as Figures
+use Rattle.query.specs.Space.{allNumbers}
 use Rattle.query.proofs.SearchLaws.{run-in-order, partition-law}
-use Rattle.query.proofs.Counts.{cuts-most, live-count}
+use Rattle.query.proofs.Counts.{cuts-most}
+use Rattle.query.proofs.SpaceLaws.{allNumbers-length}
 use Rattle.deck.specs.Objects.{Pricing}
 use Rattle.slots.specs.declared.Cell.{Cell}
 use Rattle.search.specs.declared.run.Running.{Running}
@@ -121,10 +123,10 @@ module _ (Q : Problem) (P : Pricing) (n lowest : ℕ) (s : List ℤ) (t : List �
   pub finished : (m : ℕ) → n ≡ m → Holds P (run Q m) 0 s t st
   finished m e = holds-as h (ap (run Q) e) (omega arith)
 
-  pub cell-count : st .tail - st .head ≤ n + 1
+  pub cell-count : 5 * (st .tail - st .head) ≡ length (allNumbers (run Q n .live))
   cell-count = omega (
     arith,
-    live-count Q n,
+    allNumbers-length (run Q n .live),
     ap length (sym cells-are),
     length-map (entries s t (st .head) (st .tail - st .head)) entryCell,
     entries-length s t (st .head) (st .tail - st .head),

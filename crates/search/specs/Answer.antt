@@ -11,7 +11,7 @@ use Rattle.query.specs.Problem.{Problem}
 use Rattle.query.specs.Order as Query
 use Rattle.query.specs.Search.{Search, run}
 use Rattle.query.specs.Figures as Figures
-use Rattle.query.specs.Space.{allNumbers, spaceNeeded}
+use Rattle.query.specs.Space.{allNumbers}
 use Rattle.query.specs.Range.{costLimit, roundsLimit}
 use Rattle.slots.specs.declared.Cell.{Cell}
 use Rattle.search.specs.declared.run.Running.{Running}
@@ -41,10 +41,10 @@ foundOf s = record {
   cuts = s .cuts;
 }
 
--- rounds of a job, and room for their cells
-pub record Room (rounds lent : ℕ) : Type 0 where
+-- rounds of a job, and room for the cells that are live after them
+pub record Room (Q : Problem) (rounds lent : ℕ) : Type 0 where
   pub rounds-limit : rounds ≤ roundsLimit
-  pub room : spaceNeeded rounds ≤ lent
+  pub room : length (allNumbers (run Q rounds .live)) ≤ lent
 
 -- the answer, and what the cell space then holds
 pub record Searched (Q : Problem) (rounds : ℕ) (before after : List ℤ) (r : Found) : Type 0 where

@@ -267,7 +267,8 @@ pub fn search<'a>(
     rounds: u64,
     cells: &mut [i64],
 ) -> Found
-    requires { ⌜ Prepared (now columns) n (now v) (now h) area × Room rounds (length (now cells)) ⌝ }
+    requires { ⌜ Prepared (now columns) n (now v) (now h) area
+        × Room (problemOf (now columns) n (now v) (now h) area) rounds (length (now cells)) ⌝ }
     ensures { λ r.
         ⌜ Searched (problemOf (now (columns .entry)) n (now (v .entry)) (now (h .entry)) area) rounds (now (cells .entry))
         (now (cells .exit)) r ⌝ }
