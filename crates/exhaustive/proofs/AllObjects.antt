@@ -23,12 +23,12 @@ use Rattle.deck.specs.ObjectColumns.{objectAt, axisIn, pricingIn}
 use Rattle.deck.proofs.WordLaws.{coordinate}
 use Rattle.deck.proofs.TravelLaws.{far, travel-plain}
 use Rattle.lines.specs.LineRecord.{FirstAtLeast}
+use Rattle.reach.specs.Columns.{Priceable, ObjectInRange}
+use Rattle.reach.proofs.NarrowLaws.{word, natural, visits-word, near-word, scaled-by, scaled-small}
+use Rattle.reach.proofs.RowLaws.{row}
 use Rattle.pricing.specs.ObjectFigures.{costOf, beforeOf}
-use Rattle.pricing.specs.Columns.{Priceable, ObjectInRange}
-use Rattle.pricing.proofs.NarrowLaws.{word, natural, visits-word, near-word, scaled-by, scaled-small}
 use Rattle.pricing.proofs.ObjectLaws.{paidBy, paidNow, costOf-sum, beforeOf-sum}
 use Rattle.pricing.proofs.ColumnLaws.{sum-none, sum-more}
-use Rattle.pricing.proofs.TurnLaws.{row}
 use Rattle.exhaustive.specs.Ramps.{scaledLines, ObjectLines, LinesFound, prefixSum, ObjectSums, ObjectAdded, ObjectsAdded}
 use Rattle.exhaustive.proofs.Prefixes.{prefix-most}
 use Rattle.exhaustive.proofs.ObjectRamps.{sums-more, small-back}

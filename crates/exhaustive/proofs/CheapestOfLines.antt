@@ -9,8 +9,7 @@ use lib.ListN.{length, getD, drop, replicate, length-replicate, length-map, drop
 use Rattle.numbers.specs.Integer.{times}
 use Rattle.query.specs.Range.{costLimit}
 use Rattle.deck.specs.Objects.{Pricing}
-use Rattle.pricing.specs.ObjectFigures.{beforeOf}
-use Rattle.pricing.specs.Columns.{Figure}
+use Rattle.pricing.specs.ObjectFigures.{beforeOf, Figure}
 use Rattle.problem.specs.declared.Spot.{Spot}
 use Rattle.numbers.proofs.WordTests.{back}
 use Rattle.exhaustive.specs.Ramps.{scaledLines, LinesInRange, RampSums, ObjectSums, ObjectsAdded, Sweepable}

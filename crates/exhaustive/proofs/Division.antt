@@ -7,7 +7,7 @@ use native.Mathlib.Omega.{arith}
 use lib.IntN.{ℤ, pos, natAbs}
 use Rattle.numbers.proofs.Integer.{order}
 use Rattle.deck.specs.Ranges.{AxisCostInRange}
-use Rattle.pricing.proofs.NarrowLaws.{natural}
+use Rattle.reach.proofs.NarrowLaws.{natural}
 
 -- an axis cost is a natural number that is not 0
 pub cost-natural : {k : ℤ} → AxisCostInRange k → k ≡ pos (natAbs k)

@@ -12,7 +12,7 @@ use mir.ValLaws.{toZ-ofZ, toZ-pos}
 use Rattle.numbers.specs.Integer.{dist}
 use Rattle.numbers.proofs.Integer.{add-nat, sub-nat, sum-abs, sub-abs}
 use Rattle.numbers.proofs.Words.{word-fits}
-use Rattle.pricing.specs.Columns.{ObjectInRange}
+use Rattle.reach.specs.Columns.{ObjectInRange}
 use Rattle.numbers.proofs.WordTests.{back}
 use Rattle.exhaustive.specs.Ramps.{heightOf, RampSums, RampInRange, RampAdded, ObjectAdded}
 use Rattle.exhaustive.proofs.Heights.{height-nat, height-least, height-dist}

@@ -27,13 +27,14 @@ use Rattle.job.proofs.ReadDeck.{Spelt}
 use Rattle.deck.specs.DeckOf.{deckOf}
 use Rattle.deck.specs.Objects.{Pricing, pricingOf}
 use Rattle.deck.specs.ObjectColumns.{pricingIn}
-use Rattle.pricing.specs.ObjectFigures.{costOf, loadOf}
-use Rattle.pricing.specs.Columns.{Figure, Ranged}
+use Rattle.reach.specs.Columns.{Ranged}
+use Rattle.pricing.specs.ObjectFigures.{costOf, loadOf, Figure}
 use Rattle.pricing.proofs.ObjectLaws.{cost-law, load-law}
 use Rattle.lines.specs.LineRecord.{gridOf}
 use Rattle.cuts.specs.CutRecord.{cutRecord}
+use Rattle.prepare.proofs.Coordinates.{near-back, rect-back}
 use Rattle.problem.specs.ObjectProblem.{boundOf}
-use Rattle.problem.proofs.Coordinates.{near-back, near-places, rect-back}
+use Rattle.problem.proofs.Coordinates.{near-places}
 use Rattle.problem.proofs.DeckProblem.{bound-law, prepared-pricing, prepared-grid}
 use Rattle.trial.specs.Opened.{Whole, openedRecord}
 use Rattle.trial.specs.Trial.{onJob, minusOne, least}

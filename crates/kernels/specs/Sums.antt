@@ -19,7 +19,7 @@ use Rattle.deck.specs.Objects.{pricingOf}
 use Rattle.deck.specs.ObjectColumns.{columnsOf}
 use Rattle.deck.specs.Rectangle.{rectOf}
 use Rattle.deck.specs.declared.Rect as Deck
-use Rattle.pricing.specs.Columns.{Ranged}
+use Rattle.reach.specs.Columns.{Ranged}
 use Rattle.cuts.specs.CutRecord.{cutRecord}
 use Rattle.trial.specs.Trial.{onJob, minusOne, least}
 use Rattle.query.specs.Range.{coordinateLimit, stopsLimit}

@@ -11,12 +11,12 @@ ghost use Rattle.query.specs.Range.{costLimit};
 ghost use Rattle.job.specs.Format.{readJob};
 ghost use Rattle.deck.specs.DeckOf.{deckOf};
 ghost use Rattle.deck.specs.ObjectColumns.{pricingIn};
-ghost use Rattle.pricing.specs.ObjectFigures.{costOf, loadOf};
-ghost use Rattle.pricing.specs.Columns.{Priceable, Figure};
+ghost use Rattle.reach.specs.Columns.{Priceable};
+ghost use Rattle.pricing.specs.ObjectFigures.{costOf, loadOf, Figure};
 ghost use Rattle.lines.specs.LineRecord.{Lined, gridOf};
 ghost use Rattle.cuts.specs.CutRecord.{cutRecord};
+ghost use Rattle.prepare.specs.ProblemRecord.{Solvable};
 ghost use Rattle.problem.specs.ObjectProblem.{boundOf};
-ghost use Rattle.problem.specs.Prepared.{Solvable};
 ghost use Rattle.trial.specs.Opened.{Whole};
 ghost use Rattle.kernels.specs.Sums.{sumTo, Sampled, TurnRect, placeAt, rectAt, positive, nearTurn, turn, kernelSum};
 

@@ -1,6 +1,4 @@
 pub mod ColumnLaws
 pub mod ObjectLaws
-pub mod NarrowLaws
-pub mod ExcessLaws
+pub mod PricedWords
 pub mod TurnLaws
-pub mod RecordLaws

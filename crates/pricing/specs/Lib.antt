@@ -1,2 +1,1 @@
 pub mod ObjectFigures
-pub mod Columns

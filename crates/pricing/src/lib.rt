@@ -5,44 +5,26 @@ use deck::scaled;
 use deck::travelled;
 use limits::COLUMNS;
 use limits::NEAR_COLUMN;
-use limits::STOPS;
 use limits::VISITS_COLUMN;
 use limits::X_COST;
 use limits::Y_COLUMN;
 use limits::Y_COST;
 use numbers::half_up;
+use reach::edges_of;
+use reach::reached;
 ghost use mathlib.Core.Path.{_≡_};
 ghost use mathlib.Core.Bool.{cond};
-ghost use Prim.Native.Nat.{_+_, _*_, _≤_, min, max};
+ghost use Prim.Native.Nat.{_+_, _*_, min, max};
 ghost use lib.Dec.{ltb};
 ghost use lib.IntN.{pos, natAbs, _-ℤ_};
-ghost use lib.Signed.{_≤ℤ_};
 ghost use Rattle.numbers.specs.Integer.{dist, clamp, halfUp};
 ghost use Rattle.query.specs.Bound as Bound;
 ghost use Rattle.query.specs.Range.{loadLimit, costLimit, travelLimit, PlaceInRange};
 ghost use Rattle.deck.specs.Ranges.{Near180000};
 ghost use Rattle.deck.specs.Rectangle.{rectOf};
 ghost use Rattle.deck.specs.ObjectColumns.{axisIn, pricingIn};
-ghost use Rattle.pricing.specs.ObjectFigures.{costOf, beforeOf, loadOf, flagsOf};
-ghost use Rattle.pricing.specs.Columns.{
-  AxisCostsInRange,
-  Priceable,
-  Ranged,
-  ObjectInRange,
-  BoundInRange,
-  EdgesInRange,
-  EdgesOf,
-  excessOf,
-  Figure,
-};
-
-// The edges of a rectangle, scaled.
-struct Edges {
-    xlo: i32,
-    ylo: i32,
-    xhi: i32,
-    yhi: i32,
-}
+ghost use Rattle.reach.specs.Columns.{ObjectInRange, AxisCostsInRange, Priceable, Ranged, EdgesInRange};
+ghost use Rattle.pricing.specs.ObjectFigures.{costOf, beforeOf, loadOf, BoundInRange, Figure};
 
 // What an object pays for a post at (x, y): its visits times the smaller of its near and its travel there.
 fn paid(sx: i32, sy: i32, visits: i32, near: i32, x: i32, y: i32) -> u64
@@ -76,45 +58,6 @@ pub fn cost(columns: &[i32; COLUMNS], n: usize, x: i64, y: i64) -> u64
         i = i + 1;
     }
     sum
-}
-
-// The edges of a rectangle as the passes take them.
-fn edges_of(columns: &[i32; COLUMNS], r: Rect) -> Edges
-    requires { ⌜ AxisCostsInRange (now columns) × Ranged (rectOf r) ⌝ }
-    ensures { λ e. ⌜ EdgesOf (axisIn (now (columns .entry))) (rectOf r) e ⌝ }
-{
-    let a = columns[X_COST];
-    let b = columns[Y_COST];
-    Edges {
-        xlo: scaled(a, r.xlo),
-        ylo: scaled(b, r.ylo),
-        xhi: scaled(a, r.xhi),
-        yhi: scaled(b, r.yhi),
-    }
-}
-
-// How far a lies above b.
-fn excess(a: i32, b: i32) -> i32
-    requires { ⌜ Near180000 a b ⌝ }
-    ensures { λ r. ⌜ r ≡ pos (excessOf a b) ⌝ }
-{
-    if b < a { a - b } else { 0 }
-}
-
-// The distance of v to the closest number of lo .. hi.
-fn outside(v: i32, lo: i32, hi: i32) -> i32
-    requires { ⌜ (natAbs v ≤ 180000) × Near180000 lo hi × (lo ≤ℤ hi) ⌝ }
-    ensures { λ r. ⌜ r ≡ pos (dist v (clamp lo hi v)) ⌝ }
-{
-    excess(lo, v) + excess(v, hi)
-}
-
-// Whether an object's travel to the closest point of a rectangle is less than its near.
-fn reached(sx: i32, sy: i32, near: i32, xlo: i32, ylo: i32, xhi: i32, yhi: i32) -> bool
-    requires { ⌜ Near180000 sx sy × (pos 0 ≤ℤ near) × EdgesInRange xlo ylo xhi yhi ⌝ }
-    ensures { λ r. ⌜ r ≡ ltb (dist sx (clamp xlo xhi sx) + dist sy (clamp ylo yhi sy)) (natAbs near) ⌝ }
-{
-    outside(sx, xlo, xhi) + outside(sy, ylo, yhi) < near
 }
 
 // An object's part of the load of a rectangle: its visits where it reaches it.
@@ -193,43 +136,4 @@ pub fn bound(c00: u64, c01: u64, c10: u64, c11: u64, span: u64, load: u64) -> i6
     let falling = c01 + c10;
     let larger = if rising < falling { falling } else { rising };
     half_up((larger as i64) - ((span * load) as i64))
-}
-
-// 1 for an object that reaches a rectangle, and 0 for one that does not.
-fn flag(sx: i32, sy: i32, near: i32, xlo: i32, ylo: i32, xhi: i32, yhi: i32) -> u8
-    requires { ⌜ Near180000 sx sy × (pos 0 ≤ℤ near) × EdgesInRange xlo ylo xhi yhi ⌝ }
-    ensures { λ r. ⌜ r ≡ cond (ltb (dist sx (clamp xlo xhi sx) + dist sy (clamp ylo yhi sy)) (natAbs near)) 1 0 ⌝ }
-{
-    if reached(sx, sy, near, xlo, ylo, xhi, yhi) {
-        1
-    } else {
-        0
-    }
-}
-
-// Which objects reach a rectangle.
-pub fn reach_flags(columns: &[i32; COLUMNS], n: usize, r: Rect) -> [u8; STOPS]
-    requires { ⌜ Priceable (now columns) n × Ranged (rectOf r) ⌝ }
-    ensures { λ flags. ⌜ flags ≡ flagsOf (pricingIn (now (columns .entry)) n) (rectOf r) ⌝ }
-{
-    let e = edges_of(columns, r);
-    let xlo = e.xlo;
-    let ylo = e.ylo;
-    let xhi = e.xhi;
-    let yhi = e.yhi;
-    let mut flags = [0u8; STOPS];
-    let mut i: usize = 0;
-    while i < n {
-        flags[i] = flag(
-            columns[i],
-            columns[Y_COLUMN + i],
-            columns[NEAR_COLUMN + i],
-            xlo,
-            ylo,
-            xhi,
-            yhi,
-        );
-        i = i + 1;
-    }
-    flags
 }

@@ -4,15 +4,12 @@ use mathlib.Core.Path.{_≡_, refl, sym, ap, subst, _∙_}
 use mathlib.Core.List.{List}
 use Prim.Native.Nat.{ℕ, _+_, _*_, max}
 use lib.IntN.{ℤ, pos, _-ℤ_}
-use lib.ListN.{length, take}
+use lib.ListN.{take}
 use Rattle.numbers.specs.Integer.{halfUp}
-use Rattle.numbers.proofs.Padded.{padded-front}
 use Rattle.query.specs.Place as Place
-use Rattle.query.specs.Place.{x-axis, y-axis}
 use Rattle.query.specs.Deck as Query
 use Rattle.query.specs.Bound.{span, bound}
 use Rattle.query.specs.Reach.{load}
-use Rattle.query.specs.Lines.{lines}
 use Rattle.query.specs.Grid.{grid}
 use Rattle.query.specs.Problem.{problem}
 use Rattle.query.proofs.BoundLaws.{bound-is, cornerSum-is}
@@ -22,15 +19,17 @@ use Rattle.deck.specs.DeckOf.{deckOf}
 use Rattle.deck.specs.Rectangle.{rectOf}
 use Rattle.deck.specs.Objects.{Pricing, pricingOf}
 use Rattle.deck.specs.ObjectColumns.{columnsOf, pricingIn}
+use Rattle.reach.specs.Columns.{Priceable, Ranged}
+use Rattle.reach.proofs.RecordLaws.{made-priceable, made-pricing}
 use Rattle.pricing.specs.ObjectFigures.{costOf, loadOf}
-use Rattle.pricing.specs.Columns.{Priceable, Ranged}
 use Rattle.pricing.proofs.ObjectLaws.{cost-law, load-law}
-use Rattle.pricing.proofs.RecordLaws.{made-priceable, made-pricing}
 use Rattle.lines.specs.LineRecord.{LinesInOrder, Lined, gridOf}
 use Rattle.lines.proofs.DeckLines.{deck-lined}
-use Rattle.problem.specs.declared.Problem.{Problem}
+use Rattle.prepare.specs.declared.Problem.{Problem}
+use Rattle.prepare.specs.ProblemRecord.{problemRecord, Solvable}
+use Rattle.prepare.proofs.RecordParts.{record-columns, record-count, record-vertical, record-horizontal, record-area}
 use Rattle.problem.specs.ObjectProblem.{boundOf, objectProblem}
-use Rattle.problem.specs.Prepared.{problemOf, problemRecord, Solvable, Prepared}
+use Rattle.problem.specs.Prepared.{problemOf, Prepared}
 
 -- ---- the figures and the problem of a deck
 pub boundOf-is : (P : Pricing) (r : Place.Rect) → boundOf P r ≡ halfUp (pos
@@ -87,37 +86,7 @@ module _ {columns : List ℤ} {n : ℕ} {v h : List ℤ} {area : Rect} (prepared
   pub prepared-problem : problemOf columns n v h area ≡ problem deck
   prepared-problem = (λ i. objectProblem (prepared-pricing i) (prepared-grid i) (prepared .area-is i)) ∙ deck-problem deck
 
--- ---- the record of a deck's problem
-module _ (deck : Query.Deck) (p : Problem) (e : p ≡ problemRecord deck) where
-  pub record-columns : p .columns ≡ columnsOf (pricingOf deck)
-  unfolding problemRecord
-  record-columns = ap (λ (q : Problem). q .columns) e
-
-  pub record-count : p .count ≡ length (deck .stops)
-  unfolding problemRecord
-  record-count = ap (λ (q : Problem). q .count) e
-
-  pub record-vertical : take (p .nv) (p .v) ≡ lines deck x-axis
-  unfolding problemRecord
-  record-vertical = ap (λ (q : Problem). take (q .nv) (q .v)) e ∙ padded-front 514 (pos 0) (lines deck x-axis)
-
-  pub record-horizontal : take (p .nh) (p .h) ≡ lines deck y-axis
-  unfolding problemRecord
-  record-horizontal = ap (λ (q : Problem). take (q .nh) (q .h)) e ∙ padded-front 514 (pos 0) (lines deck y-axis)
-
-  pub record-area : rectOf (p .area) ≡ deck .area
-  unfolding problemRecord
-  record-area = ap (λ (q : Problem). rectOf (q .area)) e
-
-  -- as many lines are taken as stand in front
-  pub vertical-taken : p .nv ≡ length (take (p .nv) (p .v))
-  unfolding problemRecord
-  vertical-taken = ap (λ (q : Problem). q .nv) e ∙ sym (ap length record-vertical)
-
-  pub horizontal-taken : p .nh ≡ length (take (p .nh) (p .h))
-  unfolding problemRecord
-  horizontal-taken = ap (λ (q : Problem). q .nh) e ∙ sym (ap length record-horizontal)
-
+-- ---- the record of a deck's problem was prepared
 abbrev pub solvable-prepared : (deck : Deck) → Solvable deck → (p : Problem) → p ≡ problemRecord (deckOf deck) →
     Prepared (p .columns) (p .count) (take (p .nv) (p .v)) (take (p .nh) (p .h)) (p .area)
 solvable-prepared deck h p e = record {

@@ -1,3 +1,2 @@
 pub mod Coordinates
 pub mod DeckProblem
-pub mod MadeProblem

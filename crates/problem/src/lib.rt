@@ -1,34 +1,16 @@
-// The problem of a deck as both searches take it, prepared once for each call: its area, the columns of its objects and its lines. And
-// places with their costs.
-use deck::Deck;
-use deck::Rect;
+// Places with their costs. And, in specs/, the problem that both searches take, of the parts that are lent.
 use limits::COLUMNS;
-use limits::LINES;
 ghost use mathlib.Core.Path.{_≡_};
 ghost use Rattle.query.specs.Range.{PlaceInRange};
-ghost use Rattle.deck.specs.DeckOf.{deckOf};
 ghost use Rattle.deck.specs.ObjectColumns.{pricingIn};
-ghost use Rattle.pricing.specs.Columns.{Priceable};
+ghost use Rattle.reach.specs.Columns.{Priceable};
 ghost use Rattle.problem.specs.ObjectProblem.{spotOf, spotAt};
-ghost use Rattle.problem.specs.Prepared.{Solvable, problemRecord};
 
 // A place with its cost.
 pub struct Spot {
     pub x: i64,
     pub y: i64,
     pub cost: u64,
-}
-
-// The problem of a deck: its area; the columns of its `count` objects; `nv` vertical lines in `v` and `nh` horizontal ones in `h`, in
-// increasing order, with 0 behind them.
-pub struct Problem {
-    pub area: Rect,
-    pub count: usize,
-    pub columns: [i32; COLUMNS],
-    pub nv: usize,
-    pub v: [i64; LINES],
-    pub nh: usize,
-    pub h: [i64; LINES],
 }
 
 // A place, priced.
@@ -45,33 +27,4 @@ pub fn place(x: i64, y: i64, cost: u64) -> Spot
     ensures { λ r. ⌜ r ≡ spotAt x y cost ⌝ }
 {
     Spot { x, y, cost }
-}
-
-// The problem of a deck.
-pub fn of_deck(deck: Deck) -> Problem
-    requires { ⌜ Solvable deck ⌝ }
-    ensures { λ r. ⌜ r ≡ problemRecord (deckOf deck) ⌝ }
-{
-    let n = deck.stops;
-    let area = Rect {
-        xlo: deck.xlo,
-        ylo: deck.ylo,
-        xhi: deck.xhi,
-        yhi: deck.yhi,
-    };
-    let columns = deck::columns_of(deck);
-    let flags = pricing::reach_flags(&columns, n, area);
-    let vertical = lines::find_lines(&deck.stop_x, &flags, n, area.xlo, area.xhi);
-    let horizontal = lines::find_lines(&deck.stop_y, &flags, n, area.ylo, area.yhi);
-    let v = vertical.at;
-    let h = horizontal.at;
-    Problem {
-        area,
-        count: n,
-        columns,
-        nv: vertical.count,
-        v,
-        nh: horizontal.count,
-        h,
-    }
 }

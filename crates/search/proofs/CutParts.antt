@@ -15,8 +15,8 @@ use Rattle.query.specs.Cut.{canCut, cutLine, cutBefore, cutAfter, lowCorner, hi
 use Rattle.query.specs.Range.{RectInRange}
 use Rattle.query.proofs.CutLaws.{cut-law}
 use Rattle.deck.specs.Objects.{Pricing}
+use Rattle.reach.specs.Columns.{Ranged}
 use Rattle.pricing.specs.ObjectFigures.{costOf}
-use Rattle.pricing.specs.Columns.{Ranged}
 use Rattle.cuts.specs.CutRecord.{axisOf, isX, cutAt, cutRecord}
 use Rattle.cuts.specs.declared.Cut.{Cut}
 use Rattle.cuts.proofs.CutRecordLaws.{cutRecord-cut}

@@ -23,7 +23,7 @@ use Rattle.query.specs.Search.{Search, isLive, cellOf, bestOf, startBest, start
 use Rattle.query.proofs.CellsAfter.{after-is}
 use Rattle.deck.specs.Objects.{Pricing}
 use Rattle.deck.specs.ObjectColumns.{pricingIn}
-use Rattle.pricing.specs.Columns.{Priceable, Ranged}
+use Rattle.reach.specs.Columns.{Priceable, Ranged}
 use Rattle.pricing.proofs.TurnLaws.{cost-most}
 use Rattle.cuts.specs.CutRecord.{axisOf, isX, cutAt, cutRecord}
 use Rattle.cuts.specs.declared.Cut.{Cut}

@@ -17,17 +17,18 @@ use Rattle.deck.specs.declared.Rect as Deck
 use Rattle.deck.specs.Rectangle.{rectOf}
 use Rattle.deck.specs.Objects.{Pricing}
 use Rattle.deck.specs.ObjectColumns.{pricingIn}
-use Rattle.pricing.specs.ObjectFigures.{loadOf}
-use Rattle.pricing.specs.Columns.{Priceable, BoundInRange}
+use Rattle.reach.specs.Columns.{Priceable}
+use Rattle.pricing.specs.ObjectFigures.{loadOf, BoundInRange}
 use Rattle.pricing.proofs.TurnLaws.{cost-most}
 use Rattle.cuts.specs.declared.Cut.{Cut}
 use Rattle.slots.specs.declared.Cell.{Cell}
 use Rattle.slots.specs.declared.Costs.{Costs}
 use Rattle.cells.specs.Entries.{keyOf}
 use Rattle.cells.proofs.Keys.{KeyFits, key-back}
+use Rattle.prepare.proofs.Coordinates.{near-back}
 use Rattle.problem.specs.declared.Spot.{Spot}
 use Rattle.problem.specs.ObjectProblem.{pricedOf, spotOf, rectIn, boundOf, spotAt}
-use Rattle.problem.proofs.Coordinates.{near-back, spot-back}
+use Rattle.problem.proofs.Coordinates.{spot-back}
 use Rattle.search.specs.Corners.{cornerCosts, cellFor, CostsInRange, improved, bestCorner}
 use Rattle.cuts.specs.CutRecord.{axisOf}
 use Rattle.search.specs.CutCell.{CutInRange}

@@ -14,7 +14,7 @@ use Rattle.pricing.specs.ObjectFigures.{costOf}
 use Rattle.cuts.specs.declared.Cut.{Cut}
 use Rattle.cuts.specs.CutRecord.{axisOf}
 use Rattle.slots.specs.declared.Costs.{Costs}
-use Rattle.pricing.specs.Columns.{Ranged}
+use Rattle.reach.specs.Columns.{Ranged}
 use Rattle.problem.specs.ObjectProblem.{boundOf, spotOf}
 use Rattle.search.specs.declared.halves.Halves.{Halves}
 use Rattle.search.specs.Corners.{cornerCosts, cellFor}

@@ -13,7 +13,7 @@ use Rattle.query.specs.Search.{Search, run}
 use Rattle.query.specs.Range.{costLimit, roundsLimit}
 use Rattle.deck.specs.Objects.{Pricing}
 use Rattle.slots.specs.declared.Cell.{Cell}
-use Rattle.pricing.specs.Columns.{Ranged}
+use Rattle.reach.specs.Columns.{Ranged}
 use Rattle.problem.specs.ObjectProblem.{pricedOf, rectIn}
 use Rattle.search.specs.declared.run.Running.{Running}
 use Rattle.slots.specs.Slot.{Entry, entryCell, cellAt}

@@ -11,7 +11,7 @@ ghost use Rattle.query.specs.Cut.{lowCorner, highCorner, cutBefore, cutAfter};
 ghost use Rattle.query.specs.Range.{costLimit};
 ghost use Rattle.deck.specs.Rectangle.{rectOf, rectRecord};
 ghost use Rattle.deck.specs.ObjectColumns.{pricingIn};
-ghost use Rattle.pricing.specs.Columns.{Priceable, Ranged};
+ghost use Rattle.reach.specs.Columns.{Priceable, Ranged};
 ghost use Rattle.lines.specs.LineRecord.{Lined, gridOf};
 ghost use Rattle.cuts.specs.CutRecord.{axisOf, cutRecord};
 ghost use Rattle.problem.specs.ObjectProblem.{spotOf};

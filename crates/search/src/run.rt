@@ -17,7 +17,7 @@ ghost use Rattle.query.specs.Range.{costLimit, RectInRange};
 ghost use Rattle.query.specs.Figures as Figures;
 ghost use Rattle.deck.specs.Rectangle.{rectOf};
 ghost use Rattle.deck.specs.ObjectColumns.{pricingIn};
-ghost use Rattle.pricing.specs.Columns.{Priceable, Ranged};
+ghost use Rattle.reach.specs.Columns.{Priceable, Ranged};
 ghost use Rattle.lines.specs.LineRecord.{Lined, gridOf};
 ghost use Rattle.slots.specs.Slot.{queryCell};
 ghost use Rattle.slots.specs.Numbering.{cellsIn, costsIn, Numbered};

@@ -32,8 +32,9 @@ use Rattle.deck.specs.DeckOf.{deckOf}
 use Rattle.deck.specs.ObjectColumns.{pricingIn}
 use Rattle.pricing.specs.ObjectFigures.{beforeOf}
 use Rattle.pricing.proofs.ObjectLaws.{before-law}
-use Rattle.problem.specs.declared.Problem.{Problem}
-use Rattle.problem.specs.Prepared.{problemOf, problemRecord, Solvable}
+use Rattle.prepare.specs.declared.Problem.{Problem}
+use Rattle.prepare.specs.ProblemRecord.{problemRecord, Solvable}
+use Rattle.problem.specs.Prepared.{problemOf}
 use Rattle.problem.proofs.DeckProblem.{prepared-pricing, prepared-problem, solvable-prepared}
 use Rattle.report.specs.Report.{reportState, reportFigures}
 use Rattle.report.specs.Text.{reportText}

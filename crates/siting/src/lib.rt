@@ -28,8 +28,8 @@ ghost use Rattle.calls.specs.WriteCall.{writeCall};
 ghost use Rattle.query.specs.Problem.{problem};
 ghost use Rattle.query.specs.Exhaustive as Query;
 ghost use Rattle.deck.specs.DeckOf.{deckOf};
+ghost use Rattle.prepare.specs.ProblemRecord.{Solvable};
 ghost use Rattle.problem.specs.ObjectProblem.{pricedOf};
-ghost use Rattle.problem.specs.Prepared.{Solvable};
 ghost use Rattle.search.specs.Answer.{Room};
 ghost use Rattle.siting.specs.Response.{stateFor, Solved, refusedResponse, Responded};
 
@@ -50,7 +50,7 @@ fn solve(deck: Deck, rounds: u64, cells: &mut [i64]) -> Report
     requires { ⌜ Solvable deck × Room rounds (length (now cells)) ⌝ }
     ensures { λ r. ⌜ Solved deck rounds (now (cells .entry)) (now (cells .exit)) r ⌝ }
 {
-    let p = problem::of_deck(deck);
+    let p = prepare::of_deck(deck);
     let n = p.count;
     let nv = p.nv;
     let nh = p.nh;
@@ -132,7 +132,7 @@ fn cheapest_in(deck: Deck) -> Spot
     requires { ⌜ Solvable deck ⌝ }
     ensures { λ r. ⌜ pricedOf r ≡ Query.exhaustive (problem (deckOf deck)) ⌝ }
 {
-    let p = problem::of_deck(deck);
+    let p = prepare::of_deck(deck);
     let n = p.count;
     let nv = p.nv;
     let nh = p.nh;

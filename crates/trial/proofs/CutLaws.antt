@@ -20,8 +20,8 @@ use Rattle.job.specs.Format.{Result, refused, accepted, readJob}
 use Rattle.deck.specs.DeckOf.{deckOf}
 use Rattle.numbers.proofs.Padded.{padded-front}
 use Rattle.lines.proofs.DeckLines.{lines-in-order}
-use Rattle.problem.specs.declared.Problem.{Problem}
-use Rattle.problem.specs.Prepared.{problemRecord}
+use Rattle.prepare.specs.declared.Problem.{Problem}
+use Rattle.prepare.specs.ProblemRecord.{problemRecord}
 use Rattle.cuts.specs.CutRecord.{axisOf, cutAt, isX, cutRecord}
 use Rattle.cuts.specs.declared.Cut.{Cut}
 use Rattle.cuts.proofs.CutRecordLaws.{cutRecord-found, cutRecord-cut}

@@ -23,13 +23,15 @@ use Rattle.job.specs.Format.{readJob}
 use Rattle.deck.specs.Objects.{Object, Pricing, objectsOf, pricingOf}
 use Rattle.deck.specs.ObjectColumns.{pricingIn}
 use Rattle.deck.proofs.ColumnLaws.{nothing, row-object}
-use Rattle.pricing.specs.ObjectFigures.{costOf, beforeOf, loadOf}
-use Rattle.pricing.specs.Columns.{Priceable, Figure}
-use Rattle.pricing.proofs.NarrowLaws.{word, natural, near-word}
-use Rattle.pricing.proofs.TurnLaws.{row}
-use Rattle.pricing.proofs.ObjectLaws.{objectOf, objectsOf-map, cost-law, before-law, load-law}
+use Rattle.reach.specs.Columns.{Priceable}
+use Rattle.reach.proofs.NarrowLaws.{word, natural, near-word}
+use Rattle.reach.proofs.RowLaws.{row}
+use Rattle.reach.proofs.ReachLaws.{objectOf, objectsOf-map}
+use Rattle.pricing.specs.ObjectFigures.{costOf, beforeOf, loadOf, Figure}
+use Rattle.pricing.proofs.ObjectLaws.{cost-law, before-law, load-law}
+use Rattle.prepare.proofs.RecordParts.{record-columns, record-count}
 use Rattle.problem.specs.ObjectProblem.{boundOf}
-use Rattle.problem.proofs.DeckProblem.{bound-law, record-columns, record-count, prepared-priceable, prepared-pricing}
+use Rattle.problem.proofs.DeckProblem.{bound-law, prepared-priceable, prepared-pricing}
 use Rattle.trial.specs.Opened.{openedRecord, placeInRange, rectAllowed}
 use Rattle.trial.specs.Trial.{minusOne, least, beforeFigure, nearFigure, costFigure, loadFigure, boundFigure}
 use Rattle.trial.specs.declared.opened.Opened.{Opened}

@@ -15,8 +15,9 @@ use Rattle.job.proofs.JobLaws.{most-rounds}
 use Rattle.job.proofs.Meaning.{accepted-job}
 use Rattle.deck.specs.DeckOf.{deckOf}
 use Rattle.job.proofs.ReadDeck.{differ, Spelt, read-accepted, read-deck, read-rounds, read-deckOf, read-full, objects-ask}
-use Rattle.problem.specs.declared.Problem.{Problem}
-use Rattle.problem.specs.Prepared.{Solvable, Prepared, problemRecord}
+use Rattle.prepare.specs.declared.Problem.{Problem}
+use Rattle.prepare.specs.ProblemRecord.{Solvable, problemRecord}
+use Rattle.problem.specs.Prepared.{Prepared}
 use Rattle.problem.proofs.DeckProblem.{solvable-prepared}
 use Rattle.trial.specs.Opened.{Whole, noProblem, openedDeck, openedRecord}
 use Rattle.trial.specs.Trial.{onJob}

@@ -14,7 +14,7 @@ use Rattle.query.specs.Range.{PlaceInRange}
 use Rattle.job_line.specs.Kinds.{coordinates, inRange}
 use Rattle.job.proofs.RangeLaws.{coordinate-range}
 use Rattle.numbers.proofs.WordTests.{back, back-is}
-use Rattle.pricing.specs.Columns.{Ranged}
+use Rattle.reach.specs.Columns.{Ranged}
 use Rattle.trial.specs.Opened.{placeInRange, rectAllowed}
 
 -- the test holds of the places that are in range, and of no others

@@ -10,8 +10,8 @@ use Rattle.query.specs.Deck as Query
 use Rattle.job_line.specs.Kinds.{coordinates, inRange}
 use Rattle.job.specs.Format.{Result, refused, accepted}
 use Rattle.deck.specs.DeckOf.{deckOf, deckRecord, emptyDeck}
-use Rattle.problem.specs.declared.Problem.{Problem}
-use Rattle.problem.specs.Prepared.{Solvable, problemRecord}
+use Rattle.prepare.specs.declared.Problem.{Problem}
+use Rattle.prepare.specs.ProblemRecord.{Solvable, problemRecord}
 use Rattle.trial.specs.declared.opened.Opened.{Opened}
 
 abbrev pub noProblem : Problem

@@ -7,7 +7,7 @@ use limits::COLUMNS;
 use limits::LEAST_COORDINATE;
 use limits::LINES;
 use limits::MOST_COORDINATE;
-use problem::Problem;
+use prepare::Problem;
 ghost use mathlib.Core.Path.{_≡_};
 ghost use Rattle.query.specs.Grid.{grid};
 ghost use Rattle.job_line.specs.Kinds.{coordinates, inRange};
@@ -15,7 +15,7 @@ ghost use Rattle.job.specs.Format.{readJob};
 ghost use Rattle.deck.specs.DeckOf.{deckOf};
 ghost use Rattle.deck.specs.Rectangle.{rectOf};
 ghost use Rattle.deck.specs.ObjectColumns.{pricingIn};
-ghost use Rattle.pricing.specs.Columns.{Priceable, Ranged};
+ghost use Rattle.reach.specs.Columns.{Priceable, Ranged};
 ghost use Rattle.cuts.specs.CutRecord.{cutRecord};
 ghost use Rattle.problem.specs.ObjectProblem.{boundOf};
 ghost use Rattle.trial.specs.Opened.{Whole, openedRecord, placeInRange, rectAllowed};
@@ -35,7 +35,7 @@ pub fn open_job(bytes: &[u8]) -> Opened
     let deck = j.deck;
     match outcome {
         Outcome::Accepted(_) => {
-            let problem = problem::of_deck(deck);
+            let problem = prepare::of_deck(deck);
             Opened {
                 accepted: true,
                 deck,

@@ -25,9 +25,9 @@ use Rattle.job.proofs.RefusalLaws.{condition-line}
 use Rattle.report.specs.Report.{reportFigures}
 use Rattle.query.specs.Range.{PlaceInRange, FiguresInRange, costLimit}
 use Rattle.report.specs.declared.Report.{Report}
+use Rattle.prepare.proofs.Coordinates.{near-back}
 use Rattle.problem.specs.ObjectProblem.{pricedOf}
 use Rattle.problem.specs.declared.Spot.{Spot}
-use Rattle.problem.proofs.Coordinates.{near-back}
 use Rattle.calls.specs.declared.Answer.{Answer}
 use Rattle.calls.specs.declared.Answer.the-variants as Answered
 use Rattle.calls.specs.declared.Cheapest.{Cheapest}

@@ -12,8 +12,9 @@ use Rattle.numbers.specs.Integer.{times}
 use Rattle.numbers.proofs.WordTests.{back}
 use Rattle.deck.specs.ObjectColumns.{axisIn, pricingIn}
 use Rattle.deck.proofs.ScaleLaws.{cost-word, coordinate-word}
-use Rattle.pricing.proofs.NarrowLaws.{visits-cast, visits-wide, near-cast, near-wide, scaled-small}
-use Rattle.pricing.proofs.TurnLaws.{row}
+use Rattle.reach.proofs.NarrowLaws.{scaled-small}
+use Rattle.reach.proofs.RowLaws.{row}
+use Rattle.pricing.proofs.PricedWords.{visits-cast, visits-wide, near-cast, near-wide}
 use Rattle.lines.specs.LineRecord.{FirstAtLeast}
 use Rattle.exhaustive.specs.Ramps.{scaledLines, ObjectsAdded}
 use Rattle.exhaustive.proofs.ScaledLines.{scaled-in-range}

@@ -4,7 +4,7 @@ use mathlib.Core.Path.{ap, sym}
 use native.Mathlib.Omega.{arith}
 use lib.IntN.{natAbs}
 use Rattle.numbers.proofs.WordTests.{back-is}
-use Rattle.pricing.proofs.NarrowLaws.{cost-back}
+use Rattle.reach.proofs.NarrowLaws.{cost-back}
 use Rattle.exhaustive.proofs.CheapestOfLines.{zero-sums, sweepable, swept-line}
 use Rattle.exhaustive.proofs.costs_along.Statement.{statement}
 use Rattle.exhaustive.proofs.costs_along.Tie as tie

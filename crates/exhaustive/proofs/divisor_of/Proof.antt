@@ -10,7 +10,7 @@ use denote.Ref.{now}
 use borrow.Author.Needs.{needs}
 use Rattle.numbers.proofs.Words.{natural-cast}
 use Rattle.deck.specs.Ranges.{AxisCostInRange}
-use Rattle.pricing.proofs.NarrowLaws.{word, cost-back}
+use Rattle.reach.proofs.NarrowLaws.{word, cost-back}
 use Rattle.exhaustive.proofs.Division.{cost-some, cost-natural}
 use Rattle.exhaustive.proofs.divisor_of.Statement.{statement}
 use Rattle.exhaustive.proofs.divisor_of.Tie as tie

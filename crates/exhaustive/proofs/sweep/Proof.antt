@@ -10,7 +10,7 @@ use mir.Val.{toZ}
 use denote.Ref.{now}
 use Rattle.numbers.specs.Integer.{times}
 use Rattle.deck.proofs.ScaleLaws.{cost-word, coordinate-word}
-use Rattle.pricing.proofs.NarrowLaws.{word, cost-back, scaled-small}
+use Rattle.reach.proofs.NarrowLaws.{word, cost-back, scaled-small}
 use Rattle.exhaustive.specs.Ramps.{heightOf, scaledLines, Sweepable}
 use Rattle.exhaustive.proofs.SweepLaws.{Sweeping, sweep-none, sweep-all, sweep-more, ups-cap, up-starts-cap, downs-cap, down-starts-cap}
 use Rattle.exhaustive.proofs.SweepLaws.{payable}

@@ -6,9 +6,10 @@ use Prim.Native.Nat.{ℕ, _+_, _%_}
 use native.Mathlib.Omega.{arith}
 use lib.IntN.{ℤ, pos, natAbs}
 use lib.ListN.{getD}
-use Rattle.pricing.specs.Columns.{ObjectInRange}
-use Rattle.pricing.proofs.NarrowLaws.{near-word, near-cast, near-wide}
-use Rattle.pricing.proofs.RecordLaws.{made-priceable}
+use Rattle.reach.specs.Columns.{ObjectInRange}
+use Rattle.reach.proofs.NarrowLaws.{near-word}
+use Rattle.reach.proofs.RecordLaws.{made-priceable}
+use Rattle.pricing.proofs.PricedWords.{near-cast, near-wide}
 use borrow.Author.Needs.{needs}
 use Rattle.kernels.proofs.near_at.Statement.{statement}
 use Rattle.kernels.proofs.near_at.Tie as tie

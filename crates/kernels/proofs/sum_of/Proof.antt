@@ -2,8 +2,9 @@
 -- Assumes nothing.
 use native.Mathlib.Omega.{arith}
 use borrow.Author.Needs.{needs}
-use Rattle.pricing.specs.Columns.{Priceable}
-use Rattle.problem.proofs.DeckProblem.{prepared-priceable, prepared-lined, vertical-taken, horizontal-taken}
+use Rattle.reach.specs.Columns.{Priceable}
+use Rattle.prepare.proofs.RecordParts.{vertical-taken, horizontal-taken}
+use Rattle.problem.proofs.DeckProblem.{prepared-priceable, prepared-lined}
 use Rattle.trial.proofs.OpenLaws.{prepared}
 use Rattle.kernels.proofs.SumLaws.{cost-sum, load-sum, bound-sum, cut-sum, near-sum}
 use Rattle.kernels.proofs.sum_of.Statement.{statement}

@@ -3,10 +3,11 @@
 use mathlib.Core.Path.{_∙_}
 use Prim.Native.Nat.{_-_}
 use native.Mathlib.Omega.{arith}
+use Rattle.reach.proofs.RowLaws.{row}
 use Rattle.pricing.proofs.ObjectLaws.{paidNow, beforeOf-sum}
 use Rattle.pricing.proofs.ColumnLaws.{Passed, passed-none, passed-more, passed-all}
-use Rattle.pricing.proofs.NarrowLaws.{visits-cast, visits-wide, near-cast, near-wide}
-use Rattle.pricing.proofs.TurnLaws.{row, paidNow-most, paidNow-word}
+use Rattle.pricing.proofs.PricedWords.{visits-cast, visits-wide, near-cast, near-wide}
+use Rattle.pricing.proofs.TurnLaws.{paidNow-most, paidNow-word}
 use Rattle.pricing.proofs.before.Statement.{statement}
 use Rattle.pricing.proofs.before.Tie as tie
 

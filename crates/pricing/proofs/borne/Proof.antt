@@ -1,8 +1,9 @@
 -- `pricing::borne` meets its contract.
 -- Assumes nothing.
 use borrow.Author.Needs.{needs}
-use Rattle.pricing.proofs.NarrowLaws.{visits-word, visits-cast}
-use Rattle.pricing.proofs.ExcessLaws.{reach-word}
+use Rattle.reach.proofs.NarrowLaws.{visits-word}
+use Rattle.reach.proofs.ExcessLaws.{reach-word}
+use Rattle.pricing.proofs.PricedWords.{visits-cast}
 use Rattle.pricing.proofs.borne.Statement.{statement}
 use Rattle.pricing.proofs.borne.Tie as tie
 

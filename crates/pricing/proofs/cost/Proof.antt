@@ -7,10 +7,12 @@ use mir.Syntax.{w32}
 use mir.Val.{toZ}
 use Rattle.deck.specs.ObjectColumns.{pricingIn}
 use Rattle.deck.proofs.ScaleLaws.{cost-word, coordinate-word}
+use Rattle.reach.proofs.NarrowLaws.{row-word}
+use Rattle.reach.proofs.RowLaws.{row}
 use Rattle.pricing.proofs.ObjectLaws.{paidBy, costOf-sum}
 use Rattle.pricing.proofs.ColumnLaws.{Passed, passed-none, passed-all}
-use Rattle.pricing.proofs.NarrowLaws.{place-words, place-near, row-word}
-use Rattle.pricing.proofs.TurnLaws.{row, cost-more}
+use Rattle.pricing.proofs.PricedWords.{place-words, place-near}
+use Rattle.pricing.proofs.TurnLaws.{cost-more}
 use Rattle.pricing.proofs.cost.Statement.{statement}
 use Rattle.pricing.proofs.cost.Tie as tie
 

@@ -4,10 +4,11 @@ use mathlib.Core.Path.{sym, _∙_}
 use Prim.Native.Nat.{_-_}
 use native.Mathlib.Omega.{arith}
 use Rattle.deck.specs.ObjectColumns.{pricingIn}
+use Rattle.reach.proofs.NarrowLaws.{edges-are, edges-words, row-word}
+use Rattle.reach.proofs.RowLaws.{rectWords, row}
 use Rattle.pricing.proofs.ObjectLaws.{borneBy, loadOf-sum}
 use Rattle.pricing.proofs.ColumnLaws.{Passed, passed-none, passed-all}
-use Rattle.pricing.proofs.NarrowLaws.{edges-are, edges-words, row-word}
-use Rattle.pricing.proofs.TurnLaws.{rectWords, row, load-more}
+use Rattle.pricing.proofs.TurnLaws.{load-more}
 use Rattle.pricing.proofs.load.Statement.{statement}
 use Rattle.pricing.proofs.load.Tie as tie
 

@@ -12,7 +12,8 @@ use mir.Val.{toZ, ofZ}
 use mir.ValLaws.{toZ-pos}
 use Rattle.deck.proofs.WordLaws.{smaller-first, smaller-second}
 use Rattle.deck.proofs.TravelLaws.{far, far-small, far-word}
-use Rattle.pricing.proofs.NarrowLaws.{natural-word, visits-word, visits-cast, visits-wide}
+use Rattle.reach.proofs.NarrowLaws.{natural-word, visits-word}
+use Rattle.pricing.proofs.PricedWords.{visits-cast, visits-wide}
 use Rattle.pricing.proofs.paid.Statement.{statement}
 use Rattle.pricing.proofs.paid.Tie as tie
 

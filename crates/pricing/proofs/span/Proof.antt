@@ -2,7 +2,7 @@
 -- Assumes nothing.
 use native.Mathlib.Omega.{arith}
 use borrow.Author.Needs.{needs}
-use Rattle.pricing.proofs.NarrowLaws.{width-fits, width-cast, height-fits, height-cast, span-is}
+use Rattle.pricing.proofs.PricedWords.{width-fits, width-cast, height-fits, height-cast, span-is}
 use Rattle.pricing.proofs.span.Statement.{statement}
 use Rattle.pricing.proofs.span.Tie as tie
 

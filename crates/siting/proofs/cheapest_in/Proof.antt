@@ -3,7 +3,8 @@
 use mathlib.Core.Path.{ap, _∙_}
 use borrow.Author.Needs.{needs}
 use Rattle.query.specs.Exhaustive as Query
-use Rattle.problem.proofs.DeckProblem.{prepared-problem, solvable-prepared, vertical-taken, horizontal-taken}
+use Rattle.prepare.proofs.RecordParts.{vertical-taken, horizontal-taken}
+use Rattle.problem.proofs.DeckProblem.{prepared-problem, solvable-prepared}
 use Rattle.siting.proofs.cheapest_in.Statement.{statement}
 use Rattle.siting.proofs.cheapest_in.Tie as tie
 

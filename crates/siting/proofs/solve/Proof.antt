@@ -1,6 +1,7 @@
 -- `siting::solve` meets its contract: the figures are those of the search and of the objects.
 -- Assumes nothing.
-use Rattle.problem.proofs.DeckProblem.{prepared-priceable, solvable-prepared, vertical-taken, horizontal-taken}
+use Rattle.prepare.proofs.RecordParts.{vertical-taken, horizontal-taken}
+use Rattle.problem.proofs.DeckProblem.{prepared-priceable, solvable-prepared}
 use Rattle.siting.proofs.SolveLaws.{solved}
 use borrow.Author.Needs.{needs}
 use Rattle.siting.proofs.solve.Statement.{statement}

@@ -8,7 +8,7 @@ use Rattle.query.specs.Cut.{cutBefore, cutAfter}
 use Rattle.deck.specs.Objects.{Pricing}
 use Rattle.deck.specs.ObjectColumns.{pricingIn}
 use Rattle.deck.specs.Rectangle.{rectOf}
-use Rattle.pricing.specs.Columns.{Ranged}
+use Rattle.reach.specs.Columns.{Ranged}
 use Rattle.cuts.specs.declared.Cut.{Cut}
 use Rattle.search.specs.Corners.{cornerCosts, cellFor}
 use Rattle.cuts.specs.CutRecord.{axisOf}

@@ -4,7 +4,7 @@ use mathlib.Core.Path.{_∙_}
 use borrow.Author.Needs.{needs}
 use mir.Syntax.{w64}
 use mir.ValLaws.{toZ-ofZ}
-use Rattle.problem.proofs.Coordinates.{near-back}
+use Rattle.prepare.proofs.Coordinates.{near-back}
 use Rattle.problem.proofs.DeckProblem.{boundOf-is}
 use Rattle.trial.proofs.opened.bound_in.Statement.{statement}
 use Rattle.trial.proofs.opened.bound_in.Tie as tie

@@ -4,7 +4,8 @@ use mathlib.Core.Path.{ap, _∙_}
 use Rattle.query.specs.Grid.{Grid}
 use Rattle.deck.specs.Rectangle.{rectOf}
 use Rattle.cuts.specs.CutRecord.{cutRecord}
-use Rattle.problem.proofs.DeckProblem.{prepared-lined, prepared-grid, vertical-taken, horizontal-taken}
+use Rattle.prepare.proofs.RecordParts.{vertical-taken, horizontal-taken}
+use Rattle.problem.proofs.DeckProblem.{prepared-lined, prepared-grid}
 use Rattle.trial.proofs.OpenLaws.{prepared}
 use Rattle.trial.proofs.opened.cut_of.Statement.{statement}
 use Rattle.trial.proofs.opened.cut_of.Tie as tie

@@ -16,10 +16,10 @@ use Rattle.numbers.proofs.Truth.{test, holds, fails, cond-ind}
 use Rattle.numbers.proofs.Integer.{order, dist-nat}
 use Rattle.numbers.proofs.Distance.{dist-sym, dist-most}
 use Rattle.numbers.proofs.Words.{word-fits, gap-above}
-use Rattle.pricing.specs.Columns.{EdgesInRange, excessOf}
+use Rattle.reach.specs.Columns.{EdgesInRange, excessOf}
 use Rattle.deck.specs.Ranges.{Near180000}
 use Rattle.deck.proofs.WordLaws.{sum-is, coordinate}
-use Rattle.pricing.proofs.NarrowLaws.{word}
+use Rattle.reach.proofs.NarrowLaws.{word}
 
 excess-yes : (a b : ℤ) → ltZ b a ≡ true → excessOf a b ≡ dist b a
 unfolding excessOf

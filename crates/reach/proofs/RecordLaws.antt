@@ -16,8 +16,8 @@ use Rattle.query.proofs.Ranges.{figure-limits}
 use Rattle.deck.specs.Objects.{Object, objectsOf, Pricing, pricingOf}
 use Rattle.deck.specs.ObjectColumns.{column, columnsOf, objectsIn, pricingIn}
 use Rattle.deck.proofs.ColumnLaws.{pricing-length, x-cost-at, y-cost-at, columns-objects, columns-axis, x-row, y-row, visits-row, near-row}
-use Rattle.pricing.specs.Columns.{ObjectInRange, Priceable}
-use Rattle.pricing.proofs.ObjectLaws.{objectOf, objectsOf-map}
+use Rattle.reach.specs.Columns.{ObjectInRange, Priceable}
+use Rattle.reach.proofs.ReachLaws.{objectOf, objectsOf-map}
 
 -- what holds of 0 and of each object's number holds all down a column
 column-each : (P : ℤ → Type 0) → P (pos 0) → (objects : List Object) (number : Object → ℤ)

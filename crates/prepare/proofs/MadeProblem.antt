@@ -14,17 +14,17 @@ use Rattle.deck.specs.Rectangle.{rectRecord}
 use Rattle.deck.specs.Objects.{pricingOf}
 use Rattle.deck.specs.ObjectColumns.{columnsOf, pricingIn}
 use Rattle.deck.proofs.DeckLaws.{DeckColumns, objects-length, stops-x, stops-y}
-use Rattle.pricing.specs.ObjectFigures.{flagsOf}
-use Rattle.pricing.specs.Columns.{Priceable, Ranged}
-use Rattle.pricing.proofs.ObjectLaws.{objectOf, objectsOf-map, flags-law}
-use Rattle.pricing.proofs.RecordLaws.{made-priceable, made-pricing}
+use Rattle.reach.specs.ObjectReach.{flagsOf}
+use Rattle.reach.specs.Columns.{Priceable, Ranged}
+use Rattle.reach.proofs.ReachLaws.{objectOf, objectsOf-map, flags-law}
+use Rattle.reach.proofs.RecordLaws.{made-priceable, made-pricing}
 use Rattle.lines.specs.LineRecord.{marked, linesBetween, linesRecord}
 use Rattle.lines.specs.declared.Lines.{Lines}
 use Rattle.lines.proofs.DeckLines.{coordinates, reached, lines-marked, padded-reached}
 use Rattle.numbers.proofs.WordTests.{back}
-use Rattle.problem.specs.declared.Problem.{Problem}
-use Rattle.problem.specs.Prepared.{Solvable, problemRecord}
-use Rattle.problem.proofs.Coordinates.{near-back, rect-back}
+use Rattle.prepare.specs.declared.Problem.{Problem}
+use Rattle.prepare.specs.ProblemRecord.{Solvable, problemRecord}
+use Rattle.prepare.proofs.Coordinates.{near-back, rect-back}
 
 module _ (deck : Deck) (held : DeckColumns deck) (h : Solvable deck) where
   stops-count : length (deckOf deck .stops) ≡ deck .stops

@@ -1,4 +1,4 @@
--- `problem::of_deck` meets its contract: the columns are those of the deck's objects, and give the flags and the lines.
+-- `prepare::of_deck` meets its contract: the columns are those of the deck's objects, and give the flags and the lines.
 -- Assumes nothing.
 use mathlib.Core.Path.{_≡_, ap, _∙_}
 use borrow.Author.Needs.{needs}
@@ -6,10 +6,10 @@ use native.Mathlib.Omega.{arith}
 use lib.ListN.{length}
 use Rattle.deck.proofs.DeckLaws.{DeckColumns}
 use Rattle.query.specs.Place.{x-axis, y-axis}
-use Rattle.pricing.specs.ObjectFigures.{flagsOf}
-use Rattle.problem.proofs.MadeProblem.{columns-priceable, lines-found, x-coordinates, y-coordinates, edges, area-back, area-ranged, made-problem}
-use Rattle.problem.proofs.of_deck.Statement.{statement}
-use Rattle.problem.proofs.of_deck.Tie as tie
+use Rattle.reach.specs.ObjectReach.{flagsOf}
+use Rattle.prepare.proofs.MadeProblem.{columns-priceable, lines-found, x-coordinates, y-coordinates, edges, area-back, area-ranged, made-problem}
+use Rattle.prepare.proofs.of_deck.Statement.{statement}
+use Rattle.prepare.proofs.of_deck.Tie as tie
 
 held : (c : tie.Start) → DeckColumns (c .args .t1)
 held c = record {

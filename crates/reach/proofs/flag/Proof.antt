@@ -1,9 +1,9 @@
--- `pricing::flag` meets its contract.
+-- `reach::flag` meets its contract.
 -- Assumes nothing.
 use borrow.Author.Needs.{needs}
-use Rattle.pricing.proofs.ExcessLaws.{reach-word}
-use Rattle.pricing.proofs.flag.Statement.{statement}
-use Rattle.pricing.proofs.flag.Tie as tie
+use Rattle.reach.proofs.ExcessLaws.{reach-word}
+use Rattle.reach.proofs.flag.Statement.{statement}
+use Rattle.reach.proofs.flag.Tie as tie
 
 reached-requires : tie.Need-reached-requires
 reached-requires c κs = search needs

@@ -1,4 +1,4 @@
--- The range of the columns of objects, and of what is priced.
+-- The range of the columns of objects, of what is priced, and of the scaled edges of a rectangle.
 -- Assumes nothing.
 use Prim.Native.Nat.{ℕ, _+_, _≤_, _<_}
 use mathlib.Core.Bool.{cond}
@@ -9,11 +9,11 @@ use lib.Signed.{ltZ, _≤ℤ_}
 use lib.ListN.{length, getD}
 use Rattle.numbers.specs.Integer.{dist}
 use Rattle.query.specs.Place.{Rect, NonEmpty}
-use Rattle.query.specs.Range.{RectInRange, travelLimit, loadLimit, costLimit, stopsLimit, visitsLimit}
+use Rattle.query.specs.Range.{RectInRange, travelLimit, stopsLimit, visitsLimit}
 use Rattle.query.specs.Deck.{AxisCosts}
 use Rattle.deck.specs.Ranges.{Near180000, AxisCostInRange}
 use Rattle.deck.specs.Objects.{scaledRect}
-use Rattle.pricing.specs.declared.Edges.{Edges}
+use Rattle.reach.specs.declared.Edges.{Edges}
 
 -- one row of the columns
 pub record ObjectInRange (x y visits near : ℤ) : Type 0 where
@@ -60,17 +60,3 @@ pub record EdgesOf (axis : AxisCosts) (r : Rect) (e : Edges) : Type 0 where
 unfoldable pub excessOf : ℤ → ℤ → ℕ
 unfolding dist
 excessOf a b = cond (ltZ b a) (dist a b) 0
-
--- the costs of four corners, a span and a load
-pub record BoundInRange (c00 c01 c10 c11 span load : ℕ) : Type 0 where
-  pub corner-00 : c00 ≤ costLimit
-  pub corner-01 : c01 ≤ costLimit
-  pub corner-10 : c10 ≤ costLimit
-  pub corner-11 : c11 ≤ costLimit
-  pub span-limit : span ≤ travelLimit
-  pub load-limit : load ≤ loadLimit
-
--- a result r that is a figure, which stays within a limit
-pub record Figure (figure limit r : ℕ) : Type 0 where
-  pub is : r ≡ figure
-  pub within : r ≤ limit

@@ -1,9 +1,9 @@
--- `pricing::edges_of` meets its contract: each edge is multiplied by its cost.
+-- `reach::edges_of` meets its contract: each edge is multiplied by its cost.
 -- Assumes nothing.
 use borrow.Author.Needs.{needs}
-use Rattle.pricing.proofs.NarrowLaws.{made-edges}
-use Rattle.pricing.proofs.edges_of.Statement.{statement}
-use Rattle.pricing.proofs.edges_of.Tie as tie
+use Rattle.reach.proofs.NarrowLaws.{made-edges}
+use Rattle.reach.proofs.edges_of.Statement.{statement}
+use Rattle.reach.proofs.edges_of.Tie as tie
 
 element-copy-out-a : tie.Need-element-copy-out-a
 element-copy-out-a c = search needs

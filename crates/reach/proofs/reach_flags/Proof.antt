@@ -1,14 +1,14 @@
--- `pricing::reach_flags` meets its contract: after i turns the flags of the first i rows are set.
+-- `reach::reach_flags` meets its contract: after i turns the flags of the first i rows are set.
 -- Assumes nothing.
 use mathlib.Core.Path.{sym, _∙_}
 use Prim.Native.Nat.{_-_}
 use native.Mathlib.Omega.{arith}
 use Rattle.deck.specs.ObjectColumns.{pricingIn}
-use Rattle.pricing.proofs.NarrowLaws.{edges-are, edges-words, row-word}
-use Rattle.pricing.proofs.ObjectLaws.{flagsOf-map}
-use Rattle.pricing.proofs.TurnLaws.{rectWords, row, Flagged, flagged-none, flagged-more, flagged-all}
-use Rattle.pricing.proofs.reach_flags.Statement.{statement}
-use Rattle.pricing.proofs.reach_flags.Tie as tie
+use Rattle.reach.proofs.NarrowLaws.{edges-are, edges-words, row-word}
+use Rattle.reach.proofs.ReachLaws.{flagsOf-map}
+use Rattle.reach.proofs.RowLaws.{rectWords, row, Flagged, flagged-none, flagged-more, flagged-all}
+use Rattle.reach.proofs.reach_flags.Statement.{statement}
+use Rattle.reach.proofs.reach_flags.Tie as tie
 
 abbrev Inv-loop : tie.InvT-loop
 Inv-loop columns n xlo ylo xhi yhi flags₀ i₀ flags i = Flagged columns n (rectWords xlo ylo xhi yhi) flags i

@@ -1,4 +1,4 @@
--- `pricing::reached` meets its contract.
+-- `reach::reached` meets its contract.
 -- Assumes nothing.
 use mathlib.Core.Path.{_∙_}
 use native.Mathlib.Omega.{arith}
@@ -7,10 +7,10 @@ use mir.Syntax.{w32}
 use mir.Val.{ofZ}
 use Rattle.numbers.proofs.Words.{natural-fits}
 use Rattle.deck.proofs.WordLaws.{test-is}
-use Rattle.pricing.proofs.NarrowLaws.{natural-word, natural-small}
-use Rattle.pricing.proofs.ExcessLaws.{away-small, away-sum}
-use Rattle.pricing.proofs.reached.Statement.{statement}
-use Rattle.pricing.proofs.reached.Tie as tie
+use Rattle.reach.proofs.NarrowLaws.{natural-word, natural-small}
+use Rattle.reach.proofs.ExcessLaws.{away-small, away-sum}
+use Rattle.reach.proofs.reached.Statement.{statement}
+use Rattle.reach.proofs.reached.Tie as tie
 
 outside-requires : tie.Need-outside-requires
 outside-requires c κs = search needs

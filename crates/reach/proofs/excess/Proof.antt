@@ -1,13 +1,13 @@
--- `pricing::excess` meets its contract.
+-- `reach::excess` meets its contract.
 -- Assumes nothing.
 use Prim.Native.Nat.{_^_, _<_}
 use native.Mathlib.Omega.{arith}
 use mir.Syntax.{w32}
 use Rattle.numbers.proofs.Words.{natural-fits, result-is}
-use Rattle.pricing.specs.Columns.{excessOf}
-use Rattle.pricing.proofs.ExcessLaws.{excess-most, excess-above, excess-none}
-use Rattle.pricing.proofs.excess.Statement.{statement}
-use Rattle.pricing.proofs.excess.Tie as tie
+use Rattle.reach.specs.Columns.{excessOf}
+use Rattle.reach.proofs.ExcessLaws.{excess-most, excess-above, excess-none}
+use Rattle.reach.proofs.excess.Statement.{statement}
+use Rattle.reach.proofs.excess.Tie as tie
 
 small : (c : tie.Start) → excessOf (c .args .a) (c .args .b) < 2 ^ 31
 small c = omega (arith, excess-most (c .args .a) (c .args .b) (c .pre .x-range) (c .pre .y-range))

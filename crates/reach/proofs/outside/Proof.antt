@@ -1,4 +1,4 @@
--- `pricing::outside` meets its contract: of the two parts at most one is not 0.
+-- `reach::outside` meets its contract: of the two parts at most one is not 0.
 -- Assumes nothing.
 use Prim.Native.Nat.{_^_, _<_}
 use native.Mathlib.Omega.{arith}
@@ -6,9 +6,9 @@ use borrow.Author.Needs.{needs}
 use mir.Syntax.{w32}
 use Rattle.numbers.specs.Integer.{dist, clamp}
 use Rattle.numbers.proofs.Words.{natural-fits, result-is}
-use Rattle.pricing.proofs.ExcessLaws.{outside-most, outside-sum}
-use Rattle.pricing.proofs.outside.Statement.{statement}
-use Rattle.pricing.proofs.outside.Tie as tie
+use Rattle.reach.proofs.ExcessLaws.{outside-most, outside-sum}
+use Rattle.reach.proofs.outside.Statement.{statement}
+use Rattle.reach.proofs.outside.Tie as tie
 
 excess-requires : tie.Need-excess-requires
 excess-requires c κs = search needs
