@@ -1,1 +1,3 @@
 pub mod LineCounts
+pub mod ReadJob
+pub mod EstimateLaws

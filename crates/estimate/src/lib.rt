@@ -1,7 +1,16 @@
-// What a job needs, from the lines of its deck and its rounds. No place is priced for it: this crate may use none that does.
+// What a job needs, from the lines of its deck and its rounds. No place is priced for it: crates.txt lets this crate use none that prices.
 use calls::Estimate;
+use calls::Estimated;
+use deck::Deck;
+use job::Outcome;
 ghost use mathlib.Core.Path.{_≡_};
-ghost use Rattle.calls.specs.Answers.{estimateNumbers};
+ghost use Prim.Native.Nat.{_≤_};
+ghost use Rattle.query.specs.Estimate as Query;
+ghost use Rattle.query.specs.Range.{roundsLimit};
+ghost use Rattle.deck.specs.DeckOf.{deckOf};
+ghost use Rattle.prepare.specs.ProblemRecord.{Solvable};
+ghost use Rattle.calls.specs.Answers.{estimateNumbers, estimatedAnswer};
+ghost use Rattle.calls.specs.EstimateCall.{estimateCall};
 ghost use Rattle.estimate.specs.LineCounts.{LineCounts, estimateBy};
 
 // The estimate by the number of vertical lines, that of horizontal ones, and the rounds.
@@ -19,5 +28,27 @@ pub fn of_lines(nv: usize, nh: usize, rounds: u64) -> Estimate
         deep,
         limit: product - 1,
         cells,
+    }
+}
+
+// The estimate of a deck and rounds.
+fn of_deck(deck: Deck, rounds: u64) -> Estimate
+    requires { ⌜ Solvable deck × (rounds ≤ roundsLimit) ⌝ }
+    ensures { λ r. ⌜ estimateNumbers r ≡ Query.estimate (deckOf deck) rounds ⌝ }
+{
+    let p = prepare::of_deck(deck);
+    of_lines(p.nv, p.nh, rounds)
+}
+
+// The estimate of a job, or the refusal of the job.
+pub fn of_job(job: &[u8]) -> Estimated
+    ensures { λ r. ⌜ estimatedAnswer r ≡ estimateCall (now (job .entry)) ⌝ }
+{
+    let j = job::read(job);
+    let outcome = j.outcome;
+    let deck = j.deck;
+    match outcome {
+        Outcome::Accepted(rounds) => Estimated::Needs(of_deck(deck, rounds)),
+        Outcome::Refused(why) => Estimated::Refused(why),
     }
 }

@@ -1,0 +1,26 @@
+-- An accepted job, as it was read: its deck can be prepared, and its rounds are those that the bytes spell.
+-- Assumes nothing.
+use Prim.Native.Nat.{ℕ, _≤_}
+use mathlib.Core.Path.{_≡_}
+use mathlib.Core.List.{List}
+use native.Mathlib.Omega.{arith}
+use Rattle.job.specs.Format.{readJob}
+use Rattle.job.specs.JobRecord.{jobRecord}
+use Rattle.job.specs.declared.Job as Held
+use Rattle.job.specs.declared.Outcome.the-variants.{Accepted}
+use Rattle.job.proofs.JobLaws.{most-rounds}
+use Rattle.job.proofs.ReadDeck.{Spelt, read-accepted, read-rounds, read-full, objects-ask}
+use Rattle.prepare.specs.ProblemRecord.{Solvable}
+
+module _ (job : List ℕ) (j : Held.Job) (e : j ≡ jobRecord (readJob job)) (rounds : ℕ) (o : j .outcome ≡ Accepted rounds) where
+  pub spelt : Spelt job
+  spelt = read-accepted job j e rounds o
+
+  pub rounds-same : rounds ≡ spelt .job .rounds
+  rounds-same = read-rounds job j e rounds o spelt
+
+  pub rounds-limit : rounds ≤ 1000
+  rounds-limit = omega (arith, rounds-same, most-rounds (spelt .allowed .writable))
+
+  pub solvable : Solvable (j .deck)
+  solvable = let (range, posts, stops) = objects-ask spelt j e in record { range = range; full = read-full spelt j e; posts = posts; stops = stops }
