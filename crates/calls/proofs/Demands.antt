@@ -34,16 +34,18 @@ use Rattle.calls.specs.Demands.{Accepted, Applies, in-reading, small-spa
 use Rattle.calls.proofs.AnswerLaws.{same-number, same-line, same-refusal, same-given, not-refused}
 
 -- the figures of an allowed job are in range, so that its report fits 128 bytes
+pub more-rounds : {n : ℕ} {f : Figures} → FiguresInRange n f → n ≤ 1000 → FiguresInRange 1000 f
+more-rounds range h = record {
+  place = range .place;
+  high-limit = range .high-limit;
+  low-limit = range .low-limit;
+  before-limit = range .before-limit;
+  rounds-limit = omega (arith, range .rounds-limit);
+}
+
 pub job-limits : (job : Job) → Allowed job → FiguresInRange 1000 (jobFigures job)
 job-limits job a =
-    let range = run-in-range (job .deck) (allowed-in-range job a) (a .area-full) (job .rounds) .figures-range in
-    record {
-      place = range .place;
-      high-limit = range .high-limit;
-      low-limit = range .low-limit;
-      before-limit = range .before-limit;
-      rounds-limit = omega (arith, range .rounds-limit, most-rounds (a .writable));
-    }
+    more-rounds (run-in-range (job .deck) (allowed-in-range job a) (a .area-full) (job .rounds) .figures-range) (most-rounds (a .writable))
 
 text-fits : (job : Job) → Allowed job → length (reportText (jobFigures job)) ≤ 128
 text-fits job a = report-fits .report-fits (jobFigures job) (job-limits job a)
@@ -73,26 +75,42 @@ spells-more : (carried : Bool) (j : Job) → Spells missingAxis (spell carried j
 spells-more true j h = with-line refl
 spells-more false j h = without-line refl (spelling-law j .left-out missingAxis .0 h)
 
+-- ---- how an accepted job is answered
+module _ (j : Job) (cells : List ℤ) (out : List ℕ) where
+  pub small-answer : length cells < spaceNeeded (j .deck) (j .rounds) → answered (accepted j) cells out ≡ turnedDown SmallSpace cells out
+  unfolding answered
+  small-answer h = cond-true (ltb (length cells) (spaceNeeded (j .deck) (j .rounds))) _ _ (lt→ltb _ _ h)
+
+  module _ (h : spaceNeeded (j .deck) (j .rounds) ≤ length cells) where
+    pub short-answer : length out < 128 → answered (accepted j) cells out ≡ turnedDown ShortOutput cells out
+    unfolding answered
+    short-answer k = cond-false (ltb (length cells) (spaceNeeded (j .deck) (j .rounds))) _ _ (le→nltb _ _ h)
+        ∙ cond-true (ltb (length out) 128) _ _ (lt→ltb _ _ k)
+
+    pub report-answer : 128 ≤ length out → answered (accepted j) cells out ≡ reported j cells out
+    unfolding answered
+    report-answer k = cond-false (ltb (length cells) (spaceNeeded (j .deck) (j .rounds))) _ _ (le→nltb _ _ h)
+        ∙ cond-false (ltb (length out) 128) _ _ (le→nltb _ _ k)
+
 module _ (job : List ℕ) (cells : List ℤ) (out : List ℕ) where
   -- ---- how the call ends
+  pub call-of : (r : Result) → readJob job ≡ r → reportCall job cells out ≡ answered r cells out
+  unfolding reportCall
+  call-of r e = ap (λ (r : Result). answered r cells out) e
+
   pub refused-call : (why : Refusal) → readJob job ≡ refused why → reportCall job cells out ≡ turnedDown why cells out
-  unfolding reportCall answered
-  refused-call why e = ap (λ (r : Result). answered r cells out) e
+  unfolding answered
+  refused-call why e = call-of (refused why) e
 
-  pub space-call : (j : Job) → readJob job ≡ accepted j → length cells < spaceNeeded (j .deck) (j .rounds) → reportCall job cells out ≡ turnedDown SmallSpace cells out
-  unfolding reportCall answered
-  space-call j e h = ap (λ (r : Result). answered r cells out) e ∙ cond-true (ltb (length cells) (spaceNeeded (j .deck) (j .rounds))) _ _ (lt→ltb _ _ h)
+  space-call : (j : Job) → readJob job ≡ accepted j → length cells < spaceNeeded (j .deck) (j .rounds) → reportCall job cells out ≡ turnedDown SmallSpace cells out
+  space-call j e h = call-of (accepted j) e ∙ small-answer j cells out h
 
-  pub output-call : (j : Job) → readJob job ≡ accepted j → spaceNeeded (j .deck) (j .rounds) ≤ length cells → length out < 128 →
+  output-call : (j : Job) → readJob job ≡ accepted j → spaceNeeded (j .deck) (j .rounds) ≤ length cells → length out < 128 →
       reportCall job cells out ≡ turnedDown ShortOutput cells out
-  unfolding reportCall answered
-  output-call j e h k = ap (λ (r : Result). answered r cells out) e ∙ cond-false (ltb (length cells) (spaceNeeded (j .deck) (j .rounds))) _ _ (le→nltb _ _ h)
-      ∙ cond-true (ltb (length out) 128) _ _ (lt→ltb _ _ k)
+  output-call j e h k = call-of (accepted j) e ∙ short-answer j cells out h k
 
-  pub call-accepted : (j : Job) → Accepted job cells out j → reportCall job cells out ≡ reported j cells out
-  unfolding reportCall answered
-  call-accepted j a = ap (λ (r : Result). answered r cells out) (a .read) ∙ cond-false (ltb (length cells) (spaceNeeded (j .deck) (j .rounds))) _ _ (le→nltb _ _ (a .space))
-      ∙ cond-false (ltb (length out) 128) _ _ (le→nltb _ _ (a .output))
+  call-accepted : (j : Job) → Accepted job cells out j → reportCall job cells out ≡ reported j cells out
+  call-accepted j a = call-of (accepted j) (a .read) ∙ report-answer j cells out (a .space) (a .output)
 
   -- in one of these ways: a refusal applies, or the job is accepted
   pub data Ends : Type 0 where

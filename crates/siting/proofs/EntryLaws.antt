@@ -25,7 +25,7 @@ use Rattle.calls.specs.declared.Answer.{Answer}
 use Rattle.calls.specs.declared.Answer.the-variants as Answered
 use Rattle.siting.specs.declared.Response.{Response}
 use Rattle.calls.specs.Answers.{reportAnswer}
-use Rattle.calls.specs.Call.{Left, ownSpace}
+use Rattle.calls.specs.Call.{Left, reportCall, ownSpace}
 use Rattle.calls.specs.Entry.{resultOf, returned, entry}
 use Rattle.calls.specs.Program.{textOf, answerText, textRecord}
 use Rattle.siting.specs.Response.{textWritten, Responded}
@@ -44,7 +44,7 @@ minus-number why =
     toZ-ofZ w64 (toZ w64 0 -ℤ toZ w64 n) (minus-fits why n refl) ∙ difference 0 n (omega arith) (omega (arith, number-most why)) ∙ zero-minus n
 
 -- ---- the C entry
-module _ (job out : List ℕ) (cells : List ℤ) (out′ : List ℕ) (r : Response) (s : Responded job ownSpace out cells out′ r) where
+module _ (job out : List ℕ) (cells : List ℤ) (out′ : List ℕ) (r : Response) (s : Responded (reportCall job ownSpace out) out cells out′ r) where
   entry-is : record { result = resultOf (reportAnswer (r .answer)); out = out′ } ≡ entry job out
   unfolding entry
   entry-is = ap returned (s .left)
@@ -75,7 +75,7 @@ held : {out : List ℕ} {n : ℕ} (text : List ℕ) → Overwrote (replicate 128
 unfolding textRecord
 held text f h = rw (f .number, f .content) (ap (λ (l : List ℕ). record { length = length text; bytes = l }) (padded-is text h))
 
-module _ (job : List ℕ) (cells : List ℤ) (out : List ℕ) (r : Response) (s : Responded job ownSpace (replicate 128 0) cells out r) where
+module _ (job : List ℕ) (cells : List ℤ) (out : List ℕ) (r : Response) (s : Responded (reportCall job ownSpace (replicate 128 0)) (replicate 128 0) cells out r) where
   text-is : answerText job ≡ textOf (reportAnswer (r .answer))
   unfolding answerText
   text-is = ap (λ (l : Left). textOf (l .answer)) (sym (s .left))

@@ -1,13 +1,16 @@
 // The public calls of the siting tool; crate `calls` defines what they answer.
 use calls::Answer;
 use calls::Cheapest;
+use calls::Estimated;
 use calls::Text;
 use calls::Written;
 use deck::Deck;
+use deck::Rect;
 use job::Job;
 use job::Outcome;
 use job_check::Checked;
 use limits::CELL_NUMBERS;
+use limits::COLUMNS;
 use limits::REPORT_BYTES;
 use limits::SPACE;
 use problem::Spot;
@@ -18,18 +21,24 @@ use search::run;
 ghost use Prim.Native.Nat.{_≤_};
 ghost use mathlib.Core.Path.{_≡_};
 ghost use lib.ListN.{length};
-ghost use Rattle.calls.specs.Answers.{reportAnswer, cheapestAnswer, readAnswer, writtenAnswer};
-ghost use Rattle.calls.specs.Call.{reportCall};
+ghost use Rattle.calls.specs.Answers.{reportAnswer, cheapestAnswer, estimatedAnswer, readAnswer, writtenAnswer};
+ghost use Rattle.calls.specs.Call.{answered, reportCall};
 ghost use Rattle.calls.specs.Entry.{entry};
 ghost use Rattle.calls.specs.Program.{answerText, textRecord};
 ghost use Rattle.calls.specs.CheapestCall.{exhaustiveCall};
+ghost use Rattle.calls.specs.EstimateCall.{estimateCall};
 ghost use Rattle.calls.specs.ReadCall.{readCall};
 ghost use Rattle.calls.specs.WriteCall.{writeCall};
+ghost use Rattle.job.specs.Format.{accepted};
 ghost use Rattle.query.specs.Problem.{problem};
 ghost use Rattle.query.specs.Exhaustive as Query;
 ghost use Rattle.deck.specs.DeckOf.{deckOf};
 ghost use Rattle.prepare.specs.ProblemRecord.{Solvable};
+ghost use Rattle.query.specs.Range.{roundsLimit};
+ghost use Rattle.deck.specs.ObjectColumns.{pricingIn};
+ghost use Rattle.pricing.specs.ObjectFigures.{beforeOf};
 ghost use Rattle.problem.specs.ObjectProblem.{pricedOf};
+ghost use Rattle.problem.specs.Prepared.{problemOf, Prepared};
 ghost use Rattle.search.specs.Answer.{Room};
 ghost use Rattle.siting.specs.Response.{stateFor, Solved, refusedResponse, Responded};
 
@@ -45,19 +54,24 @@ fn state_of(done: bool) -> State
     if done { State::Done } else { State::Stopped }
 }
 
-// The report of a deck for so many rounds, with the live cells in the cell space.
-fn solve(deck: Deck, rounds: u64, cells: &mut [i64]) -> Report
-    requires { ⌜ Solvable deck × Room rounds (length (now cells)) ⌝ }
-    ensures { λ r. ⌜ Solved deck rounds (now (cells .entry)) (now (cells .exit)) r ⌝ }
+// The report of a deck's problem for so many rounds, with the live cells in the cell space.
+fn solve<'a>(
+    columns: &'a [i32; COLUMNS],
+    n: usize,
+    v: &'a [i64],
+    h: &'a [i64],
+    area: Rect,
+    rounds: u64,
+    cells: &mut [i64],
+) -> Report
+    requires { ⌜ Prepared (now columns) n (now v) (now h) area
+        × Room (problemOf (now columns) n (now v) (now h) area) rounds (length (now cells)) ⌝ }
+    ensures { λ r.
+        ⌜ Solved (problemOf (now (columns .entry)) n (now (v .entry)) (now (h .entry)) area)
+        (beforeOf (pricingIn (now (columns .entry)) n)) rounds (now (cells .entry)) (now (cells .exit)) r ⌝ }
 {
-    let p = prepare::of_deck(deck);
-    let n = p.count;
-    let nv = p.nv;
-    let nh = p.nh;
-    let before = pricing::before(&p.columns, n);
-    let v: &[i64] = &p.v;
-    let h: &[i64] = &p.h;
-    let found = run::search(&p.columns, n, &v[..nv], &h[..nh], p.area, rounds, cells);
+    let before = pricing::before(columns, n);
+    let found = run::search(columns, n, v, h, area, rounds, cells);
     let state = state_of(found.done);
     Report {
         state,
@@ -79,28 +93,45 @@ fn refuse(why: Refusal) -> Response
     }
 }
 
-// What the calls below answer. A refusal leaves the cell space and the output as they were.
-fn respond(job: &[u8], cells: &mut [i64], out: &mut [u8]) -> Response
-    ensures { λ r. ⌜ Responded (now (job .entry)) (now (cells .entry)) (now (out .entry)) (now (cells .exit)) (now (out .exit)) r ⌝ }
+// What the calls below answer to a job that was read as a deck and rounds. Refusals 7 and 8 come before any place is priced.
+fn respond_to(deck: Deck, rounds: u64, cells: &mut [i64], out: &mut [u8]) -> Response
+    requires { ⌜ Solvable deck × (rounds ≤ roundsLimit) ⌝ }
+    ensures { λ r.
+        ⌜ Responded (answered (accepted (record { deck = deckOf deck; rounds = rounds })) (now (cells .entry)) (now (out .entry)))
+        (now (out .entry)) (now (cells .exit)) (now (out .exit)) r ⌝ }
 {
-    let j = job::read(job);
-    let outcome = j.outcome;
-    let deck = j.deck;
-    let rounds = match outcome {
-        Outcome::Accepted(rounds) => rounds,
-        Outcome::Refused(why) => return refuse(why),
-    };
-    if (cells.len() as u64) < CELL_NUMBERS as u64 * (rounds + 1) {
+    let p = prepare::of_deck(deck);
+    let nv = p.nv;
+    let nh = p.nh;
+    let needs = estimate::of_lines(nv, nh, rounds);
+    if (cells.len() as u64) < CELL_NUMBERS as u64 * needs.cells {
         return refuse(Refusal::SmallSpace);
     }
     if out.len() < REPORT_BYTES {
         return refuse(Refusal::ShortOutput);
     }
-    let r = solve(deck, rounds, cells);
+    let v: &[i64] = &p.v;
+    let h: &[i64] = &p.h;
+    let r = solve(&p.columns, p.count, &v[..nv], &h[..nh], p.area, rounds, cells);
     let bytes = report::write_report(out, r);
     Response {
         answer: Answer::Report(r),
         bytes,
+    }
+}
+
+// What the calls below answer. A refusal leaves the cell space and the output as they were.
+fn respond(job: &[u8], cells: &mut [i64], out: &mut [u8]) -> Response
+    ensures { λ r.
+        ⌜ Responded (reportCall (now (job .entry)) (now (cells .entry)) (now (out .entry))) (now (out .entry)) (now (cells .exit))
+        (now (out .exit)) r ⌝ }
+{
+    let j = job::read(job);
+    let outcome = j.outcome;
+    let deck = j.deck;
+    match outcome {
+        Outcome::Accepted(rounds) => respond_to(deck, rounds, cells, out),
+        Outcome::Refused(why) => refuse(why),
     }
 }
 
@@ -152,6 +183,13 @@ pub fn exhaustive(job: &[u8]) -> Cheapest
         Outcome::Accepted(_) => Cheapest::At(cheapest_in(deck)),
         Outcome::Refused(why) => Cheapest::Refused(why),
     }
+}
+
+// What the job needs, or the refusal of the job. No place is priced.
+pub fn estimate(job: &[u8]) -> Estimated
+    ensures { λ r. ⌜ estimatedAnswer r ≡ estimateCall (now (job .entry)) ⌝ }
+{
+    estimate::of_job(job)
 }
 
 // A job's bytes as the deck's record and the rounds that they spell, or the refusal of the job with a record that is all zeros.

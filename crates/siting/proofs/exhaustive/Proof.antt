@@ -1,6 +1,6 @@
 -- `siting::exhaustive` meets its contract.
 -- Assumes nothing.
-use Rattle.siting.proofs.SolveLaws.{solvable}
+use Rattle.estimate.proofs.ReadJob.{solvable}
 use Rattle.siting.proofs.ExhaustiveLaws.{exhaustive-found, exhaustive-refused}
 use borrow.Author.Needs.{needs}
 use Rattle.siting.proofs.exhaustive.Statement.{statement}
