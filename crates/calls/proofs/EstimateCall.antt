@@ -62,7 +62,7 @@ module _ (job : List ℕ) where
       ∙ ap₂ refuses (same-number {A = Estimate} _ _ _ _ same) (same-line {A = Estimate} _ _ _ _ same)
 
   -- the estimate that is given is that of the job that was read
-  given-one : (e : Estimate) → estimateCall job ≡ gives e → (j : Job) × (readJob job ≡ accepted j) × (needed j ≡ e)
+  pub given-one : (e : Estimate) → estimateCall job ≡ gives e → (j : Job) × (readJob job ≡ accepted j) × (needed j ≡ e)
   unfolding estimateCall
   given-one e g = let (j, r) = Call.accepted-one needed job e g in (j, r, same-given (needed j) e (sym (call-accepted j r) ∙ g))
 

@@ -7,6 +7,7 @@ use native.Mathlib.Omega.{arith}
 use lib.ListN.{length}
 use Rattle.query.specs.Place.{x-axis, y-axis}
 use Rattle.query.specs.Lines.{lines}
+use Rattle.query.specs.Estimate as Query
 use Rattle.query.specs.Estimate.{estimate}
 use Rattle.lines.proofs.DeckLines.{deck-lined}
 use Rattle.deck.specs.DeckOf.{deckOf}
@@ -18,14 +19,16 @@ use Rattle.job.specs.Format.{Job, readJob}
 use Rattle.job.specs.JobRecord.{jobRecord}
 use Rattle.job.specs.declared.Job as Held
 use Rattle.job.specs.declared.Outcome.the-variants.{Accepted, Refused}
+use Rattle.job.proofs.Meaning.{allowed-in-range}
 use Rattle.job.proofs.ReadDeck.{read-refused, read-deckOf}
 use Rattle.calls.specs.declared.Estimate.{Estimate}
 use Rattle.calls.specs.declared.Estimated.the-variants as Estimated
 use Rattle.calls.specs.Answers.{gives, estimateNumbers, estimatedAnswer}
 use Rattle.calls.specs.EstimateCall.{estimateCall}
-use Rattle.calls.proofs.EstimateCall.{call-accepted, call-refused}
+use Rattle.calls.proofs.Demands.{read-exactly}
+use Rattle.calls.proofs.EstimateCall.{call-accepted, call-refused, given-one}
 use Rattle.estimate.specs.LineCounts.{LineCounts, estimateBy}
-use Rattle.estimate.proofs.LineCounts.{deck-counted}
+use Rattle.estimate.proofs.LineCounts.{deck-counted, deck-small}
 use Rattle.estimate.proofs.ReadJob.{spelt, rounds-same}
 
 -- ---- a deck's problem that was made
@@ -60,3 +63,11 @@ module _ (job : List ℕ) (j : Held.Job) (e : j ≡ jobRecord (readJob job)) whe
 
   pub estimate-refused : (why : Refusal) → j .outcome ≡ Refused why → estimatedAnswer (Estimated.Refused why) ≡ estimateCall job
   estimate-refused why o = sym (call-refused job why (read-refused job j e why o))
+
+-- ---- an estimate that is given: its numbers are small
+pub given-small : (job : List ℕ) (e : Query.Estimate) → estimateCall job ≡ gives e →
+    (e .across ≤ 513) × (e .deep ≤ 513) × (e .limit ≤ 263168) × (e .cells ≤ 263169)
+given-small job e g =
+    let (j, read, same) = given-one job e g in
+    let range = allowed-in-range j (read-exactly job j .0 read .1) in
+    rw same at (deck-small (j .deck) (j .rounds) (range .most-stops))

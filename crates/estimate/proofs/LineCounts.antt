@@ -9,6 +9,7 @@ use Rattle.query.specs.Place.{x-axis, y-axis}
 use Rattle.query.specs.Deck.{Deck}
 use Rattle.query.specs.Lines.{lines, gaps}
 use Rattle.query.specs.Estimate.{Estimate, cutLimit, cellsNeeded, estimate}
+use Rattle.lines.proofs.DeckLines.{deck-lined}
 use Rattle.estimate.specs.LineCounts.{LineCounts, gapsBy, estimateBy}
 
 module _ (nv nh rounds : ℕ) (h : LineCounts nv nh rounds) (g k : ℕ) (e : g ≡ gapsBy nv) (f : k ≡ gapsBy nh) where
@@ -40,3 +41,14 @@ pub deck-counted : (deck : Deck) (rounds nv nh : ℕ) → nv ≡ length (lines d
     estimateBy nv nh rounds ≡ estimate deck rounds
 unfolding estimateBy estimate cutLimit cellsNeeded gaps
 deck-counted deck rounds nv nh e f = rw (e, f)
+
+-- and its numbers are small where the deck's stops are few
+pub deck-small : (deck : Deck) (rounds : ℕ) → length (deck .stops) ≤ 512 → let e = estimate deck rounds in
+    (e .across ≤ 513) × (e .deep ≤ 513) × (e .limit ≤ 263168) × (e .cells ≤ 263169)
+unfolding estimate cutLimit cellsNeeded gaps
+deck-small deck rounds h =
+    let lined = deck-lined deck h in
+    let across : max 1 (length (lines deck x-axis) - 1) ≤ 513 = omega (arith, lined .across .few) in
+    let deep : max 1 (length (lines deck y-axis) - 1) ≤ 513 = omega (arith, lined .deep .few) in
+    let product = mul-le-mul across deep in
+    (across, deep, omega (arith, product), omega (arith, product))

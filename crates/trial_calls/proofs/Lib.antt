@@ -1,2 +1,3 @@
 pub mod CallLaws
+pub mod EstimateFigures
 pub mod RecordLaws
