@@ -86,8 +86,11 @@ module _ (job : List ℕ) where
     unfolding estimate
     limit f a =
         let (j, h) = accepted-one job cells out f a in
-        omega (arith, demands job cells out .demand-3 j f h a .law .cut-limit,
-        ap (λ (x : Estimate). x .limit) (same-given (needed j) e (sym (call-accepted j (h .read)) ∙ g)))
+        omega (
+          arith,
+          demands job cells out .demand-3 j f h a .law .cut-limit,
+          ap (λ (x : Estimate). x .limit) (same-given (needed j) e (sym (call-accepted j (h .read)) ∙ g)),
+        )
 
   pub estimate-call-law : EstimateCallLaw job
   estimate-call-law = record {

@@ -112,7 +112,15 @@ fn respond_to(deck: Deck, rounds: u64, cells: &mut [i64], out: &mut [u8]) -> Res
     }
     let v: &[i64] = &p.v;
     let h: &[i64] = &p.h;
-    let r = solve(&p.columns, p.count, &v[..nv], &h[..nh], p.area, rounds, cells);
+    let r = solve(
+        &p.columns,
+        p.count,
+        &v[..nv],
+        &h[..nh],
+        p.area,
+        rounds,
+        cells,
+    );
     let bytes = report::write_report(out, r);
     Response {
         answer: Answer::Report(r),
