@@ -102,7 +102,8 @@ module _ (job : List ℕ) (cells : List ℤ) (out : List ℕ) where
   unfolding answered
   refused-call why e = call-of (refused why) e
 
-  space-call : (j : Job) → readJob job ≡ accepted j → length cells < spaceNeeded (j .deck) (j .rounds) → reportCall job cells out ≡ turnedDown SmallSpace cells out
+  space-call : (j : Job) → readJob job ≡ accepted j → length cells < spaceNeeded (j .deck) (j .rounds) →
+      reportCall job cells out ≡ turnedDown SmallSpace cells out
   space-call j e h = call-of (accepted j) e ∙ small-answer j cells out h
 
   output-call : (j : Job) → readJob job ≡ accepted j → spaceNeeded (j .deck) (j .rounds) ≤ length cells → length out < 128 →

@@ -75,7 +75,8 @@ held : {out : List ℕ} {n : ℕ} (text : List ℕ) → Overwrote (replicate 128
 unfolding textRecord
 held text f h = rw (f .number, f .content) (ap (λ (l : List ℕ). record { length = length text; bytes = l }) (padded-is text h))
 
-module _ (job : List ℕ) (cells : List ℤ) (out : List ℕ) (r : Response) (s : Responded (reportCall job ownSpace (replicate 128 0)) (replicate 128 0) cells out r) where
+module _ (job : List ℕ) (cells : List ℤ) (out : List ℕ) (r : Response)
+    (s : Responded (reportCall job ownSpace (replicate 128 0)) (replicate 128 0) cells out r) where
   text-is : answerText job ≡ textOf (reportAnswer (r .answer))
   unfolding answerText
   text-is = ap (λ (l : Left). textOf (l .answer)) (sym (s .left))

@@ -101,6 +101,7 @@ fn respond_to(deck: Deck, rounds: u64, cells: &mut [i64], out: &mut [u8]) -> Res
         (now (out .entry)) (now (cells .exit)) (now (out .exit)) r ⌝ }
 {
     let p = prepare::of_deck(deck);
+    let n = p.count;
     let nv = p.nv;
     let nh = p.nh;
     let needs = estimate::of_lines(nv, nh, rounds);
@@ -112,15 +113,7 @@ fn respond_to(deck: Deck, rounds: u64, cells: &mut [i64], out: &mut [u8]) -> Res
     }
     let v: &[i64] = &p.v;
     let h: &[i64] = &p.h;
-    let r = solve(
-        &p.columns,
-        p.count,
-        &v[..nv],
-        &h[..nh],
-        p.area,
-        rounds,
-        cells,
-    );
+    let r = solve(&p.columns, n, &v[..nv], &h[..nh], p.area, rounds, cells);
     let bytes = report::write_report(out, r);
     Response {
         answer: Answer::Report(r),

@@ -9,9 +9,12 @@ use borrow.Author.Needs.{needs}
 use Rattle.siting.proofs.respond_to.Statement.{statement}
 use Rattle.siting.proofs.respond_to.Tie as tie
 
--- what was asked, as the place behind the estimate looks back to it; the two tests, the estimate, as the place before the search does
+-- what places look back to: what was asked, the problem, the two tests that let the job pass, the estimate
 abbrev start : tie.After-of-lines → tie.Start
 start c = c .before .before .before
+
+abbrev made : tie.After-solve-arg2 → tie.After-of-deck
+made c = c .before .before .before .before .before .before .before .before .before .before .before
 
 abbrev enough : tie.After-solve-arg5 → tie.Else1
 enough c = c .before .before .before .before .before .before .before .before .before .before .before
@@ -52,10 +55,10 @@ returns-2 c =
     (omega (arith, c .before .before .if1 .left)) (omega (arith, c .before .if2 .taken))) _ (c .refuse2 .ensures)
 
 slice-aggregate-solve : tie.Need-slice-aggregate-solve
-slice-aggregate-solve c = vertical-taken _ _ (c .before .before .before .before .before .before .before .before .before .before .before .of-deck .ensures)
+slice-aggregate-solve c = vertical-taken _ _ (made c .of-deck .ensures)
 
 slice-aggregate-solve-2 : tie.Need-slice-aggregate-solve-2
-slice-aggregate-solve-2 c = horizontal-taken _ _ (c .before .before .before .before .before .before .before .before .before .before .before .before .of-deck .ensures)
+slice-aggregate-solve-2 c = horizontal-taken _ _ (made (c .before) .of-deck .ensures)
 
 solve-requires : tie.Need-solve-requires
 solve-requires c κs =

@@ -33,9 +33,11 @@ returns-4 c = let s = c .before .before .before .before .before in needs-cells (
 
 returns-5 : tie.Need-returns-5
 returns-5 c =
-    let s = c .before .before .before .before .before in
+    let third = c .before .before in
+    let first = third .before .before in
+    let s = first .before in
     not-refused-needs (estimateNumbers (s .args .e)) (s .args .which)
-    (omega (arith, c .before .before .before .before .if1 .left, c .before .before .before .if2 .left, c .before .before .if3 .left, c .before .if4 .left)) (c .if5 .taken)
+    (omega (arith, first .if1 .left, third .before .if2 .left, third .if3 .left, c .before .if4 .left)) (c .if5 .taken)
 
 returns-6 : tie.Need-returns-6
 returns-6 c = no-needs (estimateNumbers (c .before .before .before .before .before .args .e)) _ (c .if5 .left)
