@@ -1,14 +1,14 @@
 -- The estimate by numbers of lines, as the code works it out, and that of a deck.
 -- Assumes nothing.
 use Prim.Native.Nat.{ℕ, _+_, _-_, _*_, _≤_, min, max}
-use mathlib.Core.Path.{_≡_, refl, sym, ap₂, _∙_}
+use mathlib.Core.Path.{_≡_}
 use native.Mathlib.Nat.{mul-le-mul}
 use native.Mathlib.Omega.{arith}
 use lib.ListN.{length}
 use Rattle.query.specs.Place.{x-axis, y-axis}
 use Rattle.query.specs.Deck.{Deck}
 use Rattle.query.specs.Lines.{lines, gaps}
-use Rattle.query.specs.Estimate.{Estimate, cutLimit, cellsNeeded, estimate}
+use Rattle.query.specs.Estimate.{cutLimit, cellsNeeded, estimate}
 use Rattle.lines.proofs.DeckLines.{deck-lined}
 use Rattle.estimate.specs.LineCounts.{LineCounts, gapsBy, estimateBy}
 

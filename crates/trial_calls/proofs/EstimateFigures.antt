@@ -1,10 +1,10 @@
 -- The call `estimate` as the tests see it: what its answer carries, as numbers.
 -- Assumes nothing.
 use Prim.Native.Nat.{ℕ, zero, suc, _-_, _≤_, _<_}
-use mathlib.Core.Path.{_≡_, refl, sym, ap, subst, _∙_}
+use mathlib.Core.Path.{_≡_, refl, sym, ap, _∙_}
 use mathlib.Core.List.{List}
 use native.Mathlib.Omega.{arith}
-use lib.IntN.{ℤ, pos}
+use lib.IntN.{pos}
 use lib.ListN.{getD}
 use mir.Syntax.{w64}
 use mir.Val.{toZ}
@@ -16,7 +16,7 @@ use Rattle.job.proofs.RefusalLaws.{condition-line}
 use Rattle.calls.specs.declared.Estimate as Held
 use Rattle.calls.specs.declared.Estimated.{Estimated}
 use Rattle.calls.specs.declared.Estimated.the-variants as Estimated
-use Rattle.calls.specs.Answers.{gives, refusal, estimateNumbers, estimatedAnswer}
+use Rattle.calls.specs.Answers.{refusal, estimateNumbers, estimatedAnswer}
 use Rattle.calls.specs.EstimateCall.{estimateCall}
 use Rattle.calls.proofs.EstimateCall.{estimate-call-law}
 use Rattle.estimate.proofs.EstimateLaws.{given-small}

@@ -1,6 +1,5 @@
 -- `siting::respond` meets its contract: an accepted job is answered as the call answers the deck and rounds that were read.
 -- Assumes nothing.
-use mathlib.Core.Path.{sym, subst}
 use Rattle.calls.proofs.Demands.{refused-call}
 use Rattle.job.proofs.ReadDeck.{read-refused}
 use Rattle.estimate.proofs.ReadJob.{rounds-limit, solvable}
