@@ -43,7 +43,7 @@ reported job cells out = record {
 abbrev pub outputSize : ℕ
 outputSize = 128
 
--- 01 refusals 7 and 8, "all before any place is priced"
+-- 01 refusals 7, as 02, card 3 has it, and 8, "all before any place is priced"
 unfoldable pub answered : Result → List ℤ → List ℕ → Left
 unfolding cellsNeeded reported
 answered (refused why) cells out = turnedDown why cells out

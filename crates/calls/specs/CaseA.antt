@@ -1,4 +1,4 @@
--- Document 01, "Job and report": case A, whole, through each call, from the job's bytes to all that the call answers and leaves.
+-- Document 01, "Job and report": case A, whole, through each call of document 01, from the bytes to all that the call answers and leaves.
 -- Assumes nothing.
 use Prim.Native.Nat.{ℕ}
 use mathlib.Core.Path.{_≡_}

@@ -4,14 +4,14 @@ use lib.Dec.{ltb→lt}
 use Rattle.numbers.specs.Integer.{halfUp}
 use Rattle.query.specs.Lines.{gaps}
 use Rattle.query.specs.Figures.{figures}
-use Rattle.query.specs.Estimate.{estimate}
+use Rattle.query.specs.Estimate.{cutLimit, estimate}
 use Rattle.query.specs.Space.{space}
 use Rattle.query.specs.Exhaustive.{exhaustive}
 use Rattle.query.specs.Demand3.{further-right}
 use Rattle.query.specs.Rows.{Rows}
 
 pub rows : Rows
-unfolding halfUp gaps figures estimate space exhaustive
+unfolding halfUp gaps figures cutLimit estimate space exhaustive
 rows = record {
   half-3 = refl;
   half-minus-3 = refl;
@@ -32,7 +32,9 @@ rows = record {
   estimate-C = refl;
   estimate-D-0 = refl;
   estimate-D-1 = refl;
+  estimate-both-3 = refl;
   estimate-both = refl;
+  estimate-level = refl;
   estimate-far = refl;
   estimate-plain = refl;
   estimate-x-cost = refl;

@@ -1,7 +1,7 @@
 -- Rows beside the eight marked decks: figures of small decks, each chosen so that a rule told wrongly gives another figure.
 -- The figures are those of a program written from documents 01 and 02 alone; `proofs/Rows.antt` proves that the definitions give them.
 -- Assumes nothing.
-use Prim.Native.Nat.{ℕ, _-_, _*_, _<_}
+use Prim.Native.Nat.{ℕ, _<_}
 use mathlib.Core.Path.{_≡_}
 use mathlib.Core.List.{[], _∷_, _++_, map}
 use lib.IntN.{pos, negsuc}
@@ -13,7 +13,7 @@ use Rattle.query.specs.Deck.{Deck, plain}
 use Rattle.query.specs.Lines.{gaps}
 use Rattle.query.specs.Problem.{problem}
 use Rattle.query.specs.Figures.{figures, done, stopped}
-use Rattle.query.specs.Estimate.{Estimate, estimate}
+use Rattle.query.specs.Estimate.{cutLimit, Estimate, estimate}
 use Rattle.query.specs.Space.{space}
 use Rattle.query.specs.Exhaustive.{exhaustive}
 use Rattle.query.specs.Demand3.{Beaten}
@@ -125,7 +125,7 @@ pub record Rows : Type 0 where
   pub gaps-C-across : gaps deckC x-axis ≡ 1
   -- demand 3 says no more than holds: the cut limit is reached, a high falls, a low rises, and a place that costs the same and is
   -- further right is beaten
-  pub limit-reached : figures deckA 3 .rounds ≡ gaps deckA x-axis * gaps deckA y-axis - 1
+  pub limit-reached : figures deckA 3 .rounds ≡ cutLimit deckA
   pub high-falls : figures deckA 1 .high < figures deckA 0 .high
   pub low-rises : figures deckA 1 .low <ℤ figures deckA 2 .low
   pub further-right : Beaten deckB (at 0 0) (at 10 0)
@@ -139,7 +139,10 @@ pub record Rows : Type 0 where
   pub estimate-C : estimate deckC 10 ≡ needs 1 1 0 1
   pub estimate-D-0 : estimate deckD 0 ≡ needs 2 1 1 1
   pub estimate-D-1 : estimate deckD 1 ≡ needs 2 1 1 2
-  pub estimate-both : estimate deckBoth 3 ≡ needs 3 2 5 4
+  -- three gaps across and two deep; one across, of no width, and three deep
+  pub estimate-both-3 : estimate deckBoth 3 ≡ needs 3 2 5 4
+  pub estimate-both : estimate deckBoth 10 ≡ needs 3 2 5 6
+  pub estimate-level : estimate deckLevel 10 ≡ needs 1 3 2 3
   -- no line of a stop out of reach, which goes by axis costs
   pub estimate-far : estimate deckFar 10 ≡ needs 1 2 1 2
   pub estimate-plain : estimate (deckBeside 1 1) 10 ≡ needs 1 2 1 2

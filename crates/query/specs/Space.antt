@@ -1,4 +1,4 @@
--- Document 01, "Lines, cells and bounds": what the cell space holds at the end.
+-- Document 01, "Lines, cells and bounds": what the cell space holds at the end. Document 02, card 3: how many numbers suffice.
 -- Assumes nothing.
 use Prim.Native.Nat.{ℕ, _*_}
 use mathlib.Core.List.{List, [], _∷_, flatMap}
