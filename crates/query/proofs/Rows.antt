@@ -3,6 +3,8 @@ use mathlib.Core.Path.{refl}
 use lib.Dec.{ltb→lt}
 use Rattle.numbers.specs.Integer.{halfUp}
 use Rattle.query.specs.Lines.{gaps}
+use Rattle.query.specs.Problem.{problem}
+use Rattle.query.specs.Search.{run}
 use Rattle.query.specs.Figures.{figures}
 use Rattle.query.specs.Estimate.{cutLimit, estimate}
 use Rattle.query.specs.Space.{space}
@@ -11,7 +13,7 @@ use Rattle.query.specs.Demand3.{further-right}
 use Rattle.query.specs.Rows.{Rows}
 
 pub rows : Rows
-unfolding halfUp gaps figures cutLimit estimate space exhaustive
+unfolding halfUp gaps problem run figures cutLimit estimate space exhaustive
 rows = record {
   half-3 = refl;
   half-minus-3 = refl;
@@ -28,6 +30,7 @@ rows = record {
   estimate-A-2 = refl;
   estimate-A-3 = refl;
   estimate-A-10 = refl;
+  all-live = refl;
   estimate-B = refl;
   estimate-C = refl;
   estimate-D-0 = refl;

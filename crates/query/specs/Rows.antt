@@ -5,13 +5,14 @@ use Prim.Native.Nat.{ℕ, _<_}
 use mathlib.Core.Path.{_≡_}
 use mathlib.Core.List.{[], _∷_, _++_, map}
 use lib.IntN.{pos, negsuc}
-use lib.ListN.{replicate}
+use lib.ListN.{length, replicate}
 use lib.Signed.{_<ℤ_}
 use Rattle.numbers.specs.Integer.{halfUp}
 use Rattle.query.specs.Place.{Place, x-axis, y-axis}
 use Rattle.query.specs.Deck.{Deck, plain}
 use Rattle.query.specs.Lines.{gaps}
 use Rattle.query.specs.Problem.{problem}
+use Rattle.query.specs.Search.{run}
 use Rattle.query.specs.Figures.{figures, done, stopped}
 use Rattle.query.specs.Estimate.{cutLimit, Estimate, estimate}
 use Rattle.query.specs.Space.{space}
@@ -134,6 +135,8 @@ pub record Rows : Type 0 where
   pub estimate-A-2 : estimate deckA 2 ≡ needs 2 2 3 3
   pub estimate-A-3 : estimate deckA 3 ≡ needs 2 2 3 4
   pub estimate-A-10 : estimate deckA 10 ≡ needs 2 2 3 4
+  -- after one round of case A as many cells are live
+  pub all-live : length (run (problem deckA) 1 .live) ≡ estimate deckA 1 .cells
   -- one gap in a row, one point, two gaps in a row
   pub estimate-B : estimate deckB 10 ≡ needs 1 1 0 1
   pub estimate-C : estimate deckC 10 ≡ needs 1 1 0 1
