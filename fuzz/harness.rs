@@ -1,6 +1,6 @@
-//! The C entry, the program and the calls that read and write a record against the reference, one input of libFuzzer at a time. An input
-//! is a job's bytes, whole; for the writer the numbers in it are a record too. A difference is printed and ends the run; libFuzzer then
-//! saves the input.
+//! The C entry, the program, the report call, the estimate and the calls that read and write a record against the reference, one input of
+//! libFuzzer at a time. An input is a job's bytes, whole; for the writer the numbers in it are a record too. A difference is printed and
+//! ends the run; libFuzzer then saves the input.
 
 #![no_main]
 
@@ -8,7 +8,8 @@ mod mutate;
 mod record;
 
 use mutate::Random;
-use reference::{read, refusal_text, report_text, saved, search, write, Axis, Record, Refusal};
+use reference::{estimate, lent_enough, read, refusal_text, report_text, saved, search, write};
+use reference::{Axis, Estimate, Found, Job, Record, Refusal};
 use std::ffi::c_void;
 use std::io::{ErrorKind, Write};
 use std::process::{abort, Command, Stdio};
@@ -16,6 +17,8 @@ use std::sync::{Mutex, MutexGuard};
 
 extern "C" {
     fn siting_report(job: *const u8, job_length: usize, out: *mut u8, out_length: usize) -> i64;
+    fn trial_report(job: *const u8, len: usize, cells: *mut i64, cells_len: usize, out: *mut u8, out_len: usize, which: u64) -> i64;
+    fn trial_estimate(job: *const u8, len: usize, which: u64) -> i64;
     fn trial_read(
         job: *const u8,
         len: usize,
@@ -78,9 +81,31 @@ impl Lent {
     }
 }
 
+/// What the reference has for an accepted job.
+struct Accepted {
+    estimate: Estimate,
+    found: Found,
+    text: String,
+}
+
+impl Accepted {
+    fn new(job: &Job) -> Accepted {
+        let found = search(job);
+        let text = report_text(&found);
+        Accepted { estimate: estimate(job), found, text }
+    }
+
+    /// The numbers of a report.
+    fn figures(&self) -> [i64; 7] {
+        let f = &self.found;
+        [i64::from(!f.done), f.at.0, f.at.1, f.high, f.low, f.before, f.rounds]
+    }
+}
+
 struct State {
     job: Lent,
     out: Lent,
+    cells: Lent,
     coordinates: Lent,
     naturals: Lent,
     saved: Lent,
@@ -93,6 +118,13 @@ struct State {
     stopped: u64,
     axis_costs: u64,
     refused: [u64; 9],
+    /// The product of the gaps is below rounds + 1, or equal to it.
+    product_below: u64,
+    product_equal: u64,
+    calls: u64,
+    reports: u64,
+    small_space: u64,
+    short_output: u64,
     records: u64,
     written: u64,
     not_written: [u64; 9],
@@ -113,6 +145,7 @@ extern "C" fn LLVMFuzzerInitialize(_: *mut c_void, _: *mut c_void) -> i32 {
     *state() = Some(State {
         job: Lent::new(5 * PAGE),
         out: Lent::new(PAGE),
+        cells: Lent::new(10 * PAGE),
         coordinates: Lent::new(3 * PAGE),
         naturals: Lent::new(2 * PAGE),
         saved: Lent::new(4 * PAGE),
@@ -124,6 +157,12 @@ extern "C" fn LLVMFuzzerInitialize(_: *mut c_void, _: *mut c_void) -> i32 {
         stopped: 0,
         axis_costs: 0,
         refused: [0; 9],
+        product_below: 0,
+        product_equal: 0,
+        calls: 0,
+        reports: 0,
+        small_space: 0,
+        short_output: 0,
         records: 0,
         written: 0,
         not_written: [0; 9],
@@ -142,6 +181,9 @@ extern "C" fn last() {
         let (done, stopped, refused) = (s.done, s.stopped, &s.refused[1..7]);
         println!("{} inputs: {done} done, {stopped} stopped, {} of these with axis costs, refusals 1 to 6 {refused:?}", s.inputs, s.axis_costs);
         println!("{} of them by the program too", s.programs);
+        let (below, equal) = (s.product_below, s.product_equal);
+        println!("{below} of {} jobs have a product of gaps below rounds + 1, {equal} one equal to it", done + stopped);
+        println!("{} of {} report calls gave a report, {} refusal 7, {} refusal 8", s.reports, s.calls, s.small_space, s.short_output);
         println!("{} of {} records written, refusals 2 to 8 {:?}", s.written, s.records, &s.not_written[2..]);
     }
     unsafe { blocks_print() };
@@ -220,6 +262,11 @@ fn figures(answer: Result<i64, Refusal>) -> [i64; 4] {
     answer.map_or_else(|why| [i64::MIN, why.number, why.line, i64::MIN], |value| [value, 0, 0, i64::MIN])
 }
 
+/// The end of a job's bytes, which has its rounds.
+fn end(bytes: &[u8]) -> String {
+    bytes[bytes.len().saturating_sub(12)..].escape_ascii().to_string()
+}
+
 fn differs(what: &str, got: &str, want: &str) -> ! {
     eprintln!("DIFFERENCE: {what}\n-- got\n{got}\n-- the reference has\n{want}");
     abort()
@@ -227,7 +274,7 @@ fn differs(what: &str, got: &str, want: &str) -> ! {
 
 impl State {
     /// One call of the entry. Job and output stand at the ends of their pages, or at the starts.
-    fn call(&mut self, bytes: &[u8], want: &Result<String, Refusal>, length: usize, at_end: bool, fill: u8) {
+    fn call(&mut self, bytes: &[u8], want: &Result<Accepted, Refusal>, length: usize, at_end: bool, fill: u8) {
         let (job, start) = place_job(&mut self.job, bytes, at_end, fill);
         let job_before = job.to_vec();
 
@@ -236,7 +283,7 @@ impl State {
         let result = match want {
             Err(why) => -why.number,
             Ok(_) if length < 128 => -8,
-            Ok(text) => {
+            Ok(Accepted { text, .. }) => {
                 after[first..first + text.len()].copy_from_slice(text.as_bytes());
                 text.len() as i64
             }
@@ -251,6 +298,102 @@ impl State {
         }
         if job != job_before {
             differs("the job's bytes", "changed", "not changed");
+        }
+    }
+
+    /// One report call: number `which` of its answer, all that is lent, and what is beside it. `lent` is how many numbers of cell space and
+    /// how many bytes of output.
+    fn report(&mut self, bytes: &[u8], want: &Result<Accepted, Refusal>, lent: (usize, usize), which: u64, at_end: bool, fill: u8) {
+        let (numbers, length) = lent;
+        let (job, start) = place_job(&mut self.job, bytes, at_end, fill);
+        let job_before = job.to_vec();
+        let (cells, cell) = place(&mut self.cells, 8 * numbers, at_end, pattern(fill));
+        let (out, first) = place(&mut self.out, length, at_end, pattern(fill));
+        let (mut cells_after, mut out_after) = (cells.to_vec(), out.to_vec());
+        let given = match want {
+            Err(why) => Err(*why),
+            Ok(accepted) => lent_enough(&accepted.estimate, numbers, length).map(|()| accepted),
+        };
+        self.calls += 1;
+        let (figures, number, line) = match given {
+            Err(why) => {
+                self.small_space += u64::from(why.number == 7);
+                self.short_output += u64::from(why.number == 8);
+                ([i64::MIN; 7], why.number, why.line)
+            }
+            Ok(accepted) => {
+                self.reports += 1;
+                let (text, mut space) = (&accepted.text, accepted.found.cells.clone());
+                space.resize(numbers, 0);
+                cells_after[cell..cell + 8 * numbers].copy_from_slice(bytes_of(&space));
+                out_after[first..first + text.len()].copy_from_slice(text.as_bytes());
+                (accepted.figures(), 0, 0)
+            }
+        };
+        let figure = match which {
+            0..=6 => figures[which as usize],
+            7 => number,
+            8 => line,
+            _ => i64::MIN,
+        };
+        let (space, output) = (cells[cell..].as_mut_ptr().cast(), out[first..].as_mut_ptr());
+        let got = unsafe { trial_report(job[start..].as_ptr(), bytes.len(), space, numbers, output, length, which) };
+        let lent = format!("with {numbers} numbers of cell space and {length} bytes of output, job up to {}", end(bytes));
+        if got != figure {
+            differs(&format!("number {which} of the report {lent}"), &got.to_string(), &figure.to_string());
+        }
+        if cells != cells_after {
+            differs(&format!("the cell space, from byte {cell}, {lent}"), &format!("{cells:?}"), &format!("{cells_after:?}"));
+        }
+        if out != out_after {
+            let text = |bytes: &[u8]| bytes.escape_ascii().to_string();
+            differs(&format!("the output, from byte {first}, {lent}"), &text(out), &text(&out_after));
+        }
+        if job != job_before {
+            differs("the job's bytes", "changed by the report call", "not changed");
+        }
+    }
+
+    /// The estimate, and report calls with cell space around what the job needs and outputs that do and that do not.
+    fn check_reports(&mut self, bytes: &[u8], want: &Result<Accepted, Refusal>, any: u64) {
+        self.estimate(bytes, want, any & 1 == 0, any as u8);
+        let need = want.as_ref().map_or(1 + any as usize % 60, |accepted| accepted.estimate.numbers());
+        let (more, enough) = (1 + (any >> 12) as usize % 100, 128 + (any >> 20) as usize % 2 * (any as usize % 300));
+        let lent = [(need, enough), (need - 1, enough), (need - 1, 127), (need + more, if any >> 21 & 1 == 0 { enough } else { 127 })];
+        for (i, lent) in lent.into_iter().enumerate() {
+            let which = (any >> 26 ^ i as u64) % 10;
+            self.report(bytes, want, lent, which, (any as usize >> 22 ^ i) % 2 == 0, (any >> 8) as u8 ^ i as u8);
+        }
+    }
+
+    /// An accepted job with other rounds, whose successor is about the product of the gaps.
+    fn check_other_rounds(&mut self, bytes: &[u8], estimate: Estimate, any: u64) {
+        let rounds = estimate.cut_limit + (any >> 16) as i64 % 3 - 1;
+        if (0..=1_000).contains(&rounds) {
+            let lines: Vec<&[u8]> = bytes.split_inclusive(|&b| b == b'\n').collect();
+            let other = [&lines[..lines.len() - 1].concat(), format!("rounds={rounds}\n").as_bytes()].concat();
+            let want = read(&other).map(|job| Accepted::new(&job));
+            self.check_reports(&other, &want, any >> 3);
+        }
+    }
+
+    /// The estimate: each of its numbers, and one that no answer has.
+    fn estimate(&mut self, bytes: &[u8], want: &Result<Accepted, Refusal>, at_end: bool, fill: u8) {
+        let (job, start) = place_job(&mut self.job, bytes, at_end, fill);
+        let job_before = job.to_vec();
+        const NONE: i64 = i64::MIN;
+        let figures = match want {
+            Ok(Accepted { estimate: e, .. }) => [e.across, e.deep, e.cut_limit, e.cells, 0, 0, NONE],
+            Err(why) => [NONE, NONE, NONE, NONE, why.number, why.line, NONE],
+        };
+        for (which, figure) in (0..).zip(figures) {
+            let got = unsafe { trial_estimate(job[start..].as_ptr(), bytes.len(), which) };
+            if got != figure {
+                differs(&format!("number {which} of the estimate, job up to {}", end(bytes)), &got.to_string(), &figure.to_string());
+            }
+        }
+        if job != job_before {
+            differs("the job's bytes", "changed by the estimate", "not changed");
         }
     }
 
@@ -356,10 +499,13 @@ impl State {
         let record = job.as_ref().map_or_else(|why| Err(*why), |job| Ok(Record::of(job)));
         let want = match job {
             Ok(job) => {
-                let found = search(&job);
+                let accepted = Accepted::new(&job);
+                let product = accepted.estimate.across * accepted.estimate.deep;
                 self.axis_costs += u64::from(job.axis != Axis::PLAIN);
-                *(if found.done { &mut self.done } else { &mut self.stopped }) += 1;
-                Ok(report_text(&found))
+                self.product_below += u64::from(product < job.rounds + 1);
+                self.product_equal += u64::from(product == job.rounds + 1);
+                *(if accepted.found.done { &mut self.done } else { &mut self.stopped }) += 1;
+                Ok(accepted)
             }
             Err(why) => {
                 self.refused[why.number as usize] += 1;
@@ -373,9 +519,13 @@ impl State {
         for (i, length) in lengths.into_iter().enumerate() {
             self.call(bytes, &want, length, (any as usize + i) % 2 == 0, (any >> 8) as u8 ^ i as u8);
         }
+        self.check_reports(bytes, &want, any);
+        if let Ok(accepted) = &want {
+            self.check_other_rounds(bytes, accepted.estimate, any);
+        }
         self.check_records(bytes, record, any);
         if self.inputs % self.every == 0 {
-            self.run_program(bytes, &want.unwrap_or_else(refusal_text));
+            self.run_program(bytes, &want.map_or_else(refusal_text, |accepted| accepted.text));
         }
     }
 }

@@ -26,6 +26,7 @@ extern "C" {
 extern "C" {
     fn trial_report(job: *const u8, len: usize, cells: *mut i64, cells_len: usize, out: *mut u8, out_len: usize, which: u64) -> i64;
     fn trial_exhaustive(job: *const u8, len: usize, which: u64) -> i64;
+    fn trial_estimate(job: *const u8, len: usize, which: u64) -> i64;
     fn trial_write(
         coordinates: *const i64,
         coordinates_len: usize,
@@ -165,6 +166,55 @@ fn growth() {
     }
 }
 
+fn proved_estimate(job: &[u8], which: u64) -> i64 {
+    unsafe { trial_estimate(job.as_ptr(), job.len(), which) }
+}
+
+/// The sum of the figures, or the least number for a refusal.
+fn twin_estimate(job: &[u8]) -> i64 {
+    whole::estimate(job).map_or(i64::MIN, |figures| figures.iter().sum::<usize>() as i64)
+}
+
+/// Microseconds a call, each made `turns` times: the estimate, its twin, and the report call of the same job. Estimate and twin must give
+/// the same figures.
+fn time_estimate(name: &str, job: &[u8], turns: i64) -> [f64; 3] {
+    assert_eq!(proved_estimate(job, 4), 0, "{name}: refused");
+    let figures = [0, 1, 2, 3].map(|which| proved_estimate(job, which));
+    assert_eq!(whole::estimate(job).map(|f| f.map(|n| n as i64)), Ok(figures), "{name}: the twin gives another estimate");
+    let [across, deep, cut_limit, cells] = figures;
+    println!("{name}: gaps across {across}, deep {deep}, cut limit {cut_limit}, cells {cells}");
+    let (mut space, mut out) = ([77i64; 5005], [b'x'; 128]);
+    let mut best = [f64::MAX; 3];
+    for _ in 0..4 * REPETITIONS {
+        let (t, r) = timed(|| (0..turns).map(|_| proved_estimate(black_box(job), 3)).sum());
+        assert_eq!(r, turns * cells, "{name}: another estimate");
+        best[0] = best[0].min(t);
+        let (t, r) = timed(|| (0..turns).map(|_| twin_estimate(black_box(job))).sum());
+        assert_eq!(r, turns * figures.iter().sum::<i64>(), "{name}: another estimate of the twin");
+        best[1] = best[1].min(t);
+        let (t, r) = timed(|| (0..turns).map(|_| proved_report(black_box(job), &mut space, &mut out)).sum());
+        assert_eq!(r, 0, "{name}: refused");
+        best[2] = best[2].min(t);
+    }
+    best.map(|t| t / turns as f64 / 1e3)
+}
+
+fn estimates() {
+    println!();
+    let decks = [("largest", LARGEST), ("typical", TYPICAL)].into_iter().chain(slower());
+    let turns = |deck: Sizes| if deck.rounds == 1_000 { 1 } else { 20 };
+    let times: Vec<(&str, [f64; 3])> = decks.map(|(name, deck)| (name, time_estimate(name, &deck.job(), turns(deck)))).collect();
+    println!("{:<52} {:>10} {:>10} {:>7}", "the estimate, us a call", "proved", "twin", "ratio");
+    for (name, [proved, twin, _]) in &times {
+        println!("{name:<52} {proved:>10.1} {twin:>10.1} {:>7.2}", proved / twin);
+    }
+    println!();
+    println!("{:<52} {:>10} {:>10} {:>7}", "the estimate beside the report call, us a call", "estimate", "report", "share");
+    for (name, [estimate, _, report]) in &times {
+        println!("{name:<52} {estimate:>10.1} {report:>10.1} {:>7.3}", estimate / report);
+    }
+}
+
 /// The bytes written, or the least number for a refusal.
 fn proved_write(lists: &write::Lists, out: &mut [u8]) -> i64 {
     let (c, n) = (&lists.coordinates, &lists.naturals);
@@ -270,6 +320,7 @@ fn main() {
     kernels(&twin::Deck::full(Axis { a: 9, b: 9 }, 64, 512), ", axis 9,9");
     reports();
     exhaustive_calls();
+    estimates();
     growth();
     writing();
 }

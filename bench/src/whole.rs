@@ -1,10 +1,11 @@
 //! Hand-written Rust for the whole report call: reading, near, lines, the search with the costs of corners remembered and the cells
-//! in a heap, the text. Three of them, which differ in the stops that a pass of pricing goes over.
+//! in a heap, the text. Three of them, which differ in the stops that a pass of pricing goes over. And for the estimate, which is the
+//! first three steps.
 
 use std::cmp::Reverse;
 use std::collections::BinaryHeap;
 
-use crate::read::{read, Deck, Objects, Rect};
+use crate::read::{read, Deck, Objects, Rect, Refused};
 
 // ---- pricing, all of it at scaled places
 
@@ -81,6 +82,32 @@ impl Deck {
         lines.dedup();
         lines
     }
+}
+
+// ---- the estimate
+
+/// The lines of both axes.
+struct Grid {
+    vertical: Vec<i32>,
+    horizontal: Vec<i32>,
+}
+
+impl Grid {
+    fn new(deck: &Deck, objects: &Objects) -> Grid {
+        Grid { vertical: deck.lines(objects, true), horizontal: deck.lines(objects, false) }
+    }
+
+    /// Gaps across, gaps deep, the cut limit, the cells that suffice.
+    fn estimate(&self, rounds: usize) -> [usize; 4] {
+        let (across, deep) = ((self.vertical.len() - 1).max(1), (self.horizontal.len() - 1).max(1));
+        [across, deep, across * deep - 1, (rounds + 1).min(across * deep)]
+    }
+}
+
+/// The estimate from the job's bytes on, by the lines.
+pub fn estimate(job: &[u8]) -> Result<[usize; 4], Refused> {
+    let (deck, objects) = read(job)?;
+    Ok(Grid::new(&deck, &objects).estimate(deck.rounds))
 }
 
 // ---- the stops of a cell
@@ -239,9 +266,8 @@ struct Found {
     rounds: usize,
 }
 
-fn search<P: Pricing>(deck: &Deck, objects: &Objects, pricing: &mut P, out: &mut [i64]) -> Found {
-    let (vertical, horizontal) = (deck.lines(objects, true), deck.lines(objects, false));
-    let (vs, hs) = (&vertical[..], &horizontal[..]);
+fn search<P: Pricing>(deck: &Deck, grid: &Grid, pricing: &mut P, out: &mut [i64]) -> Found {
+    let (vs, hs) = (&grid.vertical[..], &grid.horizontal[..]);
     let edges = |x: (u16, u16), y: (u16, u16)| {
         let ((xlo, xhi), (ylo, yhi)) = ((vs[x.0 as usize], vs[x.1 as usize]), (hs[y.0 as usize], hs[y.1 as usize]));
         Rect { xlo, ylo, xhi, yhi }
@@ -346,18 +372,19 @@ impl Text<'_> {
 }
 
 /// 0 for a report, else minus the number of the refusal, as `proved_report`.
-fn report_with(job: &[u8], cells: &mut [i64], out: &mut [u8], find: impl FnOnce(&Deck, &Objects, &mut [i64]) -> Found) -> i64 {
+fn report_with(job: &[u8], cells: &mut [i64], out: &mut [u8], find: impl FnOnce(&Deck, &Objects, &Grid, &mut [i64]) -> Found) -> i64 {
     let (deck, objects) = match read(job) {
         Ok(read) => read,
         Err((number, _)) => return -number,
     };
-    if cells.len() < 5 * (deck.rounds + 1) {
+    let grid = Grid::new(&deck, &objects);
+    if cells.len() < 5 * grid.estimate(deck.rounds)[3] {
         return -7;
     }
     if out.len() < 128 {
         return -8;
     }
-    let f = find(&deck, &objects, cells);
+    let f = find(&deck, &objects, &grid, cells);
     let mut t = Text { out, at: 0 };
     t.put(b"state=").put(if f.done { b"done" } else { b"stopped" });
     t.put(b"\nat=").number(f.best.1 as i64).put(b",").number(f.best.2 as i64);
@@ -367,13 +394,13 @@ fn report_with(job: &[u8], cells: &mut [i64], out: &mut [u8], find: impl FnOnce(
 }
 
 pub fn report(job: &[u8], cells: &mut [i64], out: &mut [u8]) -> i64 {
-    report_with(job, cells, out, |deck, objects, cells| search(deck, objects, &mut All(objects), cells))
+    report_with(job, cells, out, |deck, objects, grid, cells| search(deck, grid, &mut All(objects), cells))
 }
 
 pub fn report_reaching(job: &[u8], cells: &mut [i64], out: &mut [u8]) -> i64 {
-    report_with(job, cells, out, |deck, objects, cells| search(deck, objects, &mut Reaching::new(deck, objects), cells))
+    report_with(job, cells, out, |deck, objects, grid, cells| search(deck, grid, &mut Reaching::new(deck, objects), cells))
 }
 
 pub fn report_listed(job: &[u8], cells: &mut [i64], out: &mut [u8]) -> i64 {
-    report_with(job, cells, out, |deck, objects, cells| search(deck, objects, &mut Listed { rows: objects.sites().collect() }, cells))
+    report_with(job, cells, out, |deck, objects, grid, cells| search(deck, grid, &mut Listed { rows: objects.sites().collect() }, cells))
 }

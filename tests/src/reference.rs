@@ -1,5 +1,5 @@
 //! Document 01 as a plain program: reading, pricing, the search by cells over the whole partition, the full walk, the report text; and
-//! of document 02 the writing of jobs (card 1) and axis costs (card 2).
+//! of document 02 the writing of jobs (card 1), axis costs (card 2) and the estimate (card 3).
 //! It is written to be read beside these and is slow on purpose: cells are never dropped, and nothing is kept in order.
 
 use std::cmp::Ordering;
@@ -367,6 +367,48 @@ pub fn cut(vertical: &[i64], horizontal: &[i64], r: Rect) -> Option<(bool, i64)>
     }
 }
 
+// ---- the estimate
+
+/// What a job will need. No place is priced for it.
+#[derive(Clone, Copy, Debug, PartialEq, Eq)]
+pub struct Estimate {
+    pub across: i64,
+    pub deep: i64,
+    /// No search of the deck makes more cuts, with any number of rounds.
+    pub cut_limit: i64,
+    /// So many cells suffice for the job's rounds.
+    pub cells: i64,
+}
+
+impl Estimate {
+    /// The numbers of cell space that these cells take.
+    pub fn numbers(&self) -> usize {
+        5 * self.cells as usize
+    }
+}
+
+/// The gaps between neighbouring lines, at least one.
+fn gaps(lines: &[i64]) -> i64 {
+    (lines.len() as i64 - 1).max(1)
+}
+
+pub fn estimate(job: &Job) -> Estimate {
+    let deck = Deck::new(job);
+    let (across, deep) = (gaps(&deck.vertical()), gaps(&deck.horizontal()));
+    Estimate { across, deep, cut_limit: across * deep - 1, cells: (job.rounds + 1).min(across * deep) }
+}
+
+/// Whether the report call of an accepted job is lent enough: refusal 7 for the numbers of cell space, then 8 for the bytes of output.
+pub fn lent_enough(estimate: &Estimate, cells: usize, out: usize) -> Result<(), Refusal> {
+    if cells < estimate.numbers() {
+        return Err(refuse(7, 0));
+    }
+    if out < 128 {
+        return Err(refuse(8, 0));
+    }
+    Ok(())
+}
+
 // ---- the search by cells
 
 #[derive(Clone, Debug, PartialEq, Eq)]
@@ -511,6 +553,11 @@ mod tests {
         }
         assert_eq!(exhaustive(&job), (13, (4, 3)));
         assert_eq!(brute_force(&job), (13, (4, 3)));
+        let quote = estimate(&job);
+        assert_eq!(quote, Estimate { across: 2, deep: 2, cut_limit: 3, cells: 4 });
+        for (cells, out, refused) in [(20, 128, 0), (19, 128, 7), (19, 127, 7), (20, 127, 8)] {
+            assert_eq!(lent_enough(&quote, cells, out).map_or_else(|why| why.number, |()| 0), refused);
+        }
         assert_eq!(spell(&job), A.as_bytes());
         assert_eq!(write(&Record::of(&job), A.len()), Ok(A.into()));
         assert_eq!(write(&Record::of(&job), A.len() - 1), Err(Refusal { number: 8, line: 0 }));

@@ -14,6 +14,7 @@ extern "C" {
 extern "C" {
     fn trial_report(job: *const u8, len: usize, cells: *mut i64, cells_len: usize, out: *mut u8, out_len: usize, which: u64) -> i64;
     fn trial_exhaustive(job: *const u8, len: usize, which: u64) -> i64;
+    fn trial_estimate(job: *const u8, len: usize, which: u64) -> i64;
     fn trial_read(
         job: *const u8,
         len: usize,
@@ -128,6 +129,12 @@ pub fn exhaustive(job: &[u8], which: u64) -> i64 {
 /// The line of its refusal, and 0 for none.
 pub fn exhaustive_line(job: &[u8]) -> u64 {
     exhaustive_figure(job, 4) as u64
+}
+
+/// A number of the estimate call's answer, from 0: gaps across, gaps deep, the cut limit, the cells that suffice, the number of the
+/// refusal, its line (0 and 0 for none). The least number where there is none.
+pub fn estimate(job: &[u8], which: u64) -> i64 {
+    unsafe { trial_estimate(job.as_ptr(), job.len(), which) }
 }
 
 // ---- records, as the two lists of `Record::lists`. Lists of other lengths get the least number, and nothing changes

@@ -1,6 +1,24 @@
-//! Jobs with an axis line, and some without, each with the report or the refusal that documents 01 and 02 give it.
+//! The marked decks of document 01. And jobs with an axis line, and some without, each with the report or the refusal that documents 01 and
+//! 02 give it.
 
 use crate::decks::CASE_A;
+
+pub fn case_a(rounds: i64) -> String {
+    format!("area=2,2,8,8\nposts=1\npost=0,0\nstops=2\nstop=4,3,2\nstop=8,12,1\nrounds={rounds}\n")
+}
+
+/// Stops at both ends of the area: every place between costs the same.
+pub fn case_b(rounds: i64) -> String {
+    format!("area=0,0,10,0\nposts=1\npost=0,50\nstops=2\nstop=0,0,1\nstop=10,0,1\nrounds={rounds}\n")
+}
+
+pub fn case_c(rounds: i64) -> String {
+    case_a(rounds).replace("2,2,8,8", "5,5,5,5")
+}
+
+pub fn case_d(rounds: i64) -> String {
+    format!("area=0,0,9,0\nposts=1\npost=5,1\nstops=1\nstop=5,0,1\nrounds={rounds}\n")
+}
 
 /// A narrow deck whose best place is another one under 1,1, under 2,1 and under 1,2.
 pub fn narrow(axis_line: &str, rounds: i64) -> String {

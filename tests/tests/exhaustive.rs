@@ -3,7 +3,7 @@
 use siting_tests::generate::{axis, crowded, damaged, each_job, job, job_of, largest, noise, seed, special, spelled, Random};
 use siting_tests::reference::{brute_force, exhaustive, read, search, spell, Axis, Job, Place, Rect, Refusal, Stop};
 use siting_tests::trial;
-use siting_tests::vectors::{narrow, refusals, reports};
+use siting_tests::vectors::{case_a, case_b, case_c, case_d, narrow, refusals, reports};
 
 const LEAST: i64 = i64::MIN;
 
@@ -182,10 +182,6 @@ fn damaged_jobs_are_refused_as_the_reference_refuses_them() {
 
 // ---- the decks of document 01
 
-fn case_a(rounds: i64) -> String {
-    format!("area=2,2,8,8\nposts=1\npost=0,0\nstops=2\nstop=4,3,2\nstop=8,12,1\nrounds={rounds}\n")
-}
-
 fn finds(bytes: &str, cost: i64, at: Place) {
     let mut random = Random::new(1);
     assert_eq!(answer(&mut random, bytes.as_bytes()), Ok((cost, at)), "{bytes}");
@@ -199,10 +195,9 @@ fn finds(bytes: &str, cost: i64, at: Place) {
 fn the_marked_decks_have_the_places_of_document_01() {
     for rounds in [0, 1, 2, 3, 10, 1_000] {
         finds(&case_a(rounds), 13, (4, 3));
-        // stops at both ends: every place between costs the same
-        finds(&format!("area=0,0,10,0\nposts=1\npost=0,50\nstops=2\nstop=0,0,1\nstop=10,0,1\nrounds={rounds}\n"), 10, (0, 0));
-        finds(&case_a(rounds).replace("2,2,8,8", "5,5,5,5"), 16, (5, 5));
-        finds(&format!("area=0,0,9,0\nposts=1\npost=5,1\nstops=1\nstop=5,0,1\nrounds={rounds}\n"), 0, (5, 0));
+        finds(&case_b(rounds), 10, (0, 0));
+        finds(&case_c(rounds), 16, (5, 5));
+        finds(&case_d(rounds), 0, (5, 0));
     }
 }
 

@@ -1,10 +1,10 @@
 //! The proved report call against the reference: answer, text, cell space and all that stays as it was, on random jobs and lent memory.
 
 use siting_tests::generate::{damaged, each_job, job, job_of, largest, noise, seed, special, spelled, Random};
-use siting_tests::reference::{brute_force, exhaustive, read, refusal_text, report_text, search, spell};
-use siting_tests::reference::{Axis, Deck, Found, Job, Rect, Refusal, Stop};
+use siting_tests::reference::{brute_force, estimate, exhaustive, lent_enough, read, refusal_text, report_text, search, spell};
+use siting_tests::reference::{Axis, Deck, Estimate, Found, Job, Rect, Refusal, Stop};
 use siting_tests::trial;
-use siting_tests::vectors::{deep, narrow, refusals, reports};
+use siting_tests::vectors::{case_a, case_b, case_c, case_d, deep, narrow, refusals, reports};
 
 const LEAST: i64 = i64::MIN;
 
@@ -24,38 +24,40 @@ fn lent(random: &mut Random, cells: usize, out: usize) -> Lent {
     }
 }
 
-/// The numbers of cell space that a job asks for.
-fn enough(rounds: i64) -> usize {
-    5 * (rounds as usize + 1)
-}
-
 // ---- what is expected
 
-/// What the call gives for a job, if enough is lent: the job with its search, or the refusal.
-type Answer = Result<(Job, Found), Refusal>;
+/// An accepted job with what it needs and its search.
+struct Accepted {
+    job: Job,
+    estimate: Estimate,
+    found: Found,
+}
+
+/// What the call gives for a job, if enough is lent, or the refusal.
+type Answer = Result<Accepted, Refusal>;
 
 fn answer(bytes: &[u8]) -> Answer {
     read(bytes).map(|job| {
-        let found = search(&job);
-        (job, found)
+        let (estimate, found) = (estimate(&job), search(&job));
+        Accepted { job, estimate, found }
     })
 }
 
 /// The answer with what is lent, and what the memory holds then.
 fn expected(answer: &Answer, before: &Lent) -> (Result<Found, Refusal>, Lent) {
-    let refuse = |number| (Err(Refusal { number, line: 0 }), before.clone());
-    match answer {
-        Err(r) => (Err(*r), before.clone()),
-        Ok((job, _)) if before.cells.len() < enough(job.rounds) => refuse(7),
-        Ok(_) if before.out.len() < 128 => refuse(8),
-        Ok((_, found)) => {
-            let mut cells = found.cells.clone();
-            cells.resize(before.cells.len(), 0);
-            let mut out = report_text(found).into_bytes();
-            out.extend_from_slice(&before.out[out.len()..]);
-            (Ok(found.clone()), Lent { cells, out })
-        }
+    let refused = |why| (Err(why), before.clone());
+    let (estimate, found) = match answer {
+        Err(why) => return refused(*why),
+        Ok(accepted) => (&accepted.estimate, &accepted.found),
+    };
+    if let Err(why) = lent_enough(estimate, before.cells.len(), before.out.len()) {
+        return refused(why);
     }
+    let mut cells = found.cells.clone();
+    cells.resize(before.cells.len(), 0);
+    let mut out = report_text(found).into_bytes();
+    out.extend_from_slice(&before.out[out.len()..]);
+    (Ok(found.clone()), Lent { cells, out })
 }
 
 fn figures(answer: &Result<Found, Refusal>) -> [i64; 7] {
@@ -108,6 +110,10 @@ fn text(bytes: &[u8]) -> String {
 struct Seen {
     jobs: usize,
     axis_costs: usize,
+    /// Fewer cells than rounds + 1 suffice.
+    few_cells: usize,
+    /// A cell space just large enough holds live cells to its end.
+    full: usize,
     refusals: [usize; 9],
     done: usize,
     stopped: usize,
@@ -134,8 +140,15 @@ impl Seen {
 fn check_job(random: &mut Random, bytes: &[u8], seen: &mut Seen) {
     let answer = answer(bytes);
     seen.jobs += 1;
-    seen.axis_costs += answer.as_ref().is_ok_and(|(job, _)| job.axis != Axis::PLAIN) as usize;
-    let need = answer.as_ref().map_or(random.range(0, 60) as usize, |(job, _)| enough(job.rounds));
+    let need = match &answer {
+        Ok(Accepted { job, estimate, found }) => {
+            seen.axis_costs += (job.axis != Axis::PLAIN) as usize;
+            seen.few_cells += (estimate.cells <= job.rounds) as usize;
+            seen.full += (found.cells.len() == estimate.numbers()) as usize;
+            estimate.numbers()
+        }
+        Err(_) => random.range(0, 60) as usize,
+    };
     let outs = [127, 128, 129, random.range(0, 600) as usize, random.range(128, 300) as usize];
     let any_out = outs[random.range(0, 4) as usize];
     let large_out = outs[[1, 2, 4][random.range(0, 2) as usize]];
@@ -166,6 +179,7 @@ fn reports_are_those_of_the_reference() {
     let seen = check_jobs(20_000, spelled(job));
     assert!(seen.done > 5_000 && seen.stopped > 1_000 && seen.negative_low > 50 && seen.most_cells > 20, "{seen:?}");
     assert!(seen.refusals[7] > 5_000 && seen.refusals[8] > 5_000 && seen.axis_costs > 8_000, "{seen:?}");
+    assert!(seen.few_cells > 5_000 && seen.full > 100, "{seen:?}");
 }
 
 #[test]
@@ -203,7 +217,7 @@ fn damaged_jobs_are_refused_as_the_reference_refuses_them() {
 /// A report's figures, by the call alone.
 fn reported(random: &mut Random, j: &Job) -> Found {
     let bytes = spell(j);
-    let before = lent(random, enough(j.rounds), 128);
+    let before = lent(random, estimate(j).numbers(), 128);
     let f: Vec<i64> = (0..7)
         .map(|which| {
             let mut m = before.clone();
@@ -232,8 +246,7 @@ fn every_point_of_a_small_area_costs_what_the_report_says() {
         let deck = Deck::new(&j);
         let costs: Vec<i64> = (a.xlo..=a.xhi).flat_map(|x| (a.ylo..=a.yhi).map(move |y| (x, y))).map(|p| deck.cost(p)).collect();
         let cheapest = brute_force(&j);
-        let gaps = |lines: Vec<i64>| (lines.len() as i64 - 1).max(1);
-        let most_cuts = gaps(deck.vertical()) * gaps(deck.horizontal()) - 1;
+        let most_cuts = estimate(&j).cut_limit;
         let mut last: Option<Found> = None;
         for rounds in [0, 1, 2, 3, 4, 5, 6, 9, 14, 30, 1_000] {
             let j = Job { rounds, ..j.clone() };
@@ -267,10 +280,6 @@ fn every_point_of_a_small_area_costs_what_the_report_says() {
 
 // ---- the decks of document 01
 
-fn case_a(rounds: i64) -> String {
-    format!("area=2,2,8,8\nposts=1\npost=0,0\nstops=2\nstop=4,3,2\nstop=8,12,1\nrounds={rounds}\n")
-}
-
 /// The result with `cells` numbers and `out` bytes of garbage, the line, and the memory.
 fn call(bytes: &[u8], cells: usize, out: usize) -> (i64, u64, Lent) {
     let mut random = Random::new(1);
@@ -301,18 +310,15 @@ fn the_marked_decks_print_what_document_01_says() {
     prints(&case_a(1), "state=stopped\nat=4,2\nhigh=16\nlow=4\nbefore=34\nrounds=1\n");
     prints(&case_a(2), "state=stopped\nat=4,3\nhigh=13\nlow=8\nbefore=34\nrounds=2\n");
     prints(&case_a(3), "state=done\nat=4,3\nhigh=13\nlow=13\nbefore=34\nrounds=3\n");
-    let b = "area=0,0,10,0\nposts=1\npost=0,50\nstops=2\nstop=0,0,1\nstop=10,0,1\nrounds=10\n";
-    prints(b, "state=done\nat=0,0\nhigh=10\nlow=10\nbefore=110\nrounds=0\n");
-    let c = case_a(10).replace("2,2,8,8", "5,5,5,5");
-    prints(&c, "state=done\nat=5,5\nhigh=16\nlow=16\nbefore=34\nrounds=0\n");
-    let d = |rounds| format!("area=0,0,9,0\nposts=1\npost=5,1\nstops=1\nstop=5,0,1\nrounds={rounds}\n");
-    prints(&d(0), "state=stopped\nat=0,0\nhigh=1\nlow=-3\nbefore=1\nrounds=0\n");
-    prints(&d(1), "state=done\nat=5,0\nhigh=0\nlow=0\nbefore=1\nrounds=1\n");
+    prints(&case_b(10), "state=done\nat=0,0\nhigh=10\nlow=10\nbefore=110\nrounds=0\n");
+    prints(&case_c(10), "state=done\nat=5,5\nhigh=16\nlow=16\nbefore=34\nrounds=0\n");
+    prints(&case_d(0), "state=stopped\nat=0,0\nhigh=1\nlow=-3\nbefore=1\nrounds=0\n");
+    prints(&case_d(1), "state=done\nat=5,0\nhigh=0\nlow=0\nbefore=1\nrounds=1\n");
 }
 
 /// The live cells that a report leaves, from a cell space with room for more.
 fn live(job: &str) -> Vec<i64> {
-    let cells = enough(read(job.as_bytes()).unwrap().rounds) + 7;
+    let cells = estimate(&read(job.as_bytes()).unwrap()).numbers() + 7;
     let (r, _, m) = call(job.as_bytes(), cells, 128);
     assert_eq!(r, 0);
     let used = m.cells.chunks(5).take_while(|c| c.iter().any(|&v| v != 0)).count() * 5;
@@ -350,6 +356,41 @@ fn the_live_cells_of_decks_with_axis_costs() {
     assert_eq!(live(&deep(1)), [0, 0, 3, 2, 0]);
 }
 
+/// Worked out by hand: the cells that suffice, five numbers each, and the live ones of them. All of the space is written.
+#[test]
+fn the_cell_space_of_the_marked_decks() {
+    let rows: [(String, usize, &[i64]); 13] = [
+        (case_a(0), 1, &[2, 2, 8, 8, 4]),
+        (case_a(1), 2, &[4, 2, 8, 8, 4, 2, 2, 4, 8, 8]),
+        (case_a(2), 3, &[2, 2, 4, 8, 8]),
+        (case_a(3), 4, &[]),
+        (case_a(4), 4, &[]),
+        (case_a(10), 4, &[]),
+        (case_a(1_000), 4, &[]),
+        (case_b(0), 1, &[]),
+        (case_b(10), 1, &[]),
+        (case_c(10), 1, &[]),
+        (case_d(0), 1, &[0, 0, 9, 0, -3]),
+        (case_d(1), 2, &[]),
+        (case_d(10), 2, &[]),
+    ];
+    for (job, cells, live) in rows {
+        let (job, numbers) = (job.as_bytes(), 5 * cells);
+        for more in [0, 1, 5, 35, 5_005] {
+            let (r, _, m) = call(job, numbers + more, 128);
+            assert_eq!(r, 0, "{}", text(job));
+            assert_eq!(m.cells[..live.len()], *live, "{}", text(job));
+            assert!(m.cells[live.len()..].iter().all(|&v| v == 0), "{}", text(job));
+        }
+        let less = numbers - 1;
+        // 7 before 8, with any output
+        for (lent, out, number) in [(less, 128, 7), (less, 127, 7), (0, 0, 7), (0, 300, 7), (numbers, 127, 8), (numbers + 1, 0, 8)] {
+            let (r, line, _) = call(job, lent, out);
+            assert_eq!((-r, line), (number, 0), "{lent} numbers, {out} bytes\n{}", text(job));
+        }
+    }
+}
+
 #[test]
 fn the_vectors_get_what_they_say() {
     for (job, report) in reports() {
@@ -373,13 +414,6 @@ fn the_other_decks_of_document_01() {
         refused(lines.concat().as_bytes(), 2, line as i64);
     }
     let a = case_a(10);
-    assert_eq!(call(a.as_bytes(), 55, 128).0, 0);
-    assert_eq!(call(a.as_bytes(), 54, 128).0, -7);
-    assert_eq!(call(a.as_bytes(), 55, 127).0, -8);
-    assert_eq!(call(a.as_bytes(), 54, 127).0, -7);
-    assert_eq!(call(a.as_bytes(), 0, 0).0, -7);
-    assert_eq!(call(case_a(0).as_bytes(), 5, 128).0, 0);
-    assert_eq!(call(case_a(0).as_bytes(), 4, 128).0, -7);
     refused(a.replace("posts=1\n", "posts=65\n").as_bytes(), 3, 2);
     refused(a.replace("2,2,8,8", "8,2,2,8").as_bytes(), 4, 0);
     refused(a.replace("2,2,8,8", "2,8,8,2").as_bytes(), 4, 0);
