@@ -338,23 +338,23 @@ impl State {
         };
         let (space, output) = (cells[cell..].as_mut_ptr().cast(), out[first..].as_mut_ptr());
         let got = unsafe { trial_report(job[start..].as_ptr(), bytes.len(), space, numbers, output, length, which) };
-        let lent = format!("with {numbers} numbers of cell space and {length} bytes of output, job up to {}", end(bytes));
+        let lent = || format!("with {numbers} numbers of cell space and {length} bytes of output, job up to {}", end(bytes));
         if got != figure {
-            differs(&format!("number {which} of the report {lent}"), &got.to_string(), &figure.to_string());
+            differs(&format!("number {which} of the report {}", lent()), &got.to_string(), &figure.to_string());
         }
         if cells != cells_after {
-            differs(&format!("the cell space, from byte {cell}, {lent}"), &format!("{cells:?}"), &format!("{cells_after:?}"));
+            differs(&format!("the cell space, from byte {cell}, {}", lent()), &format!("{cells:?}"), &format!("{cells_after:?}"));
         }
         if out != out_after {
             let text = |bytes: &[u8]| bytes.escape_ascii().to_string();
-            differs(&format!("the output, from byte {first}, {lent}"), &text(out), &text(&out_after));
+            differs(&format!("the output, from byte {first}, {}", lent()), &text(out), &text(&out_after));
         }
         if job != job_before {
             differs("the job's bytes", "changed by the report call", "not changed");
         }
     }
 
-    /// The estimate, and report calls with cell space around what the job needs and outputs that do and that do not.
+    /// The estimate, and report calls with cell space around what the job needs and with outputs that are long enough and too short.
     fn check_reports(&mut self, bytes: &[u8], want: &Result<Accepted, Refusal>, any: u64) {
         self.estimate(bytes, want, any & 1 == 0, any as u8);
         let need = want.as_ref().map_or(1 + any as usize % 60, |accepted| accepted.estimate.numbers());
@@ -366,7 +366,7 @@ impl State {
         }
     }
 
-    /// An accepted job with other rounds, whose successor is about the product of the gaps.
+    /// An accepted job with other rounds: rounds + 1 is the product of its gaps, or one less or more.
     fn check_other_rounds(&mut self, bytes: &[u8], estimate: Estimate, any: u64) {
         let rounds = estimate.cut_limit + (any >> 16) as i64 % 3 - 1;
         if (0..=1_000).contains(&rounds) {

@@ -149,7 +149,7 @@ fn check(random: &mut Random, bytes: &[u8], seen: &mut Seen) {
     seen.add(&job, &want);
     // the cells alone depend on the rounds
     let product = want.across * want.deep;
-    for rounds in [job.rounds, 0, 1, product - 2, product - 1, product, random.range(0, 1_000), 1_000] {
+    for rounds in [job.rounds, 0, 1, product - 2, product - 1, product, random.range(0, 1_000), 999, 1_000] {
         if (0..=1_000).contains(&rounds) {
             let quote = Estimate { cells: product.min(rounds + 1), ..want };
             assert_eq!(answer(random, &spell(&Job { rounds, ..job.clone() })), Ok(quote), "rounds {rounds}\n{}", text(bytes));
