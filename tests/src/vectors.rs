@@ -20,6 +20,24 @@ pub fn case_d(rounds: i64) -> String {
     format!("area=0,0,9,0\nposts=1\npost=5,1\nstops=1\nstop=5,0,1\nrounds={rounds}\n")
 }
 
+/// Jobs that reading refuses, for each of 1 to 6, with the number and the line.
+pub fn refused_in_reading() -> Vec<(Vec<u8>, i64, i64)> {
+    let a = case_a(10);
+    vec![
+        (vec![b'a'; 16_385], 1, 0),
+        (vec![b'a'; 16_384], 2, 1),
+        (vec![], 2, 1),
+        (a.as_bytes()[..a.len() - 1].to_vec(), 2, 7),
+        ((a.clone() + "\n").into_bytes(), 2, 8),
+        (case_a(1_001).into_bytes(), 3, 7),
+        (a.replace("posts=1\n", "posts=65\n").into_bytes(), 3, 2),
+        (a.replace("2,2,8,8", "8,2,2,8").into_bytes(), 4, 0),
+        (a.replace("2,2,8,8", "2,8,8,2").into_bytes(), 4, 0),
+        (a.replace("posts=1\npost=0,0\n", "posts=0\n").into_bytes(), 5, 0),
+        (a.replace("stops=2\nstop=4,3,2\nstop=8,12,1\n", "stops=0\n").into_bytes(), 6, 0),
+    ]
+}
+
 /// A narrow deck whose best place is another one under 1,1, under 2,1 and under 1,2.
 pub fn narrow(axis_line: &str, rounds: i64) -> String {
     format!("area=1,1,3,9\n{axis_line}posts=1\npost=4,6\nstops=2\nstop=6,1,1\nstop=2,4,1\nrounds={rounds}\n")

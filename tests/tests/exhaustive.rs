@@ -3,7 +3,7 @@
 use siting_tests::generate::{axis, crowded, damaged, each_job, job, job_of, largest, noise, seed, special, spelled, Random};
 use siting_tests::reference::{brute_force, exhaustive, read, search, spell, Axis, Job, Place, Rect, Refusal, Stop};
 use siting_tests::trial;
-use siting_tests::vectors::{case_a, case_b, case_c, case_d, narrow, refusals, reports};
+use siting_tests::vectors::{case_a, case_b, case_c, case_d, narrow, refusals, refused_in_reading, reports};
 
 const LEAST: i64 = i64::MIN;
 
@@ -232,16 +232,7 @@ fn refused(bytes: &[u8], number: i64, line: i64) {
 
 #[test]
 fn refusals_are_those_of_reading() {
-    refused(&[b'a'; 16_385], 1, 0);
-    refused(&[b'a'; 16_384], 2, 1);
-    refused(b"", 2, 1);
-    let a = case_a(10);
-    refused(&a.as_bytes()[..a.len() - 1], 2, 7);
-    refused((a.clone() + "\n").as_bytes(), 2, 8);
-    refused(case_a(1_001).as_bytes(), 3, 7);
-    refused(a.replace("posts=1\n", "posts=65\n").as_bytes(), 3, 2);
-    refused(a.replace("2,2,8,8", "8,2,2,8").as_bytes(), 4, 0);
-    refused(a.replace("2,2,8,8", "2,8,8,2").as_bytes(), 4, 0);
-    refused(a.replace("posts=1\npost=0,0\n", "posts=0\n").as_bytes(), 5, 0);
-    refused(a.replace("stops=2\nstop=4,3,2\nstop=8,12,1\n", "stops=0\n").as_bytes(), 6, 0);
+    for (job, number, line) in refused_in_reading() {
+        refused(&job, number, line);
+    }
 }
