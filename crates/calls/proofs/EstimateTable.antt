@@ -13,7 +13,6 @@ use Rattle.calls.specs.EstimateTable.{EstimateTable, diagonal}
 pub estimate-table : EstimateTable
 unfolding estimateCall reportCall entry answerText bytes flatMap spell diagonal
 estimate-table = record {
-  names = refl;
   A = refl;
   A-0 = refl;
   A-1 = refl;

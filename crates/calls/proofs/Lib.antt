@@ -12,4 +12,5 @@ pub mod WriteTable
 pub mod AxisTable
 pub mod EstimateCall
 pub mod EstimateTable
+pub mod AnswerRows
 pub mod Theorems

@@ -17,6 +17,7 @@ use Rattle.calls.proofs.CaseA.{case-A}
 use Rattle.calls.proofs.WriteTable.{write-table}
 use Rattle.calls.proofs.AxisTable.{axis-table}
 use Rattle.calls.proofs.EstimateTable.{estimate-table}
+use Rattle.calls.proofs.AnswerRows.{answer-rows}
 
 pub theorems : Theorems
 theorems = record {
@@ -36,6 +37,7 @@ theorems = record {
   write-table = write-table;
   axis-table = axis-table;
   estimate-table = estimate-table;
+  answer-rows = answer-rows;
   job-vectors = JobVectors.vectors;
   report-vectors = ReportVectors.vectors;
   rules = query-theorems;

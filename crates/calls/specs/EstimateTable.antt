@@ -12,7 +12,7 @@ use Rattle.query.specs.Marked.{at, rect, stop}
 use Rattle.query.specs.Rows.{needs}
 use Rattle.text.specs.Ascii.{bytes}
 use Rattle.job.specs.Spelling.{spell}
-use Rattle.calls.specs.Answers.{gives, refuses, estimateNumbers}
+use Rattle.calls.specs.Answers.{gives, refuses}
 use Rattle.calls.specs.Entry.{entry}
 use Rattle.calls.specs.Program.{answerText}
 use Rattle.calls.specs.EstimateCall.{estimateCall}
@@ -49,8 +49,6 @@ manyGaps = spell false (record {
 })
 
 pub record EstimateTable : Type 0 where
-  -- which number of the code's record is which
-  pub names : estimateNumbers (record { across = 1; deep = 2; limit = 3; cells = 4 }) ≡ needs 1 2 3 4
   -- the marked decks; A also with 10 and with the most rounds
   pub A : estimateCall (ended caseA) ≡ gives (needs 2 2 3 4)
   pub A-0 : estimateCall (withRounds "rounds=0") ≡ gives (needs 2 2 3 1)

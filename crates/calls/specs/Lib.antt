@@ -17,4 +17,5 @@ pub mod CaseA
 pub mod WriteTable
 pub mod AxisTable
 pub mod EstimateTable
+pub mod AnswerRows
 pub mod Theorems

@@ -24,6 +24,7 @@ use Rattle.calls.specs.CaseA.{CaseA}
 use Rattle.calls.specs.WriteTable.{WriteTable}
 use Rattle.calls.specs.AxisTable.{AxisTable}
 use Rattle.calls.specs.EstimateTable.{EstimateTable}
+use Rattle.calls.specs.AnswerRows.{AnswerRows}
 use Rattle.refusal.specs.declared.Refusal.{Refusal}
 
 pub record Theorems : Type 0 where
@@ -52,5 +53,7 @@ pub record Theorems : Type 0 where
   pub write-table : WriteTable
   pub axis-table : AxisTable
   pub estimate-table : EstimateTable
+  -- what the numbers of the code's records are called
+  pub answer-rows : AnswerRows
   -- the rules, for every deck and every number of rounds
   pub rules : QueryTheorems
