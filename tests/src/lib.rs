@@ -7,3 +7,8 @@ pub mod program;
 pub mod reference;
 pub mod trial;
 pub mod vectors;
+
+/// A job's bytes for the message of a test that fails.
+pub fn text(bytes: &[u8]) -> String {
+    String::from_utf8_lossy(bytes).into_owned()
+}

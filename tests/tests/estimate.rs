@@ -2,16 +2,13 @@
 
 use siting_tests::generate::{axis, crowded, damaged, each_job, job, job_of, largest, noise, seed, special, spelled, Random};
 use siting_tests::reference::{estimate, read, search, spell, Axis, Deck, Estimate, Job, Rect, Refusal, Stop};
+use siting_tests::text;
 use siting_tests::trial;
 use siting_tests::vectors::{case_a, case_b, case_c, case_d, deep, narrow, refusals, refused_in_reading, reports};
 use std::cmp::Ordering;
 use std::collections::BTreeSet;
 
 const LEAST: i64 = i64::MIN;
-
-fn text(bytes: &[u8]) -> String {
-    String::from_utf8_lossy(bytes).into_owned()
-}
 
 /// The answer by the call. All figures are asked for, those that are not there too.
 fn answer(random: &mut Random, bytes: &[u8]) -> Result<Estimate, Refusal> {

@@ -3,6 +3,7 @@
 use siting_tests::generate::{damaged, each_job, job, job_of, largest, noise, seed, special, spelled, Random};
 use siting_tests::reference::{brute_force, estimate, exhaustive, lent_enough, read, refusal_text, report_text, search, spell};
 use siting_tests::reference::{Axis, Deck, Estimate, Found, Job, Rect, Refusal, Stop};
+use siting_tests::text;
 use siting_tests::trial;
 use siting_tests::vectors::{case_a, case_b, case_c, case_d, deep, narrow, refusals, reports};
 
@@ -99,10 +100,6 @@ fn check(random: &mut Random, bytes: &[u8], answer: &Answer, before: Lent, whole
         check_figure(bytes, &before, &after, which as u64, numbers[which as usize]);
     }
     want
-}
-
-fn text(bytes: &[u8]) -> String {
-    String::from_utf8_lossy(bytes).into_owned()
 }
 
 /// How often each answer was seen.

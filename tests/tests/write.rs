@@ -4,6 +4,7 @@
 use siting_tests::decks::{folder, CASE_A};
 use siting_tests::generate::{damaged, each_job, job, job_of, largest, noise, seed, special, spelled, Random};
 use siting_tests::reference::{read, saved, spell, spell_out, write, Axis, Job, Record, Refusal};
+use siting_tests::text;
 use siting_tests::trial;
 use siting_tests::vectors::{behind, refusals, reports};
 
@@ -11,10 +12,6 @@ const LEAST: i64 = i64::MIN;
 
 /// The bytes before and behind the output that must stay too.
 const BESIDE: usize = 16;
-
-fn text(bytes: &[u8]) -> String {
-    String::from_utf8_lossy(bytes).into_owned()
-}
 
 // ---- checks
 

@@ -1,4 +1,4 @@
--- Which number of an answer's record in the code is which of document 01 and 02. All of them differ, so that no two can be exchanged.
+-- Which number of an answer's record in the code is which of documents 01 and 02. All of them differ, so that no two can be exchanged.
 -- Assumes nothing.
 use mathlib.Core.Path.{_≡_}
 use lib.IntN.{pos}

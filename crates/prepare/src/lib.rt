@@ -1,4 +1,5 @@
-// The problem of a deck as both searches take it, prepared once for each call: its area, the columns of its objects and its lines.
+// The problem of a deck as both searches and the estimate take it, prepared once for each call: its area, the columns of its objects and
+// its lines.
 use deck::Deck;
 use deck::Rect;
 use limits::COLUMNS;
