@@ -4,9 +4,6 @@ use Prim.Native.Nat.{ℕ, _≤_}
 use mathlib.Core.Path.{_≡_, sym, ap, ap₂, _∙_}
 use mathlib.Core.List.{List}
 use native.Mathlib.Omega.{arith}
-use lib.ListN.{length}
-use Rattle.query.specs.Place.{x-axis, y-axis}
-use Rattle.query.specs.Lines.{lines}
 use Rattle.query.specs.Estimate as Query
 use Rattle.query.specs.Estimate.{estimate}
 use Rattle.lines.proofs.DeckLines.{deck-lined}
@@ -14,6 +11,7 @@ use Rattle.deck.specs.DeckOf.{deckOf}
 use Rattle.deck.specs.declared.Deck.{Deck}
 use Rattle.prepare.specs.ProblemRecord.{Solvable, problemRecord}
 use Rattle.prepare.specs.declared.Problem.{Problem}
+use Rattle.prepare.proofs.RecordParts.{vertical-count, horizontal-count}
 use Rattle.refusal.specs.declared.Refusal.{Refusal}
 use Rattle.job.specs.Format.{Job, readJob}
 use Rattle.job.specs.JobRecord.{jobRecord}
@@ -33,25 +31,18 @@ use Rattle.estimate.proofs.ReadJob.{spelt, rounds-same}
 
 -- ---- a deck's problem that was made
 module _ (deck : Deck) (p : Problem) (e : p ≡ problemRecord (deckOf deck)) where
-  vertical-count : p .nv ≡ length (lines (deckOf deck) x-axis)
-  unfolding problemRecord
-  vertical-count = ap (λ (q : Problem). q .nv) e
-
-  horizontal-count : p .nh ≡ length (lines (deckOf deck) y-axis)
-  unfolding problemRecord
-  horizontal-count = ap (λ (q : Problem). q .nh) e
-
   pub counts : Solvable deck → (rounds : ℕ) → rounds ≤ 1000 → LineCounts (p .nv) (p .nh) rounds
   counts h rounds r =
       let lined = deck-lined (deckOf deck) (h .range .most-stops) in
       record {
-        vertical = omega (arith, vertical-count, lined .across .few);
-        horizontal = omega (arith, horizontal-count, lined .deep .few);
+        vertical = omega (arith, vertical-count (deckOf deck) p e, lined .across .few);
+        horizontal = omega (arith, horizontal-count (deckOf deck) p e, lined .deep .few);
         rounds-limit = r;
       }
 
   pub deck-estimate : (rounds : ℕ) → estimateBy (p .nv) (p .nh) rounds ≡ estimate (deckOf deck) rounds
-  deck-estimate rounds = deck-counted (deckOf deck) rounds (p .nv) (p .nh) vertical-count horizontal-count
+  deck-estimate rounds =
+      deck-counted (deckOf deck) rounds (p .nv) (p .nh) (vertical-count (deckOf deck) p e) (horizontal-count (deckOf deck) p e)
 
 -- ---- the call
 module _ (job : List ℕ) (j : Held.Job) (e : j ≡ jobRecord (readJob job)) where

@@ -34,11 +34,17 @@ module _ (deck : Query.Deck) (p : Problem) (e : p ≡ problemRecord deck) where
   unfolding problemRecord
   record-area = ap (λ (q : Problem). rectOf (q .area)) e
 
+  pub vertical-count : p .nv ≡ length (lines deck x-axis)
+  unfolding problemRecord
+  vertical-count = ap (λ (q : Problem). q .nv) e
+
+  pub horizontal-count : p .nh ≡ length (lines deck y-axis)
+  unfolding problemRecord
+  horizontal-count = ap (λ (q : Problem). q .nh) e
+
   -- as many lines are taken as stand in front
   pub vertical-taken : p .nv ≡ length (take (p .nv) (p .v))
-  unfolding problemRecord
-  vertical-taken = ap (λ (q : Problem). q .nv) e ∙ sym (ap length record-vertical)
+  vertical-taken = vertical-count ∙ sym (ap length record-vertical)
 
   pub horizontal-taken : p .nh ≡ length (take (p .nh) (p .h))
-  unfolding problemRecord
-  horizontal-taken = ap (λ (q : Problem). q .nh) e ∙ sym (ap length record-horizontal)
+  horizontal-taken = horizontal-count ∙ sym (ap length record-horizontal)
