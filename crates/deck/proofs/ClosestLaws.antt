@@ -1,21 +1,16 @@
--- The closest of the first so many posts, found one post after another.
+-- The closest of some posts: of one more, and by scaled places.
 -- Assumes nothing.
-use mathlib.Core.Path.{_≡_, refl, sym, ap, _∙_}
-use mathlib.Core.Bool.{Bool, true, false, cond}
+use mathlib.Core.Path.{_≡_, refl, ap}
+use mathlib.Core.Bool.{cond}
 use mathlib.Core.List.{List, [], _∷_, _++_, zipWith, map, map-map}
-use Prim.Native.Nat.{ℕ, zero, suc, _+_, _^_, _≤_, _<_, min}
+use Prim.Native.Nat.{ℕ, zero, suc, _+_, _≤_, _<_, min}
 use native.Mathlib.Numerals.{add-one}
 use native.Mathlib.Omega.{arith}
-use lib.Dec.{ltb, ltb→lt}
+use lib.Dec.{ltb}
 use lib.IntN.{ℤ, pos}
-use lib.ListN.{length, getD, take, drop, set, length-take, length-map, List·getD-map}
-use lib.Seq.{take-suc, getD-drop}
-use lib.Signed.{ltZ}
-use mir.Syntax.{w32}
-use mir.Val.{SFits, toZ, ofZ}
-use mir.ValLaws.{toZ-ofZ, toZ-pos}
+use lib.ListN.{length, getD, take}
+use lib.Seq.{length-take-le, take-suc}
 use Rattle.numbers.specs.Lists.{leastBy}
-use Rattle.numbers.proofs.Truth.{cond-ind}
 use Rattle.numbers.proofs.Joined.{map-each}
 use Rattle.query.specs.Place.{Place}
 use Rattle.query.specs.Deck.{AxisCosts, plain}
@@ -23,9 +18,7 @@ use Rattle.query.specs.Travel.{travel, closest}
 use Rattle.deck.specs.DeckOf.{places}
 use Rattle.deck.specs.Objects.{scaledPlace}
 use Rattle.deck.specs.Ranges.{CoordinatesInRange, Near180000}
-use Rattle.deck.proofs.WordLaws.{coordinate}
-use Rattle.deck.proofs.TravelLaws.{far, travel-plain, travel-scaled, place-word}
-use Rattle.deck.proofs.CopyLaws.{Copied, copied-more, copied-before}
+use Rattle.deck.proofs.TravelLaws.{travel-scaled}
 
 -- ---- two lists side by side
 module _ {A B C : Type 0} (f : A → B → C) where
@@ -80,13 +73,13 @@ map-snoc : (f : Place → ℕ) (ps : List Place) (q : Place) → map f (ps ++ q 
 map-snoc f [] q = refl
 map-snoc f (p ∷ ps) q = ap (λ (l : List ℕ). f p ∷ l) (map-snoc f ps q)
 
-closest-snoc : (axis : AxisCosts) (p : Place) (posts : List Place) (q : Place) → 1 ≤ length posts →
+pub closest-snoc : (axis : AxisCosts) (p : Place) (posts : List Place) (q : Place) → 1 ≤ length posts →
     closest axis p (posts ++ q ∷ []) ≡ cond (ltb (travel axis p q) (closest axis p posts)) (travel axis p q) (closest axis p posts)
 unfolding closest
 closest-snoc axis p [] q h = absurd (omega arith)
 closest-snoc axis p (post ∷ posts) q h = rw (map-snoc (travel axis p) posts q) (least-snoc (travel axis p post) (map (travel axis p) posts) (travel axis p q))
 
-closest-one : (axis : AxisCosts) (p q : Place) → closest axis p (q ∷ []) ≡ travel axis p q
+pub closest-one : (axis : AxisCosts) (p q : Place) → closest axis p (q ∷ []) ≡ travel axis p q
 unfolding closest leastBy
 closest-one axis p q = refl
 
@@ -100,90 +93,20 @@ closest-scaled c p (post ∷ posts) = rw (
   ← map-map (travel plain (scaledPlace c p)) (scaledPlace c) posts,
 )
 
--- one of two natural numbers as a word
-picked : (b : Bool) (m n : ℕ) → ofZ w32 (cond b (pos m) (pos n)) ≡ cond b m n
-picked true m n = refl
-picked false m n = refl
+-- the first posts, one more, and its place
+module _ {px py : List ℤ} {k : ℕ} (gx : CoordinatesInRange px k) (gy : CoordinatesInRange py k) where
+  posts-count : k ≤ length (places px py)
+  posts-count = omega (arith, places-length px py, gx .count, gy .count)
 
--- ---- the least travel to the first j of k posts
-pub record ClosestSoFar (px py : List ℤ) (k : ℕ) (p : Place) (least j : ℕ) : Type 0 where
-  pub some : 1 ≤ j
-  pub count : j ≤ k
-  pub is : least ≡ closest plain p (take j (places px py))
-  pub small : least < 2 ^ 31
+  pub some-posts : 1 ≤ k → 1 ≤ length (take k (places px py))
+  some-posts h = omega (arith, length-take-le k (places px py) posts-count)
 
-module _ (px py : List ℤ) (k : ℕ) (p : Place) (gx : CoordinatesInRange px k) (gy : CoordinatesInRange py k) where
-  more : (j : ℕ) → j < k → take (j + 1) (places px py) ≡ take j (places px py) ++ placeAt px py j ∷ []
-  more j h =
-      let l : j < length (places px py) = omega (arith, places-length px py, gx .count, gy .count) in
-      rw (add-one j, take-suc (places px py) j (placeAt px py 0) l, places-at px py j (placeAt px py 0) (omega (arith, gx .count)) (omega (arith, gy .count)))
+  pub posts-more : (j : ℕ) → j < k → take (j + 1) (places px py) ≡ take j (places px py) ++ placeAt px py j ∷ []
+  posts-more j h = rw (
+    add-one j,
+    take-suc (places px py) j (placeAt px py 0) (omega (arith, posts-count)),
+    places-at px py j (placeAt px py 0) (omega (arith, gx .count)) (omega (arith, gy .count)),
+  )
 
-  pub closest-first : (z : ℤ) → 1 ≤ k → far (p .x) (p .y) (getD px 0 (pos 0)) (getD py 0 (pos 0)) < 2 ^ 31 →
-      z ≡ pos (far (p .x) (p .y) (getD px 0 (pos 0)) (getD py 0 (pos 0))) → ClosestSoFar px py k p (ofZ w32 z) 1
-  closest-first z h small e = record { some = omega arith; count = h; is = rw (e, more 0 h, closest-one, travel-plain); small = rw e small }
-
-  pub closest-more : {least j : ℕ} (z : ℤ) → ClosestSoFar px py k p least j → j < k →
-      z ≡ cond (ltZ (pos (far (p .x) (p .y) (toZ w32 (ofZ w32 (getD px j (pos 0)))) (toZ w32 (ofZ w32 (getD py j (pos 0)))))) (toZ w32 least))
-      (pos (far (p .x) (p .y) (toZ w32 (ofZ w32 (getD px j (pos 0)))) (toZ w32 (ofZ w32 (getD py j (pos 0)))))) (toZ w32 least) →
-      ClosestSoFar px py k p (ofZ w32 z) (j + 1)
-  closest-more {least} {j} z so-far h e = record {
-    some = omega arith;
-    count = omega arith;
-    is = smaller ∙ rw (more j h, closest-snoc plain p (take j (places px py)) (placeAt px py j) some, travel-plain, so-far .is);
-    small = rw smaller (cond-ind (λ (m : ℕ). m < 2 ^ 31) (ltb new least) (λ t. omega (arith, ltb→lt new least t, so-far .small)) (λ t. so-far .small));
-  }
-    where
-      new : ℕ
-      new = far (p .x) (p .y) (getD px j (pos 0)) (getD py j (pos 0))
-
-      some : 1 ≤ length (take j (places px py))
-      some = omega (arith, so-far .some, length-take j (places px py), places-length px py, gx .count, gy .count)
-
-      smaller : ofZ w32 z ≡ cond (ltb new least) new least
-      smaller = rw (
-        e,
-        coordinate (getD px j (pos 0)) (gx .range j h),
-        coordinate (getD py j (pos 0)) (gy .range j h),
-        toZ-pos w32 least (so-far .small),
-      ) (picked (ltb new least) new least)
-
-  pub closest-all : {least j : ℕ} → ClosestSoFar px py k p least j → k ≤ j → least ≡ closest plain p (take k (places px py))
-  closest-all {least} {j} so-far h = let e : j ≡ k = omega arith in so-far .is ∙ rw e
-
--- post j of k
-pub post-range : {px py : List ℤ} {k : ℕ} → CoordinatesInRange px k → CoordinatesInRange py k → (j : ℕ) → j < k →
-    Near180000 (getD px j (pos 0)) (getD py j (pos 0))
-post-range gx gy j h = record { x-range = gx .range j h; y-range = gy .range j h }
-
--- ---- columns whose last one is filled, a number for each place of the first two
-module _ (columns : List ℤ) (n : ℕ) (gx : CoordinatesInRange columns n) (gy : CoordinatesInRange (drop 512 columns) n)
-    (few : n ≤ 512) (long : length columns ≡ 2050) where
-  module _ {s to : List ℤ} {i : ℕ} (so-far : Copied columns 1536 s n to i) (h : i < n) where
-    x-kept : getD to i (pos 0) ≡ getD columns i (pos 0)
-    x-kept = copied-before columns 1536 s n so-far (omega arith) i (pos 0) (omega arith)
-
-    y-kept : getD to (512 + i) (pos 0) ≡ getD (drop 512 columns) i (pos 0)
-    y-kept = copied-before columns 1536 s n so-far (omega arith) (512 + i) (pos 0) (omega arith) ∙ sym (getD-drop 512 columns i (pos 0))
-
-    pub place-row : Near180000 (toZ w32 (ofZ w32 (getD to i (pos 0)))) (toZ w32 (ofZ w32 (getD to (512 + i) (pos 0))))
-    place-row =
-        let row : Near180000 (getD columns i (pos 0)) (getD (drop 512 columns) i (pos 0)) = record { x-range = gx .range i h; y-range = gy .range i h } in
-        rw (x-kept, y-kept) (place-word row)
-
-  pub figures-more : (f : Place → ℤ) {to : List ℤ} {i : ℕ} (r : ℤ) → Copied columns 1536 (map f (places columns (drop 512 columns))) n to i → i < n →
-      SFits w32 r →
-      r ≡ f (record { x = toZ w32 (ofZ w32 (getD to i (pos 0))); y = toZ w32 (ofZ w32 (getD to (512 + i) (pos 0))) }) →
-      Copied columns 1536 (map f (places columns (drop 512 columns))) n (set to (1536 + i) (toZ w32 (ofZ w32 r))) (i + 1)
-  figures-more f {to} {i} r so-far h fits e =
-      copied-more columns 1536 (map f (places columns (drop 512 columns))) n (toZ w32 (ofZ w32 r)) (f (placeAt columns columns 0)) (omega arith) count so-far h
-      (toZ-ofZ w32 r fits ∙ e ∙ rw (
-        x-kept so-far h,
-        y-kept so-far h,
-        coordinate (getD columns i (pos 0)) (gx .range i h),
-        coordinate (getD (drop 512 columns) i (pos 0)) (gy .range i h),
-        List·getD-map f (places columns (drop 512 columns)) i (placeAt columns columns 0),
-        places-at columns (drop 512 columns) i (placeAt columns columns 0) (omega (arith, gx .count)) (omega (arith, gy .count)),
-      ))
-    where
-      count : n ≤ length (map f (places columns (drop 512 columns)))
-      count = omega (arith, length-map (places columns (drop 512 columns)) f, places-length columns (drop 512 columns), gx .count, gy .count)
+  pub post-range : (j : ℕ) → j < k → Near180000 (getD px j (pos 0)) (getD py j (pos 0))
+  post-range j h = record { x-range = gx .range j h; y-range = gy .range j h }

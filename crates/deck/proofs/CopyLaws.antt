@@ -7,7 +7,7 @@ use native.Mathlib.Numerals.{add-one}
 use native.Mathlib.Omega.{arith}
 use lib.IntN.{ℤ, pos}
 use lib.ListN.{length, getD, take, drop, set, replicate, length-replicate, replicate-append-replicate, List·getD-append}
-use lib.Seq.{paste, paste-zero, paste-suc, length-paste, length-take-le, getD-take, take-at, drop-at, drop-append-add}
+use lib.Seq.{paste, paste-zero, paste-suc, length-paste, drop-paste, length-take-le, getD-take, getD-drop, take-at, drop-at, drop-append-add}
 use Rattle.numbers.specs.Padded.{padded}
 
 -- an array d into which the first n elements of s are copied from `at` on, i of them so far
@@ -35,6 +35,27 @@ module _ {A : Type 0} (d : List A) (at : ℕ) (s : List A) (n : ℕ) where
   copied-before {to} {i} so-far h j z l =
       rw (so-far .copied, append-assoc (take at d) (take i s) (drop (at + i) d))
       (List·getD-append (take at d) _ z j (omega (arith, length-take-le at d h)) ∙ getD-take at d j z l)
+
+  -- the next element is not copied yet, and the last ones are
+  pub copied-next : {to : List A} {i : ℕ} → Copied to i → at ≤ length d → n ≤ length s → (z : A) → getD to (at + i) z ≡ getD d (at + i) z
+  copied-next {to} {i} so-far g h z =
+      let e : at + i ≡ at + i + 0 = omega arith in
+      ap (λ (k : ℕ). getD to k z) e ∙ sym (getD-drop (at + i) to 0 z)
+      ∙ rw (so-far .copied, drop-paste d at s i g (omega (arith, so-far .count))) (getD-drop (at + i) d 0 z ∙ ap (λ (k : ℕ). getD d k z) (sym e))
+
+  pub copied-within : {to : List A} {i : ℕ} → Copied to i → at ≤ length d → n ≤ length s → (j : ℕ) (z : A) → j < i → getD to (at + j) z ≡ getD s j z
+  copied-within {to} {i} so-far g h j z l =
+      sym (getD-drop at to j z)
+      ∙ rw (
+        so-far .copied,
+        append-assoc (take at d) (take i s) (drop (at + i) d),
+        drop-at (take at d) (take i s ++ drop (at + i) d) at (length-take-le at d g),
+      )
+      (List·getD-append (take i s) _ z j (omega (arith, length-take-le i s (omega (arith, so-far .count)))) ∙ getD-take i s j z l)
+
+-- of two copies to the same place the second counts
+pub copied-again : {A : Type 0} (d : List A) (at : ℕ) (s t : List A) (n : ℕ) → at ≤ length d → n ≤ length s → paste (paste d at s n) at t n ≡ paste d at t n
+copied-again d at s t n g h = rw (drop-paste d at s n g h, append-assoc (take at d) (take n s) (drop (at + n) d), take-at (take at d) _ at (length-take-le at d g))
 
 -- a column copied behind others, where all is 0 yet
 pub put-column : (before : List ℤ) (at m n : ℕ) (xs : List ℤ) → length before ≡ at → n ≤ 512 → n ≤ length xs →

@@ -3,6 +3,7 @@ pub mod ScaleLaws
 pub mod TravelLaws
 pub mod ClosestLaws
 pub mod CopyLaws
+pub mod SoFarLaws
 pub mod ColumnLaws
 pub mod DeckLaws
 pub mod MadeColumns

@@ -54,12 +54,3 @@ module _ (t z least : ℤ) (e : toZ w32 (ofZ w32 t) ≡ z) (f : SFits w32 least)
 
   pub picks-second : ltZ (toZ w32 (ofZ w32 t)) (toZ w32 (ofZ w32 least)) ≡ false → toZ w32 (ofZ w32 least) ≡ cond (ltZ z least) z least
   picks-second h = let l : ltZ z least ≡ false = rw (e, toZ-ofZ w32 least f) at h in rw l (toZ-ofZ w32 least f)
-
--- ---- posts
-module _ (x y px py : ℤ) (at : Near180000 x y) (post : Near180000 px py) where
-  pub post-far : far (toZ w32 (ofZ w32 x)) (toZ w32 (ofZ w32 y)) (toZ w32 (ofZ w32 px)) (toZ w32 (ofZ w32 py)) ≡ far (toZ w32 (ofZ w32 x)) (toZ w32 (ofZ w32 y))
-      px py
-  post-far = rw (coordinate px (post .x-range), coordinate py (post .y-range))
-
-  pub post-small : far (toZ w32 (ofZ w32 x)) (toZ w32 (ofZ w32 y)) px py < 2 ^ 31
-  post-small = far-small (toZ w32 (ofZ w32 x)) (toZ w32 (ofZ w32 y)) px py (place-word at) post

@@ -9,7 +9,7 @@ use limits::Y_COLUMN;
 use limits::Y_COST;
 ghost use mathlib.Core.Path.{_≡_};
 ghost use mathlib.Core.Bool.{cond};
-ghost use mathlib.Core.List.{map};
+ghost use mathlib.Core.List.{[], map};
 ghost use Prim.Native.Nat.{_+_, _≤_};
 ghost use lib.IntN.{pos, natAbs};
 ghost use lib.Signed.{ltZ};
@@ -22,6 +22,7 @@ ghost use Rattle.query.specs.Range.{InRange};
 ghost use Rattle.deck.specs.DeckOf.{places, deckOf};
 ghost use Rattle.deck.specs.Objects.{pricingOf};
 ghost use Rattle.deck.specs.ObjectColumns.{columnsOf};
+ghost use Rattle.deck.specs.ClosestSoFar.{columnsSoFar, columnsImproved};
 ghost use Rattle.deck.specs.Ranges.{Near180000, AxisCostInRange, Scaled};
 ghost use Rattle.deck.specs.Ranges.{CoordinatesUpTo, CoordinatesInRange, VisitsInRange};
 
@@ -54,6 +55,9 @@ pub struct Deck {
     pub stop_y: [i64; STOPS],
     pub visits: [u64; STOPS],
 }
+
+// One more than any travel.
+const UNREACHED: i32 = 720001;
 
 // |u − v|
 fn apart(u: i32, v: i32) -> i32
@@ -113,21 +117,38 @@ fn closer(least: i32, x: i32, y: i32, px: i32, py: i32) -> i32
     if t < least { t } else { least }
 }
 
-// The travel from a place to the closest of k posts.
-fn near_of<'a>(px: &'a [i32], py: &'a [i32], k: usize, x: i32, y: i32) -> i32
-    requires { ⌜ (1 ≤ k) × CoordinatesInRange (now px) k × CoordinatesInRange (now py) k × Near180000 x y ⌝ }
-    ensures { λ r. ⌜ r ≡ pos (closest plain (record { x = x; y = y }) (take k (places (now (px .entry)) (now (py .entry))))) ⌝ }
+// Before the first post: a figure above every travel for the first n stops, in the last column.
+fn start_nears(columns: &mut [i32], n: usize)
+    requires { ⌜ CoordinatesInRange (now columns) n × CoordinatesInRange (drop 512 (now columns)) n × (n ≤ 512) × (length (now columns) ≡ 2050) ⌝ }
+    ensures { λ r. ⌜ now (columns .exit) ≡ columnsSoFar (now (columns .entry)) n [] ⌝ }
 {
-    let mut least = travelled(x, y, px[0], py[0]);
-    let mut j: usize = 1;
-    while j < k {
-        least = closer(least, x, y, px[j], py[j]);
-        j = j + 1;
+    let mut i: usize = 0;
+    while i < n {
+        columns[NEAR_COLUMN + i] = UNREACHED;
+        i = i + 1;
     }
-    least
 }
 
-// The near of the first n stops, put into the last column. Their places are in the first two.
+// One more post: the figures of the first n stops, in the last column, improved by it.
+fn improve_nears(columns: &mut [i32], n: usize, px: i32, py: i32)
+    requires { ⌜ CoordinatesInRange (now columns) n × CoordinatesInRange (drop 512 (now columns)) n × Near180000 px py × (n ≤ 512)
+        × (length (now columns) ≡ 2050) ⌝ }
+    ensures { λ r. ⌜ now (columns .exit) ≡ columnsImproved (now (columns .entry)) n (record { x = px; y = py }) ⌝ }
+{
+    let mut i: usize = 0;
+    while i < n {
+        columns[NEAR_COLUMN + i] = closer(
+            columns[NEAR_COLUMN + i],
+            columns[i],
+            columns[Y_COLUMN + i],
+            px,
+            py,
+        );
+        i = i + 1;
+    }
+}
+
+// The near of the first n stops, put into the last column, post by post. Their places are in the first two.
 fn put_nears<'a>(columns: &mut [i32], n: usize, px: &'a [i32], py: &'a [i32], k: usize)
     requires { ⌜ (1 ≤ k) × CoordinatesInRange (now px) k × CoordinatesInRange (now py) k × CoordinatesInRange (now columns) n
         × CoordinatesInRange (drop 512 (now columns)) n × (n ≤ 512) × (length (now columns) ≡ 2050) ⌝ }
@@ -136,10 +157,11 @@ fn put_nears<'a>(columns: &mut [i32], n: usize, px: &'a [i32], py: &'a [i32], k:
         (map (λ p. pos (closest plain p (take k (places (now (px .entry)) (now (py .entry))))))
         (places (now (columns .entry)) (drop 512 (now (columns .entry))))) n ⌝ }
 {
-    let mut i: usize = 0;
-    while i < n {
-        columns[NEAR_COLUMN + i] = near_of(px, py, k, columns[i], columns[Y_COLUMN + i]);
-        i = i + 1;
+    start_nears(columns, n);
+    let mut j: usize = 0;
+    while j < k {
+        improve_nears(columns, n, px[j], py[j]);
+        j = j + 1;
     }
 }
 

@@ -1,72 +1,92 @@
--- `deck::put_nears` meets its contract: after i turns the near of the first i stops is put.
+-- `deck::put_nears` meets its contract: after each post the figures are those by the posts so far, and after the last they are near.
 -- Assumes nothing.
-use mathlib.Core.List.{map}
-use Prim.Native.Nat.{_-_}
+use mathlib.Core.Path.{_≡_, sym, ap, _∙_}
+use mathlib.Core.List.{[]}
+use Prim.Native.Nat.{_-_, _≤_}
 use native.Mathlib.Omega.{arith}
-use lib.ListN.{drop}
+use lib.IntN.{pos}
+use lib.ListN.{getD, take}
 use Rattle.deck.specs.DeckOf.{places}
-use Rattle.deck.proofs.CopyLaws.{Copied, copied-none, copied-all}
-use Rattle.deck.proofs.ClosestLaws.{nearBy, place-row, figures-more}
+use Rattle.deck.specs.ClosestSoFar.{columnsSoFar}
+use Rattle.deck.proofs.WordLaws.{coordinate}
+use Rattle.deck.proofs.TravelLaws.{place-word}
+use Rattle.deck.proofs.ClosestLaws.{some-posts, posts-more, post-range}
+use Rattle.deck.proofs.SoFarLaws.{StopColumns, so-far-still, so-far-again, columns-more, columns-all}
 use Rattle.deck.proofs.put_nears.Statement.{statement}
 use Rattle.deck.proofs.put_nears.Tie as tie
 
 abbrev Inv-loop : tie.InvT-loop
-Inv-loop columns₀ n px py k i₀ columns i = Copied columns₀ 1536 (map (nearBy px py k) (places columns₀ (drop 512 columns₀))) n columns i
+Inv-loop columns₀ n px py k j₀ columns j = (j ≤ k) × (columns ≡ columnsSoFar columns₀ n (take j (places px py)))
 
 abbrev μ-loop : tie.MeasureT-loop
-μ-loop columns₀ n px py k i₀ columns i = n - i
+μ-loop columns₀ n px py k j₀ columns j = k - j
+
+stops : (s : tie.Start Inv-loop μ-loop) → StopColumns (s .args .columns .now) (s .args .n)
+stops s = record { x = s .pre .3; y = s .pre .4; few = s .pre .5; long = s .pre .6 }
+
+start-nears-requires : tie.Need-start-nears-requires Inv-loop μ-loop
+start-nears-requires c κs = let s = c .before in (s .pre .3, s .pre .4, s .pre .5, s .pre .6)
+
+-- before the first post
+started : (c : tie.After-start-nears Inv-loop μ-loop) → StopColumns (c .start-nears .last .0) (c .before .before .args .n)
+started c = rw (c .start-nears .ensures) (so-far-still (stops (c .before .before)) [])
 
 loop-holds : tie.Need-loop-holds Inv-loop μ-loop
-loop-holds c = copied-none _ _ _ _
+loop-holds c = (omega arith, rw (c .before .start-nears .ensures) (sym (so-far-again (stops (c .before .before .before)) [] [])))
 
-mul-near-of : tie.Need-mul-near-of Inv-loop μ-loop
-mul-near-of c = omega arith
+-- after each post
+held : (c : tie.At-loop Inv-loop μ-loop) → StopColumns (c .loop .columns) (c .before .before .before .before .args .n)
+held c = rw (c .loop .inv .1) (so-far-still (started (c .before .before)) _)
 
-slice-copy-out-near-of : tie.Need-slice-copy-out-near-of Inv-loop μ-loop
-slice-copy-out-near-of c = omega arith
+mul-improve-nears : tie.Need-mul-improve-nears Inv-loop μ-loop
+mul-improve-nears c = omega arith
 
-add-near-of : tie.Need-add-near-of Inv-loop μ-loop
-add-near-of c = omega arith
+shared-slice-copy-out-improve-nears : tie.Need-shared-slice-copy-out-improve-nears Inv-loop μ-loop
+shared-slice-copy-out-improve-nears c = omega arith
 
-mul-near-of-2 : tie.Need-mul-near-of-2 Inv-loop μ-loop
-mul-near-of-2 c = omega arith
+mul-improve-nears-2 : tie.Need-mul-improve-nears-2 Inv-loop μ-loop
+mul-improve-nears-2 c = omega arith
 
-slice-copy-out-near-of-2 : tie.Need-slice-copy-out-near-of-2 Inv-loop μ-loop
-slice-copy-out-near-of-2 c = omega arith
+shared-slice-copy-out-improve-nears-2 : tie.Need-shared-slice-copy-out-improve-nears-2 Inv-loop μ-loop
+shared-slice-copy-out-improve-nears-2 c = omega arith
 
-near-of-requires : tie.Need-near-of-requires Inv-loop μ-loop
-near-of-requires c κs =
-    let turn = c .before .before in
-    let s = turn .before .before in
-    (s .pre .0, s .pre .1, s .pre .2, place-row _ _ (s .pre .3) (s .pre .4) (s .pre .5) (s .pre .6) (turn .before .loop .inv) (turn .loop-test .taken))
+improve-nears-requires : tie.Need-improve-nears-requires Inv-loop μ-loop
+improve-nears-requires c κs =
+    let turn = c .before .before .before in
+    let s = turn .before .before .before .before .before in
+    let now = held (turn .before) in
+    (now .x, now .y, place-word (post-range (s .pre .1) (s .pre .2) _ (turn .loop-test .taken)), now .few, now .long)
 
-add-t16 : tie.Need-add-t16 Inv-loop μ-loop
-add-t16 c = omega arith
-
-mul-t17 : tie.Need-mul-t17 Inv-loop μ-loop
-mul-t17 c = omega arith
-
-slice-set-from-columns : tie.Need-slice-set-from-columns Inv-loop μ-loop
-slice-set-from-columns c = omega arith
-
-add-i : tie.Need-add-i Inv-loop μ-loop
-add-i c = omega arith
+add-j : tie.Need-add-j Inv-loop μ-loop
+add-j c = omega arith
 
 loop-less : tie.Need-loop-less Inv-loop μ-loop
 loop-less c = omega arith
 
 loop-again : tie.Need-loop-again Inv-loop μ-loop
 loop-again c =
-    let turn = c .before .before .before in
-    let s = turn .before .before in
-    figures-more _ _ (s .pre .3) (s .pre .4) (s .pre .5) (s .pre .6) (nearBy (s .args .px .now) (s .args .py .now) (s .args .k)) _ (turn .before .loop .inv)
-    (turn .loop-test .taken) (record { sfits = c .near-of .ok }) (c .near-of .ensures)
+    let turn = c .before .before .before .before .before in
+    let s = turn .before .before .before .before .before in
+    let j = turn .before .loop .j in
+    let post = post-range (s .pre .1) (s .pre .2) j (turn .loop-test .taken) in (
+      omega arith,
+      c .before .improve-nears .ensures ∙ rw (
+        turn .before .loop .inv .1,
+        coordinate (getD (s .args .px .now) j (pos 0)) (post .x-range),
+        coordinate (getD (s .args .py .now) j (pos 0)) (post .y-range),
+        posts-more (s .pre .1) (s .pre .2) j (turn .loop-test .taken),
+      ) (columns-more (started (turn .before .before .before)) _ _ post),
+    )
 
 same-length : tie.Need-same-length Inv-loop μ-loop
-same-length c = c .before .loop .inv .long
+same-length c = held (c .before) .long ∙ sym (c .before .before .before .before .before .pre .6)
 
 returns : tie.Need-returns Inv-loop μ-loop
-returns c = copied-all _ _ _ _ (c .before .loop .inv) (c .loop-test .left)
+returns c =
+    let s = c .before .before .before .before .before in
+    let last : c .before .loop .j ≡ s .args .k = omega (arith, c .before .loop .inv .0, c .loop-test .left) in
+    c .before .loop .inv .1 ∙ rw (c .before .before .before .start-nears .ensures, last)
+    (so-far-again (stops s) _ [] ∙ columns-all (stops s) _ (some-posts (s .pre .1) (s .pre .2) (s .pre .0)))
 
 pub put-nears-spec : {M : Type 1} → statement M
 put-nears-spec =
@@ -74,17 +94,14 @@ put-nears-spec =
     (tie.spec
     Inv-loop
     μ-loop
+    start-nears-requires
     loop-holds
-    mul-near-of
-    slice-copy-out-near-of
-    add-near-of
-    mul-near-of-2
-    slice-copy-out-near-of-2
-    near-of-requires
-    add-t16
-    mul-t17
-    slice-set-from-columns
-    add-i
+    mul-improve-nears
+    shared-slice-copy-out-improve-nears
+    mul-improve-nears-2
+    shared-slice-copy-out-improve-nears-2
+    improve-nears-requires
+    add-j
     loop-less
     loop-again
     same-length
