@@ -302,7 +302,8 @@ fn kernels(deck: &twin::Deck, suffix: &str) {
     let job = deck.spell();
     let s = deck.sites();
     let row = |name: &str, k: u64, kernel: Kernel, twin: &dyn Fn(u64) -> i64| compare(&format!("{name}{suffix}"), &job, k, kernel, twin);
-    row("near of 512 stops x 64 posts", 400, Kernel::Near, &|k| twin::near_many(deck, k));
+    row("near of 512 stops x 64 posts", 400, Kernel::Near, &|k| twin::near_many(deck, k, twin::near_by_stops));
+    row("the same, twin post by post", 400, Kernel::Near, &|k| twin::near_many(deck, k, twin::near_by_posts));
     row("cost of a place, 512 stops", 20_000, Kernel::Cost, &|k| twin::cost_many(&s, k));
     row("load of a rectangle, 512 stops", 20_000, Kernel::Load, &|k| twin::load_many(&s, k));
     row("bound of a cell, 512 stops (4 costs, load)", 5_000, Kernel::Bound, &|k| twin::bound_many(&s, k, twin::bound));

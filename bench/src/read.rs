@@ -108,19 +108,23 @@ pub fn scaled(column: &[i32], k: i32) -> Vec<i32> {
     column.iter().map(|&v| k * v).collect()
 }
 
+/// The near of each stop, post by post over the columns of stops: no reduction inside the loop.
+pub fn near_by_posts(posts: impl Iterator<Item = (i32, i32)>, xs: &[i32], ys: &[i32]) -> Vec<i32> {
+    let mut near = vec![i32::MAX; xs.len()];
+    for (u, v) in posts {
+        for ((m, &x), &y) in near.iter_mut().zip(xs).zip(ys) {
+            *m = (*m).min((x - u).abs() + (y - v).abs());
+        }
+    }
+    near
+}
+
 /// The deck and its objects.
 pub fn read(job: &[u8]) -> Result<(Deck, Objects), Refused> {
     let mut deck = parse(job)?;
     let Axis { a, b } = deck.axis;
     let (xs, ys) = (scaled(&deck.xs, a), scaled(&deck.ys, b));
-    // post by post over the column of stops: no reduction inside the loop
-    let mut near = vec![i32::MAX; xs.len()];
-    for (&u, &v) in deck.post_x.iter().zip(&deck.post_y) {
-        let (u, v) = (a * u, b * v);
-        for ((m, &x), &y) in near.iter_mut().zip(&xs).zip(&ys) {
-            *m = (*m).min((x - u).abs() + (y - v).abs());
-        }
-    }
+    let near = near_by_posts(deck.post_x.iter().zip(&deck.post_y).map(|(&u, &v)| (a * u, b * v)), &xs, &ys);
     let visits = std::mem::take(&mut deck.visits);
     Ok((deck, Objects { xs, ys, visits, near }))
 }

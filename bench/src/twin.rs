@@ -2,7 +2,7 @@
 
 use std::hint::black_box;
 
-use crate::read::{Axis, Rect};
+use crate::read::{self, Axis, Rect};
 
 pub struct Deck {
     area: Rect,
@@ -51,16 +51,16 @@ impl Deck {
     }
 
     pub fn sites(&self) -> Sites {
+        self.sites_with(near_by_stops)
+    }
+
+    fn sites_with(&self, near: Near) -> Sites {
         let Axis { a, b } = self.axis;
         let px: Vec<i32> = self.posts.iter().map(|p| a * p.0 as i32).collect();
         let py: Vec<i32> = self.posts.iter().map(|p| b * p.1 as i32).collect();
         let xs: Vec<i32> = self.stops.iter().map(|s| a * s.0 as i32).collect();
         let ys: Vec<i32> = self.stops.iter().map(|s| b * s.1 as i32).collect();
-        let near = xs
-            .iter()
-            .zip(&ys)
-            .map(|(&x, &y)| px.iter().zip(&py).map(|(&u, &v)| (x - u).abs() + (y - v).abs()).min().unwrap() as u32)
-            .collect();
+        let near = near(&px, &py, &xs, &ys);
         Sites { axis: self.axis, xs, ys, visits: self.stops.iter().map(|s| s.2 as u32).collect(), near }
     }
 
@@ -89,6 +89,19 @@ impl Sites {
         let columns = self.xs.iter().zip(&self.ys).zip(&self.visits).zip(&self.near);
         columns.map(|(((&x, &y), &v), &n)| (x, y, v, n))
     }
+}
+
+/// The near of each stop, from the places of the posts and of the stops.
+pub type Near = fn(&[i32], &[i32], &[i32], &[i32]) -> Vec<u32>;
+
+pub fn near_by_stops(px: &[i32], py: &[i32], xs: &[i32], ys: &[i32]) -> Vec<u32> {
+    let closest = |(&x, &y): (&i32, &i32)| px.iter().zip(py).map(|(&u, &v)| (x - u).abs() + (y - v).abs()).min().unwrap() as u32;
+    xs.iter().zip(ys).map(closest).collect()
+}
+
+pub fn near_by_posts(px: &[i32], py: &[i32], xs: &[i32], ys: &[i32]) -> Vec<u32> {
+    let near = read::near_by_posts(px.iter().copied().zip(py.iter().copied()), xs, ys);
+    near.into_iter().map(|m| m as u32).collect()
 }
 
 #[inline]
@@ -161,8 +174,8 @@ fn rect(t: u64) -> Rect {
     Rect { xlo: spread(t, 7919, 20_000), ylo: spread(t, 6007, 20_000), xhi: spread(t, 4409, 0), yhi: spread(t, 3001, 0) }
 }
 
-pub fn near_many(deck: &Deck, k: u64) -> i64 {
-    (0..k).map(|t| black_box(deck).sites().near.get((t % 512) as usize).copied().unwrap_or(0) as i64).sum()
+pub fn near_many(deck: &Deck, k: u64, near: Near) -> i64 {
+    (0..k).map(|t| black_box(deck).sites_with(near).near.get((t % 512) as usize).copied().unwrap_or(0) as i64).sum()
 }
 
 pub fn cost_many(s: &Sites, k: u64) -> i64 {

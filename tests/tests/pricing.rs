@@ -1,7 +1,7 @@
 //! The proved reader and the proved pricing against the reference, on random bytes and decks.
 
 use siting_tests::generate::{damaged, job, job_of, largest, noise, rect, seed, spelled, spelling, Random};
-use siting_tests::reference::{cut, read, spell_out, Axis, Deck, Job, Place, Rect, Refusal};
+use siting_tests::reference::{cut, read, spell, spell_out, Axis, Deck, Job, Place, Rect, Refusal, Stop};
 use siting_tests::trial;
 use siting_tests::vectors::{deep, narrow, refusals, reports};
 
@@ -169,6 +169,59 @@ fn figures_of_the_largest_decks_are_those_of_the_reference() {
     for _ in 0..200 {
         let j = job_of(&mut random, 20_000, 512);
         check_deck(&mut random, &j, 4);
+    }
+}
+
+/// The near of every stop.
+fn nears(job: &Job) -> Vec<i64> {
+    let bytes = spell(job);
+    (0..job.stops.len()).map(|i| trial::near(&bytes, i)).collect()
+}
+
+/// Card 4 as it is seen from outside, by jobs with the first posts of a deck: each further post improves the near of the stops that are
+/// closer to it, and leaves the others. In any order the posts give the same.
+#[test]
+fn near_with_each_further_post() {
+    let mut random = Random::new(seed());
+    let (mut improved, mut left) = (0, 0);
+    for stops in [1, 2, 3, 4, 5, 7, 8, 31, 64, 64, 200, 200] {
+        let mut whole = largest(&mut random);
+        whole.stops.truncate(stops);
+        let travel = |stop: Place, post: Place| whole.axis.a * (stop.0 - post.0).abs() + whole.axis.b * (stop.1 - post.1).abs();
+        let mut so_far = vec![i64::MAX; stops];
+        for k in 1..=whole.posts.len() {
+            let first = Job { posts: whole.posts[..k].to_vec(), ..whole.clone() };
+            for (figure, stop) in so_far.iter_mut().zip(&whole.stops) {
+                let new = travel(stop.at, whole.posts[k - 1]);
+                if k > 1 {
+                    *(if new < *figure { &mut improved } else { &mut left }) += 1;
+                }
+                *figure = new.min(*figure);
+            }
+            assert_eq!(nears(&first), so_far, "{}", text(&spell(&first)));
+        }
+        let back = Job { posts: whole.posts.iter().rev().copied().collect(), ..whole.clone() };
+        assert_eq!(nears(&back), so_far, "{}", text(&spell(&back)));
+    }
+    eprintln!("{improved} {left}"); eprintln!("{improved} {left}"); eprintln!("{improved} {left}"); assert!(improved > 200 && left > 5_000, "{improved} {left}");
+}
+
+/// From one corner of the deck to the opposite one at the highest costs, by posts that all stand there, is the longest travel there is.
+#[test]
+fn the_longest_travel_is_a_near() {
+    let corner = 20_000;
+    for posts in [1, 2, 64] {
+        for (x, y) in [(corner, corner), (corner, -corner), (-corner, corner), (-corner, -corner)] {
+            let job = Job {
+                area: Rect { xlo: 0, ylo: 0, xhi: 0, yhi: 0 },
+                axis: Axis { a: 9, b: 9 },
+                posts: vec![(x, y); posts],
+                stops: vec![Stop { at: (-x, -y), visits: 1 }, Stop { at: (x, y), visits: 65_535 }, Stop { at: (-x, -y), visits: 65_535 }],
+                rounds: 0,
+            };
+            assert_eq!(nears(&job), [720_000, 0, 720_000]);
+            assert_eq!(trial::before(&spell(&job)), 720_000 * 65_536);
+        }
     }
 }
 

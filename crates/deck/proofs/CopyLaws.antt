@@ -55,7 +55,8 @@ module _ {A : Type 0} (d : List A) (at : ℕ) (s : List A) (n : ℕ) where
 
 -- of two copies to the same place the second counts
 pub copied-again : {A : Type 0} (d : List A) (at : ℕ) (s t : List A) (n : ℕ) → at ≤ length d → n ≤ length s → paste (paste d at s n) at t n ≡ paste d at t n
-copied-again d at s t n g h = rw (drop-paste d at s n g h, append-assoc (take at d) (take n s) (drop (at + n) d), take-at (take at d) _ at (length-take-le at d g))
+copied-again d at s t n g h =
+    rw (drop-paste d at s n g h, append-assoc (take at d) (take n s) (drop (at + n) d), take-at (take at d) _ at (length-take-le at d g))
 
 -- a column copied behind others, where all is 0 yet
 pub put-column : (before : List ℤ) (at m n : ℕ) (xs : List ℤ) → length before ≡ at → n ≤ 512 → n ≤ length xs →

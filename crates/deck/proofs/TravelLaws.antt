@@ -2,11 +2,11 @@
 -- Assumes nothing.
 use mathlib.Core.Path.{_≡_, _∙_}
 use mathlib.Core.Bool.{true, false, cond}
-use Prim.Native.Nat.{ℕ, _+_, _^_, _≤_, _<_}
+use Prim.Native.Nat.{ℕ, _+_, _^_, _<_}
 use native.Mathlib.Omega.{arith}
-use lib.IntN.{ℤ, pos, natAbs, _+ℤ_}
+use lib.IntN.{ℤ, pos, _+ℤ_}
 use lib.Signed.{ltZ}
-use mir.Syntax.{w32, w64}
+use mir.Syntax.{w32}
 use mir.Val.{SFits, toZ, ofZ}
 use mir.ValLaws.{toZ-ofZ}
 use Rattle.numbers.specs.Integer.{dist}
@@ -17,7 +17,7 @@ use Rattle.query.specs.Deck.{AxisCosts, plain}
 use Rattle.query.specs.Travel.{travel}
 use Rattle.deck.specs.Objects.{scaledPlace}
 use Rattle.deck.specs.Ranges.{Near180000}
-use Rattle.deck.proofs.WordLaws.{sum-is, coordinate, narrowed}
+use Rattle.deck.proofs.WordLaws.{sum-is, coordinate}
 
 abbrev pub far : ℤ → ℤ → ℤ → ℤ → ℕ
 far ux uy vx vy = dist ux vx + dist uy vy

@@ -119,7 +119,7 @@ fn closer(least: i32, x: i32, y: i32, px: i32, py: i32) -> i32
 
 // Before the first post: a figure above every travel for the first n stops, in the last column.
 fn start_nears(columns: &mut [i32], n: usize)
-    requires { ⌜ CoordinatesInRange (now columns) n × CoordinatesInRange (drop 512 (now columns)) n × (n ≤ 512) × (length (now columns) ≡ 2050) ⌝ }
+    requires { ⌜ (n ≤ 512) × (length (now columns) ≡ 2050) ⌝ }
     ensures { λ r. ⌜ now (columns .exit) ≡ columnsSoFar (now (columns .entry)) n [] ⌝ }
 {
     let mut i: usize = 0;
@@ -135,20 +135,21 @@ fn improve_nears(columns: &mut [i32], n: usize, px: i32, py: i32)
         × (length (now columns) ≡ 2050) ⌝ }
     ensures { λ r. ⌜ now (columns .exit) ≡ columnsImproved (now (columns .entry)) n (record { x = px; y = py }) ⌝ }
 {
-    let mut i: usize = 0;
-    while i < n {
-        columns[NEAR_COLUMN + i] = closer(
-            columns[NEAR_COLUMN + i],
-            columns[i],
-            columns[Y_COLUMN + i],
+    let mut stop: usize = 0;
+    while stop < n {
+        columns[NEAR_COLUMN + stop] = closer(
+            columns[NEAR_COLUMN + stop],
+            columns[stop],
+            columns[Y_COLUMN + stop],
             px,
             py,
         );
-        i = i + 1;
+        stop = stop + 1;
     }
 }
 
-// The near of the first n stops, put into the last column, post by post. Their places are in the first two.
+// The near of the first n stops, put into the last column, post by post. Their places are in the first two. After each post every figure is
+// the travel to the closest post so far.
 fn put_nears<'a>(columns: &mut [i32], n: usize, px: &'a [i32], py: &'a [i32], k: usize)
     requires { ⌜ (1 ≤ k) × CoordinatesInRange (now px) k × CoordinatesInRange (now py) k × CoordinatesInRange (now columns) n
         × CoordinatesInRange (drop 512 (now columns)) n × (n ≤ 512) × (length (now columns) ≡ 2050) ⌝ }

@@ -1,4 +1,4 @@
--- `deck::improve_nears` meets its contract: after i turns the figures of the first i stops are improved.
+-- `deck::improve_nears` meets its contract: after each turn the figures of the stops so far are improved.
 -- Assumes nothing.
 use Prim.Native.Nat.{_-_}
 use native.Mathlib.Omega.{arith}
@@ -7,18 +7,18 @@ use mir.Val.{toZ}
 use Rattle.deck.proofs.WordLaws.{coordinate}
 use Rattle.deck.proofs.TravelLaws.{place-word}
 use Rattle.deck.proofs.CopyLaws.{Copied, copied-none}
-use Rattle.deck.proofs.SoFarLaws.{StopColumns, better, better-more, better-all, place-row}
+use Rattle.deck.proofs.SoFarLaws.{StopsInRange, better, better-more, better-all, place-row}
 use Rattle.deck.proofs.improve_nears.Statement.{statement}
 use Rattle.deck.proofs.improve_nears.Tie as tie
 
 abbrev Inv-loop : tie.InvT-loop
-Inv-loop columns₀ n px py i₀ columns i = Copied columns₀ 1536 (better columns₀ (record { x = toZ w32 px; y = toZ w32 py })) n columns i
+Inv-loop columns₀ n px py stop₀ columns stop = Copied columns₀ 1536 (better columns₀ (record { x = toZ w32 px; y = toZ w32 py })) n columns stop
 
 abbrev μ-loop : tie.MeasureT-loop
-μ-loop columns₀ n px py i₀ columns i = n - i
+μ-loop columns₀ n px py stop₀ columns stop = n - stop
 
-stops : (s : tie.Start Inv-loop μ-loop) → StopColumns (s .args .columns .now) (s .args .n)
-stops s = record { x = s .pre .0; y = s .pre .1; few = s .pre .3; long = s .pre .4 }
+stops : (s : tie.Start Inv-loop μ-loop) → StopsInRange (s .args .columns .now) (s .args .n)
+stops s = record { fit = record { few = s .pre .3; long = s .pre .4 }; x = s .pre .0; y = s .pre .1 }
 
 loop-holds : tie.Need-loop-holds Inv-loop μ-loop
 loop-holds c = copied-none _ _ _ _
@@ -51,7 +51,7 @@ closer-requires : tie.Need-closer-requires Inv-loop μ-loop
 closer-requires c κs =
     let turn = c .before .before .before in
     let s = turn .before .before in
-    (place-row (stops s) (turn .before .loop .inv) _ (turn .loop-test .taken), place-word (s .pre .2))
+    (place-row (stops s) _ (turn .before .loop .inv) (turn .loop-test .taken), place-word (s .pre .2))
 
 add-t19 : tie.Need-add-t19 Inv-loop μ-loop
 add-t19 c = omega arith
@@ -62,8 +62,8 @@ mul-t20 c = omega arith
 slice-set-from-columns : tie.Need-slice-set-from-columns Inv-loop μ-loop
 slice-set-from-columns c = omega arith
 
-add-i : tie.Need-add-i Inv-loop μ-loop
-add-i c = omega arith
+add-stop : tie.Need-add-stop Inv-loop μ-loop
+add-stop c = omega arith
 
 loop-less : tie.Need-loop-less Inv-loop μ-loop
 loop-less c = omega arith
@@ -72,7 +72,7 @@ loop-again : tie.Need-loop-again Inv-loop μ-loop
 loop-again c =
     let turn = c .before .before .before .before in
     let s = turn .before .before in
-    better-more (stops s) _ _ (turn .before .loop .inv) (turn .loop-test .taken)
+    better-more (stops s) _ (turn .before .loop .inv) _ (turn .loop-test .taken)
     (record { sfits = c .closer .ok }) (record { sfits = c .before .before .before .closer-arg .given }) (c .closer .ensures)
 
 same-length : tie.Need-same-length Inv-loop μ-loop
@@ -103,7 +103,7 @@ improve-nears-spec =
     add-t19
     mul-t20
     slice-set-from-columns
-    add-i
+    add-stop
     loop-less
     loop-again
     same-length

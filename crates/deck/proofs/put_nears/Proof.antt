@@ -1,6 +1,6 @@
 -- `deck::put_nears` meets its contract: after each post the figures are those by the posts so far, and after the last they are near.
 -- Assumes nothing.
-use mathlib.Core.Path.{_≡_, sym, ap, _∙_}
+use mathlib.Core.Path.{_≡_, sym, _∙_}
 use mathlib.Core.List.{[]}
 use Prim.Native.Nat.{_-_, _≤_}
 use native.Mathlib.Omega.{arith}
@@ -11,7 +11,7 @@ use Rattle.deck.specs.ClosestSoFar.{columnsSoFar}
 use Rattle.deck.proofs.WordLaws.{coordinate}
 use Rattle.deck.proofs.TravelLaws.{place-word}
 use Rattle.deck.proofs.ClosestLaws.{some-posts, posts-more, post-range}
-use Rattle.deck.proofs.SoFarLaws.{StopColumns, so-far-still, so-far-again, columns-more, columns-all}
+use Rattle.deck.proofs.SoFarLaws.{StopsInRange, so-far-ranged, so-far-again, columns-more, columns-all}
 use Rattle.deck.proofs.put_nears.Statement.{statement}
 use Rattle.deck.proofs.put_nears.Tie as tie
 
@@ -21,22 +21,22 @@ Inv-loop columns₀ n px py k j₀ columns j = (j ≤ k) × (columns ≡ columns
 abbrev μ-loop : tie.MeasureT-loop
 μ-loop columns₀ n px py k j₀ columns j = k - j
 
-stops : (s : tie.Start Inv-loop μ-loop) → StopColumns (s .args .columns .now) (s .args .n)
-stops s = record { x = s .pre .3; y = s .pre .4; few = s .pre .5; long = s .pre .6 }
+stops : (s : tie.Start Inv-loop μ-loop) → StopsInRange (s .args .columns .now) (s .args .n)
+stops s = record { fit = record { few = s .pre .5; long = s .pre .6 }; x = s .pre .3; y = s .pre .4 }
 
 start-nears-requires : tie.Need-start-nears-requires Inv-loop μ-loop
-start-nears-requires c κs = let s = c .before in (s .pre .3, s .pre .4, s .pre .5, s .pre .6)
+start-nears-requires c κs = (c .before .pre .5, c .before .pre .6)
 
 -- before the first post
-started : (c : tie.After-start-nears Inv-loop μ-loop) → StopColumns (c .start-nears .last .0) (c .before .before .args .n)
-started c = rw (c .start-nears .ensures) (so-far-still (stops (c .before .before)) [])
+started : (c : tie.After-start-nears Inv-loop μ-loop) → StopsInRange (c .start-nears .last .0) (c .before .before .args .n)
+started c = rw (c .start-nears .ensures) (so-far-ranged (stops (c .before .before)) [])
 
 loop-holds : tie.Need-loop-holds Inv-loop μ-loop
 loop-holds c = (omega arith, rw (c .before .start-nears .ensures) (sym (so-far-again (stops (c .before .before .before)) [] [])))
 
 -- after each post
-held : (c : tie.At-loop Inv-loop μ-loop) → StopColumns (c .loop .columns) (c .before .before .before .before .args .n)
-held c = rw (c .loop .inv .1) (so-far-still (started (c .before .before)) _)
+held : (c : tie.At-loop Inv-loop μ-loop) → StopsInRange (c .loop .columns) (c .before .before .before .before .args .n)
+held c = rw (c .loop .inv .1) (so-far-ranged (started (c .before .before)) _)
 
 mul-improve-nears : tie.Need-mul-improve-nears Inv-loop μ-loop
 mul-improve-nears c = omega arith
@@ -55,7 +55,7 @@ improve-nears-requires c κs =
     let turn = c .before .before .before in
     let s = turn .before .before .before .before .before in
     let now = held (turn .before) in
-    (now .x, now .y, place-word (post-range (s .pre .1) (s .pre .2) _ (turn .loop-test .taken)), now .few, now .long)
+    (now .x, now .y, place-word (post-range (s .pre .1) (s .pre .2) _ (turn .loop-test .taken)), now .fit .few, now .fit .long)
 
 add-j : tie.Need-add-j Inv-loop μ-loop
 add-j c = omega arith
@@ -79,14 +79,14 @@ loop-again c =
     )
 
 same-length : tie.Need-same-length Inv-loop μ-loop
-same-length c = held (c .before) .long ∙ sym (c .before .before .before .before .before .pre .6)
+same-length c = held (c .before) .fit .long ∙ sym (c .before .before .before .before .before .pre .6)
 
 returns : tie.Need-returns Inv-loop μ-loop
 returns c =
     let s = c .before .before .before .before .before in
     let last : c .before .loop .j ≡ s .args .k = omega (arith, c .before .loop .inv .0, c .loop-test .left) in
     c .before .loop .inv .1 ∙ rw (c .before .before .before .start-nears .ensures, last)
-    (so-far-again (stops s) _ [] ∙ columns-all (stops s) _ (some-posts (s .pre .1) (s .pre .2) (s .pre .0)))
+    (so-far-again (stops s) [] _ ∙ columns-all _ _ _ (some-posts (s .pre .1) (s .pre .2) (s .pre .0)))
 
 pub put-nears-spec : {M : Type 1} → statement M
 put-nears-spec =

@@ -5,7 +5,7 @@ use Prim.Native.Nat.{_-_}
 use native.Mathlib.Omega.{arith}
 use Rattle.deck.specs.ClosestSoFar.{columnsSoFar}
 use Rattle.deck.proofs.CopyLaws.{Copied, copied-none, copied-all}
-use Rattle.deck.proofs.SoFarLaws.{StopColumns, figures, none-more}
+use Rattle.deck.proofs.SoFarLaws.{figures, none-more}
 use Rattle.deck.proofs.start_nears.Statement.{statement}
 use Rattle.deck.proofs.start_nears.Tie as tie
 
@@ -14,9 +14,6 @@ Inv-loop columns₀ n i₀ columns i = Copied columns₀ 1536 (figures columns�
 
 abbrev μ-loop : tie.MeasureT-loop
 μ-loop columns₀ n i₀ columns i = n - i
-
-stops : (s : tie.Start Inv-loop μ-loop) → StopColumns (s .args .columns .now) (s .args .n)
-stops s = record { x = s .pre .0; y = s .pre .1; few = s .pre .2; long = s .pre .3 }
 
 loop-holds : tie.Need-loop-holds Inv-loop μ-loop
 loop-holds c = copied-none _ _ _ _
@@ -37,9 +34,7 @@ loop-less : tie.Need-loop-less Inv-loop μ-loop
 loop-less c = omega arith
 
 loop-again : tie.Need-loop-again Inv-loop μ-loop
-loop-again c =
-    let s = c .before .before in
-    none-more (stops s) (c .before .loop .inv) (c .loop-test .taken)
+loop-again c = none-more (record { few = c .before .before .pre .0; long = c .before .before .pre .1 }) (c .before .loop .inv) (c .loop-test .taken)
 
 same-length : tie.Need-same-length Inv-loop μ-loop
 same-length c = c .before .loop .inv .long
