@@ -14,8 +14,8 @@ use Rattle.query.specs.Range.{travelLimit}
 use Rattle.deck.specs.DeckOf.{places}
 
 -- 02 card 4, a stop's "travel to the closest post so far". Before the first post it is one more than any travel, so that the first post
--- always improves it. Nobody sees that number: every deck that is priced has a post, and after one or more this is `closest`, by which
--- near is defined
+-- always improves it. Nobody sees that number: a deck in range has a post, and after one or more this is `closest`, by which near is
+-- defined
 unfoldable pub closestSoFar : List Place → Place → ℕ
 unfolding closest
 closestSoFar [] p = suc travelLimit
