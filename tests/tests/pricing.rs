@@ -1,15 +1,11 @@
 //! The proved reader and the proved pricing against the reference, on random bytes and decks.
 
 use siting_tests::generate::{damaged, job, job_of, largest, noise, rect, seed, spelled, spelling, Random};
-use siting_tests::reference::{cut, read, spell, spell_out, Axis, Deck, Job, Place, Rect, Refusal, Stop};
-use siting_tests::trial;
+use siting_tests::reference::{cut, read, spell, spell_out, travel, Axis, Deck, Job, Place, Rect, Refusal, Stop};
+use siting_tests::{text, trial};
 use siting_tests::vectors::{deep, narrow, refusals, reports};
 
 const LEAST: i64 = i64::MIN;
-
-fn text(job: &[u8]) -> String {
-    String::from_utf8_lossy(job).into_owned()
-}
 
 // ---- reading
 
@@ -179,7 +175,7 @@ fn nears(job: &Job) -> Vec<i64> {
 }
 
 /// Card 4 as it is seen from outside, by jobs with the first posts of a deck: each further post improves the near of the stops that are
-/// closer to it, and leaves the others. In any order the posts give the same.
+/// closer to it, and leaves the others. In the opposite order the posts give the same.
 #[test]
 fn near_with_each_further_post() {
     let mut random = Random::new(seed());
@@ -187,12 +183,11 @@ fn near_with_each_further_post() {
     for stops in [1, 2, 3, 4, 5, 7, 8, 31, 64, 64, 200, 200] {
         let mut whole = largest(&mut random);
         whole.stops.truncate(stops);
-        let travel = |stop: Place, post: Place| whole.axis.a * (stop.0 - post.0).abs() + whole.axis.b * (stop.1 - post.1).abs();
         let mut so_far = vec![i64::MAX; stops];
         for k in 1..=whole.posts.len() {
             let first = Job { posts: whole.posts[..k].to_vec(), ..whole.clone() };
             for (figure, stop) in so_far.iter_mut().zip(&whole.stops) {
-                let new = travel(stop.at, whole.posts[k - 1]);
+                let new = travel(whole.axis, stop.at, whole.posts[k - 1]);
                 if k > 1 {
                     *(if new < *figure { &mut improved } else { &mut left }) += 1;
                 }
@@ -203,7 +198,7 @@ fn near_with_each_further_post() {
         let back = Job { posts: whole.posts.iter().rev().copied().collect(), ..whole.clone() };
         assert_eq!(nears(&back), so_far, "{}", text(&spell(&back)));
     }
-    eprintln!("{improved} {left}"); eprintln!("{improved} {left}"); eprintln!("{improved} {left}"); assert!(improved > 200 && left > 5_000, "{improved} {left}");
+    assert!(improved > 200 && left > 5_000, "{improved} {left}");
 }
 
 /// From one corner of the deck to the opposite one at the highest costs, by posts that all stand there, is the longest travel there is.
