@@ -36,7 +36,7 @@ module _ {A : Type 0} (d : List A) (at : ℕ) (s : List A) (n : ℕ) where
       rw (so-far .copied, append-assoc (take at d) (take i s) (drop (at + i) d))
       (List·getD-append (take at d) _ z j (omega (arith, length-take-le at d h)) ∙ getD-take at d j z l)
 
-  -- the next element is not copied yet, and the last ones are
+  -- the next element is not copied yet, and those before it are
   pub copied-next : {to : List A} {i : ℕ} → Copied to i → at ≤ length d → n ≤ length s → (z : A) → getD to (at + i) z ≡ getD d (at + i) z
   copied-next {to} {i} so-far g h z =
       let e : at + i ≡ at + i + 0 = omega arith in

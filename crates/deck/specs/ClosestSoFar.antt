@@ -1,4 +1,4 @@
--- Document 02, card 4: near found post by post, in columns of scaled places.
+-- Document 02, card 4: near found post by post, in columns of scaled places, between which travel is plain (Objects.antt).
 -- Assumes nothing.
 use Prim.Native.Nat.{ℕ, suc}
 use mathlib.Core.Bool.{cond}

@@ -56,8 +56,8 @@ pub struct Deck {
     pub visits: [u64; STOPS],
 }
 
-// One more than any travel.
-const UNREACHED: i32 = 720001;
+// A stop's figure before the first post: one more than any travel.
+const NO_POST: i32 = 720001;
 
 // |u − v|
 fn apart(u: i32, v: i32) -> i32
@@ -124,7 +124,7 @@ fn start_nears(columns: &mut [i32], n: usize)
 {
     let mut i: usize = 0;
     while i < n {
-        columns[NEAR_COLUMN + i] = UNREACHED;
+        columns[NEAR_COLUMN + i] = NO_POST;
         i = i + 1;
     }
 }
