@@ -147,7 +147,7 @@ extern "C" fn LLVMFuzzerInitialize(_: *mut c_void, _: *mut c_void) -> i32 {
         out: Lent::new(PAGE),
         cells: Lent::new(10 * PAGE),
         coordinates: Lent::new(3 * PAGE),
-        naturals: Lent::new(2 * PAGE),
+        naturals: Lent::new(3 * PAGE),
         saved: Lent::new(4 * PAGE),
         program: variable("FUZZ_PROGRAM"),
         every: variable("FUZZ_EVERY").parse().unwrap(),
@@ -450,7 +450,8 @@ impl State {
         }
     }
 
-    /// The job's own record, if it is accepted, and others made of its numbers. Its own is written as the job, but for a line `axis=1,1`.
+    /// The job's own record, if it is accepted, and others made of its numbers. Its own is written as the job, but for a line `axis=1,1`,
+    /// also with any other near and before.
     fn check_records(&mut self, bytes: &[u8], want: Result<Record, Refusal>, any: u64) {
         let (at_end, fill, some) = (any >> 16 & 1 == 0, (any >> 24) as u8, any as usize % 300);
         self.read(bytes, &want, at_end, fill);
@@ -462,6 +463,7 @@ impl State {
                 differs("the reference's own text of an accepted job", &own.text().escape_ascii().to_string(), "the input, without a line axis=1,1");
             }
             self.write(&own, saved.len(), at_end, fill);
+            self.write(&Record { near: record.near, before: record.before, ..own }, saved.len() + some, at_end, fill);
             self.write(&record, saved.len() - 1, !at_end, fill);
         } else {
             self.write(&record, (bytes.len() + some).min(LONGEST), at_end, fill);

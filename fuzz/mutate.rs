@@ -106,6 +106,19 @@ fn change_lines(random: &mut Random, lines: &mut Vec<Line>) -> Option<()> {
     Some(())
 }
 
+/// A stop at the place of a post: its near is 0.
+fn move_stop(random: &mut Random, lines: &mut [Line]) -> Option<()> {
+    let (posts, stops) = (all(lines, "post="), all(lines, "stop="));
+    if posts.is_empty() || stops.is_empty() {
+        return None;
+    }
+    let (_, place) = parts(&lines[posts[random.below(posts.len())]])?;
+    let i = stops[random.below(stops.len())];
+    let (_, numbers) = parts(&lines[i])?;
+    lines[i] = format!("stop={},{}", place.join(","), numbers.last()?).into_bytes();
+    Some(())
+}
+
 /// Most are right.
 fn axis_line(random: &mut Random) -> Line {
     let mut cost = || match random.below(16) {
@@ -149,7 +162,7 @@ fn change(random: &mut Random, bytes: &mut Vec<u8>, most: usize) {
             break;
         }
         // None: this change does not fit this job
-        let _ = match random.below(9) {
+        let _ = match random.below(10) {
             0 => {
                 let i = random.below(lines.len());
                 libfuzzer(&mut lines[i], 40);
@@ -157,6 +170,7 @@ fn change(random: &mut Random, bytes: &mut Vec<u8>, most: usize) {
             }
             1..=3 => change_lines(random, &mut lines),
             4 => Some(change_axis(random, &mut lines)),
+            5 => move_stop(random, &mut lines),
             _ => change_number(random, &mut lines),
         };
     }

@@ -36,8 +36,19 @@ fn has_axis_line(bytes: &[u8]) -> bool {
     bytes.split(|&b| b == b'\n').nth(1).is_some_and(|line| line.starts_with(b"axis"))
 }
 
-/// A record of these numbers, in the order of a job, and 1 where there are no more. Ends stand behind its lists.
+/// A near or before: an end, a number that could be right, or any number.
+fn any(random: &mut Random) -> u64 {
+    match random.below(4) {
+        0 => ENDS[random.below(ENDS.len())] as u64,
+        1 => random.below(720_001) as u64,
+        _ => random.0,
+    }
+}
+
+/// A record of these numbers, in the order of a job, and 1 where there are no more. Ends stand behind its lists. Near and before are any
+/// numbers.
 pub fn of(bytes: &[u8], random: &mut Random) -> Record {
+    let (near, before) = ([(); 512].map(|()| any(random)), any(random));
     let mut end = || ENDS[random.below(ENDS.len())];
     let mut record = Record {
         post_x: [end() as i64; 64],
@@ -45,6 +56,8 @@ pub fn of(bytes: &[u8], random: &mut Random) -> Record {
         stop_x: [end() as i64; 512],
         stop_y: [end() as i64; 512],
         visits: [end() as u64; 512],
+        near,
+        before,
         ..Record::PLAIN
     };
     let mut found = numbers(bytes).into_iter();

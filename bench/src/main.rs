@@ -27,6 +27,15 @@ extern "C" {
     fn trial_report(job: *const u8, len: usize, cells: *mut i64, cells_len: usize, out: *mut u8, out_len: usize, which: u64) -> i64;
     fn trial_exhaustive(job: *const u8, len: usize, which: u64) -> i64;
     fn trial_estimate(job: *const u8, len: usize, which: u64) -> i64;
+    fn trial_read(
+        job: *const u8,
+        len: usize,
+        coordinates: *mut i64,
+        coordinates_len: usize,
+        naturals: *mut u64,
+        naturals_len: usize,
+        which: u64,
+    ) -> i64;
     fn trial_write(
         coordinates: *const i64,
         coordinates_len: usize,
@@ -130,14 +139,24 @@ fn slower() -> [(&'static str, Sizes); 2] {
     [("largest, axis 2,1", Sizes { axis: SLOWER, ..LARGEST }), ("typical, axis 2,1", Sizes { axis: SLOWER, ..TYPICAL })]
 }
 
-/// Reading a job: the proved reader, with its record of the deck, beside the twin's.
+/// Whether the twin's record of a job, near and before in it, is the proved reader's.
+fn same_record(job: &[u8]) -> bool {
+    let lists = write::lists(job);
+    let (mut c, mut n) = (vec![77; lists.coordinates.len()], vec![77; lists.naturals.len()]);
+    let rounds = unsafe { trial_read(job.as_ptr(), job.len(), c.as_mut_ptr(), c.len(), n.as_mut_ptr(), n.len(), 0) };
+    (c, n, rounds) == (lists.coordinates, lists.naturals, lists.rounds as i64)
+}
+
+/// Reading a job: the proved reader, with its record of the deck, beside the twin's deck, objects and before.
 fn compare_reading(name: &str, job: &[u8]) {
     let turns = 20;
+    assert!(same_record(job), "{name}: another record");
+    let twin = |job: &[u8]| read::read(job).map(|(deck, objects)| (objects.before(), deck, objects));
     let (mut ours, mut theirs) = (f64::MAX, f64::MAX);
     for _ in 0..4 * REPETITIONS {
         let (t, refused) = timed(|| (0..turns).map(|_| unsafe { trial_reading(black_box(job).as_ptr(), job.len(), 0) }).sum());
         ours = ours.min(t);
-        let (t, accepted) = timed(|| (0..turns).filter(|_| black_box(read::parse(black_box(job))).is_ok()).count() as i64);
+        let (t, accepted) = timed(|| (0..turns).filter(|_| black_box(twin(black_box(job))).is_ok()).count() as i64);
         theirs = theirs.min(t);
         assert!(refused == 0 && accepted == turns, "{name}: refused");
     }
@@ -148,7 +167,7 @@ fn compare_reading(name: &str, job: &[u8]) {
 /// How the report call grows: one of the numbers of the largest deck is changed at a time.
 fn growth() {
     println!();
-    println!("{:<52} {:>10} {:>10} {:>7}", "reading, us a job", "proved", "twin", "ratio");
+    println!("{:<52} {:>10} {:>10} {:>7}", "reading with near and before, us a job", "proved", "twin", "ratio");
     for (name, deck) in [("largest", LARGEST), ("typical", TYPICAL)].into_iter().chain(slower()) {
         compare_reading(name, &deck.job());
     }
@@ -228,18 +247,15 @@ fn twin_write(lists: &write::Lists, out: &mut [u8]) -> i64 {
     }
 }
 
-/// Writing a job into an output of exactly its length: both must write the same bytes, those of `job` where it is given.
-fn compare_writing(name: &str, lists: &write::Lists, job: Option<&[u8]>) {
+/// Writing a job's record into an output of exactly the job's length: both must write the job.
+fn compare_writing(name: &str, job: &[u8]) {
     let turns = 20;
-    let mut text = vec![b'x'; 16_384];
-    let length = twin_write(lists, &mut text) as usize;
-    text.truncate(length);
-    assert!(job.is_none_or(|job| job == text), "{name}: another job");
-    assert_eq!(proved_write(lists, &mut vec![b'x'; length - 1]), i64::MIN, "{name}: written in too short an output");
+    let (lists, length) = (write::lists(job), job.len());
+    assert_eq!(proved_write(&lists, &mut vec![b'x'; length - 1]), i64::MIN, "{name}: written in too short an output");
     let run = |write: fn(&write::Lists, &mut [u8]) -> i64| {
         let mut out = vec![b'x'; length];
-        let (t, r) = timed(|| (0..turns).map(|_| write(black_box(lists), black_box(&mut out))).sum());
-        assert!(r == turns * length as i64 && out == text, "{name}: another text");
+        let (t, r) = timed(|| (0..turns).map(|_| write(black_box(&lists), black_box(&mut out))).sum());
+        assert!(r == turns * length as i64 && out == job, "{name}: another text");
         t / turns as f64 / 1e3
     };
     let (mut ours, mut theirs) = (f64::MAX, f64::MAX);
@@ -254,9 +270,8 @@ fn writing() {
     println!();
     println!("{:<52} {:>10} {:>10} {:>7}", "writing, us a job", "proved", "twin", "ratio");
     for (axis, name) in [(PLAIN, ""), (SLOWER, ", axis 2,1")] {
-        compare_writing(&format!("largest{name}"), &write::mixed(axis), None);
-        let typical = Sizes { axis, ..TYPICAL }.job();
-        compare_writing(&format!("typical{name}"), &write::lists(&typical), Some(&typical));
+        compare_writing(&format!("largest{name}"), &write::mixed(axis));
+        compare_writing(&format!("typical{name}"), &Sizes { axis, ..TYPICAL }.job());
     }
 }
 
@@ -303,7 +318,7 @@ fn kernels(deck: &twin::Deck, suffix: &str) {
     let s = deck.sites();
     let row = |name: &str, k: u64, kernel: Kernel, twin: &dyn Fn(u64) -> i64| compare(&format!("{name}{suffix}"), &job, k, kernel, twin);
     row("near of 512 stops x 64 posts", 400, Kernel::Near, &|k| twin::near_many(deck, k, twin::near_by_stops));
-    row("the same, twin post by post", 400, Kernel::Near, &|k| twin::near_many(deck, k, twin::near_by_posts));
+    row("the same, twin post by post", 400, Kernel::Near, &|k| twin::near_many(deck, k, read::near_by_posts));
     row("cost of a place, 512 stops", 20_000, Kernel::Cost, &|k| twin::cost_many(&s, k));
     row("load of a rectangle, 512 stops", 20_000, Kernel::Load, &|k| twin::load_many(&s, k));
     row("bound of a cell, 512 stops (4 costs, load)", 5_000, Kernel::Bound, &|k| twin::bound_many(&s, k, twin::bound));

@@ -109,9 +109,9 @@ pub fn scaled(column: &[i32], k: i32) -> Vec<i32> {
 }
 
 /// The near of each stop, post by post over the columns of stops: no reduction inside the loop.
-pub fn near_by_posts(posts: impl Iterator<Item = (i32, i32)>, xs: &[i32], ys: &[i32]) -> Vec<i32> {
+pub fn near_by_posts(px: &[i32], py: &[i32], xs: &[i32], ys: &[i32]) -> Vec<i32> {
     let mut near = vec![i32::MAX; xs.len()];
-    for (u, v) in posts {
+    for (&u, &v) in px.iter().zip(py) {
         for ((m, &x), &y) in near.iter_mut().zip(xs).zip(ys) {
             *m = (*m).min((x - u).abs() + (y - v).abs());
         }
@@ -124,12 +124,12 @@ pub fn read(job: &[u8]) -> Result<(Deck, Objects), Refused> {
     let mut deck = parse(job)?;
     let Axis { a, b } = deck.axis;
     let (xs, ys) = (scaled(&deck.xs, a), scaled(&deck.ys, b));
-    let near = near_by_posts(deck.post_x.iter().zip(&deck.post_y).map(|(&u, &v)| (a * u, b * v)), &xs, &ys);
+    let near = near_by_posts(&scaled(&deck.post_x, a), &scaled(&deck.post_y, b), &xs, &ys);
     let visits = std::mem::take(&mut deck.visits);
     Ok((deck, Objects { xs, ys, visits, near }))
 }
 
-pub fn parse(job: &[u8]) -> Result<Deck, Refused> {
+fn parse(job: &[u8]) -> Result<Deck, Refused> {
     if job.len() > 16_384 {
         return Err((1, 0));
     }

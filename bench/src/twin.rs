@@ -2,7 +2,7 @@
 
 use std::hint::black_box;
 
-use crate::read::{self, Axis, Rect};
+use crate::read::{Axis, Rect};
 
 pub struct Deck {
     area: Rect,
@@ -60,7 +60,7 @@ impl Deck {
         let py: Vec<i32> = self.posts.iter().map(|p| b * p.1 as i32).collect();
         let xs: Vec<i32> = self.stops.iter().map(|s| a * s.0 as i32).collect();
         let ys: Vec<i32> = self.stops.iter().map(|s| b * s.1 as i32).collect();
-        let near = near(&px, &py, &xs, &ys);
+        let near = near(&px, &py, &xs, &ys).into_iter().map(|m| m as u32).collect();
         Sites { axis: self.axis, xs, ys, visits: self.stops.iter().map(|s| s.2 as u32).collect(), near }
     }
 
@@ -92,16 +92,11 @@ impl Sites {
 }
 
 /// The near of each stop, from the places of the posts and of the stops.
-pub type Near = fn(&[i32], &[i32], &[i32], &[i32]) -> Vec<u32>;
+pub type Near = fn(&[i32], &[i32], &[i32], &[i32]) -> Vec<i32>;
 
-pub fn near_by_stops(px: &[i32], py: &[i32], xs: &[i32], ys: &[i32]) -> Vec<u32> {
-    let closest = |(&x, &y): (&i32, &i32)| px.iter().zip(py).map(|(&u, &v)| (x - u).abs() + (y - v).abs()).min().unwrap() as u32;
+pub fn near_by_stops(px: &[i32], py: &[i32], xs: &[i32], ys: &[i32]) -> Vec<i32> {
+    let closest = |(&x, &y): (&i32, &i32)| px.iter().zip(py).map(|(&u, &v)| (x - u).abs() + (y - v).abs()).min().unwrap();
     xs.iter().zip(ys).map(closest).collect()
-}
-
-pub fn near_by_posts(px: &[i32], py: &[i32], xs: &[i32], ys: &[i32]) -> Vec<u32> {
-    let near = read::near_by_posts(px.iter().copied().zip(py.iter().copied()), xs, ys);
-    near.into_iter().map(|m| m as u32).collect()
 }
 
 #[inline]

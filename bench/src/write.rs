@@ -1,10 +1,11 @@
 //! Hand-written Rust for writing a job, from the lists of a record's numbers on, and the records that are measured.
 
-use crate::read::{parse, Axis, Refused};
+use crate::read::{read, Axis, Refused};
 
 const POSTS: usize = 64;
 const STOPS: usize = 512;
 
+/// What a writer looks at: near and before stay in their list.
 struct Record {
     area: [i64; 4],
     axis: [u64; 2],
@@ -29,7 +30,7 @@ fn taken<T: Copy + Default, const N: usize>(list: &mut &[T]) -> [T; N] {
 }
 
 fn record(mut coordinates: &[i64], mut naturals: &[u64], rounds: u64) -> Option<Record> {
-    if coordinates.len() != 4 + 2 * POSTS + 2 * STOPS || naturals.len() != 4 + STOPS {
+    if coordinates.len() != 4 + 2 * POSTS + 2 * STOPS || naturals.len() != 4 + 2 * STOPS + 1 {
         return None;
     }
     let (c, n) = (&mut coordinates, &mut naturals);
@@ -205,9 +206,9 @@ pub struct Lists {
     pub rounds: u64,
 }
 
-/// Those of a job.
+/// Those of a job, as it is read.
 pub fn lists(job: &[u8]) -> Lists {
-    let deck = parse(job).unwrap_or_else(|_| panic!("refused"));
+    let (deck, objects) = read(job).unwrap_or_else(|_| panic!("refused"));
     let a = deck.area;
     let mut coordinates: Vec<i64> = [a.xlo, a.ylo, a.xhi, a.yhi].map(i64::from).into();
     for (column, size) in [(&deck.post_x, POSTS), (&deck.post_y, POSTS), (&deck.xs, STOPS), (&deck.ys, STOPS)] {
@@ -216,13 +217,16 @@ pub fn lists(job: &[u8]) -> Lists {
         coordinates.resize(end, 0);
     }
     let mut naturals = vec![deck.axis.a as u64, deck.axis.b as u64, deck.post_x.len() as u64, deck.xs.len() as u64];
-    naturals.extend(deck.visits.iter().map(|&v| u64::from(v)));
+    naturals.extend(objects.visits.iter().map(|&v| u64::from(v)));
     naturals.resize(4 + STOPS, 0);
+    naturals.extend(objects.near.iter().map(|&v| v as u64));
+    naturals.resize(4 + 2 * STOPS, 0);
+    naturals.push(objects.before());
     Lists { coordinates, naturals, rounds: deck.rounds as u64 }
 }
 
-/// Those of the most posts and stops, all numbers of 1 to 5 digits from a fixed seed.
-pub fn mixed(axis: Axis) -> Lists {
+/// A job of the most posts and stops, all numbers of 1 to 5 digits from a fixed seed.
+pub fn mixed(axis: Axis) -> Vec<u8> {
     let mut state: u64 = 0x2545_f491_4f6c_dd1d;
     let mut below = |n: u64| {
         state = state.wrapping_mul(6_364_136_223_846_793_005).wrapping_add(1_442_695_040_888_963_407);
@@ -232,11 +236,19 @@ pub fn mixed(axis: Axis) -> Lists {
         let size = [10, 100, 1_000, 10_000, 20_001][below(5) as usize];
         below(size)
     };
-    let naturals = [axis.a as u64, axis.b as u64, POSTS as u64, STOPS as u64].into_iter().chain((0..STOPS).map(|_| natural() + 1)).collect();
-    let mut coordinates: Vec<i64> = vec![-20_000, -20_000, 20_000, 20_000];
-    for _ in 0..2 * POSTS + 2 * STOPS {
+    let visits: Vec<u64> = (0..STOPS).map(|_| natural() + 1).collect();
+    let mut coordinate = || {
         let n = natural() as i64;
-        coordinates.push(if natural() % 2 == 0 { n } else { -n });
+        if natural() % 2 == 0 { n } else { -n }
+    };
+    let [post_x, post_y, stop_x, stop_y] = [POSTS, POSTS, STOPS, STOPS].map(|n| (0..n).map(|_| coordinate()).collect::<Vec<i64>>());
+    let mut text = format!("area=-20000,-20000,20000,20000\n{}posts={POSTS}\n", axis.line());
+    for (x, y) in post_x.iter().zip(&post_y) {
+        text += &format!("post={x},{y}\n");
     }
-    Lists { coordinates, naturals, rounds: 1_000 }
+    text += &format!("stops={STOPS}\n");
+    for ((x, y), visits) in stop_x.iter().zip(&stop_y).zip(&visits) {
+        text += &format!("stop={x},{y},{visits}\n");
+    }
+    (text + "rounds=1000\n").into_bytes()
 }

@@ -1,5 +1,5 @@
 //! Document 01 as a plain program: reading, pricing, the search by cells over the whole partition, the full walk, the report text; and
-//! of document 02 the writing of jobs (card 1), axis costs (card 2) and the estimate (card 3).
+//! of document 02 the writing of jobs (card 1), axis costs (card 2), the estimate (card 3) and near and before in a record (card 5).
 //! It is written to be read beside these and is slow on purpose: cells are never dropped, and nothing is kept in order.
 
 use std::cmp::Ordering;
@@ -165,7 +165,8 @@ fn spell_with(job: &Job, axis_line: &str) -> Vec<u8> {
 
 // ---- writing
 
-/// A deck's record and the rounds, as they are lent: any number may stand anywhere. The first `posts` and `stops` elements count.
+/// A deck's record and the rounds, as they are lent: any number may stand anywhere. The first `posts` and `stops` elements count. Writing
+/// looks at neither `near` nor `before`.
 #[derive(Clone, Debug, PartialEq, Eq)]
 pub struct Record {
     pub area: [i64; 4],
@@ -177,6 +178,8 @@ pub struct Record {
     pub stop_x: [i64; 512],
     pub stop_y: [i64; 512],
     pub visits: [u64; 512],
+    pub near: [u64; 512],
+    pub before: u64,
     pub rounds: u64,
 }
 
@@ -192,14 +195,17 @@ impl Record {
         stop_x: [0; 512],
         stop_y: [0; 512],
         visits: [0; 512],
+        near: [0; 512],
+        before: 0,
         rounds: 0,
     };
 
     /// The same with axis costs that a file can have.
     pub const PLAIN: Record = Record { axis: [1; 2], ..Record::ZEROS };
 
-    /// That of a job that was read: zeros behind its lists.
+    /// That of a job that was read: each stop's near and the deck's before, and zeros behind its lists.
     pub fn of(job: &Job) -> Record {
+        let deck = Deck::new(job);
         let (a, axis) = (job.area, [job.axis.a as u64, job.axis.b as u64]);
         let mut record = Record { area: [a.xlo, a.ylo, a.xhi, a.yhi], axis, rounds: job.rounds as u64, ..Record::ZEROS };
         record.posts = job.posts.len() as u64;
@@ -210,7 +216,9 @@ impl Record {
         for (i, s) in job.stops.iter().enumerate() {
             (record.stop_x[i], record.stop_y[i]) = s.at;
             record.visits[i] = s.visits as u64;
+            record.near[i] = deck.near[i] as u64;
         }
+        record.before = deck.before() as u64;
         record
     }
 
@@ -236,12 +244,12 @@ impl Record {
 
     /// How many numbers the two lists have.
     pub const COORDINATES: usize = 4 + 2 * 64 + 2 * 512;
-    pub const NATURALS: usize = 4 + 512;
+    pub const NATURALS: usize = 4 + 2 * 512 + 1;
 
     /// The lists of numbers by which the trial functions know it, the rounds left out.
     pub fn lists(&self) -> (Vec<i64>, Vec<u64>) {
         let coordinates = [&self.area[..], &self.post_x, &self.post_y, &self.stop_x, &self.stop_y].concat();
-        let naturals = [&self.axis[..], &[self.posts, self.stops], &self.visits].concat();
+        let naturals = [&self.axis[..], &[self.posts, self.stops], &self.visits, &self.near, &[self.before]].concat();
         (coordinates, naturals)
     }
 }
@@ -559,8 +567,10 @@ mod tests {
             assert_eq!(lent_enough(&quote, cells, out).map_or_else(|why| why.number, |()| 0), refused);
         }
         assert_eq!(spell(&job), A.as_bytes());
-        assert_eq!(write(&Record::of(&job), A.len()), Ok(A.into()));
-        assert_eq!(write(&Record::of(&job), A.len() - 1), Err(Refusal { number: 8, line: 0 }));
+        let record = Record::of(&job);
+        assert_eq!((&record.near[..3], record.before), (&[7, 20, 0][..], 34));
+        assert_eq!(write(&record, A.len()), Ok(A.into()));
+        assert_eq!(write(&record, A.len() - 1), Err(Refusal { number: 8, line: 0 }));
     }
 
     #[test]

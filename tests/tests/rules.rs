@@ -1,7 +1,7 @@
 //! The reference against itself, on random decks: what documents 01 and 02 promise of their rules. And against the vectors.
 
 use siting_tests::generate::{each_job, job, job_of, rect, seed, spelled, Random};
-use siting_tests::reference::{answer_text, brute_force, exhaustive, read, saved, search, spell, write};
+use siting_tests::reference::{answer_text, brute_force, exhaustive, read, saved, search, spell, travel, write};
 use siting_tests::reference::{Axis, Deck, Job, Place, Record, Rect, Refusal, Stop};
 use siting_tests::vectors::{refusals, reports};
 
@@ -52,6 +52,21 @@ fn a_spelled_job_is_read_and_written_as_itself() {
     });
     println!("{plain} with axis costs of 1,1, {spelled_out} of them spelled out");
     assert!((1_800..2_300).contains(&plain) && spelled_out > 150);
+}
+
+/// No post is closer to a stop than its near, and one is as close. A further post where one stands changes nothing: its cost is before.
+#[test]
+fn a_record_has_the_near_of_each_stop_and_before() {
+    each_job(2_000, spelled(job), |_, bytes| {
+        let j = read(bytes).unwrap();
+        let (record, deck) = (Record::of(&j), Deck::new(&j));
+        for (s, near) in j.stops.iter().zip(&record.near) {
+            let travels: Vec<u64> = j.posts.iter().map(|&p| travel(j.axis, s.at, p) as u64).collect();
+            assert!(travels.contains(near) && travels.iter().all(|t| near <= t));
+        }
+        assert!(record.near[j.stops.len()..].iter().all(|&near| near == 0));
+        assert!(j.posts.iter().all(|&p| deck.cost(p) == record.before as i64));
+    });
 }
 
 // ---- axis costs

@@ -1,12 +1,12 @@
-//! The calls that read a job into a record and write a record as a job, against the reference: the answer, every number of the record and
-//! every byte of the output.
+//! The calls that read a job into a record and write a record as a job, against the reference: the answer, every number of the record,
+//! near and before among them, and every byte of the output.
 
 use siting_tests::decks::{folder, CASE_A};
 use siting_tests::generate::{damaged, each_job, job, job_of, largest, noise, seed, special, spelled, Random};
-use siting_tests::reference::{read, saved, spell, spell_out, write, Axis, Job, Record, Refusal};
+use siting_tests::reference::{read, saved, spell, spell_out, write, Axis, Deck, Job, Record, Rect, Refusal, Stop};
 use siting_tests::text;
 use siting_tests::trial;
-use siting_tests::vectors::{behind, refusals, reports};
+use siting_tests::vectors::{behind, deep, narrow, refusals, reports};
 
 const LEAST: i64 = i64::MIN;
 
@@ -22,21 +22,23 @@ fn figures(random: &mut Random, answer: Result<i64, Refusal>) -> [(u64, i64); 4]
     [(0, value), (1, number), (2, line), (none, LEAST)]
 }
 
-/// A record written into an output of `room` bytes.
+/// A record written into an output of `room` bytes, first with its own near and before, then with any others.
 fn check_write(random: &mut Random, record: &Record, room: usize) -> Result<Vec<u8>, Refusal> {
     let want = write(record, room);
-    let (coordinates, naturals) = record.lists();
     let before: Vec<u8> = (0..room + 2 * BESIDE).map(|_| random.next() as u8).collect();
     let mut after = before.clone();
     if let Ok(bytes) = &want {
         after[BESIDE..BESIDE + bytes.len()].copy_from_slice(bytes);
     }
     let answer = want.as_ref().map_or_else(|r| Err(*r), |bytes| Ok(bytes.len() as i64));
+    let mut lent = record.clone();
     for (which, figure) in figures(random, answer) {
+        let (coordinates, naturals) = lent.lists();
         let mut out = before.clone();
         let got = trial::write(&coordinates, &naturals, record.rounds, &mut out[BESIDE..BESIDE + room], which);
         assert_eq!(got, figure, "figure {which}, output of {room} bytes\n{}", text(&record.text()));
         assert!(out == after, "output of {room} bytes: {}\n{}", text(&out[BESIDE..]), text(&record.text()));
+        redraw(random, &mut lent);
     }
     want
 }
@@ -136,7 +138,21 @@ fn natural(random: &mut Random, ends: i64, lo: i64, hi: i64) -> u64 {
     random.range(lo, hi) as u64
 }
 
-/// Numbers for all elements behind the lists.
+/// Any near and before: zeros, ends, small numbers, numbers that could be right, or numbers of the whole type.
+fn redraw(random: &mut Random, record: &mut Record) {
+    let kind = random.range(1, 5);
+    let mut any = || match kind {
+        1 => 0,
+        2 => random.pick(&NATURALS),
+        3 => random.range(0, 9) as u64,
+        4 => random.range(0, 720_000) as u64,
+        _ => random.next(),
+    };
+    record.near = [(); 512].map(|()| any());
+    record.before = any();
+}
+
+/// Numbers for all that does not count: the elements behind the lists, near and before.
 fn litter(random: &mut Random, record: &mut Record, ends: i64) {
     for i in record.posts.min(64) as usize..64 {
         (record.post_x[i], record.post_y[i]) = (coordinate(random, ends), coordinate(random, ends));
@@ -145,9 +161,10 @@ fn litter(random: &mut Random, record: &mut Record, ends: i64) {
         (record.stop_x[i], record.stop_y[i]) = (coordinate(random, ends), coordinate(random, ends));
         record.visits[i] = natural(random, ends, 1, 65_535);
     }
+    redraw(random, record);
 }
 
-/// The record of a valid job, with numbers behind its lists.
+/// The record of a valid job, with numbers behind its lists and any near and before.
 fn valid(random: &mut Random, ends: i64) -> Record {
     let mut record = Record::of(&match random.range(1, 12) {
         1 => largest(random),
@@ -226,16 +243,22 @@ fn drawn(random: &mut Random, ends: i64) -> Record {
     record
 }
 
-/// The record whose lists are the first elements of this one's, and zeros behind them.
-fn without_litter(record: &Record) -> Record {
-    let mut clean = record.clone();
-    for i in record.posts.min(64) as usize..64 {
-        (clean.post_x[i], clean.post_y[i]) = (0, 0);
+/// The job that a record with numbers in range holds.
+fn held(record: &Record) -> Job {
+    let [xlo, ylo, xhi, yhi] = record.area;
+    let stop = |i: usize| Stop { at: (record.stop_x[i], record.stop_y[i]), visits: record.visits[i] as i64 };
+    Job {
+        area: Rect { xlo, ylo, xhi, yhi },
+        axis: Axis { a: record.axis[0] as i64, b: record.axis[1] as i64 },
+        posts: (0..record.posts as usize).map(|i| (record.post_x[i], record.post_y[i])).collect(),
+        stops: (0..record.stops as usize).map(stop).collect(),
+        rounds: record.rounds as i64,
     }
-    for i in record.stops.min(512) as usize..512 {
-        (clean.stop_x[i], clean.stop_y[i], clean.visits[i]) = (0, 0, 0);
-    }
-    clean
+}
+
+/// The record that its file is read as: the same numbers that count, zeros behind the lists, and the right near and before.
+fn mended(record: &Record) -> Record {
+    Record::of(&held(record))
 }
 
 // ---- jobs
@@ -357,6 +380,9 @@ fn the_longest_job_has_14_089_bytes() {
             stop_x: [low; 512],
             stop_y: [low; 512],
             visits: [65_535; 512],
+            // each stop is at a post
+            near: [0; 512],
+            before: 0,
             rounds: 1_000,
         };
         let bytes = check_write(&mut random, &record, length).unwrap();
@@ -384,7 +410,7 @@ fn the_line_is_left_out_for_1_1_only() {
             let spelled_out = behind(1, &format!("axis={a},{b}\n"));
             let want = if (a, b) == (1, 1) { CASE_A } else { &spelled_out };
             assert_eq!(check_write(&mut random, &record, 500).as_deref(), Ok(want.as_bytes()));
-            assert!(check_read(&mut random, spelled_out.as_bytes()) == Ok(record));
+            assert!(check_read(&mut random, spelled_out.as_bytes()) == Ok(mended(&record)));
             check_saved(&mut random, spelled_out.as_bytes());
         }
     }
@@ -577,8 +603,11 @@ fn lists_of_other_lengths_get_nothing() {
     let mut random = Random::new(seed());
     let record = Record::of(&read(CASE_A.as_bytes()).unwrap());
     let (coordinates, naturals) = record.lists();
-    assert_eq!((coordinates.len(), naturals.len()), (1_156, 516));
-    for (c, n) in [(1_155, 516), (1_157, 516), (1_156, 514), (1_156, 515), (1_156, 517), (0, 516), (1_156, 0), (0, 0), (516, 1_156), (2_312, 1_032)] {
+    assert_eq!((coordinates.len(), naturals.len()), (1_156, 1_029));
+    let coordinates_wrong = [0, 1_155, 1_157, 2_312].map(|c| (c, 1_029));
+    // without near and before, without before, and others
+    let naturals_wrong = [516, 1_028, 0, 515, 517, 1_027, 1_030, 2_058].map(|n| (1_156, n));
+    for (c, n) in [&coordinates_wrong[..], &naturals_wrong, &[(0, 0), (1_029, 1_156), (2_312, 2_058)]].concat() {
         let mut lists = (coordinates.clone(), naturals.clone());
         lists.0.resize(c, 0);
         lists.1.resize(n, 0);
@@ -764,11 +793,11 @@ fn numbers_behind_the_lists_are_left_out() {
     for _ in 0..3_000 {
         let ends = random.pick(&[1, 2, 30, NEVER]);
         let record = valid(&mut random, ends);
-        let clean = without_litter(&record);
+        let clean = mended(&record);
         let bytes = written(&record).unwrap();
         assert!(written(&clean).as_ref() == Some(&bytes));
         assert!(check_read(&mut random, &bytes).as_ref() == Ok(&clean));
-        littered += (record != clean) as usize;
+        littered += (record.post_x != clean.post_x || record.stop_x != clean.stop_x || record.visits != clean.visits) as usize;
     }
     assert!(littered > 2_000, "{littered}");
 }
@@ -786,11 +815,180 @@ fn different_records_are_written_in_different_bytes() {
             continue;
         };
         assert!(bytes != others, "{}", text(&bytes));
-        assert!(check_read(&mut random, &bytes) == Ok(without_litter(&record)));
-        assert!(check_read(&mut random, &others) == Ok(without_litter(&other)));
+        assert!(check_read(&mut random, &bytes) == Ok(mended(&record)));
+        assert!(check_read(&mut random, &others) == Ok(mended(&other)));
         pairs += 1;
         same_length += (bytes.len() == others.len()) as usize;
     }
     println!("{pairs} pairs, {same_length} of the same length");
     assert!(pairs > 6_000 && same_length > 1_000);
+}
+
+// ---- near and before
+
+/// How many jobs of each kind were read.
+#[derive(Default, Debug)]
+struct Kinds {
+    axis_costs: usize,
+    one_post: usize,
+    one_stop: usize,
+    most_posts: usize,
+    most_stops: usize,
+    equal_posts: usize,
+    stop_at_post: usize,
+    longest_travel: usize,
+    refused: usize,
+}
+
+impl Kinds {
+    fn add(&mut self, deck: &Deck) {
+        let Job { axis, posts, stops, .. } = deck.job;
+        self.axis_costs += (*axis != Axis::PLAIN) as usize;
+        self.one_post += (posts.len() == 1) as usize;
+        self.one_stop += (stops.len() == 1) as usize;
+        self.most_posts += (posts.len() == 64) as usize;
+        self.most_stops += (stops.len() == 512) as usize;
+        self.equal_posts += (1..posts.len()).any(|i| posts[..i].contains(&posts[i])) as usize;
+        self.stop_at_post += deck.near.contains(&0) as usize;
+        self.longest_travel += deck.near.contains(&720_000) as usize;
+    }
+}
+
+/// Near and before in the record that is read: those of the reference, of the deck's figures and, for before, of the report. 0 behind the
+/// last stop, and everywhere where the job is refused.
+fn check_near_and_before(random: &mut Random, bytes: &[u8], kinds: &mut Kinds) {
+    let (mut coordinates, mut naturals) = (vec![-1; Record::COORDINATES], vec![u64::MAX; Record::NATURALS]);
+    trial::read(bytes, &mut coordinates, &mut naturals, 0);
+    let (near, before) = (&naturals[516..1_028], naturals[1_028]);
+    let reported = trial::report_figure(bytes, &mut [0; 5_005], &mut [0; 128], 5);
+    let Ok(job) = read(bytes) else {
+        assert!(near.iter().all(|&n| n == 0) && before == 0, "{}", text(bytes));
+        assert_eq!((trial::near(bytes, 0), trial::before(bytes), reported), (-1, -1, LEAST), "{}", text(bytes));
+        kinds.refused += 1;
+        return;
+    };
+    let deck = Deck::new(&job);
+    assert_eq!([before as i64, trial::before(bytes), reported], [deck.before(); 3], "{}", text(bytes));
+    let stops = job.stops.len();
+    for i in 0..512 {
+        assert_eq!(near[i] as i64, if i < stops { deck.near[i] } else { 0 }, "stop {i}\n{}", text(bytes));
+    }
+    // some stops only, as each of these calls reads the whole job
+    let step = 1 + stops / 40;
+    for i in (random.range(0, step as i64 - 1) as usize..stops).step_by(step) {
+        assert_eq!(trial::near(bytes, i), near[i] as i64, "stop {i}\n{}", text(bytes));
+    }
+    kinds.add(&deck);
+}
+
+#[test]
+fn near_and_before_are_read_as_the_deck_has_them() {
+    let mut kinds = Kinds::default();
+    let mut check = |random: &mut Random, bytes: &[u8]| check_near_and_before(random, bytes, &mut kinds);
+    each_job(6_000, spelled(job), &mut check);
+    each_job(3_000, spelled(special), &mut check);
+    each_job(300, spelled(largest), &mut check);
+    each_job(4_000, damaged, &mut check);
+    each_job(500, noise, &mut check);
+    println!("{kinds:?}");
+    assert!(kinds.axis_costs > 3_000 && kinds.one_post > 1_000 && kinds.one_stop > 500, "{kinds:?}");
+    assert!(kinds.most_posts > 100 && kinds.most_stops >= 300 && kinds.equal_posts > 500, "{kinds:?}");
+    assert!(kinds.stop_at_post > 2_000 && kinds.longest_travel > 3 && kinds.refused > 1_000, "{kinds:?}");
+}
+
+/// Worked out by hand.
+#[test]
+fn near_and_before_of_some_decks() {
+    let mut random = Random::new(seed());
+    let posts = "area=0,0,1,1\naxis=3,2\nposts=3\npost=-4,-3\npost=4,4\npost=4,4\n";
+    let several = format!("{posts}stops=4\nstop=1,-1,5\nstop=4,4,65535\nstop=2,-2,1\nstop=-4,-2,9\nrounds=0\n");
+    // from one corner to the opposite one at the highest costs: the longest travel, and with the most visits the greatest before
+    let corners = Record { post_x: [20_000; 64], post_y: [20_000; 64], stop_x: [-20_000; 512], stop_y: [-20_000; 512], ..Record::PLAIN };
+    let farthest = Record { axis: [9, 9], posts: 64, stops: 512, visits: [65_535; 512], ..corners };
+    let decks: [(Vec<u8>, &[u64], u64); 7] = [
+        (CASE_A.into(), &[7, 20], 34),
+        (narrow("", 10).into(), &[7, 4], 11),
+        (narrow("axis=2,1\n", 10).into(), &[9, 6], 15),
+        (narrow("axis=1,2\n", 10).into(), &[12, 6], 18),
+        (deep(1).into(), &[4, 10], 34),
+        // as far from the first post as from the others; at a post; closest to the second, by plain travel to the first; beside the first
+        (several.into(), &[19, 0, 18, 2], 5 * 19 + 18 + 9 * 2),
+        (farthest.text(), &[720_000; 512], 24_158_822_400_000),
+    ];
+    for (job, near, before) in decks {
+        let record = check_read(&mut random, &job).unwrap();
+        assert_eq!((&record.near[..near.len()], record.before), (near, before), "{}", text(&job));
+        assert!(record.near[near.len()..].iter().all(|&n| n == 0), "{}", text(&job));
+    }
+}
+
+/// The numbers of the write call's answer, and the output.
+fn given(record: &Record, room: usize) -> ([i64; 3], Vec<u8>) {
+    let (coordinates, naturals) = record.lists();
+    let mut out = vec![b'x'; room];
+    ([0, 1, 2].map(|which| trial::write(&coordinates, &naturals, record.rounds, &mut out, which)), out)
+}
+
+#[test]
+fn writing_looks_at_neither_near_nor_before() {
+    let mut random = Random::new(seed());
+    let mut seen = Seen::default();
+    for i in 0..6_000 {
+        let ends = random.pick(&[1, 3, 30, 1_000, NEVER]);
+        let mut record = if i % 2 == 0 { valid(&mut random, ends) } else { drawn(&mut random, ends) };
+        for _ in 0..i % 3 {
+            replace(&mut random, &mut record);
+        }
+        let length = record.text().len();
+        let room = random.pick(&[length, length, length - 1, 0, length + 100]);
+        let want = given(&record, room);
+        let with = |near: [u64; 512], before: u64| Record { near, before, ..record.clone() };
+        let mut others = vec![with([0; 512], 0), with([u64::MAX; 512], u64::MAX), record.clone(), record.clone()];
+        others[2..].iter_mut().for_each(|other| redraw(&mut random, other));
+        if write(&record, length).is_ok() {
+            let right = mended(&record);
+            others.push(with(right.near, right.before));
+        }
+        for other in others {
+            assert!(given(&other, room) == want, "output of {room} bytes\n{}", text(&record.text()));
+        }
+        seen.add(check_write(&mut random, &record, room));
+    }
+    assert!(seen.has(2..=8, 10) && seen.accepted > 500);
+}
+
+/// Each number alone, of full lists and of short ones, written and refused.
+#[test]
+fn writing_looks_at_no_number_of_near_and_before() {
+    let mut random = Random::new(seed());
+    for record in [Record::of(&largest(&mut random)), small([7, 2]), Record { rounds: 1_001, ..small([1, 1]) }] {
+        let want = given(&record, 14_089);
+        for i in 0..513 {
+            for n in [0, u64::MAX, random.next()] {
+                let mut other = record.clone();
+                *(if i < 512 { &mut other.near[i] } else { &mut other.before }) = n;
+                assert!(given(&other, 14_089) == want, "number {i}: {n}\n{}", text(&record.text()));
+            }
+        }
+    }
+}
+
+/// A record that is read, written and read again is the same. With any other near and before it is read with the right ones.
+#[test]
+fn a_record_that_is_written_and_read_has_its_near_and_before() {
+    let mut wrong = 0;
+    let mut check = |random: &mut Random, bytes: &[u8]| {
+        let record = check_read(random, bytes).unwrap();
+        let mut other = record.clone();
+        redraw(random, &mut other);
+        wrong += (other != record) as usize;
+        for lent in [&record, &other] {
+            let saved = written(lent).unwrap();
+            assert!(check_read(random, &saved).as_ref() == Ok(&record), "{}", text(bytes));
+        }
+    };
+    each_job(2_000, spelled(job), &mut check);
+    each_job(1_000, spelled(special), &mut check);
+    each_job(100, spelled(largest), &mut check);
+    assert!(wrong > 2_500, "{wrong}");
 }

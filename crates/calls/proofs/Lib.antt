@@ -6,9 +6,11 @@ pub mod ProgramLaw
 pub mod AcceptedCall
 pub mod ExhaustiveCall
 pub mod SavingLaw
+pub mod RecordLaw
 pub mod RefusalTable
 pub mod CaseA
 pub mod WriteTable
+pub mod RecordTable
 pub mod AxisTable
 pub mod EstimateCall
 pub mod EstimateTable

@@ -15,7 +15,7 @@ use Rattle.numbers.proofs.Truth.{test, cond-true, cond-false}
 use Rattle.numbers.proofs.Padded.{padded-length}
 use Rattle.query.specs.Deck as Query
 use Rattle.query.specs.Deck.{AxisCosts, plain}
-use Rattle.deck.specs.DeckOf.{Sized, deckOf, deckRecord, emptyDeck}
+use Rattle.deck.specs.DeckOf.{Sized, deckOf, deckRecord, emptyDeck, withFigures}
 use Rattle.deck.specs.declared.Deck.{Deck}
 use Rattle.deck.proofs.DeckLaws.{held-deck}
 use Rattle.refusal.specs.Refusal.{numberOf, lineOf}
@@ -250,6 +250,11 @@ unfolding writeCall fileText textFor
 same-file other deck rounds out held p s =
     λ i. savedAs (readText (textFor (held i) rounds (p i) (s i))) (textFor (held i) rounds (p i) (s i)) out
 
+-- the deck of a record does not depend on near and before
+figures-apart : (deck : Deck) (nears : List ℕ) (paid : ℕ) → deckOf (withFigures deck nears paid) ≡ deckOf deck
+unfolding deckOf
+figures-apart deck nears paid = refl
+
 module _ (deck : Deck) (rounds : ℕ) (out : List ℕ) (sized : Sized deck) where
   written-law : (n : ℕ) → writeCall deck rounds out .answer ≡ gives n → WrittenLaw deck rounds out n
   written-law n e =
@@ -287,6 +292,7 @@ module _ (deck : Deck) (rounds : ℕ) (out : List ℕ) (sized : Sized deck) wher
     given = written-ends deck rounds out sized;
     written = written-law;
     same-file = λ other. same-file other deck rounds out;
+    other-figures = λ nears paid. same-file (withFigures deck nears paid) deck rounds out (figures-apart deck nears paid) refl refl;
   }
 
 column-sized : {A B : Type 0} (f : A → B) (z : B) (size : ℕ) (xs : List A) → length xs ≤ size → length (padded size z (map f xs)) ≡ size
@@ -356,7 +362,7 @@ module _ (job : List ℕ) where
       go (refused w) e = subst Sized (sym (ap (λ (r : Read). r .deck) (read-refused job w e))) empty-sized
       go (accepted j) e = subst Sized (sym (ap (λ (r : Read). r .deck) (read-given job j e))) (record-sized j (read-exactly job j .0 e .1))
 
-  refused-zeros : (number line : ℕ) → readCall job .answer ≡ refuses number line → readCall job .deck ≡ deckRecord emptyDeck
+  pub refused-zeros : (number line : ℕ) → readCall job .answer ≡ refuses number line → readCall job .deck ≡ deckRecord emptyDeck
   refused-zeros number line f = go (readJob job) refl
     where
       go : (r : Result) → readJob job ≡ r → readCall job .deck ≡ deckRecord emptyDeck

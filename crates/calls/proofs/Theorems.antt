@@ -12,9 +12,11 @@ use Rattle.calls.proofs.ProgramLaw.{program-law}
 use Rattle.calls.proofs.ExhaustiveCall.{exhaustive-call-law}
 use Rattle.calls.proofs.EstimateCall.{estimate-call-law}
 use Rattle.calls.proofs.SavingLaw.{read-law, write-law}
+use Rattle.calls.proofs.RecordLaw.{record-law, refused-record-law}
 use Rattle.calls.proofs.RefusalTable.{refusal-table}
 use Rattle.calls.proofs.CaseA.{case-A}
 use Rattle.calls.proofs.WriteTable.{write-table}
+use Rattle.calls.proofs.RecordTable.{record-table}
 use Rattle.calls.proofs.AxisTable.{axis-table}
 use Rattle.calls.proofs.EstimateTable.{estimate-table}
 use Rattle.calls.proofs.AnswerRows.{answer-rows}
@@ -27,6 +29,8 @@ theorems = record {
   exhaustive = exhaustive-call-law;
   read = read-law;
   write = write-law;
+  records = record-law;
+  refused-records = refused-record-law;
   reading = accepted-law;
   refusing = refused-law;
   estimate = estimate-call-law;
@@ -35,6 +39,7 @@ theorems = record {
   refusal-table = refusal-table;
   case-A = case-A;
   write-table = write-table;
+  record-table = record-table;
   axis-table = axis-table;
   estimate-table = estimate-table;
   answer-rows = answer-rows;

@@ -12,9 +12,11 @@ pub mod ProgramLaw
 pub mod ExhaustiveCallLaw
 pub mod EstimateCallLaw
 pub mod SavingLaw
+pub mod RecordLaw
 pub mod RefusalTable
 pub mod CaseA
 pub mod WriteTable
+pub mod RecordTable
 pub mod AxisTable
 pub mod EstimateTable
 pub mod AnswerRows

@@ -1,4 +1,4 @@
--- Document 02, cards 1 and 2: what the calls `read` and `write` are held to, over every job's bytes, every record that the code can hold,
+-- Document 02, cards 1, 2 and 5: what the calls `read` and `write` are held to, over every job's bytes, every record that the code can hold,
 -- and every output.
 -- Assumes nothing.
 use Prim.Native.Nat.{ℕ, _+_, _≤_, _<_}
@@ -9,7 +9,7 @@ use mathlib.Core.List.{List}
 use lib.ListN.{length, take, drop}
 use Rattle.query.specs.Deck.{plain}
 use Rattle.query.specs.Range.{postsLimit, stopsLimit}
-use Rattle.deck.specs.DeckOf.{Sized, deckOf, deckRecord, emptyDeck}
+use Rattle.deck.specs.DeckOf.{Sized, deckOf, deckRecord, emptyDeck, withFigures}
 use Rattle.deck.specs.declared.Deck.{Deck}
 use Rattle.refusal.specs.Refusal.{numberOf, lineOf}
 use Rattle.refusal.specs.declared.Refusal.{Refusal}
@@ -99,3 +99,5 @@ pub record WriteLaw (deck : Deck) (rounds : ℕ) (out : List ℕ) : Type 0 where
   -- a record with the same counts that holds the same deck is written alike, whatever stands behind its lists
   pub same-file : (other : Deck) → deckOf other ≡ deckOf deck → other .posts ≡ deck .posts → other .stops ≡ deck .stops →
       writeCall other rounds out ≡ writeCall deck rounds out
+  -- 02 card 5, "The writer looks at neither": records that differ only in near and before are written alike
+  pub other-figures : (nears : List ℕ) (paid : ℕ) → writeCall (withFigures deck nears paid) rounds out ≡ writeCall deck rounds out

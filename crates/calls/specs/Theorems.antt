@@ -19,9 +19,11 @@ use Rattle.calls.specs.ProgramLaw.{ProgramLaw}
 use Rattle.calls.specs.ExhaustiveCallLaw.{ExhaustiveCallLaw}
 use Rattle.calls.specs.EstimateCallLaw.{EstimateCallLaw}
 use Rattle.calls.specs.SavingLaw.{ReadLaw, WriteLaw}
+use Rattle.calls.specs.RecordLaw.{RecordLaw, RefusedRecordLaw}
 use Rattle.calls.specs.RefusalTable.{RefusalTable}
 use Rattle.calls.specs.CaseA.{CaseA}
 use Rattle.calls.specs.WriteTable.{WriteTable}
+use Rattle.calls.specs.RecordTable.{RecordTable}
 use Rattle.calls.specs.AxisTable.{AxisTable}
 use Rattle.calls.specs.EstimateTable.{EstimateTable}
 use Rattle.calls.specs.AnswerRows.{AnswerRows}
@@ -39,6 +41,9 @@ pub record Theorems : Type 0 where
   -- document 02, card 2: what is read, where a missing axis line means any costs in range, and what is refused, whatever it means
   pub reading : (missing : AxisCosts) (job : List ℕ) (j : Job) → AcceptedLaw missing job j
   pub refusing : (missing : AxisCosts) (job : List ℕ) (why : Refusal) → RefusedLaw missing job why
+  -- document 02, card 5: the records that reading makes, and what it leaves where it refuses
+  pub records : (deck : Deck) → RecordLaw deck
+  pub refused-records : (job : List ℕ) → RefusedRecordLaw job
   -- document 02, card 3: what a job needs
   pub estimate : (job : List ℕ) → EstimateCallLaw job
   -- no bytes spell two allowed jobs, and 128 bytes hold every report
@@ -51,6 +56,7 @@ pub record Theorems : Type 0 where
   pub report-vectors : ReportVectors
   -- rows of the calls of document 02
   pub write-table : WriteTable
+  pub record-table : RecordTable
   pub axis-table : AxisTable
   pub estimate-table : EstimateTable
   -- what the numbers of the code's records are called

@@ -10,7 +10,7 @@ use lib.ListN.{length, replicate, getD, set}
 use Rattle.numbers.specs.Padded.{padded}
 use Rattle.query.specs.Range.{postsLimit, stopsLimit}
 use Rattle.query.specs.Marked.{deckA}
-use Rattle.deck.specs.DeckOf.{deckRecord}
+use Rattle.deck.specs.DeckOf.{deckRecord, withFigures}
 use Rattle.deck.specs.declared.Deck.{Deck}
 use Rattle.job.specs.File.{fileText}
 use Rattle.job.specs.Meaning.{longestJob}
@@ -20,7 +20,7 @@ use Rattle.calls.specs.WriteCall.{writeCall}
 use Rattle.calls.specs.RefusalTable.{caseA, behind, ended, numberAndLine}
 
 -- a record by its numbers: the axis costs; those of the area; the count of posts and each post's x, y; the count of stops and each stop's
--- x, y, visits
+-- x, y, visits. Its near and before are 0
 abbrev pub recordOf : ℕ × ℕ → List ℤ → ℕ → List (ℤ × ℤ) → ℕ → List (ℤ × ℤ × ℕ) → Deck
 recordOf axis area p posts s stops = record {
   axis = record { a = axis .0; b = axis .1 };
@@ -35,6 +35,8 @@ recordOf axis area p posts s stops = record {
   «stop_x» = padded stopsLimit (pos 0) (map (λ s. s .0) stops);
   «stop_y» = padded stopsLimit (pos 0) (map (λ s. s .1) stops);
   visits = padded stopsLimit 0 (map (λ s. s .2) stops);
+  near = replicate stopsLimit 0;
+  before = 0;
 }
 
 -- a record whose numbers all differ, and the lines of its file
@@ -104,7 +106,8 @@ pub record WriteTable : Type 0 where
   pub refused-read : readCall (ended (set caseA 1 "posts=65")) ≡ record { answer = refuses 3 2; deck = recordOf (0, 0) [] 0 [] 0 [] }
   -- each number in its place
   pub each-place : writeCall apart 0 (replicate 95 7) ≡ record { answer = gives 95; out = ended apartLines }
-  pub each-place-read : readCall (ended apartLines) ≡ record { answer = gives 0; deck = apart }
+  pub each-place-read : readCall (ended apartLines)
+      ≡ record { answer = gives 0; deck = withFigures apart (padded stopsLimit 0 (26 ∷ 65 ∷ [])) 1287 }
   -- numbers behind the lists are not written
   pub behind-lists : writeCall (counting 1 (pos 5, negsuc 6) 1 (negsuc 0, pos 20000, 65535)) 0 (replicate 80 7)
       ≡ record {

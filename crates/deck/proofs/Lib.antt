@@ -6,4 +6,8 @@ pub mod CopyLaws
 pub mod SoFarLaws
 pub mod ColumnLaws
 pub mod DeckLaws
+pub mod StoredLaws
 pub mod MadeColumns
+pub mod MadeNears
+pub mod PaidLaws
+pub mod SoundLaws

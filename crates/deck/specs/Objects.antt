@@ -1,11 +1,14 @@
--- Objects: stops with their near, at scaled places.
+-- Objects: stops with their near, at scaled places; those of a deck, and those of what a record holds.
 -- Assumes nothing.
 use Prim.Native.Nat.{ℕ}
-use mathlib.Core.List.{List, map}
+use mathlib.Core.List.{List, map, zipWith}
+use lib.IntN.{ℤ}
+use lib.ListN.{take}
 use Rattle.numbers.specs.Integer.{times}
 use Rattle.query.specs.Place.{Place, Rect}
-use Rattle.query.specs.Deck.{AxisCosts, Deck}
+use Rattle.query.specs.Deck.{AxisCosts, Stop, Deck}
 use Rattle.query.specs.Travel.{near}
+use Rattle.deck.specs.DeckOf.{places, stopsOf}
 
 -- a place and a rectangle with their coordinates multiplied by the axis costs. Travel is the plain travel between scaled places
 abbrev pub scaledPlace : AxisCosts → Place → Place
@@ -37,3 +40,14 @@ pub record Pricing : Type 0 where
 
 abbrev pub pricingOf : Deck → Pricing
 pricingOf deck = record { axis = deck .axis; objects = objectsOf deck }
+
+-- ---- 02 card 5, "pricing reads them from the record"
+-- the objects of stops, each with the near that is kept with it
+unfoldable pub storedObjects : AxisCosts → List Stop → List ℕ → List Object
+unfolding zipWith
+storedObjects axis stops nears =
+    zipWith (λ stop near. record { at = scaledPlace axis (stop .at); visits = stop .visits; near = near }) stops nears
+
+-- what pricing needs, of the first n stops in columns of x, y, visits and near
+abbrev pub storedPricing : AxisCosts → List ℤ → List ℤ → List ℕ → List ℕ → ℕ → Pricing
+storedPricing axis xs ys visits nears n = record { axis = axis; objects = storedObjects axis (take n (stopsOf (places xs ys) visits)) nears }

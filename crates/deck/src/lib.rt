@@ -18,13 +18,16 @@ ghost use lib.Seq.{paste};
 ghost use Rattle.numbers.specs.Integer.{dist, times};
 ghost use Rattle.query.specs.Deck.{plain};
 ghost use Rattle.query.specs.Travel.{closest};
-ghost use Rattle.query.specs.Range.{InRange};
-ghost use Rattle.deck.specs.DeckOf.{places, deckOf};
-ghost use Rattle.deck.specs.Objects.{pricingOf};
+ghost use Rattle.query.specs.Range.{travelLimit};
+ghost use Rattle.numbers.specs.Padded.{padded};
+ghost use Rattle.deck.specs.DeckOf.{places, heldAxis};
+ghost use Rattle.deck.specs.Objects.{storedPricing};
 ghost use Rattle.deck.specs.ObjectColumns.{columnsOf};
 ghost use Rattle.deck.specs.ClosestSoFar.{columnsSoFar, columnsImproved};
 ghost use Rattle.deck.specs.Ranges.{Near180000, AxisCostInRange, Scaled};
-ghost use Rattle.deck.specs.Ranges.{CoordinatesUpTo, CoordinatesInRange, VisitsInRange};
+ghost use Rattle.deck.specs.Ranges.{CoordinatesUpTo, CoordinatesInRange, NaturalsUpTo, VisitsInRange, NearsInRange};
+ghost use Rattle.deck.specs.Ranges.{CostsInRange, PlacesInRange, NearColumn};
+ghost use Rattle.deck.specs.StopFigures.{Nears, paid};
 
 // A rectangle, its edges included.
 pub struct Rect {
@@ -41,6 +44,7 @@ pub struct AxisCosts {
 }
 
 // A deck, one array a field. The first `posts` and `stops` elements of the arrays count; in a record that reading made the others are 0.
+// `near` has each stop's near, and `before` is the deck's.
 pub struct Deck {
     pub axis: AxisCosts,
     pub xlo: i64,
@@ -54,6 +58,8 @@ pub struct Deck {
     pub stop_x: [i64; STOPS],
     pub stop_y: [i64; STOPS],
     pub visits: [u64; STOPS],
+    pub near: [u64; STOPS],
+    pub before: u64,
 }
 
 // A stop's figure before the first post: one more than any travel.
@@ -96,9 +102,9 @@ fn copy_coordinates(from: &[i64], k: i32, to: &mut [i32], at: usize, n: usize)
     }
 }
 
-// The same of a column of visits.
-fn copy_visits(from: &[u64], to: &mut [i32], at: usize, n: usize)
-    requires { ⌜ VisitsInRange (now from) n × (at + n ≤ length (now to)) ⌝ }
+// The same of a column of visits or of near.
+fn copy_naturals(from: &[u64], to: &mut [i32], at: usize, n: usize)
+    requires { ⌜ NaturalsUpTo travelLimit (now from) n × (at + n ≤ length (now to)) ⌝ }
     ensures { λ r. ⌜ now (to .exit) ≡ paste (now (to .entry)) at (map pos (now (from .entry))) n ⌝ }
 {
     let mut i: usize = 0;
@@ -166,25 +172,84 @@ fn put_nears<'a>(columns: &mut [i32], n: usize, px: &'a [i32], py: &'a [i32], k:
     }
 }
 
-// What pricing needs of a deck: the columns of its objects, scaled x and y, visits and near of its stops, from 0, 512, 1,024 and 1,536 on,
-// with 0 behind the last of each, and the axis costs behind them.
-pub fn columns_of(deck: Deck) -> [i32; COLUMNS]
-    requires { ⌜ InRange (deckOf deck) × (deck .posts ≤ 64) × (deck .stops ≤ 512) ⌝ }
-    ensures { λ r. ⌜ r ≡ columnsOf (pricingOf (deckOf deck)) ⌝ }
+// The near of the first n stops in the last column, with 0 behind the last.
+fn nears_in(columns: &[i32], n: usize) -> [u64; STOPS]
+    requires { ⌜ (n ≤ 512) × NearColumn (now columns) n ⌝ }
+    ensures { λ r. ⌜ r ≡ padded 512 0 (take n (map natAbs (drop 1536 (now (columns .entry))))) ⌝ }
 {
-    let n = deck.stops;
-    let k = deck.posts;
-    let a = deck.axis.a as i32;
-    let b = deck.axis.b as i32;
-    let mut px = [0i32; POSTS];
-    let mut py = [0i32; POSTS];
-    copy_coordinates(&deck.post_x, a, &mut px, 0, k);
-    copy_coordinates(&deck.post_y, b, &mut py, 0, k);
+    let mut near = [0u64; STOPS];
+    let mut row: usize = 0;
+    while row < n {
+        near[row] = (columns[NEAR_COLUMN + row] as u32) as u64;
+        row = row + 1;
+    }
+    near
+}
+
+// The near of the first n stops by the first k posts, with 0 behind the last.
+pub fn nears_of<'a>(
+    axis: AxisCosts,
+    px: &'a [i64],
+    py: &'a [i64],
+    k: usize,
+    sx: &'a [i64],
+    sy: &'a [i64],
+    n: usize,
+) -> [u64; STOPS]
+    requires { ⌜ CostsInRange (heldAxis axis) × PlacesInRange 64 (now px) (now py) k × PlacesInRange 512 (now sx) (now sy) n
+        × (1 ≤ k) ⌝ }
+    ensures { λ r. ⌜ Nears (heldAxis axis) (take k (places (now (px .entry)) (now (py .entry))))
+        (take n (places (now (sx .entry)) (now (sy .entry)))) r ⌝ }
+{
+    let a = axis.a as i32;
+    let b = axis.b as i32;
+    let mut qx = [0i32; POSTS];
+    let mut qy = [0i32; POSTS];
+    copy_coordinates(px, a, &mut qx, 0, k);
+    copy_coordinates(py, b, &mut qy, 0, k);
     let mut columns = [0i32; COLUMNS];
-    copy_coordinates(&deck.stop_x, a, &mut columns, 0, n);
-    copy_coordinates(&deck.stop_y, b, &mut columns, Y_COLUMN, n);
-    copy_visits(&deck.visits, &mut columns, VISITS_COLUMN, n);
-    put_nears(&mut columns, n, &px, &py, k);
+    copy_coordinates(sx, a, &mut columns, 0, n);
+    copy_coordinates(sy, b, &mut columns, Y_COLUMN, n);
+    put_nears(&mut columns, n, &qx, &qy, k);
+    nears_in(&columns, n)
+}
+
+// What the first n stops pay with the posts that there are: the sum of visits × near.
+pub fn before_of<'a>(visits: &'a [u64], near: &'a [u64], n: usize) -> u64
+    requires { ⌜ VisitsInRange (now visits) n × NearsInRange (now near) n × (n ≤ 512) ⌝ }
+    ensures { λ r. ⌜ r ≡ paid (now (visits .entry)) (now (near .entry)) n ⌝ }
+{
+    let mut sum: u64 = 0;
+    let mut term: usize = 0;
+    while term < n {
+        sum = sum + visits[term] * near[term];
+        term = term + 1;
+    }
+    sum
+}
+
+// What pricing needs of a record's axis costs and stops: the columns of its objects, scaled x and y, visits and near as it holds them, from
+// 0, 512, 1,024 and 1,536 on, with 0 behind the last of each, and the axis costs behind them.
+pub fn columns_of<'a>(
+    axis: AxisCosts,
+    x: &'a [i64],
+    y: &'a [i64],
+    visits: &'a [u64],
+    near: &'a [u64],
+    n: usize,
+) -> [i32; COLUMNS]
+    requires { ⌜ CostsInRange (heldAxis axis) × PlacesInRange 512 (now x) (now y) n × VisitsInRange (now visits) n
+        × NearsInRange (now near) n ⌝ }
+    ensures { λ r. ⌜ r
+        ≡ columnsOf (storedPricing (heldAxis axis) (now (x .entry)) (now (y .entry)) (now (visits .entry)) (now (near .entry)) n) ⌝ }
+{
+    let a = axis.a as i32;
+    let b = axis.b as i32;
+    let mut columns = [0i32; COLUMNS];
+    copy_coordinates(x, a, &mut columns, 0, n);
+    copy_coordinates(y, b, &mut columns, Y_COLUMN, n);
+    copy_naturals(visits, &mut columns, VISITS_COLUMN, n);
+    copy_naturals(near, &mut columns, NEAR_COLUMN, n);
     columns[X_COST] = a;
     columns[Y_COST] = b;
     columns

@@ -9,7 +9,8 @@ use Rattle.query.specs.Estimate.{estimate}
 use Rattle.lines.proofs.DeckLines.{deck-lined}
 use Rattle.deck.specs.DeckOf.{deckOf}
 use Rattle.deck.specs.declared.Deck.{Deck}
-use Rattle.prepare.specs.ProblemRecord.{Solvable, problemRecord}
+use Rattle.deck.specs.Sound.{Sound}
+use Rattle.prepare.specs.ProblemRecord.{problemRecord}
 use Rattle.prepare.specs.declared.Problem.{Problem}
 use Rattle.prepare.proofs.RecordParts.{vertical-count, horizontal-count}
 use Rattle.refusal.specs.declared.Refusal.{Refusal}
@@ -31,7 +32,7 @@ use Rattle.estimate.proofs.ReadJob.{spelt, rounds-same}
 
 -- ---- a deck's problem that was made
 module _ (deck : Deck) (p : Problem) (e : p ≡ problemRecord (deckOf deck)) where
-  pub counts : Solvable deck → (rounds : ℕ) → rounds ≤ 1000 → LineCounts (p .nv) (p .nh) rounds
+  pub counts : Sound deck → (rounds : ℕ) → rounds ≤ 1000 → LineCounts (p .nv) (p .nh) rounds
   counts h rounds r =
       let lined = deck-lined (deckOf deck) (h .range .most-stops) in
       record {

@@ -1,4 +1,4 @@
--- An accepted job, as it was read: its deck can be prepared, and its rounds are those that the bytes spell.
+-- An accepted job, as it was read: its record is sound, and its rounds are those that the bytes spell.
 -- Assumes nothing.
 use Prim.Native.Nat.{ℕ, _≤_}
 use mathlib.Core.Path.{_≡_}
@@ -9,8 +9,8 @@ use Rattle.job.specs.JobRecord.{jobRecord}
 use Rattle.job.specs.declared.Job as Held
 use Rattle.job.specs.declared.Outcome.the-variants.{Accepted}
 use Rattle.job.proofs.JobLaws.{most-rounds}
-use Rattle.job.proofs.ReadDeck.{Spelt, read-accepted, read-rounds, read-full, objects-ask}
-use Rattle.prepare.specs.ProblemRecord.{Solvable}
+use Rattle.job.proofs.ReadDeck.{Spelt, read-accepted, read-rounds, read-sound}
+use Rattle.deck.specs.Sound.{Sound}
 
 module _ (job : List ℕ) (j : Held.Job) (e : j ≡ jobRecord (readJob job)) (rounds : ℕ) (o : j .outcome ≡ Accepted rounds) where
   pub spelt : Spelt job
@@ -22,5 +22,5 @@ module _ (job : List ℕ) (j : Held.Job) (e : j ≡ jobRecord (readJob job)) (ro
   pub rounds-limit : rounds ≤ 1000
   rounds-limit = omega (arith, rounds-same, most-rounds (spelt .allowed .writable))
 
-  pub solvable : Solvable (j .deck)
-  solvable = let (range, posts, stops) = objects-ask spelt j e in record { range = range; full = read-full spelt j e; posts = posts; stops = stops }
+  pub sound : Sound (j .deck)
+  sound = read-sound spelt j e

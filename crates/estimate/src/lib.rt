@@ -8,7 +8,7 @@ ghost use Prim.Native.Nat.{_≤_};
 ghost use Rattle.query.specs.Estimate as Query;
 ghost use Rattle.query.specs.Range.{roundsLimit};
 ghost use Rattle.deck.specs.DeckOf.{deckOf};
-ghost use Rattle.prepare.specs.ProblemRecord.{Solvable};
+ghost use Rattle.deck.specs.Sound.{Sound};
 ghost use Rattle.calls.specs.Answers.{estimateNumbers, estimatedAnswer};
 ghost use Rattle.calls.specs.EstimateCall.{estimateCall};
 ghost use Rattle.estimate.specs.LineCounts.{LineCounts, estimateBy};
@@ -33,7 +33,7 @@ pub fn of_lines(nv: usize, nh: usize, rounds: u64) -> Estimate
 
 // The estimate of a deck and rounds.
 fn of_deck(deck: Deck, rounds: u64) -> Estimate
-    requires { ⌜ Solvable deck × (rounds ≤ roundsLimit) ⌝ }
+    requires { ⌜ Sound deck × (rounds ≤ roundsLimit) ⌝ }
     ensures { λ r. ⌜ estimateNumbers r ≡ Query.estimate (deckOf deck) rounds ⌝ }
 {
     let p = prepare::of_deck(deck);
@@ -46,9 +46,8 @@ pub fn of_job(job: &[u8]) -> Estimated
 {
     let j = job::read(job);
     let outcome = j.outcome;
-    let deck = j.deck;
     match outcome {
-        Outcome::Accepted(rounds) => Estimated::Needs(of_deck(deck, rounds)),
+        Outcome::Accepted(rounds) => Estimated::Needs(of_deck(j.deck, rounds)),
         Outcome::Refused(why) => Estimated::Refused(why),
     }
 }

@@ -436,22 +436,23 @@ fn cheapest_of<'a>(
     found
 }
 
-// The cheapest crossing of the lines of a deck's problem, the earliest among equals, with its cost.
+// The cheapest crossing of the lines of a deck's problem, the earliest among equals, with its cost. `before` is what the objects pay with
+// the posts that there are.
 pub fn cheapest<'a>(
     columns: &'a [i32; COLUMNS],
     n: usize,
     v: &'a [i64],
     h: &'a [i64],
     area: Rect,
+    before: u64,
 ) -> Spot
-    requires { ⌜ Prepared (now columns) n (now v) (now h) area ⌝ }
+    requires { ⌜ Prepared (now columns) n (now v) (now h) area × Figure (beforeOf (pricingIn (now columns) n)) costLimit before ⌝ }
     ensures { λ r. ⌜ pricedOf r ≡ exhaustive (problemOf (now (columns .entry)) n (now (v .entry)) (now (h .entry)) area) ⌝ }
 {
     let mut table = [0u16; 40001];
     number_lines(h, &mut table);
     let mut rows = [0u16; STOPS];
     number_objects(columns, n, h, &table, &mut rows);
-    let before = pricing::before(columns, n);
     let first = problem::priced(columns, n, area.xlo, area.ylo);
     cheapest_of(columns, n, v, h, &table, &rows, before, first)
 }

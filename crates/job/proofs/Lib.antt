@@ -5,7 +5,9 @@ pub mod ReaderLaws
 pub mod JobLaws
 pub mod Faults
 pub mod Meaning
+pub mod AllowedLaws
 pub mod PartLaws
+pub mod FilledLaws
 pub mod ReadLaws
 pub mod RefusalLaws
 pub mod ReadDeck

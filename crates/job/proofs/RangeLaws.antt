@@ -25,7 +25,7 @@ use Rattle.job.specs.Spelling.{areaLine, postLine, stopLine, spellNumber
 use Rattle.job.proofs.FormLaws.{Within, Fitting, textOf}
 
 -- ---- each number in its range
-abbrev EachIn : List Range → List ℤ → Type 0
+abbrev pub EachIn : List Range → List ℤ → Type 0
 EachIn [] [] = Unit
 EachIn [] (n ∷ ns) = ⊥
 EachIn (range ∷ ranges) [] = ⊥
@@ -40,6 +40,13 @@ each-in (range ∷ ranges) (n ∷ ns) t = (
   and-left (inRange range n) (inRanges ranges ns) t,
   each-in ranges ns (and-right (inRange range n) (inRanges ranges ns) t),
 )
+
+pub in-each : (ranges : List Range) (ns : List ℤ) → EachIn ranges ns → T (inRanges ranges ns)
+unfolding inRanges
+in-each [] [] e = tt
+in-each [] (n ∷ ns) e = e
+in-each (range ∷ ranges) [] e = e
+in-each (range ∷ ranges) (n ∷ ns) e = and-intro (inRange range n) (inRanges ranges ns) (e .0) (in-each ranges ns (e .1))
 
 -- as many numbers as ranges
 as-many : (ranges : List Range) (ns : List ℤ) → EachIn ranges ns → length ns ≡ length ranges

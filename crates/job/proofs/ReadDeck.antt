@@ -3,10 +3,8 @@
 use mathlib.Core.Path.{_≡_, refl, sym, ap, subst, _∙_}
 use mathlib.Core.Bool.{Bool, true, false}
 use mathlib.Core.List.{List}
-use Prim.Native.Nat.{ℕ, _≤_}
+use Prim.Native.Nat.{ℕ}
 use lib.Dec.{T}
-use Rattle.query.specs.Place.{NonEmpty}
-use Rattle.query.specs.Deck as Query
 use Rattle.query.specs.Range.{InRange}
 use Rattle.job.specs.Format.{Job, Result, refused, accepted, readJob}
 use Rattle.job.specs.Spelling.{Allowed}
@@ -15,10 +13,11 @@ use Rattle.job.specs.declared.Job as Held
 use Rattle.refusal.specs.declared.Refusal.{Refusal}
 use Rattle.job.specs.declared.Outcome.{Outcome}
 use Rattle.job.specs.declared.Outcome.the-variants.{Accepted, Refused}
-use Rattle.job.proofs.JobLaws.{most-posts, most-stops}
 use Rattle.job.proofs.Meaning.{accepted-job, allowed-in-range}
 use Rattle.deck.specs.DeckOf.{deckOf, deckRecord}
+use Rattle.deck.specs.Sound.{Sound}
 use Rattle.deck.proofs.DeckLaws.{held-deck}
+use Rattle.deck.proofs.SoundLaws.{record-sound}
 
 -- a test's two outcomes differ
 pub differ : {P : Type 0} → true ≡ false → P
@@ -76,14 +75,6 @@ module _ {bytes : List ℕ} (s : Spelt bytes) where
     pub read-deckOf : deckOf (j .deck) ≡ s .job .deck
     read-deckOf = ap deckOf (read-deck bytes j e s) ∙ held-deck (s .job .deck)
 
-    pub read-full : NonEmpty (deckOf (j .deck) .area)
-    read-full = subst (λ (deck : Query.Deck). NonEmpty (deck .area)) (sym read-deckOf) (s .allowed .area-full)
-
-    -- what `objects` asks
-    pub objects-ask : InRange (deckOf (j .deck)) × (j .deck .posts ≤ 64) × (j .deck .stops ≤ 512)
-    unfolding deckRecord
-    objects-ask = (
-      subst InRange (sym read-deckOf) spelt-range,
-      rw (read-deck bytes j e s) (most-posts (s .allowed .writable)),
-      rw (read-deck bytes j e s) (most-stops (s .allowed .writable)),
-    )
+    -- 02 card 5: reading leaves a sound record
+    pub read-sound : Sound (j .deck)
+    read-sound = subst Sound (sym (read-deck bytes j e s)) (record-sound (s .job .deck) spelt-range (s .allowed .area-full))

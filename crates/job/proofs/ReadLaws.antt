@@ -7,7 +7,7 @@ use Prim.Native.Nat.{ℕ, _+_, _≤_, _<_}
 use native.Mathlib.Omega.{arith}
 use borrow.Author.Tests.{lt-ltb}
 use lib.IntN.{ℤ, pos}
-use lib.ListN.{length, drop, length-map}
+use lib.ListN.{length, take, drop, length-map}
 use lib.Signed.{ltZ}
 use mir.Syntax.{w64}
 use mir.Val.{SFits}
@@ -24,7 +24,10 @@ use Rattle.job_line.specs.Reading.{areaNumbers, costNumbers, areaAnswer, countA
 use Rattle.job.specs.ManyLines.{postLines, stopLines, countedLines, allPosts, allStops, lastLine, restLines, nextIn, PlacesHeld, PostsHold, StopsHold}
 use Rattle.job.specs.ManyLines.{AxisAt, PostsAt, StopsAt, LastAt, RestAt, CheckedAt}
 use Rattle.query.specs.Deck as Query
-use Rattle.deck.specs.DeckOf.{heldAxis, axisRecord}
+use Rattle.query.specs.Travel as Travel
+use Rattle.query.specs.Cost.{before}
+use Rattle.deck.specs.DeckOf.{heldAxis, axisRecord, places}
+use Rattle.deck.specs.StopFigures.{Nears, paid}
 use Rattle.deck.specs.declared.AxisCosts.{AxisCosts}
 use Rattle.deck.specs.declared.Rect.{Rect}
 use Rattle.job_line.specs.declared.AreaLine.{AreaLine}
@@ -41,6 +44,7 @@ use Rattle.refusal.specs.declared.Refusal.{Refusal}
 use Rattle.refusal.specs.declared.Refusal.the-variants.{TooLong, EmptyArea, NoPosts, NoStops}
 use Rattle.numbers.proofs.WordTests.{back, back-is}
 use Rattle.job.proofs.Meaning.{read-short, job-with}
+use Rattle.job.proofs.FilledLaws.{near-filled, before-filled}
 
 -- ---- refusal 4
 module _ {a : Rect} (xlo : SFits w64 (a .xlo)) (ylo : SFits w64 (a .ylo)) (xhi : SFits w64 (a .xhi)) (yhi : SFits w64 (a .yhi)) where
@@ -63,8 +67,8 @@ module _ {A : Type 0} where
   some-elements (x ∷ xs) e = refl
 
 -- the job as the code makes it of its parts
-abbrev pub jobOfParts : AxisCosts → ℤ → ℤ → ℤ → ℤ → Posts → Stops → ℕ → Job
-jobOfParts costs xlo ylo xhi yhi p s n = record {
+abbrev pub jobOfParts : AxisCosts → ℤ → ℤ → ℤ → ℤ → Posts → Stops → List ℕ → ℕ → ℕ → Job
+jobOfParts costs xlo ylo xhi yhi p s near sum n = record {
   outcome = Accepted n;
   deck = record {
     axis = costs;
@@ -79,6 +83,8 @@ jobOfParts costs xlo ylo xhi yhi p s n = record {
     «stop_x» = s .x;
     «stop_y» = s .y;
     visits = s .visits;
+    near = near;
+    before = sum;
   };
 }
 
@@ -97,16 +103,27 @@ accepted-is : (a c : List ℤ) (ps ss : List (List ℤ)) (n : List ℤ) → jobR
     «stop_x» = padded 512 (pos 0) (map (λ s. s .at .x) (map stopOf ss));
     «stop_y» = padded 512 (pos 0) (map (λ s. s .at .y) (map stopOf ss));
     visits = padded 512 0 (map (λ s. s .visits) (map stopOf ss));
+    near = padded 512 0 (map (Travel.near (jobOf a c ps ss n .deck)) (map stopOf ss));
+    before = before (jobOf a c ps ss n .deck);
   };
 }
 unfolding jobRecord
 accepted-is a c ps ss n = refl
 
-parts-are : (a : Rect) (c : AxisCosts) (postsRead : Posts) (stopsRead : Stops) (n : ℕ) {ps ss : List (List ℤ)} → PostsHold postsRead ps →
-    StopsHold stopsRead ss → jobOfParts c (a .xlo) (a .ylo) (a .xhi) (a .yhi) postsRead stopsRead n
+-- near and before, found of the posts and stops that were read
+pub record Found (c : AxisCosts) (postsRead : Posts) (stopsRead : Stops) (near : List ℕ) (sum : ℕ) : Type 0 where
+  pub nears : Nears (heldAxis c) (take (postsRead .count) (places (postsRead .x) (postsRead .y)))
+      (take (stopsRead .count) (places (stopsRead .x) (stopsRead .y))) near
+  pub sum-is : sum ≡ paid (stopsRead .visits) near (stopsRead .count)
+
+parts-are : (a : Rect) (c : AxisCosts) (postsRead : Posts) (stopsRead : Stops) (near : List ℕ) (sum n : ℕ) → Found c postsRead stopsRead near sum →
+    {ps ss : List (List ℤ)} → PostsHold postsRead ps → StopsHold stopsRead ss →
+    jobOfParts c (a .xlo) (a .ylo) (a .xhi) (a .yhi) postsRead stopsRead near sum n
     ≡ jobRecord (accepted (jobOf (areaNumbers a) (costNumbers c) ps ss (pos n ∷ [])))
-parts-are a c postsRead stopsRead n {ps} {ss} p s = rw (
+parts-are a c postsRead stopsRead near sum n found {ps} {ss} p s = rw (
   accepted-is (areaNumbers a) (costNumbers c) ps ss (pos n ∷ []),
+  before-filled c postsRead stopsRead p s (areaNumbers a) (pos n ∷ []) (found .nears) (found .sum-is),
+  near-filled c postsRead stopsRead p s (areaNumbers a) (pos n ∷ []) (found .nears),
   p .count-is,
   p .x-is,
   p .y-is,
@@ -148,10 +165,12 @@ module _ {a : Rect} {c : AxisCosts} {postsRead : Posts} {stopsRead : Stops} (n :
 
       module _ (some-stops : stopsRead .count ≡ 0 → ⊥) where
         pub checked-accepted : SFits w64 (a .xlo) → SFits w64 (a .ylo) → SFits w64 (a .xhi) → SFits w64 (a .yhi) →
-            CheckedAt a c postsRead stopsRead n (jobOfParts c (back (a .xlo)) (back (a .ylo)) (back (a .xhi)) (back (a .yhi)) postsRead stopsRead n)
+            {near : List ℕ} {sum : ℕ} → Found c postsRead stopsRead near sum → CheckedAt a c postsRead stopsRead n
+            (jobOfParts c (back (a .xlo)) (back (a .ylo)) (back (a .xhi)) (back (a .yhi)) postsRead stopsRead near sum n)
         unfolding checked
-        checked-accepted xlo ylo xhi yhi = record {
-          is = λ p s. rw (back-is xlo, back-is ylo, back-is xhi, back-is yhi) (parts-are a c postsRead stopsRead n p s) ∙ ap jobRecord (job-accepted p s);
+        checked-accepted xlo ylo xhi yhi {near} {sum} found = record {
+          is = λ p s. rw (back-is xlo, back-is ylo, back-is xhi, back-is yhi) (parts-are a c postsRead stopsRead near sum n found p s)
+              ∙ ap jobRecord (job-accepted p s);
         }
           where
             job-accepted : {ps ss : List (List ℤ)} → PostsHold postsRead ps → StopsHold stopsRead ss

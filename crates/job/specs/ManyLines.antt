@@ -13,6 +13,8 @@ use Rattle.job.specs.Format as Format
 use Rattle.job.specs.Format.{countOf, postOf, stopOf, jobOf, checked, readingResult}
 use Rattle.job.specs.JobRecord.{jobRecord}
 use Rattle.numbers.specs.Padded.{padded}
+use Rattle.deck.specs.DeckOf.{heldAxis}
+use Rattle.deck.specs.Ranges.{VisitsInRange, CostsInRange, PlacesInRange}
 use Rattle.deck.specs.declared.AxisCosts.{AxisCosts}
 use Rattle.deck.specs.declared.Rect.{Rect}
 use Rattle.job.specs.declared.AxisRead.{AxisRead}
@@ -113,6 +115,13 @@ restLines a c = do
 -- what they are read as, with refusals 4, 5 and 6 behind them
 pub record RestAt (s : List ℕ) (at n : ℕ) (area : Rect) (costs : AxisCosts) (r : Job) : Type 0 where
   pub is : r ≡ jobRecord (readingResult (restLines (areaNumbers area) (costNumbers costs) n (drop at s)))
+
+-- axis costs, posts and stops that were read are in range
+pub record ReadInRange (costs : AxisCosts) (postsRead : Posts) (stopsRead : Stops) : Type 0 where
+  pub axis : CostsInRange (heldAxis costs)
+  pub posts : PlacesInRange postsLimit (postsRead .x) (postsRead .y) (postsRead .count)
+  pub stops : PlacesInRange stopsLimit (stopsRead .x) (stopsRead .y) (stopsRead .count)
+  pub visits : VisitsInRange (stopsRead .visits) (stopsRead .count)
 
 -- refusals 4, 5 and 6 of what the lines hold, or the job
 pub record CheckedAt (area : Rect) (costs : AxisCosts) (postsRead : Posts) (stopsRead : Stops) (n : ℕ) (r : Job) : Type 0 where

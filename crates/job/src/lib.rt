@@ -17,12 +17,13 @@ ghost use mathlib.Core.Path.{_≡_};
 ghost use Prim.Native.Nat.{_+_, _≤_};
 ghost use lib.ListN.{drop};
 ghost use Rattle.deck.specs.DeckOf.{heldAxis};
+ghost use Rattle.deck.specs.Ranges.{CostsInRange};
 ghost use Rattle.job_line.specs.Reading.{areaNumbers};
 ghost use Rattle.job.specs.File.{writesAxis};
 ghost use Rattle.job.specs.Format.{areaOf, emptyArea, readWith, readJob, refused};
 ghost use Rattle.job.specs.JobRecord.{jobRecord};
 ghost use Rattle.job.specs.ManyLines.{postLines, stopLines, allPosts, allStops};
-ghost use Rattle.job.specs.ManyLines.{AxisAt, PostsAt, StopsAt, LastAt, RestAt, CheckedAt};
+ghost use Rattle.job.specs.ManyLines.{AxisAt, PostsAt, StopsAt, LastAt, RestAt, ReadInRange, CheckedAt};
 
 pub enum Outcome {
     Accepted(u64),
@@ -250,12 +251,15 @@ fn refuse(why: Refusal) -> Job
             stop_x: many,
             stop_y: many,
             visits: [0u64; STOPS],
+            near: [0u64; STOPS],
+            before: 0,
         },
     }
 }
 
-// Refusals 4, 5 and 6, in this order, or the job.
+// Refusals 4, 5 and 6, in this order, or the job, with the near of its stops and its before.
 fn check(area: Rect, costs: AxisCosts, posts: Posts, stops: Stops, rounds: u64) -> Job
+    requires { ⌜ ReadInRange costs posts stops ⌝ }
     ensures { λ r. ⌜ CheckedAt area costs posts stops rounds r ⌝ }
 {
     let empty = empty_area(area);
@@ -275,6 +279,10 @@ fn check(area: Rect, costs: AxisCosts, posts: Posts, stops: Stops, rounds: u64) 
     let stop_x = stops.x;
     let stop_y = stops.y;
     let visits = stops.visits;
+    let k = posts.count;
+    let n = stops.count;
+    let near = deck::nears_of(costs, &post_x, &post_y, k, &stop_x, &stop_y, n);
+    let before = deck::before_of(&visits, &near, n);
     Job {
         outcome: Outcome::Accepted(rounds),
         deck: Deck {
@@ -283,20 +291,22 @@ fn check(area: Rect, costs: AxisCosts, posts: Posts, stops: Stops, rounds: u64) 
             ylo: area.ylo,
             xhi: area.xhi,
             yhi: area.yhi,
-            posts: posts.count,
+            posts: k,
             post_x,
             post_y,
-            stops: stops.count,
+            stops: n,
             stop_x,
             stop_y,
             visits,
+            near,
+            before,
         },
     }
 }
 
 // The lines behind those of the area and the axis costs, from line `first` on, and then refusals 4, 5 and 6.
 fn read_rest(s: &[u8], at: usize, first: u64, area: Rect, costs: AxisCosts) -> Job
-    requires { ⌜ first ≤ 3 ⌝ }
+    requires { ⌜ (first ≤ 3) × CostsInRange (heldAxis costs) ⌝ }
     ensures { λ r. ⌜ RestAt (now (s .entry)) at first area costs r ⌝ }
 {
     let posts = read_posts(s, at, first);
@@ -321,6 +331,7 @@ fn read_rest(s: &[u8], at: usize, first: u64, area: Rect, costs: AxisCosts) -> J
 // A job's bytes, read line by line from the top: the deck and the rounds that they spell, or the first refusal. A job without an axis
 // line has the axis costs `missing`.
 pub fn read_with(bytes: &[u8], missing: AxisCosts) -> Job
+    requires { ⌜ CostsInRange (heldAxis missing) ⌝ }
     ensures { λ r. ⌜ r ≡ jobRecord (readWith (heldAxis missing) (now (bytes .entry))) ⌝ }
 {
     if JOB_BYTES < bytes.len() {

@@ -3,20 +3,20 @@
 use Prim.Native.Nat.{ℕ, zero, suc, _+_, _*_, _%_, _≤_}
 use mathlib.Core.Path.{_≡_}
 use mathlib.Core.Bool.{cond}
-use mathlib.Core.List.{[], _∷_}
+use mathlib.Core.List.{[], _∷_, map}
 use lib.Dec.{ltb}
 use lib.IntN.{ℤ, pos, natAbs, _-ℤ_}
 use lib.Signed.{ltZ}
 use lib.ListN.{getD}
+use Rattle.numbers.specs.Padded.{padded}
 use Rattle.query.specs.Place.{Place, Rect}
 use Rattle.query.specs.Deck.{Deck}
+use Rattle.query.specs.Travel.{near}
 use Rattle.query.specs.Cost.{cost}
 use Rattle.query.specs.Reach.{load}
 use Rattle.query.specs.Bound.{bound}
 use Rattle.query.specs.Grid.{grid}
 use Rattle.job.specs.Format.{Result}
-use Rattle.deck.specs.Objects.{pricingOf}
-use Rattle.deck.specs.ObjectColumns.{columnsOf}
 use Rattle.deck.specs.Rectangle.{rectOf}
 use Rattle.deck.specs.declared.Rect as Deck
 use Rattle.reach.specs.Columns.{Ranged}
@@ -71,7 +71,7 @@ cutTurn deck t = positive (cutRecord (grid deck) (rectAt t) .at)
 
 -- the near of stop t, over and over; 0 behind the last
 abbrev pub nearTurn : Deck → ℕ → ℕ
-nearTurn deck t = natAbs (getD (columnsOf (pricingOf deck)) (1536 + t % stopsLimit) (pos 0))
+nearTurn deck t = getD (padded stopsLimit 0 (map (near deck) (deck .stops))) (t % stopsLimit) 0
 
 -- the same by the kernel's number
 abbrev pub turn : Deck → ℕ → ℕ → ℕ

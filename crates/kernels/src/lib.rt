@@ -2,7 +2,6 @@
 use deck::Deck;
 use deck::Rect;
 use limits::COLUMNS;
-use limits::NEAR_COLUMN;
 use trial::opened;
 use trial::opened::Opened;
 ghost use mathlib.Core.Path.{_≡_};
@@ -15,7 +14,7 @@ ghost use Rattle.reach.specs.Columns.{Priceable};
 ghost use Rattle.pricing.specs.ObjectFigures.{costOf, loadOf, Figure};
 ghost use Rattle.lines.specs.LineRecord.{Lined, gridOf};
 ghost use Rattle.cuts.specs.CutRecord.{cutRecord};
-ghost use Rattle.prepare.specs.ProblemRecord.{Solvable};
+ghost use Rattle.deck.specs.Sound.{Sound};
 ghost use Rattle.problem.specs.ObjectProblem.{boundOf};
 ghost use Rattle.trial.specs.Opened.{Whole};
 ghost use Rattle.kernels.specs.Sums.{sumTo, Sampled, TurnRect, placeAt, rectAt, positive, nearTurn, turn, kernelSum};
@@ -105,18 +104,28 @@ fn cuts<'a>(v: &'a [i64], h: &'a [i64], k: u64) -> u64
     sum
 }
 
-// The near of stop t of the deck's objects.
+// The near of stop t of the deck, with that of all stops found anew.
 fn near_at(deck: Deck, t: u64) -> u64
-    requires { ⌜ Solvable deck ⌝ }
+    requires { ⌜ Sound deck ⌝ }
     ensures { λ r. ⌜ Figure (nearTurn (deckOf deck) t) 720000 r ⌝ }
 {
-    let columns = deck::columns_of(deck);
+    let k = deck.posts;
+    let n = deck.stops;
+    let near = deck::nears_of(
+        deck.axis,
+        &deck.post_x,
+        &deck.post_y,
+        k,
+        &deck.stop_x,
+        &deck.stop_y,
+        n,
+    );
     let i = (t % 512) as usize;
-    (columns[NEAR_COLUMN + i] as u32) as u64
+    near[i]
 }
 
 fn nears(deck: Deck, k: u64) -> u64
-    requires { ⌜ Solvable deck × (k ≤ 100000) ⌝ }
+    requires { ⌜ Sound deck × (k ≤ 100000) ⌝ }
     ensures { λ r. ⌜ Figure (sumTo (nearTurn (deckOf deck)) k) (100000 * costLimit) r ⌝ }
 {
     let mut sum: u64 = 0;

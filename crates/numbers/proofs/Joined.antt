@@ -1,8 +1,9 @@
--- Lists joined end to end: what `flatten` and `flatMap` make, and how long it is; and an element with those behind it.
+-- Lists joined end to end: what `flatten` and `flatMap` make, and how long it is; an element with those behind it; and maps, element by
+-- element.
 -- Assumes nothing.
 use mathlib.Core.Path.{_≡_, refl, sym, ap, ap₂, _∙_}
 use mathlib.Core.List.{List, [], _∷_, _++_, foldr, foldr-append, append-assoc, map, flatten, flatMap, List·Memᴰ, List·Memᴰ·head, List·Memᴰ·tail}
-use Prim.Native.Nat.{ℕ, _+_, _*_, _≤_, _<_}
+use Prim.Native.Nat.{ℕ, zero, suc, _+_, _*_, _≤_, _<_}
 use native.Mathlib.Numerals.{add-one}
 use native.Mathlib.Omega.{arith}
 use lib.ListN.{length, getD, drop, length-append}
@@ -24,6 +25,11 @@ flatMap-append f [] ys = refl
 flatMap-append f (x ∷ xs) ys = ap (λ (l : List _). f x ++ l) (flatMap-append f xs ys) ∙ sym (append-assoc (f x) (flatMap f xs) (flatMap f ys))
 
 -- the same lists, made of other elements
+pub map-at : {A B : Type 0} (f : A → B) (xs : List A) (i : ℕ) (z : B) (d : A) → i < length xs → getD (map f xs) i z ≡ f (getD xs i d)
+map-at f [] i z d h = absurd (omega arith)
+map-at f (x ∷ xs) zero z d h = refl
+map-at f (x ∷ xs) (suc i) z d h = map-at f xs i z d (omega arith)
+
 pub map-each : {A B : Type 0} (f g : A → B) (xs : List A) → ((x : A) → List·Memᴰ x xs → f x ≡ g x) → map f xs ≡ map g xs
 map-each f g [] each = refl
 map-each f g (x ∷ xs) each = ap₂ _∷_ (each x (List·Memᴰ·head refl)) (map-each f g xs (λ y m. each y (List·Memᴰ·tail m)))

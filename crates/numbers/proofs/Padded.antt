@@ -46,6 +46,20 @@ module _ {A : Type 0} (size : ℕ) (z : A) where
   unfolding padded
   padded-at xs i h = List·getD-append xs _ z i h
 
+  pub padded-behind : (xs : List A) (i : ℕ) → length xs ≤ i → getD (padded size z xs) i z ≡ z
+  unfolding padded
+  padded-behind xs i h = go xs i h
+    where
+      zeros : (m i : ℕ) → getD (replicate m z) i z ≡ z
+      zeros zero i = refl
+      zeros (suc m) zero = refl
+      zeros (suc m) (suc i) = zeros m i
+
+      go : (ys : List A) (i : ℕ) → length ys ≤ i → getD (ys ++ replicate (size - length xs) z) i z ≡ z
+      go [] i h = zeros (size - length xs) i
+      go (y ∷ ys) zero h = absurd (omega arith)
+      go (y ∷ ys) (suc i) h = go ys i (omega arith)
+
   drop-replicate : (m n : ℕ) → m ≤ n → drop m (replicate n z) ≡ replicate (n - m) z
   drop-replicate m n h =
       let e : n ≡ m + (n - m) = omega arith in

@@ -4,7 +4,7 @@ use mathlib.Core.Path.{_≡_, sym, ap, subst, _∙_}
 use mathlib.Core.List.{List}
 use Prim.Native.Nat.{ℕ, _≤_}
 use lib.IntN.{ℤ, natAbs}
-use lib.ListN.{length, take, length-map}
+use lib.ListN.{length, take}
 use Rattle.numbers.specs.Padded.{padded}
 use Rattle.query.specs.Place.{Axis, x-axis, y-axis, low-edge, high-edge}
 use Rattle.query.specs.Lines.{lines}
@@ -13,22 +13,24 @@ use Rattle.deck.specs.DeckOf.{deckOf}
 use Rattle.deck.specs.Rectangle.{rectRecord}
 use Rattle.deck.specs.Objects.{pricingOf}
 use Rattle.deck.specs.ObjectColumns.{columnsOf, pricingIn}
-use Rattle.deck.proofs.DeckLaws.{DeckColumns, objects-length, stops-x, stops-y}
+use Rattle.deck.specs.Sound.{Sound}
+use Rattle.deck.proofs.DeckLaws.{stops-x, stops-y}
+use Rattle.deck.proofs.SoundLaws.{sound-columns, sound-stops}
 use Rattle.reach.specs.ObjectReach.{flagsOf}
 use Rattle.reach.specs.Columns.{Priceable, Ranged}
-use Rattle.reach.proofs.ReachLaws.{objectOf, objectsOf-map, flags-law}
+use Rattle.reach.proofs.ReachLaws.{flags-law}
 use Rattle.reach.proofs.RecordLaws.{made-priceable, made-pricing}
 use Rattle.lines.specs.LineRecord.{marked, linesBetween, linesRecord}
 use Rattle.lines.specs.declared.Lines.{Lines}
 use Rattle.lines.proofs.DeckLines.{coordinates, reached, lines-marked, padded-reached}
 use Rattle.numbers.proofs.WordTests.{back}
 use Rattle.prepare.specs.declared.Problem.{Problem}
-use Rattle.prepare.specs.ProblemRecord.{Solvable, problemRecord}
+use Rattle.prepare.specs.ProblemRecord.{problemRecord}
 use Rattle.prepare.proofs.Coordinates.{near-back, rect-back}
 
-module _ (deck : Deck) (held : DeckColumns deck) (h : Solvable deck) where
+module _ (deck : Deck) (h : Sound deck) where
   stops-count : length (deckOf deck .stops) ≡ deck .stops
-  stops-count = sym (length-map (deckOf deck .stops) (objectOf (deckOf deck))) ∙ ap length (sym (objectsOf-map (deckOf deck))) ∙ objects-length deck held
+  stops-count = sym (sound-stops h)
 
   module _ (columns : List ℤ) (e : columns ≡ columnsOf (pricingOf (deckOf deck))) where
     pub columns-priceable : Priceable columns (deck .stops)
@@ -54,10 +56,10 @@ module _ (deck : Deck) (held : DeckColumns deck) (h : Solvable deck) where
 
   -- the columns of coordinates
   pub x-coordinates : take (deck .stops) (deck .«stop_x») ≡ coordinates (deckOf deck) x-axis
-  x-coordinates = sym (stops-x deck held)
+  x-coordinates = sym (stops-x deck (sound-columns h))
 
   pub y-coordinates : take (deck .stops) (deck .«stop_y») ≡ coordinates (deckOf deck) y-axis
-  y-coordinates = sym (stops-y deck held)
+  y-coordinates = sym (stops-y deck (sound-columns h))
 
   -- the area in words: its edges as `find_lines` gets them, and as a rectangle
   pub edges : (back (back (deck .xlo)) ≡ deckOf deck .area .xlo) × (back (back (deck .ylo)) ≡ deckOf deck .area .ylo)

@@ -1,15 +1,11 @@
 -- The problem of a deck as the code prepares it, once for each call.
 -- Assumes nothing.
-use Prim.Native.Nat.{_≤_}
 use lib.IntN.{pos}
 use lib.ListN.{length}
 use Rattle.numbers.specs.Padded.{padded}
-use Rattle.query.specs.Place.{NonEmpty, x-axis, y-axis}
+use Rattle.query.specs.Place.{x-axis, y-axis}
 use Rattle.query.specs.Deck as Query
 use Rattle.query.specs.Lines.{lines}
-use Rattle.query.specs.Range.{InRange, postsLimit, stopsLimit}
-use Rattle.deck.specs.declared.Deck.{Deck}
-use Rattle.deck.specs.DeckOf.{deckOf}
 use Rattle.deck.specs.Rectangle.{rectRecord}
 use Rattle.deck.specs.Objects.{pricingOf}
 use Rattle.deck.specs.ObjectColumns.{columnsOf}
@@ -27,10 +23,3 @@ problemRecord deck = record {
   nh = length (lines deck y-axis);
   h = padded 514 (pos 0) (lines deck y-axis);
 }
-
--- a deck's record whose deck is in range and has an area
-pub record Solvable (deck : Deck) : Type 0 where
-  pub range : InRange (deckOf deck)
-  pub full : NonEmpty (deckOf deck .area)
-  pub posts : deck .posts ≤ postsLimit
-  pub stops : deck .stops ≤ stopsLimit

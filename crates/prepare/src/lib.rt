@@ -6,7 +6,8 @@ use limits::COLUMNS;
 use limits::LINES;
 ghost use mathlib.Core.Path.{_≡_};
 ghost use Rattle.deck.specs.DeckOf.{deckOf};
-ghost use Rattle.prepare.specs.ProblemRecord.{Solvable, problemRecord};
+ghost use Rattle.deck.specs.Sound.{Sound};
+ghost use Rattle.prepare.specs.ProblemRecord.{problemRecord};
 
 // The problem of a deck: its area; the columns of its `count` objects; `nv` vertical lines in `v` and `nh` horizontal ones in `h`, in
 // increasing order, with 0 behind them.
@@ -20,9 +21,9 @@ pub struct Problem {
     pub h: [i64; LINES],
 }
 
-// The problem of a deck.
+// The problem of a sound record's deck, with near as the record holds it.
 pub fn of_deck(deck: Deck) -> Problem
-    requires { ⌜ Solvable deck ⌝ }
+    requires { ⌜ Sound deck ⌝ }
     ensures { λ r. ⌜ r ≡ problemRecord (deckOf deck) ⌝ }
 {
     let n = deck.stops;
@@ -32,7 +33,14 @@ pub fn of_deck(deck: Deck) -> Problem
         xhi: deck.xhi,
         yhi: deck.yhi,
     };
-    let columns = deck::columns_of(deck);
+    let columns = deck::columns_of(
+        deck.axis,
+        &deck.stop_x,
+        &deck.stop_y,
+        &deck.visits,
+        &deck.near,
+        n,
+    );
     let flags = reach::reach_flags(&columns, n, area);
     let vertical = lines::find_lines(&deck.stop_x, &flags, n, area.xlo, area.xhi);
     let horizontal = lines::find_lines(&deck.stop_y, &flags, n, area.ylo, area.yhi);

@@ -24,7 +24,7 @@ ghost use Rattle.deck.specs.Ranges.{Near180000};
 ghost use Rattle.deck.specs.Rectangle.{rectOf};
 ghost use Rattle.deck.specs.ObjectColumns.{axisIn, pricingIn};
 ghost use Rattle.reach.specs.Columns.{ObjectInRange, AxisCostsInRange, Priceable, Ranged, EdgesInRange};
-ghost use Rattle.pricing.specs.ObjectFigures.{costOf, beforeOf, loadOf, BoundInRange, Figure};
+ghost use Rattle.pricing.specs.ObjectFigures.{costOf, loadOf, BoundInRange, Figure};
 
 // What an object pays for a post at (x, y): its visits times the smaller of its near and its travel there.
 fn paid(sx: i32, sy: i32, visits: i32, near: i32, x: i32, y: i32) -> u64
@@ -100,22 +100,6 @@ pub fn load(columns: &[i32; COLUMNS], n: usize, r: Rect) -> u64
         i = i + 1;
     }
     sum as u64
-}
-
-// What all objects pay with the posts that there are.
-pub fn before(columns: &[i32; COLUMNS], n: usize) -> u64
-    requires { ⌜ Priceable (now columns) n ⌝ }
-    ensures { λ r. ⌜ Figure (beforeOf (pricingIn (now (columns .entry)) n)) costLimit r ⌝ }
-{
-    let mut sum: u64 = 0;
-    let mut i: usize = 0;
-    while i < n {
-        let visits = columns[VISITS_COLUMN + i];
-        let near = columns[NEAR_COLUMN + i];
-        sum = sum + ((visits as u32) as u64) * ((near as u32) as u64);
-        i = i + 1;
-    }
-    sum
 }
 
 // The width and the height of a rectangle, each multiplied by its axis cost, added.

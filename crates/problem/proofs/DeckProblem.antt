@@ -26,7 +26,8 @@ use Rattle.pricing.proofs.ObjectLaws.{cost-law, load-law}
 use Rattle.lines.specs.LineRecord.{LinesInOrder, Lined, gridOf}
 use Rattle.lines.proofs.DeckLines.{deck-lined}
 use Rattle.prepare.specs.declared.Problem.{Problem}
-use Rattle.prepare.specs.ProblemRecord.{problemRecord, Solvable}
+use Rattle.deck.specs.Sound.{Sound}
+use Rattle.prepare.specs.ProblemRecord.{problemRecord}
 use Rattle.prepare.proofs.RecordParts.{record-columns, record-count, record-vertical, record-horizontal, record-area}
 use Rattle.problem.specs.ObjectProblem.{boundOf, objectProblem}
 use Rattle.problem.specs.Prepared.{problemOf, Prepared}
@@ -86,10 +87,10 @@ module _ {columns : List ℤ} {n : ℕ} {v h : List ℤ} {area : Rect} (prepared
   pub prepared-problem : problemOf columns n v h area ≡ problem deck
   prepared-problem = (λ i. objectProblem (prepared-pricing i) (prepared-grid i) (prepared .area-is i)) ∙ deck-problem deck
 
--- ---- the record of a deck's problem was prepared
-abbrev pub solvable-prepared : (deck : Deck) → Solvable deck → (p : Problem) → p ≡ problemRecord (deckOf deck) →
+-- ---- the problem of a sound record was prepared
+abbrev pub sound-prepared : (deck : Deck) → Sound deck → (p : Problem) → p ≡ problemRecord (deckOf deck) →
     Prepared (p .columns) (p .count) (take (p .nv) (p .v)) (take (p .nh) (p .h)) (p .area)
-solvable-prepared deck h p e = record {
+sound-prepared deck h p e = record {
   deck = deckOf deck;
   range = h .range;
   full = h .full;

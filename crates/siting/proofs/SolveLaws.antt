@@ -15,14 +15,14 @@ use Rattle.query.specs.Deck as Query
 use Rattle.query.specs.Problem.{Problem, problem}
 use Rattle.query.specs.Order.{Cell}
 use Rattle.query.specs.Search.{run}
-use Rattle.query.specs.Cost.{before}
 use Rattle.query.specs.Figures as Figures
 use Rattle.query.specs.Figures.{figures, figuresOf}
 use Rattle.query.specs.Estimate as Estimate
 use Rattle.query.specs.Space.{allNumbers, space, spaceNeeded}
-use Rattle.query.specs.Range.{FiguresInRange}
+use Rattle.query.specs.Range.{costLimit, FiguresInRange}
 use Rattle.query.proofs.EstimateLaws.{needs-most}
 use Rattle.query.proofs.SpaceLaws.{space-law}
+use Rattle.query.proofs.Ranges.{figure-limits}
 use Rattle.query.proofs.FigureRanges.{run-in-range}
 use Rattle.job.specs.Format.{Job, accepted, readJob}
 use Rattle.job.specs.JobRecord.{jobRecord}
@@ -34,13 +34,15 @@ use Rattle.refusal.specs.declared.Refusal.the-variants.{SmallSpace, ShortOutput
 use Rattle.deck.specs.declared.Deck.{Deck}
 use Rattle.deck.specs.declared.Rect.{Rect}
 use Rattle.deck.specs.DeckOf.{deckOf}
+use Rattle.deck.specs.Sound.{Sound}
 use Rattle.deck.specs.ObjectColumns.{pricingIn}
-use Rattle.pricing.specs.ObjectFigures.{beforeOf}
+use Rattle.deck.proofs.SoundLaws.{sound-before}
+use Rattle.pricing.specs.ObjectFigures.{beforeOf, Figure}
 use Rattle.pricing.proofs.ObjectLaws.{before-law}
 use Rattle.prepare.specs.declared.Problem as Made
-use Rattle.prepare.specs.ProblemRecord.{problemRecord, Solvable}
+use Rattle.prepare.specs.ProblemRecord.{problemRecord}
 use Rattle.problem.specs.Prepared.{problemOf, Prepared}
-use Rattle.problem.proofs.DeckProblem.{prepared-pricing, prepared-problem, solvable-prepared}
+use Rattle.problem.proofs.DeckProblem.{prepared-pricing, prepared-problem, sound-prepared}
 use Rattle.report.specs.Report.{reportState, reportFigures}
 use Rattle.report.specs.Text.{reportText}
 use Rattle.write.specs.Written.{overwritten, Overwrote}
@@ -91,9 +93,8 @@ module _ {columns : List ℤ} {count : ℕ} {v h : List ℤ} {area : Rect} (prep
     unfolding figures figuresOf foundOf
     low-word = toZ-ofZ w64 (f .low) (word-fits w64 (f .low) (rw found (omega (arith, figures-range .low-limit))))
 
-  pub solved : (cells cells′ : List ℤ) (f : Found) (state : State) (b : ℕ) → b ≡ beforeOf (pricingIn columns count) →
-      Searched (problemOf columns count v h area) n cells cells′ f → state ≡ stateFor (f .done) →
-      Solved (problemOf columns count v h area) (beforeOf (pricingIn columns count)) n cells cells′ (record {
+  pub solved : (cells cells′ : List ℤ) (f : Found) (state : State) (b : ℕ) → Searched (problemOf columns count v h area) n cells cells′ f →
+      state ≡ stateFor (f .done) → Solved (problemOf columns count v h area) b n cells cells′ (record {
         state = state;
         x = back (f .x);
         y = back (f .y);
@@ -102,9 +103,9 @@ module _ {columns : List ℤ} {count : ℕ} {v h : List ℤ} {area : Rect} (prep
         before = b;
         rounds = f .cuts;
       })
-  solved cells cells′ f state b g s t = record {
+  solved cells cells′ f state b s t = record {
     report = rw (place-x f (s .found), place-y f (s .found), low-word f (s .found))
-        (found-report (problemOf columns count v h area) n f state b (s .found) t ∙ ap (λ (m : ℕ). figuresOf m (run (problemOf columns count v h area) n)) g);
+        (found-report (problemOf columns count v h area) n f state b (s .found) t);
     cells = s .cells;
   }
 
@@ -124,8 +125,17 @@ reported-is : (job : Job) (cells cells′ : List ℤ) (out out′ : List ℕ) (r
 unfolding reported
 reported-is job cells cells′ out out′ r text e f g h = rw (h, g, f, e)
 
--- a deck whose problem was made, and rounds
-module _ (deck : Deck) (h : Solvable deck) (p : Made.Problem) (e : p ≡ problemRecord (deckOf deck)) (n : ℕ) (few : n ≤ 1000) where
+-- a sound record whose problem was made
+module _ (deck : Deck) (h : Sound deck) (p : Made.Problem) (e : p ≡ problemRecord (deckOf deck)) where
+  -- what the exhaustive search asks of the record's before
+  pub before-figure : Figure (beforeOf (pricingIn (p .columns) (p .count))) costLimit (deck .before)
+  before-figure = record {
+    is = sound-before h ∙ sym (ap beforeOf (prepared-pricing (sound-prepared deck h p e)) ∙ before-law (deckOf deck));
+    within = rw (sound-before h) (figure-limits (deckOf deck) (h .range) .before-limit);
+  }
+
+-- the same, and rounds
+module _ (deck : Deck) (h : Sound deck) (p : Made.Problem) (e : p ≡ problemRecord (deckOf deck)) (n : ℕ) (few : n ≤ 1000) where
   abbrev held : Problem
   held = problemOf (p .columns) (p .count) (take (p .nv) (p .v)) (take (p .nh) (p .h)) (p .area)
 
@@ -133,10 +143,7 @@ module _ (deck : Deck) (h : Solvable deck) (p : Made.Problem) (e : p ≡ problem
   job = record { deck = deckOf deck; rounds = n }
 
   problem-is : held ≡ problem (deckOf deck)
-  problem-is = prepared-problem (solvable-prepared deck h p e)
-
-  before-is : beforeOf (pricingIn (p .columns) (p .count)) ≡ before (deckOf deck)
-  before-is = ap beforeOf (prepared-pricing (solvable-prepared deck h p e)) ∙ before-law (deckOf deck)
+  problem-is = prepared-problem (sound-prepared deck h p e)
 
   -- refusals 7 and 8, and the room that a search has without them
   module _ (needs : Held.Estimate) (f : estimateNumbers needs ≡ estimateBy (p .nv) (p .nh) n) where
@@ -160,10 +167,10 @@ module _ (deck : Deck) (h : Solvable deck) (p : Made.Problem) (e : p ≡ problem
       room = subst (λ (q : Problem). length (allNumbers (run q n .live)) ≤ lent) (sym problem-is) (omega (arith, space-is, space-law (deckOf deck) n .numbers));
     }
 
-    module _ (cells cells′ : List ℤ) (r : Report) (s : Solved held (beforeOf (pricingIn (p .columns) (p .count))) n cells cells′ r) where
+    module _ (cells cells′ : List ℤ) (r : Report) (s : Solved held (deck .before) n cells cells′ r) where
       solved-figures : reportFigures r ≡ figures (deckOf deck) n
       unfolding figures
-      solved-figures = s .report ∙ ap₂ (λ (b : ℕ) (q : Problem). figuresOf b (run q n)) before-is problem-is
+      solved-figures = s .report ∙ ap₂ (λ (b : ℕ) (q : Problem). figuresOf b (run q n)) (sound-before h) problem-is
 
       solved-cells : cells′ ≡ space (deckOf deck) n (length cells)
       unfolding space

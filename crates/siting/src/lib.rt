@@ -34,9 +34,7 @@ ghost use Rattle.query.specs.Problem.{problem};
 ghost use Rattle.query.specs.Exhaustive as Query;
 ghost use Rattle.query.specs.Range.{roundsLimit};
 ghost use Rattle.deck.specs.DeckOf.{deckOf};
-ghost use Rattle.deck.specs.ObjectColumns.{pricingIn};
-ghost use Rattle.pricing.specs.ObjectFigures.{beforeOf};
-ghost use Rattle.prepare.specs.ProblemRecord.{Solvable};
+ghost use Rattle.deck.specs.Sound.{Sound};
 ghost use Rattle.problem.specs.ObjectProblem.{pricedOf};
 ghost use Rattle.problem.specs.Prepared.{problemOf, Prepared};
 ghost use Rattle.search.specs.Answer.{Room};
@@ -54,23 +52,23 @@ fn state_of(done: bool) -> State
     if done { State::Done } else { State::Stopped }
 }
 
-// The report of a deck's problem for so many rounds, with the live cells in the cell space.
+// The report of a deck's problem, with what is paid before, for so many rounds, and the live cells in the cell space.
 fn solve<'a>(
     columns: &'a [i32; COLUMNS],
     n: usize,
     v: &'a [i64],
     h: &'a [i64],
     area: Rect,
+    before: u64,
     rounds: u64,
     cells: &mut [i64],
 ) -> Report
     requires { ⌜ Prepared (now columns) n (now v) (now h) area
         × Room (problemOf (now columns) n (now v) (now h) area) rounds (length (now cells)) ⌝ }
     ensures { λ r.
-        ⌜ Solved (problemOf (now (columns .entry)) n (now (v .entry)) (now (h .entry)) area)
-        (beforeOf (pricingIn (now (columns .entry)) n)) rounds (now (cells .entry)) (now (cells .exit)) r ⌝ }
+        ⌜ Solved (problemOf (now (columns .entry)) n (now (v .entry)) (now (h .entry)) area) before rounds (now (cells .entry))
+        (now (cells .exit)) r ⌝ }
 {
-    let before = pricing::before(columns, n);
     let found = run::search(columns, n, v, h, area, rounds, cells);
     let state = state_of(found.done);
     Report {
@@ -95,7 +93,7 @@ fn refuse(why: Refusal) -> Response
 
 // What the calls below answer to a job that was read as a deck and rounds. Refusals 7 and 8 come before any place is priced.
 fn respond_to(deck: Deck, rounds: u64, cells: &mut [i64], out: &mut [u8]) -> Response
-    requires { ⌜ Solvable deck × (rounds ≤ roundsLimit) ⌝ }
+    requires { ⌜ Sound deck × (rounds ≤ roundsLimit) ⌝ }
     ensures { λ r.
         ⌜ Responded (answered (accepted (record { deck = deckOf deck; rounds = rounds })) (now (cells .entry)) (now (out .entry)))
         (now (out .entry)) (now (cells .exit)) (now (out .exit)) r ⌝ }
@@ -113,7 +111,16 @@ fn respond_to(deck: Deck, rounds: u64, cells: &mut [i64], out: &mut [u8]) -> Res
     }
     let v: &[i64] = &p.v;
     let h: &[i64] = &p.h;
-    let r = solve(&p.columns, n, &v[..nv], &h[..nh], p.area, rounds, cells);
+    let r = solve(
+        &p.columns,
+        n,
+        &v[..nv],
+        &h[..nh],
+        p.area,
+        deck.before,
+        rounds,
+        cells,
+    );
     let bytes = report::write_report(out, r);
     Response {
         answer: Answer::Report(r),
@@ -129,9 +136,8 @@ fn respond(job: &[u8], cells: &mut [i64], out: &mut [u8]) -> Response
 {
     let j = job::read(job);
     let outcome = j.outcome;
-    let deck = j.deck;
     match outcome {
-        Outcome::Accepted(rounds) => respond_to(deck, rounds, cells, out),
+        Outcome::Accepted(rounds) => respond_to(j.deck, rounds, cells, out),
         Outcome::Refused(why) => refuse(why),
     }
 }
@@ -161,7 +167,7 @@ pub extern "C" fn siting_report(job: &[u8], out: &mut [u8]) -> i64
 
 // The cheapest crossing of a deck's lines.
 fn cheapest_in(deck: Deck) -> Spot
-    requires { ⌜ Solvable deck ⌝ }
+    requires { ⌜ Sound deck ⌝ }
     ensures { λ r. ⌜ pricedOf r ≡ Query.exhaustive (problem (deckOf deck)) ⌝ }
 {
     let p = prepare::of_deck(deck);
@@ -170,7 +176,7 @@ fn cheapest_in(deck: Deck) -> Spot
     let nh = p.nh;
     let v: &[i64] = &p.v;
     let h: &[i64] = &p.h;
-    exhaustive::cheapest(&p.columns, n, &v[..nv], &h[..nh], p.area)
+    exhaustive::cheapest(&p.columns, n, &v[..nv], &h[..nh], p.area, deck.before)
 }
 
 // The cheapest crossing of lines, the earliest among equals, or the refusal of the job. Its rounds are not used.
@@ -179,9 +185,8 @@ pub fn exhaustive(job: &[u8]) -> Cheapest
 {
     let j = job::read(job);
     let outcome = j.outcome;
-    let deck = j.deck;
     match outcome {
-        Outcome::Accepted(_) => Cheapest::At(cheapest_in(deck)),
+        Outcome::Accepted(_) => Cheapest::At(cheapest_in(j.deck)),
         Outcome::Refused(why) => Cheapest::Refused(why),
     }
 }

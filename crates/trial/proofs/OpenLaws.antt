@@ -13,12 +13,13 @@ use Rattle.refusal.specs.declared.Refusal.{Refusal}
 use Rattle.job.specs.declared.Outcome.the-variants.{Accepted}
 use Rattle.job.proofs.JobLaws.{most-rounds}
 use Rattle.job.proofs.Meaning.{accepted-job}
-use Rattle.deck.specs.DeckOf.{deckOf}
-use Rattle.job.proofs.ReadDeck.{differ, Spelt, read-accepted, read-deck, read-rounds, read-deckOf, read-full, objects-ask}
+use Rattle.deck.specs.DeckOf.{deckOf, deckRecord}
+use Rattle.deck.specs.Sound.{Sound}
+use Rattle.job.proofs.ReadDeck.{differ, Spelt, read-accepted, read-deck, read-rounds, read-deckOf, read-sound}
 use Rattle.prepare.specs.declared.Problem.{Problem}
-use Rattle.prepare.specs.ProblemRecord.{Solvable, problemRecord}
+use Rattle.prepare.specs.ProblemRecord.{problemRecord}
 use Rattle.problem.specs.Prepared.{Prepared}
-use Rattle.problem.proofs.DeckProblem.{solvable-prepared}
+use Rattle.problem.proofs.DeckProblem.{sound-prepared}
 use Rattle.trial.specs.Opened.{Whole, noProblem, openedDeck, openedRecord}
 use Rattle.trial.specs.Trial.{onJob}
 use Rattle.trial.specs.declared.opened.Opened.{Opened}
@@ -32,10 +33,6 @@ rounds-read bytes j e rounds f =
     (omega (arith, g, most-rounds (s .allowed .writable)), g)
 
 module _ {bytes : List ℕ} (s : Spelt bytes) (j : Held.Job) (e : j ≡ jobRecord (readJob bytes)) where
-  -- the deck that was read is in range
-  pub read-solvable : Solvable (j .deck)
-  read-solvable = let (range, posts, stops) = objects-ask s j e in record { range = range; full = read-full s j e; posts = posts; stops = stops }
-
   pub opened-accepted : (p : Problem) → p ≡ problemRecord (deckOf (j .deck)) →
       record { accepted = true; deck = j .deck; problem = p } ≡ openedRecord (readJob bytes)
   unfolding openedRecord openedDeck
@@ -49,7 +46,7 @@ opened-refused bytes j why e f = rw (e, f)
 -- ---- a deck in range with its problem: it is prepared, and its deck is the one held
 abbrev pub prepared : {o : Opened} → Whole o →
     Prepared (o .problem .columns) (o .problem .count) (take (o .problem .nv) (o .problem .v)) (take (o .problem .nh) (o .problem .h)) (o .problem .area)
-prepared {o} w = solvable-prepared (o .deck) (w .solvable) (o .problem) (w .problem-is)
+prepared {o} w = sound-prepared (o .deck) (w .sound) (o .problem) (w .problem-is)
 
 -- ---- what `open_job` answers
 module _ (bytes : List ℕ) (o : Opened) (e : o ≡ openedRecord (readJob bytes)) where
@@ -66,9 +63,12 @@ module _ (bytes : List ℕ) (o : Opened) (e : o ≡ openedRecord (readJob bytes)
     unfolding openedRecord
     open-record = e ∙ ap openedRecord (s .read)
 
-    deck-read : o .deck ≡ jobRecord (readJob bytes) .deck
+    pub open-held : o .deck ≡ deckRecord (s .job .deck)
     unfolding openedDeck
-    deck-read = ap (λ (k : Opened). k .deck) open-record ∙ sym (read-deck bytes (jobRecord (readJob bytes)) refl s)
+    open-held = ap (λ (k : Opened). k .deck) open-record
+
+    deck-read : o .deck ≡ jobRecord (readJob bytes) .deck
+    deck-read = open-held ∙ sym (read-deck bytes (jobRecord (readJob bytes)) refl s)
 
     pub open-deck : deckOf (o .deck) ≡ s .job .deck
     open-deck = ap deckOf deck-read ∙ read-deckOf s (jobRecord (readJob bytes)) refl
@@ -79,7 +79,7 @@ module _ (bytes : List ℕ) (o : Opened) (e : o ≡ openedRecord (readJob bytes)
 
     pub open-whole : Whole o
     open-whole = record {
-      solvable = subst Solvable (sym deck-read) (read-solvable s (jobRecord (readJob bytes)) refl);
+      sound = subst Sound (sym deck-read) (read-sound s (jobRecord (readJob bytes)) refl);
       problem-is = open-problem ∙ ap problemRecord (sym open-deck);
     }
 

@@ -11,7 +11,8 @@ use Rattle.job_line.specs.Kinds.{coordinates, inRange}
 use Rattle.job.specs.Format.{Result, refused, accepted}
 use Rattle.deck.specs.DeckOf.{deckOf, deckRecord, emptyDeck}
 use Rattle.prepare.specs.declared.Problem.{Problem}
-use Rattle.prepare.specs.ProblemRecord.{Solvable, problemRecord}
+use Rattle.deck.specs.Sound.{Sound}
+use Rattle.prepare.specs.ProblemRecord.{problemRecord}
 use Rattle.trial.specs.declared.opened.Opened.{Opened}
 
 abbrev pub noProblem : Problem
@@ -34,9 +35,9 @@ unfolding openedDeck
 openedRecord (refused why) = record { accepted = false; deck = deckRecord emptyDeck; problem = noProblem }
 openedRecord (accepted job) = openedDeck (job .deck)
 
--- a deck in range, and its problem
+-- a sound record, and the problem of its deck
 pub record Whole (o : Opened) : Type 0 where
-  pub solvable : Solvable (o .deck)
+  pub sound : Sound (o .deck)
   pub problem-is : o .problem ≡ problemRecord (deckOf (o .deck))
 
 -- a place whose coordinates are in range

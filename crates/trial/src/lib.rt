@@ -4,7 +4,6 @@ pub mod opened;
 
 use deck::Rect;
 use job::Outcome;
-use limits::NEAR_COLUMN;
 use refusal::Refusal;
 ghost use mathlib.Core.Path.{_≡_};
 ghost use mathlib.Core.List.{_++_};
@@ -73,7 +72,7 @@ pub extern "C" fn trial_reading(job: &[u8], which: u64) -> i64
 
 // ---- figures of a job's deck
 
-// What all stops pay with the posts that there are; -1 where the job is refused.
+// What all stops pay with the posts that there are, from the record; -1 where the job is refused.
 fn before(job: &[u8]) -> i64
     ensures { λ r. ⌜ r ≡ beforeFigure (readJob (now (job .entry))) ⌝ }
 {
@@ -81,12 +80,10 @@ fn before(job: &[u8]) -> i64
     if !o.accepted {
         return -1;
     }
-    let p = o.problem;
-    let n = p.count;
-    pricing::before(&p.columns, n) as i64
+    o.deck.before as i64
 }
 
-// The near of stop `i`, counted from 0; -1 where there is none.
+// The near of stop `i`, counted from 0, from the record; -1 where there is none.
 fn near(job: &[u8], i: usize) -> i64
     ensures { λ r. ⌜ r ≡ nearFigure i (readJob (now (job .entry))) ⌝ }
 {
@@ -94,14 +91,8 @@ fn near(job: &[u8], i: usize) -> i64
     if !o.accepted {
         return -1;
     }
-    let p = o.problem;
-    let n = p.count;
-    let columns = p.columns;
-    if i < n {
-        columns[NEAR_COLUMN + i] as i64
-    } else {
-        -1
-    }
+    let near = o.deck.near;
+    if i < o.deck.stops { near[i] as i64 } else { -1 }
 }
 
 // The cost of a place; -1 where the job is refused or the place is out of range.

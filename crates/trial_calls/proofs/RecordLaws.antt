@@ -8,7 +8,7 @@ use mathlib.Core.List.{List, [], _∷_, _++_, append-nil, append-assoc}
 use native.Mathlib.Omega.{arith}
 use lib.IntN.{ℤ, pos}
 use lib.ListN.{length, getD, take, drop, set, replicate, length-set, length-drop, length-replicate, drop-of-length-le}
-use lib.Seq.{paste, take-all, take-paste, length-paste, length-take-le}
+use lib.Seq.{paste, take-all, take-suc-set, take-paste, length-paste, length-take-le}
 use mir.Syntax.{w64}
 use mir.Val.{toZ}
 use mir.ValLaws.{toZ-pos}
@@ -89,13 +89,28 @@ module _ (deck : Deck) (sized : Sized deck) where
   pub counts-put-length : (ns : List ℕ) → length (countsPut ns) ≡ length ns
   counts-put-length ns = four-put-length ns (deck .axis .a) (deck .axis .b) (deck .posts) (deck .stops)
 
-  pub naturals-put : (ns : List ℕ) {m : List ℕ} → length ns ≡ 516 → m ≡ paste (countsPut ns) 4 (deck .visits) 512 → m ≡ naturalsOf deck
-  naturals-put ns {m} long e =
-      let h₀ = counts-put-length ns ∙ long in
-      let h : length m ≡ 516 = copied-length (countsPut ns) (deck .visits) 4 512 e (omega (arith, h₀)) (sized .visits) ∙ h₀ in
-      sym (take-all 516 m (omega (arith, h)))
-      ∙ copied-front (countsPut ns) (deck .visits) 4 512 e (omega (arith, h₀)) (sized .visits) _
-      (four-put ns (deck .axis .a) (deck .axis .b) (deck .posts) (deck .stops) (omega (arith, long)))
+  -- the visits and near behind them, and before behind all
+  module _ (ns : List ℕ) {m₁ : List ℕ} (long : length ns ≡ 1029) (near-long : length (deck .near) ≡ 512)
+      (e₁ : m₁ ≡ paste (countsPut ns) 4 (deck .visits) 512) where
+    pub visits-put-length : length m₁ ≡ 1029
+    visits-put-length = copied-length (countsPut ns) (deck .visits) 4 512 e₁ (omega (arith, counts-put-length ns, long)) (sized .visits)
+        ∙ counts-put-length ns ∙ long
+
+    module _ {m₂ : List ℕ} (e₂ : m₂ ≡ paste m₁ 516 (deck .near) 512) where
+      pub nears-put-length : length m₂ ≡ 1029
+      nears-put-length = copied-length m₁ (deck .near) 516 512 e₂ (omega (arith, visits-put-length)) near-long ∙ visits-put-length
+
+      pub naturals-put : set m₂ 1028 (deck .before) ≡ naturalsOf deck
+      naturals-put =
+          let h₀ = counts-put-length ns ∙ long in
+          let f₁ = copied-front (countsPut ns) (deck .visits) 4 512 e₁ (omega (arith, h₀)) (sized .visits) _
+          (four-put ns (deck .axis .a) (deck .axis .b) (deck .posts) (deck .stops) (omega (arith, long))) in
+          let f₂ = copied-front m₁ (deck .near) 516 512 e₂ (omega (arith, visits-put-length)) near-long _ f₁ in
+          let counts = deck .axis .a ∷ deck .axis .b ∷ deck .posts ∷ deck .stops ∷ [] in
+          sym (take-all 1029 (set m₂ 1028 (deck .before)) (omega (arith, length-set m₂ 1028 (deck .before), nears-put-length)))
+          ∙ take-suc-set m₂ 1028 (deck .before) (omega (arith, nears-put-length))
+          ∙ ap (λ (l : List ℕ). l ++ (deck .before ∷ [])) f₂
+          ∙ append-assoc (counts ++ deck .visits) (deck .near) (deck .before ∷ []) ∙ append-assoc counts (deck .visits) (deck .near ++ (deck .before ∷ []))
 
 -- ---- the record that has the numbers of two lists
 copied-into : {A : Type 0} (z : A) (n : ℕ) (s : List A) {m : List A} → m ≡ paste (replicate n z) 0 s n → m ≡ take n s
@@ -103,11 +118,11 @@ copied-into z n s e =
     let h : length (replicate n z) ≤ 0 + n = omega (arith, length-replicate n z) in
     e ∙ ap (λ (r : List _). take n s ++ r) (drop-of-length-le (replicate n z) h) ∙ append-nil (take n s)
 
-pub deck-made : (zs : List ℤ) (ns : List ℕ) {a b c d : ℤ} {k l p s : ℕ} {px py sx sy : List ℤ} {vs : List ℕ} → a ≡ getD zs 0 (pos 0) →
+pub deck-made : (zs : List ℤ) (ns : List ℕ) {a b c d : ℤ} {k l p s t : ℕ} {px py sx sy : List ℤ} {vs us : List ℕ} → a ≡ getD zs 0 (pos 0) →
     b ≡ getD zs 1 (pos 0) → c ≡ getD zs 2 (pos 0) → d ≡ getD zs 3 (pos 0) → k ≡ getD ns 0 0 → l ≡ getD ns 1 0 → p ≡ getD ns 2 0 → s ≡ getD ns 3 0 →
     px ≡ paste (replicate 64 (pos 0)) 0 (drop 4 zs) 64 → py ≡ paste (replicate 64 (pos 0)) 0 (drop 68 zs) 64 →
     sx ≡ paste (replicate 512 (pos 0)) 0 (drop 132 zs) 512 → sy ≡ paste (replicate 512 (pos 0)) 0 (drop 644 zs) 512 →
-    vs ≡ paste (replicate 512 0) 0 (drop 4 ns) 512 → _≡_ {A = Deck} (record {
+    vs ≡ paste (replicate 512 0) 0 (drop 4 ns) 512 → us ≡ paste (replicate 512 0) 0 (drop 516 ns) 512 → t ≡ getD ns 1028 0 → _≡_ {A = Deck} (record {
       axis = record { a = k; b = l };
       xlo = a;
       ylo = b;
@@ -120,8 +135,10 @@ pub deck-made : (zs : List ℤ) (ns : List ℕ) {a b c d : ℤ} {k l p s : ℕ} 
       «stop_x» = sx;
       «stop_y» = sy;
       visits = vs;
+      near = us;
+      before = t;
     }) (deckFrom zs ns)
-deck-made zs ns ea eb ec ed ek el ep es epx epy esx esy evs = λ i. record {
+deck-made zs ns ea eb ec ed ek el ep es epx epy esx esy evs eus et = λ i. record {
   axis = record { a = ek i; b = el i };
   xlo = ea i;
   ylo = eb i;
@@ -134,12 +151,14 @@ deck-made zs ns ea eb ec ed ek el ep es epx epy esx esy evs = λ i. record {
   «stop_x» = copied-into (pos 0) 512 (drop 132 zs) esx i;
   «stop_y» = copied-into (pos 0) 512 (drop 644 zs) esy i;
   visits = copied-into 0 512 (drop 4 ns) evs i;
+  near = copied-into 0 512 (drop 516 ns) eus i;
+  before = et i;
 }
 
 part-long : {A : Type 0} (start n : ℕ) (l : List A) → start + n ≤ length l → length (take n (drop start l)) ≡ n
 part-long start n l h = length-take-le n (drop start l) (rest-long start n l h)
 
-pub deck-sized : (zs : List ℤ) (ns : List ℕ) → length zs ≡ 1156 → length ns ≡ 516 → Sized (deckFrom zs ns)
+pub deck-sized : (zs : List ℤ) (ns : List ℕ) → length zs ≡ 1156 → length ns ≡ 1029 → Sized (deckFrom zs ns)
 deck-sized zs ns h k = record {
   post-x = part-long 4 64 zs (omega arith);
   post-y = part-long 68 64 zs (omega arith);
@@ -176,11 +195,11 @@ module _ (zs : List ℤ) (ns : List ℕ) where
   few-coordinates : length zs ≢ 1156 → isRecord zs ns ≡ false
   few-coordinates h = rw (ne-eqb (length zs) 1156 h)
 
-  few-naturals : length zs ≡ 1156 → length ns ≢ 516 → isRecord zs ns ≡ false
-  few-naturals h k = rw (eq-eqb (length zs) 1156 h, ne-eqb (length ns) 516 k)
+  few-naturals : length zs ≡ 1156 → length ns ≢ 1029 → isRecord zs ns ≡ false
+  few-naturals h k = rw (eq-eqb (length zs) 1156 h, ne-eqb (length ns) 1029 k)
 
-  as-long : length zs ≡ 1156 → length ns ≡ 516 → isRecord zs ns ≡ true
-  as-long h k = rw (eq-eqb (length zs) 1156 h, eq-eqb (length ns) 516 k)
+  as-long : length zs ≡ 1156 → length ns ≡ 1029 → isRecord zs ns ≡ true
+  as-long h k = rw (eq-eqb (length zs) 1156 h, eq-eqb (length ns) 1029 k)
 
   module _ (job : List ℕ) (which : ℕ) where
     nothing-read : isRecord zs ns ≡ false → record { result = least; coordinates = zs; naturals = ns } ≡ trialRead job zs ns which
@@ -189,7 +208,7 @@ module _ (zs : List ℤ) (ns : List ℕ) where
     pub read-few-coordinates : length zs ≢ 1156 → record { result = least; coordinates = zs; naturals = ns } ≡ trialRead job zs ns which
     read-few-coordinates h = nothing-read (few-coordinates h)
 
-    pub read-few-naturals : length zs ≡ 1156 → length ns ≢ 516 → record { result = least; coordinates = zs; naturals = ns } ≡ trialRead job zs ns which
+    pub read-few-naturals : length zs ≡ 1156 → length ns ≢ 1029 → record { result = least; coordinates = zs; naturals = ns } ≡ trialRead job zs ns which
     read-few-naturals h k = nothing-read (few-naturals h k)
 
   module _ (rounds : ℕ) (out : List ℕ) (which : ℕ) where
@@ -199,12 +218,12 @@ module _ (zs : List ℤ) (ns : List ℕ) where
     pub write-few-coordinates : length zs ≢ 1156 → record { result = least; out = out } ≡ trialWrite zs ns rounds out which
     write-few-coordinates h = nothing-written (few-coordinates h)
 
-    pub write-few-naturals : length zs ≡ 1156 → length ns ≢ 516 → record { result = least; out = out } ≡ trialWrite zs ns rounds out which
+    pub write-few-naturals : length zs ≡ 1156 → length ns ≢ 1029 → record { result = least; out = out } ≡ trialWrite zs ns rounds out which
     write-few-naturals h k = nothing-written (few-naturals h k)
 
 -- ---- the call `read`, by the case of its outcome
 module _ (job : List ℕ) (outcome : Outcome) (deck : Deck) (e : record { answer = readAnswer outcome; deck = deck } ≡ readCall job) where
-  pub read-is : (zs : List ℤ) (ns : List ℕ) (which : ℕ) {v : ℤ} {zs′ : List ℤ} {ns′ : List ℕ} → length zs ≡ 1156 → length ns ≡ 516 →
+  pub read-is : (zs : List ℤ) (ns : List ℕ) (which : ℕ) {v : ℤ} {zs′ : List ℤ} {ns′ : List ℕ} → length zs ≡ 1156 → length ns ≡ 1029 →
       v ≡ countFigure which (readAnswer outcome) → zs′ ≡ coordinatesOf deck → ns′ ≡ naturalsOf deck →
       record { result = v; coordinates = zs′; naturals = ns′ } ≡ trialRead job zs ns which
   read-is zs ns which h k f g j =
@@ -225,7 +244,7 @@ module _ (job : List ℕ) (outcome : Outcome) (deck : Deck) (e : record { answer
 
 -- ---- the call `write`, by the case of its answer
 module _ (zs : List ℤ) (ns : List ℕ) (rounds : ℕ) (out : List ℕ) (deck : Deck) (d : deck ≡ deckFrom zs ns) (answer : Written) (out′ : List ℕ)
-    (e : record { answer = writtenAnswer answer; out = out′ } ≡ writeCall deck rounds out) (h : length zs ≡ 1156) (k : length ns ≡ 516) where
+    (e : record { answer = writtenAnswer answer; out = out′ } ≡ writeCall deck rounds out) (h : length zs ≡ 1156) (k : length ns ≡ 1029) where
   call-is : record { answer = writtenAnswer answer; out = out′ } ≡ writeCall (deckFrom zs ns) rounds out
   call-is = e ∙ ap (λ (r : Deck). writeCall r rounds out) d
 

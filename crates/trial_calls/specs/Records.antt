@@ -12,18 +12,18 @@ use Rattle.calls.specs.ReadCall.{Read, readCall}
 use Rattle.calls.specs.WriteCall.{Saved, writeCall}
 use Rattle.trial.specs.Trial.{least}
 
--- a record's numbers: the coordinates of its area, of its posts and of its stops; its axis costs, its counts of posts and stops, and the
--- visits
+-- a record's numbers: the coordinates of its area, of its posts and of its stops; its axis costs, its counts of posts and stops, the visits
+-- and near of its stops, and before
 abbrev pub coordinatesOf : Deck → List ℤ
 coordinatesOf deck =
     deck .xlo ∷ deck .ylo ∷ deck .xhi ∷ deck .yhi ∷ (deck .«post_x» ++ (deck .«post_y» ++ (deck .«stop_x» ++ deck .«stop_y»)))
 
 abbrev pub naturalsOf : Deck → List ℕ
-naturalsOf deck = deck .axis .a ∷ deck .axis .b ∷ deck .posts ∷ deck .stops ∷ deck .visits
+naturalsOf deck = deck .axis .a ∷ deck .axis .b ∷ deck .posts ∷ deck .stops ∷ (deck .visits ++ (deck .near ++ (deck .before ∷ [])))
 
 -- whether lists are as long as those of a record, and the record that has these numbers
 abbrev pub isRecord : List ℤ → List ℕ → Bool
-isRecord zs ns = eqb (length zs) 1156 && eqb (length ns) 516
+isRecord zs ns = eqb (length zs) 1156 && eqb (length ns) 1029
 
 abbrev pub deckFrom : List ℤ → List ℕ → Deck
 deckFrom zs ns = record {
@@ -39,6 +39,8 @@ deckFrom zs ns = record {
   «stop_x» = take 512 (drop 132 zs);
   «stop_y» = take 512 (drop 644 zs);
   visits = take 512 (drop 4 ns);
+  near = take 512 (drop 516 ns);
+  before = getD ns 1028 0;
 }
 
 -- the number that is given, and 0 for the number and the line of a refusal; a refusal has only the last two

@@ -1,6 +1,6 @@
 // The calls `siting::read` and `siting::write`, for the tests and benchmarks from Rust. A deck's record is two lists of numbers: 1,156
-// coordinates, of the area, the posts' x and y, the stops' x and y; and 516 others, the axis costs, the counts of posts and stops and the
-// visits.
+// coordinates, of the area, the posts' x and y, the stops' x and y; and 1,029 others, the axis costs, the counts of posts and stops, the
+// visits, near and before.
 use calls::Written;
 use deck::AxisCosts;
 use deck::Deck;
@@ -39,7 +39,7 @@ fn copy_naturals(from: &[u64], start: usize, to: &mut [u64], at: usize, n: usize
 
 // The record that has these numbers.
 fn deck_from(coordinates: &[i64], naturals: &[u64]) -> Deck
-    requires { ⌜ (length (now coordinates) ≡ 1156) × (length (now naturals) ≡ 516) ⌝ }
+    requires { ⌜ (length (now coordinates) ≡ 1156) × (length (now naturals) ≡ 1029) ⌝ }
     ensures { λ r. ⌜ r ≡ deckFrom (now (coordinates .entry)) (now (naturals .entry)) ⌝ }
 {
     let mut post_x = [0i64; POSTS];
@@ -47,11 +47,13 @@ fn deck_from(coordinates: &[i64], naturals: &[u64]) -> Deck
     let mut stop_x = [0i64; STOPS];
     let mut stop_y = [0i64; STOPS];
     let mut visits = [0u64; STOPS];
+    let mut near = [0u64; STOPS];
     copy(coordinates, 4, &mut post_x, 0, POSTS);
     copy(coordinates, 68, &mut post_y, 0, POSTS);
     copy(coordinates, 132, &mut stop_x, 0, STOPS);
     copy(coordinates, 644, &mut stop_y, 0, STOPS);
     copy_naturals(naturals, 4, &mut visits, 0, STOPS);
+    copy_naturals(naturals, 516, &mut near, 0, STOPS);
     Deck {
         axis: AxisCosts {
             a: naturals[0],
@@ -68,6 +70,8 @@ fn deck_from(coordinates: &[i64], naturals: &[u64]) -> Deck
         stop_x,
         stop_y,
         visits,
+        near,
+        before: naturals[1028],
     }
 }
 
@@ -91,7 +95,7 @@ fn put_coordinates(deck: Deck, coordinates: &mut [i64])
 }
 
 fn put_naturals(deck: Deck, naturals: &mut [u64])
-    requires { ⌜ length (now naturals) ≡ 516 ⌝ }
+    requires { ⌜ length (now naturals) ≡ 1029 ⌝ }
     ensures { λ r. ⌜ now (naturals .exit) ≡ naturalsOf deck ⌝ }
 {
     naturals[0] = deck.axis.a;
@@ -99,6 +103,8 @@ fn put_naturals(deck: Deck, naturals: &mut [u64])
     naturals[2] = deck.posts as u64;
     naturals[3] = deck.stops as u64;
     copy_naturals(&deck.visits, 0, naturals, 4, STOPS);
+    copy_naturals(&deck.near, 0, naturals, 516, STOPS);
+    naturals[1028] = deck.before;
 }
 
 // A number that goes with a count: the count itself; then 0 twice, for no refusal. The least number behind them.
@@ -130,7 +136,7 @@ pub extern "C" fn trial_read(
     if coordinates.len() != 1156 {
         return -9223372036854775808;
     }
-    if naturals.len() != 516 {
+    if naturals.len() != 1029 {
         return -9223372036854775808;
     }
     let j = siting::read(job);
@@ -165,7 +171,7 @@ pub extern "C" fn trial_write(
     if coordinates.len() != 1156 {
         return -9223372036854775808;
     }
-    if naturals.len() != 516 {
+    if naturals.len() != 1029 {
         return -9223372036854775808;
     }
     let answer = siting::write(deck_from(coordinates, naturals), rounds, out);

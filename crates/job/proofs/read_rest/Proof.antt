@@ -1,6 +1,7 @@
 -- `job::read_rest` meets its contract: each part is read as its definition says.
 -- Assumes nothing.
 use borrow.Author.Needs.{needs}
+use Rattle.job.proofs.FilledLaws.{read-in-range}
 use Rattle.job.proofs.ReadLaws.{rest-posts, rest-stops, rest-last, rest-all}
 use Rattle.job.proofs.read_rest.Statement.{statement}
 use Rattle.job.proofs.read_rest.Tie as tie
@@ -60,7 +61,12 @@ enum-known-rounds : tie.Need-enum-known-rounds
 enum-known-rounds c = search needs
 
 check-requires : tie.Need-check-requires
-check-requires c κs = search needs
+check-requires c κs =
+    let l = c .before .before .before in
+    let s = l .before .before .before .before in
+    let p = s .before .before .before .before in
+    read-in-range _ _ _ _ (p .before .before .pre .1) (p .read-posts .ensures) (s .before .before .after-posts .given .1) (s .read-stops .ensures)
+    (l .before .before .after-stops .given .1)
 
 returns-3 : tie.Need-returns-3
 returns-3 c =

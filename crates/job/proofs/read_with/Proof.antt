@@ -3,6 +3,7 @@
 use mathlib.Core.Path.{ap, _∙_}
 use borrow.Author.Needs.{needs}
 use Rattle.job.specs.JobRecord.{jobRecord}
+use Rattle.job.proofs.FilledLaws.{axis-in-range}
 use Rattle.job.proofs.ReadLaws.{read-long, read-area, read-axis, read-rest}
 use Rattle.job.proofs.read_with.Statement.{statement}
 use Rattle.job.proofs.read_with.Tie as tie
@@ -26,7 +27,9 @@ enum-known-after-axis : tie.Need-enum-known-after-axis
 enum-known-after-axis c = search needs
 
 read-rest-requires : tie.Need-read-rest-requires
-read-rest-requires c κs = search needs
+read-rest-requires c κs =
+    let x = c .before .before .before in
+    (x .read-axis .ensures .few, axis-in-range (x .read-axis .ensures) (c .before .after-axis .given .1) (x .before .before .before .before .before .before .before .pre))
 
 returns-2 : tie.Need-returns-2
 returns-2 c =

@@ -4,7 +4,8 @@ use mathlib.Core.Path.{ap, _∙_}
 use borrow.Author.Needs.{needs}
 use Rattle.query.specs.Exhaustive as Query
 use Rattle.prepare.proofs.RecordParts.{vertical-taken, horizontal-taken}
-use Rattle.problem.proofs.DeckProblem.{prepared-problem, solvable-prepared}
+use Rattle.problem.proofs.DeckProblem.{prepared-problem, sound-prepared}
+use Rattle.siting.proofs.SolveLaws.{before-figure}
 use Rattle.siting.proofs.cheapest_in.Statement.{statement}
 use Rattle.siting.proofs.cheapest_in.Tie as tie
 
@@ -22,12 +23,13 @@ slice-aggregate-cheapest-2 : tie.Need-slice-aggregate-cheapest-2
 slice-aggregate-cheapest-2 c = horizontal-taken _ _ (made (c .before .before) .of-deck .ensures)
 
 cheapest-requires : tie.Need-cheapest-requires
-cheapest-requires c κs = let m = made (c .before .before .before) in solvable-prepared _ (m .before .pre) _ (m .of-deck .ensures)
+cheapest-requires c κs = let m = made (c .before .before .before) in
+    (sound-prepared _ (m .before .pre) _ (m .of-deck .ensures), before-figure _ (m .before .pre) _ (m .of-deck .ensures))
 
 returns : tie.Need-returns
 returns c =
     let m = made (c .before .before .before .before) in
-    c .cheapest .ensures ∙ ap Query.exhaustive (prepared-problem (solvable-prepared _ (m .before .pre) _ (m .of-deck .ensures)))
+    c .cheapest .ensures ∙ ap Query.exhaustive (prepared-problem (sound-prepared _ (m .before .pre) _ (m .of-deck .ensures)))
 
 pub cheapest-in-spec : {M : Type 1} → statement M
 cheapest-in-spec =

@@ -1,6 +1,6 @@
 -- `siting::exhaustive` meets its contract.
 -- Assumes nothing.
-use Rattle.estimate.proofs.ReadJob.{solvable}
+use Rattle.estimate.proofs.ReadJob.{sound}
 use Rattle.siting.proofs.ExhaustiveLaws.{exhaustive-found, exhaustive-refused}
 use borrow.Author.Needs.{needs}
 use Rattle.siting.proofs.exhaustive.Statement.{statement}
@@ -13,16 +13,16 @@ enum-told : tie.Need-enum-told
 enum-told c = search needs
 
 cheapest-in-requires : tie.Need-cheapest-in-requires
-cheapest-in-requires c κs = solvable _ _ (c .before .before .before .read .ensures) _ (c .enum-told .given .1)
+cheapest-in-requires c κs = sound _ _ (c .before .before .read .ensures) _ (c .enum-told .given .1)
 
 enum-known-outcome : tie.Need-enum-known-outcome
 enum-known-outcome c = search needs
 
 returns : tie.Need-returns
-returns c = exhaustive-found _ _ (c .before .before .before .before .read .ensures) _ (c .before .enum-told .given .1) _ (c .cheapest-in .ensures)
+returns c = exhaustive-found _ _ (c .before .before .before .read .ensures) _ (c .before .enum-told .given .1) _ (c .cheapest-in .ensures)
 
 returns-2 : tie.Need-returns-2
-returns-2 c = exhaustive-refused _ _ (c .before .before .before .before .read .ensures) _ (c .before .outcome .given .1)
+returns-2 c = exhaustive-refused _ _ (c .before .before .before .read .ensures) _ (c .before .outcome .given .1)
 
 pub exhaustive-spec : {M : Type 1} → statement M
 exhaustive-spec =

@@ -2,7 +2,7 @@
 -- Assumes nothing.
 use Rattle.calls.proofs.Demands.{refused-call}
 use Rattle.job.proofs.ReadDeck.{read-refused}
-use Rattle.estimate.proofs.ReadJob.{rounds-limit, solvable}
+use Rattle.estimate.proofs.ReadJob.{rounds-limit, sound}
 use Rattle.siting.proofs.SolveLaws.{respond-refused, respond-accepted}
 use borrow.Author.Needs.{needs}
 use Rattle.siting.proofs.respond.Statement.{statement}
@@ -17,8 +17,8 @@ enum-known-outcome c = search needs
 respond-to-requires : tie.Need-respond-to-requires
 respond-to-requires c κs =
     let told = c .before .before .before in
-    let read = told .before .before .before .read .ensures in
-    (solvable _ _ read _ (told .outcome .given .1), rounds-limit _ _ read _ (told .outcome .given .1))
+    let read = told .before .before .read .ensures in
+    (sound _ _ read _ (told .outcome .given .1), rounds-limit _ _ read _ (told .outcome .given .1))
 
 enum-known-outcome-2 : tie.Need-enum-known-outcome-2
 enum-known-outcome-2 c = search needs
@@ -36,12 +36,12 @@ returns : tie.Need-returns
 returns c =
     let answered = c .before .before .before in
     let told = answered .before .before .before .before in
-    respond-accepted _ _ _ _ (told .before .before .before .read .ensures) _ (told .outcome .given .1) _ _ _ (answered .respond-to .ensures)
+    respond-accepted _ _ _ _ (told .before .before .read .ensures) _ (told .outcome .given .1) _ _ _ (answered .respond-to .ensures)
 
 returns-2 : tie.Need-returns-2
 returns-2 c =
     let told = c .before .before in
-    respond-refused _ _ _ _ (refused-call _ _ _ _ (read-refused _ _ (told .before .before .before .read .ensures) _ (told .outcome2 .given .1))) _
+    respond-refused _ _ _ _ (refused-call _ _ _ _ (read-refused _ _ (told .before .before .read .ensures) _ (told .outcome2 .given .1))) _
     (c .refuse .ensures)
 
 pub respond-spec : {M : Type 1} → statement M

@@ -1,7 +1,7 @@
 -- `siting::respond_to` meets its contract: each way out is that of the call's definition.
 -- Assumes nothing.
 use Rattle.prepare.proofs.RecordParts.{vertical-taken, horizontal-taken}
-use Rattle.problem.proofs.DeckProblem.{solvable-prepared}
+use Rattle.problem.proofs.DeckProblem.{sound-prepared}
 use Rattle.estimate.proofs.EstimateLaws.{counts}
 use Rattle.siting.proofs.SolveLaws.{few-cells, small, short, room, report-limits, respond-refused, respond-reported}
 use native.Mathlib.Omega.{arith}
@@ -64,7 +64,7 @@ solve-requires : tie.Need-solve-requires
 solve-requires c κs =
     let l = estimated c in
     let made = l .before .of-deck .ensures in (
-      solvable-prepared _ (start l .pre .0) _ made,
+      sound-prepared _ (start l .pre .0) _ made,
       room _ (start l .pre .0) _ made _ (start l .pre .1) _ (l .of-lines .ensures) _ (omega (arith, enough c .if1 .left)),
     )
 

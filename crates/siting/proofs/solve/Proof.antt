@@ -1,13 +1,9 @@
 -- `siting::solve` meets its contract: the figures are those of the search and of the objects.
 -- Assumes nothing.
-use Rattle.problem.proofs.DeckProblem.{prepared-priceable}
 use Rattle.siting.proofs.SolveLaws.{solved}
 use borrow.Author.Needs.{needs}
 use Rattle.siting.proofs.solve.Statement.{statement}
 use Rattle.siting.proofs.solve.Tie as tie
-
-before-requires : tie.Need-before-requires
-before-requires c κs = prepared-priceable (c .pre .0)
 
 search-requires : tie.Need-search-requires
 search-requires c κs = search needs
@@ -21,8 +17,7 @@ same-length c = search needs
 returns : tie.Need-returns
 returns c =
     let found = c .before .before .before in
-    let summed = found .before .before in
-    solved (summed .before .pre .0) _ _ _ _ _ _ (summed .before2 .ensures .is) (found .search .ensures) (c .before .state-of .ensures)
+    solved (found .before .before .pre .0) _ _ _ _ _ _ (found .search .ensures) (c .before .state-of .ensures)
 
 pub solve-spec : {M : Type 1} → statement M
-solve-spec = tie.close (tie.spec before-requires search-requires state-of-requires same-length returns)
+solve-spec = tie.close (tie.spec search-requires state-of-requires same-length returns)

@@ -4,7 +4,7 @@ use borrow.Author.Tests.{not-true, not-false}
 use denote.Ref.{now}
 use Rattle.job.proofs.ReadDeck.{Spelt}
 use Rattle.trial.proofs.OpenLaws.{open-accepted, open-refused}
-use Rattle.trial.proofs.FigureLaws.{open-priceable, before-answer}
+use Rattle.trial.proofs.FigureLaws.{before-small, before-answer}
 use borrow.Author.Needs.{needs}
 use native.Mathlib.Omega.{arith}
 use Rattle.trial.proofs.before.Statement.{statement}
@@ -20,14 +20,11 @@ open-job-requires c κs = search needs
 returns : tie.Need-returns
 returns c = open-refused _ _ (c .before .before .open-job .ensures) _ _ (not-true _ (c .if1 .taken))
 
-before-requires : tie.Need-before-requires
-before-requires c κs = let d = c .before .before .before in open-priceable (d .before .before .open-job .ensures) (spelt d)
-
 cast-result : tie.Need-cast-result
-cast-result c = omega (arith, c .before2 .ensures .within)
+cast-result c = let d = c .before in omega (arith, before-small (d .before .before .open-job .ensures) (spelt d))
 
 returns-2 : tie.Need-returns-2
-returns-2 c = let d = c .before .before .before .before in before-answer (d .before .before .open-job .ensures) (spelt d) (c .before2 .ensures)
+returns-2 c = let d = c .before in before-answer (d .before .before .open-job .ensures) (spelt d)
 
 pub before-spec : {M : Type 1} → statement M
-before-spec = tie.close (tie.spec open-job-requires returns before-requires cast-result returns-2)
+before-spec = tie.close (tie.spec open-job-requires returns cast-result returns-2)

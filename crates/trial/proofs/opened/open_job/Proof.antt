@@ -1,8 +1,8 @@
--- `trial::opened::open_job` meets its contract: the deck that was read is in range, so that its problem can be made.
+-- `trial::opened::open_job` meets its contract: the record that was read is sound, so that its problem can be made.
 -- Assumes nothing.
 use borrow.Author.Needs.{needs}
-use Rattle.job.proofs.ReadDeck.{read-accepted, read-refused}
-use Rattle.trial.proofs.OpenLaws.{read-solvable, opened-accepted, opened-refused}
+use Rattle.job.proofs.ReadDeck.{read-accepted, read-refused, read-sound}
+use Rattle.trial.proofs.OpenLaws.{opened-accepted, opened-refused}
 use Rattle.trial.proofs.opened.open_job.Statement.{statement}
 use Rattle.trial.proofs.opened.open_job.Tie as tie
 
@@ -15,7 +15,7 @@ enum-told c = search needs
 of-deck-requires : tie.Need-of-deck-requires
 of-deck-requires c κs =
     let e = c .before .before .before .read .ensures in
-    read-solvable (read-accepted _ _ e _ (c .enum-told .given .1)) _ e
+    read-sound (read-accepted _ _ e _ (c .enum-told .given .1)) _ e
 
 enum-told-2 : tie.Need-enum-told-2
 enum-told-2 c = search needs

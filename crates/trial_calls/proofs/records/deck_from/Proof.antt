@@ -37,43 +37,52 @@ slice-aggregate-copy-naturals c = search needs
 copy-naturals-requires : tie.Need-copy-naturals-requires
 copy-naturals-requires c κs = search needs
 
-shared-slice-read-t20 : tie.Need-shared-slice-read-t20
-shared-slice-read-t20 c = search needs
+slice-aggregate-copy-naturals-2 : tie.Need-slice-aggregate-copy-naturals-2
+slice-aggregate-copy-naturals-2 c = search needs
 
-shared-slice-read-t22 : tie.Need-shared-slice-read-t22
-shared-slice-read-t22 c = search needs
+copy-naturals-requires-2 : tie.Need-copy-naturals-requires-2
+copy-naturals-requires-2 c κs = search needs
 
-shared-slice-copy-out-t25 : tie.Need-shared-slice-copy-out-t25
-shared-slice-copy-out-t25 c = search needs
+shared-slice-read-t23 : tie.Need-shared-slice-read-t23
+shared-slice-read-t23 c = search needs
 
-shared-slice-copy-out-t27 : tie.Need-shared-slice-copy-out-t27
-shared-slice-copy-out-t27 c = search needs
+shared-slice-read-t25 : tie.Need-shared-slice-read-t25
+shared-slice-read-t25 c = search needs
 
-shared-slice-copy-out-t29 : tie.Need-shared-slice-copy-out-t29
-shared-slice-copy-out-t29 c = search needs
+shared-slice-copy-out-t28 : tie.Need-shared-slice-copy-out-t28
+shared-slice-copy-out-t28 c = search needs
 
-shared-slice-copy-out-t31 : tie.Need-shared-slice-copy-out-t31
-shared-slice-copy-out-t31 c = search needs
+shared-slice-copy-out-t30 : tie.Need-shared-slice-copy-out-t30
+shared-slice-copy-out-t30 c = search needs
 
-shared-slice-read-t33 : tie.Need-shared-slice-read-t33
-shared-slice-read-t33 c = search needs
+shared-slice-copy-out-t32 : tie.Need-shared-slice-copy-out-t32
+shared-slice-copy-out-t32 c = search needs
 
-shared-slice-read-t38 : tie.Need-shared-slice-read-t38
-shared-slice-read-t38 c = search needs
+shared-slice-copy-out-t34 : tie.Need-shared-slice-copy-out-t34
+shared-slice-copy-out-t34 c = search needs
+
+shared-slice-read-t36 : tie.Need-shared-slice-read-t36
+shared-slice-read-t36 c = search needs
+
+shared-slice-read-t41 : tie.Need-shared-slice-read-t41
+shared-slice-read-t41 c = search needs
+
+shared-slice-read-t48 : tie.Need-shared-slice-read-t48
+shared-slice-read-t48 c = search needs
 
 returns : tie.Need-returns
 returns c =
-    let words = c .before .before in
-    let visits = c .before .before .before .before .before .before .before .before .before in
+    let words = c .before .before .before in
+    let near = words .before .before .before .before .before .before .before in
+    let visits = near .before .before .before in
     let sy = visits .before .before .before in
     let sx = sy .before .before .before in
     let py = sx .before .before .before in
     let px = py .before .before .before in
     let s = px .before .before .before in
-    deck-made (s .args .coordinates .now) (s .args .naturals .now) (fitting _ (words .before .before .before .t25 .given))
-    (fitting _ (words .before .before .t27 .given)) (fitting _ (words .before .t29 .given)) (fitting _ (words .t31 .given)) refl refl refl refl
-    (px .copy .ensures) (py .copy2 .ensures) (sx .copy3 .ensures)
-    (sy .copy4 .ensures) (visits .copy-naturals .ensures)
+    deck-made (s .args .coordinates .now) (s .args .naturals .now) (fitting _ (words .before .before .before .t28 .given)) (fitting _ (words .before .before .t30 .given))
+    (fitting _ (words .before .t32 .given)) (fitting _ (words .t34 .given)) refl refl refl refl (px .copy .ensures) (py .copy2 .ensures)
+    (sx .copy3 .ensures) (sy .copy4 .ensures) (visits .copy-naturals .ensures) (near .copy-naturals2 .ensures) refl
 
 pub deck-from-spec : {M : Type 1} → statement M
 deck-from-spec =
@@ -89,12 +98,15 @@ deck-from-spec =
     copy-requires-4
     slice-aggregate-copy-naturals
     copy-naturals-requires
-    shared-slice-read-t20
-    shared-slice-read-t22
-    shared-slice-copy-out-t25
-    shared-slice-copy-out-t27
-    shared-slice-copy-out-t29
-    shared-slice-copy-out-t31
-    shared-slice-read-t33
-    shared-slice-read-t38
+    slice-aggregate-copy-naturals-2
+    copy-naturals-requires-2
+    shared-slice-read-t23
+    shared-slice-read-t25
+    shared-slice-copy-out-t28
+    shared-slice-copy-out-t30
+    shared-slice-copy-out-t32
+    shared-slice-copy-out-t34
+    shared-slice-read-t36
+    shared-slice-read-t41
+    shared-slice-read-t48
     returns)

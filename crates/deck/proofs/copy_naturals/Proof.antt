@@ -1,4 +1,4 @@
--- `deck::copy_visits` meets its contract: after i turns the first i numbers are copied.
+-- `deck::copy_naturals` meets its contract: after i turns the first i numbers are copied.
 -- Assumes nothing.
 use mathlib.Core.Path.{sym, _∙_}
 use mathlib.Core.List.{map}
@@ -9,8 +9,8 @@ use lib.ListN.{getD, length-map, List·getD-map}
 use mir.Syntax.{w32}
 use mir.ValLaws.{toZ-pos}
 use Rattle.deck.proofs.CopyLaws.{Copied, copied-none, copied-more, copied-all}
-use Rattle.deck.proofs.copy_visits.Statement.{statement}
-use Rattle.deck.proofs.copy_visits.Tie as tie
+use Rattle.deck.proofs.copy_naturals.Statement.{statement}
+use Rattle.deck.proofs.copy_naturals.Tie as tie
 
 abbrev Inv-loop : tie.InvT-loop
 Inv-loop from to₀ at n i₀ to i = Copied to₀ at (map pos from) n to i
@@ -18,7 +18,7 @@ Inv-loop from to₀ at n i₀ to i = Copied to₀ at (map pos from) n to i
 abbrev μ-loop : tie.MeasureT-loop
 μ-loop from to₀ at n i₀ to i = n - i
 
--- the visits read in this turn
+-- the number read in this turn
 small : (c : tie.After-shared-slice-known Inv-loop μ-loop) → getD (c .before .before .before .args .from .now) (c .before .before .loop .i) 0 < 2 ^ 31
 small c = omega (arith, c .before .before .before .pre .0 .range (c .before .before .loop .i) (c .before .loop-test .taken))
 
@@ -62,8 +62,8 @@ same-length c = c .before .loop .inv .long
 returns : tie.Need-returns Inv-loop μ-loop
 returns c = copied-all _ _ _ _ (c .before .loop .inv) (c .loop-test .left)
 
-pub copy-visits-spec : {M : Type 1} → statement M
-copy-visits-spec =
+pub copy-naturals-spec : {M : Type 1} → statement M
+copy-naturals-spec =
     tie.close
     (tie.spec
     Inv-loop
