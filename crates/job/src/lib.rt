@@ -274,15 +274,15 @@ fn check(area: Rect, costs: AxisCosts, posts: Posts, stops: Stops, rounds: u64) 
     if no_stops {
         return refuse(Refusal::NoStops);
     }
+    let k = posts.count;
+    let n = stops.count;
+    let near = deck::nears_of(costs, &posts.x, &posts.y, k, &stops.x, &stops.y, n);
+    let before = deck::before_of(&stops.visits, &near, n);
     let post_x = posts.x;
     let post_y = posts.y;
     let stop_x = stops.x;
     let stop_y = stops.y;
     let visits = stops.visits;
-    let k = posts.count;
-    let n = stops.count;
-    let near = deck::nears_of(costs, &post_x, &post_y, k, &stop_x, &stop_y, n);
-    let before = deck::before_of(&visits, &near, n);
     Job {
         outcome: Outcome::Accepted(rounds),
         deck: Deck {
