@@ -35,7 +35,8 @@ pub record RecordTable : Type 0 where
   pub plain-costs : figuresIn (posted []) ≡ keeping (7 ∷ 0 ∷ 2 ∷ []) 28
   pub heavy-costs : figuresIn (posted ("axis=9,1" ∷ [])) ≡ keeping (26 ∷ 0 ∷ 10 ∷ []) 122
   -- the longest travel, with the most visits
-  pub longest : figuresIn ("area=0,0,0,0" ∷ "axis=9,9" ∷ "posts=1" ∷ "post=-20000,-20000" ∷ "stops=1" ∷ "stop=20000,20000,65535" ∷ "rounds=0" ∷ [])
+  pub longest : figuresIn
+      ("area=0,0,0,0" ∷ "axis=9,9" ∷ "posts=1" ∷ "post=-20000,-20000" ∷ "stops=1" ∷ "stop=20000,20000,65535" ∷ "rounds=0" ∷ [])
       ≡ keeping (720000 ∷ []) 47185200000
   -- a refused job
   pub refused : figuresIn (set caseA 1 "posts=65") ≡ keeping [] 0

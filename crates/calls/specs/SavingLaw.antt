@@ -1,5 +1,5 @@
--- Document 02, cards 1, 2 and 5: what the calls `read` and `write` are held to, over every job's bytes, every record that the code can hold,
--- and every output.
+-- Document 02, cards 1, 2 and 5: what the calls `read` and `write` are held to, over every job's bytes, every record that the code can
+-- hold, and every output.
 -- Assumes nothing.
 use Prim.Native.Nat.{ℕ, _+_, _≤_, _<_}
 use mathlib.Core.Path.{_≡_}

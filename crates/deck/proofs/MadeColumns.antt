@@ -41,7 +41,8 @@ module _ (n : ℕ) (few : n ≤ 512) where
   column-front xs h = ap (λ (m : ℕ). take m (padded-column xs)) (sym (length-take-le n xs h)) ∙ padded-front 512 (pos 0) (take n xs)
 
   -- those of x and y
-  module _ (us ws : List ℤ) {a b : List ℤ} (x : n ≤ length us) (y : n ≤ length ws) (ea : a ≡ paste (replicate 2050 (pos 0)) 0 us n) (eb : b ≡ paste a 512 ws n) where
+  module _ (us ws : List ℤ) {a b : List ℤ} (x : n ≤ length us) (y : n ≤ length ws) (ea : a ≡ paste (replicate 2050 (pos 0)) 0 us n)
+      (eb : b ≡ paste a 512 ws n) where
     pub places-put : b ≡ padded-column us ++ padded-column ws ++ replicate 1026 (pos 0)
     places-put = eb ∙ ap (λ (l : List ℤ). paste l 512 ws n) (ea ∙ put-column [] 0 1538 n us refl few x)
         ∙ put-column (padded-column us) 512 1026 n ws (column-long us) few y

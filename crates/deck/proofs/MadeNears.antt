@@ -168,7 +168,10 @@ module _ (axis : AxisCosts) (costs : CostsInRange axis) {px py xs ys : List ℤ}
     post-copied = front-range us ws k post-front (omega (arith, posts .few, long)) range
       where
         long : length us ≡ 64
-        long = rw e (length-paste (replicate 64 (pos 0)) 0 ws k (omega (arith, posts .few, length-replicate 64 (pos 0))) (range .count) ∙ length-replicate 64 (pos 0))
+        long =
+            rw e
+            (length-paste (replicate 64 (pos 0)) 0 ws k (omega (arith, posts .few, length-replicate 64 (pos 0))) (range .count)
+            ∙ length-replicate 64 (pos 0))
 
   module _ {a b qx qy : List ℤ} (ea : a ≡ paste (replicate 2050 (pos 0)) 0 (map (times (axis .a)) xs) n) (eb : b ≡ paste a 512 (map (times (axis .b)) ys) n)
       (ex : qx ≡ paste (replicate 64 (pos 0)) 0 (map (times (axis .a)) px) k) (ey : qy ≡ paste (replicate 64 (pos 0)) 0 (map (times (axis .b)) py) k) where
@@ -177,7 +180,8 @@ module _ (axis : AxisCosts) (costs : CostsInRange axis) {px py xs ys : List ℤ}
         rw (places-put n (stops .few) _ _ (scaled-stops-x .count) (scaled-stops-y .count) ea eb)
         (omega (
           arith,
-          length-append (padded 512 (pos 0) (take n (map (times (axis .a)) xs)) ++ padded 512 (pos 0) (take n (map (times (axis .b)) ys))) (replicate 1026 (pos 0)),
+          length-append (padded 512 (pos 0) (take n (map (times (axis .a)) xs)) ++ padded 512 (pos 0) (take n (map (times (axis .b)) ys)))
+              (replicate 1026 (pos 0)),
           two-columns n (stops .few) _ _ (scaled-stops-x .count) (scaled-stops-y .count) ea eb,
           length-replicate 1026 (pos 0),
         ))
@@ -224,7 +228,9 @@ module _ (axis : AxisCosts) (costs : CostsInRange axis) {px py xs ys : List ℤ}
       near-column = record { long = long; some = some-near }
         where
           long : length d ≡ 2050
-          long = rw ed (length-paste b 1536 (map (nearBy qx qy k) (places b (drop 512 b))) n (omega (arith, columns-long, stops .few)) found-count ∙ columns-long)
+          long =
+              rw ed
+              (length-paste b 1536 (map (nearBy qx qy k) (places b (drop 512 b))) n (omega (arith, columns-long, stops .few)) found-count ∙ columns-long)
 
           row : (i : ℕ) → i < n → getD d (1536 + i) (pos 0) ≡ pos (getD nears i 0)
           row i h = sym (getD-take n (drop 1536 d) i (pos 0) h ∙ getD-drop 1536 d i (pos 0)) ∙ ap (λ (l : List ℤ). getD l i (pos 0)) near-rows

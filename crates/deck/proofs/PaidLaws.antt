@@ -57,6 +57,7 @@ unfolding paid padded sumOf zipWith
 paid-stops near size stops = go stops _ _
   where
     go : (stops : List Stop) (us vs : List ℕ) →
-        sumOf (λ (m : ℕ). m) (take (length stops) (zipWith _*_ (map (λ s. s .visits) stops ++ us) (map near stops ++ vs))) ≡ sumOf (λ s. s .visits * near s) stops
+        sumOf (λ (m : ℕ). m) (take (length stops) (zipWith _*_ (map (λ s. s .visits) stops ++ us) (map near stops ++ vs)))
+        ≡ sumOf (λ s. s .visits * near s) stops
     go [] us vs = refl
     go (s ∷ ss) us vs = ap (λ (m : ℕ). s .visits * near s + m) (go ss us vs)

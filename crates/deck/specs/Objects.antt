@@ -50,4 +50,5 @@ storedObjects axis stops nears =
 
 -- what pricing needs, of the first n stops in columns of x, y, visits and near
 abbrev pub storedPricing : AxisCosts → List ℤ → List ℤ → List ℕ → List ℕ → ℕ → Pricing
-storedPricing axis xs ys visits nears n = record { axis = axis; objects = storedObjects axis (take n (stopsOf (places xs ys) visits)) nears }
+storedPricing axis xs ys visits nears n =
+    record { axis = axis; objects = storedObjects axis (take n (stopsOf (places xs ys) visits)) nears }

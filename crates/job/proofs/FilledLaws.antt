@@ -100,8 +100,9 @@ stop-in : (ns : List ℤ) → Ranged stop ns → StopInRange (stopOf ns)
 stop-in ns t = stop-range (stopOf ns) (subst (Ranged stop) (sym (stop-back ns t)) t)
 
 -- all that was read
-pub read-in-range : {s : List ℕ} {n₁ n₂ : ℕ} (m₁ : ℕ) (b₁ : List ℕ) (m₂ : ℕ) (b₂ : List ℕ) {costs : AxisCosts} {postsRead : Posts} {stopsRead : Stops} {to₁ to₂ : ℕ} →
-    CostsInRange (heldAxis costs) → PostsAt s n₁ (allPosts m₁ b₁) postsRead → postsRead .next ≡ At to₁ → StopsAt s n₂ (allStops m₂ b₂) stopsRead →
+pub read-in-range : {s : List ℕ} {n₁ n₂ : ℕ} (m₁ : ℕ) (b₁ : List ℕ) (m₂ : ℕ) (b₂ : List ℕ) {costs : AxisCosts} {postsRead : Posts}
+    {stopsRead : Stops} {to₁ to₂ : ℕ} → CostsInRange (heldAxis costs) → PostsAt s n₁ (allPosts m₁ b₁) postsRead → postsRead .next ≡ At to₁ →
+    StopsAt s n₂ (allStops m₂ b₂) stopsRead →
     stopsRead .next ≡ At to₂ → ReadInRange costs postsRead stopsRead
 read-in-range m₁ b₁ m₂ b₂ {stopsRead = stopsRead} costs posts-at e₁ stops-at e₂ = record {
   axis = costs;

@@ -27,15 +27,18 @@ refuse-requires-2 : tie.Need-refuse-requires-2
 refuse-requires-2 c κs = search needs
 
 returns-2 : tie.Need-returns-2
-returns-2 c = checked-no-posts _ (c .before .before .before .empty-area .ensures) (c .before .before .if1 .left) (eqb-true _ _ (c .before .if2 .taken)) (c .refuse2 .ensures)
+returns-2 c =
+    let d = c .before in
+    checked-no-posts _ (d .before .before .empty-area .ensures) (d .before .if1 .left) (eqb-true _ _ (d .if2 .taken)) (c .refuse2 .ensures)
 
 refuse-requires-3 : tie.Need-refuse-requires-3
 refuse-requires-3 c κs = search needs
 
 returns-3 : tie.Need-returns-3
 returns-3 c =
-    checked-no-stops _ (c .before .before .before .before .empty-area .ensures) (c .before .before .before .if1 .left) (eqb-false _ _ (c .before .before .if2 .left)) (eqb-true _ _ (c .before .if3 .taken))
-    (c .refuse3 .ensures)
+    let d = c .before in
+    checked-no-stops _ (d .before .before .before .empty-area .ensures) (d .before .before .if1 .left)
+    (eqb-false _ _ (d .before .if2 .left)) (eqb-true _ _ (d .if3 .taken)) (c .refuse3 .ensures)
 
 -- the three tests are behind
 abbrev passed : tie.After-nears-of → tie.Else3
@@ -61,7 +64,8 @@ returns-4 c =
     let summed = c .before .before .before .before .before .before in
     let found = summed .before .before .before .before .before in
     let d = passed found in
-    checked-accepted _ (d .before .before .before .empty-area .ensures) (d .before .before .if1 .left) (eqb-false _ _ (d .before .if2 .left)) (eqb-false _ _ (d .if3 .left))
+    checked-accepted _ (d .before .before .before .empty-area .ensures) (d .before .before .if1 .left) (eqb-false _ _ (d .before .if2 .left))
+    (eqb-false _ _ (d .if3 .left))
     (search needs) (search needs) (search needs) (search needs)
     (record { nears = found .nears-of .ensures; sum-is = summed .before-of .ensures })
 

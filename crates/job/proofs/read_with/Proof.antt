@@ -29,7 +29,8 @@ enum-known-after-axis c = search needs
 read-rest-requires : tie.Need-read-rest-requires
 read-rest-requires c κs =
     let x = c .before .before .before in
-    (x .read-axis .ensures .few, axis-in-range (x .read-axis .ensures) (c .before .after-axis .given .1) (x .before .before .before .before .before .before .before .pre))
+    let s = x .before .before .before .before .before .before .before in
+    (x .read-axis .ensures .few, axis-in-range (x .read-axis .ensures) (c .before .after-axis .given .1) (s .pre))
 
 returns-2 : tie.Need-returns-2
 returns-2 c =

@@ -25,18 +25,21 @@ columns-of-requires c κs =
     (costs-range _ columns (sound .range), stops-range _ columns (sound .range), visits-range _ columns (sound .range), sound-nears sound)
 
 -- the columns are those of the deck's objects
-made : (c : tie.After-columns-of) → c .columns-of .result ≡ columnsOf (pricingOf (deckOf (c .before .before .before .before .before .before .before .before .before .before .before .before .before .before .before .args .t1)))
-made c = c .columns-of .ensures ∙ ap columnsOf (sound-pricing (c .before .before .before .before .before .before .before .before .before .before .before .before .before .before .before .pre))
+abbrev start : tie.After-columns-of → tie.Start
+start c = c .before .before .before .before .before .before .before .before .before .before .before .before .before .before .before
+
+made : (c : tie.After-columns-of) → c .columns-of .result ≡ columnsOf (pricingOf (deckOf (start c .args .t1)))
+made c = c .columns-of .ensures ∙ ap columnsOf (sound-pricing (start c .pre))
 
 reach-flags-requires : tie.Need-reach-flags-requires
 reach-flags-requires c κs =
-    let s = c .before .before .before .before .before .before .before .before .before .before .before .before .before .before .before .before in
+    let s = start (c .before) in
     (columns-priceable _ (s .pre) _ (made (c .before)), area-ranged _ (s .pre))
 
 find-lines-requires : tie.Need-find-lines-requires
 find-lines-requires c κs =
     let f = c .before .before .before .before .before in
-    let held = sound-columns (f .before .before .before .before .before .before .before .before .before .before .before .before .before .before .before .before .before .pre) in
+    let held = sound-columns (start (f .before .before) .pre) in
     record {
       within = held .stops;
       coords-full = omega (arith, held .sized .stop-x, held .stops);
@@ -46,7 +49,7 @@ find-lines-requires c κs =
 find-lines-requires-2 : tie.Need-find-lines-requires-2
 find-lines-requires-2 c κs =
     let f = c .before .before .before .before .before .before .before .before .before .before .before in
-    let held = sound-columns (f .before .before .before .before .before .before .before .before .before .before .before .before .before .before .before .before .before .pre) in
+    let held = sound-columns (start (f .before .before) .pre) in
     record {
       within = held .stops;
       coords-full = omega (arith, held .sized .stop-y, held .stops);
@@ -57,7 +60,7 @@ returns : tie.Need-returns
 returns c =
     let f = c .before .before .before .before .before .before .before .before .before .before .before .before .before .before in
     let columns = made (f .before .before) in
-    let sound = f .before .before .before .before .before .before .before .before .before .before .before .before .before .before .before .before .before .pre in
+    let sound = start (f .before .before) .pre in
     let e = edges _ sound in
     let flags = f .reach-flags .ensures ∙ ap (flagsOf _) (area-back _ sound) in
     let vertical = c .before .before .before .before .before .before .before .before .find-lines .ensures .0 in

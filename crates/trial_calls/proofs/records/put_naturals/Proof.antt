@@ -47,14 +47,19 @@ slice-write-naturals-5 c =
     let near = c .before .before in
     let visits = near .before .before .before .before .before .before .before in
     let s = visits .before .before .before .before .before .before in
-    omega (arith, nears-put-length (s .args .t1) (sized s) (s .args .naturals .now) (s .pre) (near-long s) (visits .copy-naturals .ensures) (near .copy-naturals2 .ensures))
+    omega (
+      arith,
+      nears-put-length (s .args .t1) (sized s) (s .args .naturals .now) (s .pre) (near-long s) (visits .copy-naturals .ensures) (near .copy-naturals2 .ensures),
+    )
 
 same-length : tie.Need-same-length
 same-length c =
     let near = c .before .before in
     let visits = near .before .before .before .before .before .before .before in
     let s = visits .before .before .before .before .before .before in
-    length-set (near .copy-naturals2 .last .1 .1 .0) 1028 (s .args .t1 .before) ∙ nears-put-length (s .args .t1) (sized s) (s .args .naturals .now) (s .pre) (near-long s) (visits .copy-naturals .ensures) (near .copy-naturals2 .ensures) ∙ sym (s .pre)
+    length-set (near .copy-naturals2 .last .1 .1 .0) 1028 (s .args .t1 .before)
+    ∙ nears-put-length (s .args .t1) (sized s) (s .args .naturals .now) (s .pre) (near-long s) (visits .copy-naturals .ensures) (near .copy-naturals2 .ensures)
+    ∙ sym (s .pre)
 
 returns : tie.Need-returns
 returns c =
