@@ -2,12 +2,12 @@
 -- Assumes nothing.
 use mathlib.Core.Path.{_≡_, refl, sym, ap, _∙_}
 use mathlib.Core.List.{List, [], _∷_, _++_, map, map-map, append-assoc, List·Memᴰ, List·Memᴰ·not-nil}
-use Prim.Native.Nat.{ℕ, zero, suc, _+_, _-_, _≤_, _<_}
+use Prim.Native.Nat.{ℕ, zero, suc, _+_, _≤_, _<_}
 use native.Mathlib.Nat.{mul-le-mul}
 use native.Mathlib.Numerals.{add-one}
 use native.Mathlib.Omega.{arith}
 use lib.IntN.{ℤ, pos, negsuc, natAbs}
-use lib.ListN.{length, getD, take, drop, set, replicate, length-append, length-map, length-drop, length-replicate, replicate-append-replicate, List·getD-map}
+use lib.ListN.{length, getD, take, drop, set, replicate, length-append, length-map, length-drop, length-replicate, List·getD-map}
 use lib.Dec.{T}
 use lib.Seq.{paste, length-paste, take-at, take-suc, length-take-le, getD-take, getD-drop, drop-at}
 use mir.Syntax.{w32, w64}
@@ -104,31 +104,6 @@ travel-limit axis costs p q h k = omega (
   mul-le-mul (costs .most .0) (dist-most 20000 (p .x) (q .x) (h .x-range) (k .x-range)),
   mul-le-mul (costs .most .1) (dist-most 20000 (p .y) (q .y) (h .y-range) (k .y-range)),
 )
-
--- ---- without a post near is 0
-pub no-nears : (axis : AxisCosts) {k : ℕ} (px py : List ℤ) {xs ys : List ℤ} {n : ℕ} → k ≡ 0 → PlacesInRange 512 xs ys n →
-    Nears axis (take k (places px py)) (take n (places xs ys)) (replicate 512 0)
-unfolding closest padded
-no-nears axis {k} px py {xs} {ys} {n} none stops = rw none (record { are = sym zeros; range = record { count = count; range = λ i h. each i } })
-  where
-    map-zero : (ps : List Place) → map (λ p. closest axis p []) ps ≡ replicate (length ps) 0
-    map-zero [] = refl
-    map-zero (p ∷ ps) = ap (λ (l : List ℕ). 0 ∷ l) (map-zero ps)
-
-    few : length (take n (places xs ys)) ≤ 512
-    few = omega (arith, length-take-le n (places xs ys) (omega (arith, places-length xs ys, stops .x .count, stops .y .count)), stops .few)
-
-    zeros : padded 512 0 (map (λ p. closest axis p []) (take n (places xs ys))) ≡ replicate 512 0
-    zeros =
-        let m = length (take n (places xs ys)) in
-        let e : m + (512 - m) ≡ 512 = omega (arith, few) in
-        rw (map-zero (take n (places xs ys)), length-replicate {A = ℕ} m 0) (replicate-append-replicate {A = ℕ} m (512 - m) 0 ∙ ap (λ (j : ℕ). replicate j 0) e)
-
-    count : length (take n (places xs ys)) ≤ length {A = ℕ} (replicate 512 0)
-    count = omega (arith, few, length-replicate {A = ℕ} 512 0)
-
-    each : (i : ℕ) → getD {A = ℕ} (replicate 512 0) i 0 ≤ 720000
-    each i = padded-each (λ (m : ℕ). m ≤ 720000) 0 (omega arith) 512 [] (λ m i. absurd (List·Memᴰ·not-nil i)) i
 
 module _ (axis : AxisCosts) (costs : CostsInRange axis) {px py xs ys : List ℤ} {k n : ℕ} (posts : PlacesInRange 64 px py k) (stops : PlacesInRange 512 xs ys n)
     (some : 1 ≤ k) where

@@ -86,6 +86,10 @@ module _ {deck : Deck} (sound : Sound deck) where
   unfolding deckRecord
   sound-near = ap (λ (d : Deck). d .near) (sound .whole)
 
+  pub sound-posts : deck .posts ≡ length (deckOf deck .posts)
+  unfolding deckRecord
+  sound-posts = ap (λ (d : Deck). d .posts) (sound .whole)
+
   pub sound-stops : deck .stops ≡ length (deckOf deck .stops)
   unfolding deckRecord
   sound-stops = ap (λ (d : Deck). d .stops) (sound .whole)

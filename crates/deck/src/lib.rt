@@ -186,7 +186,7 @@ fn nears_in(columns: &[i32], n: usize) -> [u64; STOPS]
     near
 }
 
-// The near of the first n stops by the first k posts, with 0 behind the last, and 0 for all where there is no post.
+// The near of the first n stops by the first k posts, with 0 behind the last.
 pub fn nears_of<'a>(
     axis: AxisCosts,
     px: &'a [i64],
@@ -196,13 +196,11 @@ pub fn nears_of<'a>(
     sy: &'a [i64],
     n: usize,
 ) -> [u64; STOPS]
-    requires { ⌜ CostsInRange (heldAxis axis) × PlacesInRange 64 (now px) (now py) k × PlacesInRange 512 (now sx) (now sy) n ⌝ }
+    requires { ⌜ CostsInRange (heldAxis axis) × PlacesInRange 64 (now px) (now py) k × PlacesInRange 512 (now sx) (now sy) n
+        × (1 ≤ k) ⌝ }
     ensures { λ r. ⌜ Nears (heldAxis axis) (take k (places (now (px .entry)) (now (py .entry))))
         (take n (places (now (sx .entry)) (now (sy .entry)))) r ⌝ }
 {
-    if k == 0 {
-        return [0u64; STOPS];
-    }
     let a = axis.a as i32;
     let b = axis.b as i32;
     let mut qx = [0i32; POSTS];

@@ -7,7 +7,7 @@ use Prim.Native.Nat.{ℕ, _+_, _≤_, _<_}
 use native.Mathlib.Omega.{arith}
 use borrow.Author.Tests.{lt-ltb}
 use lib.IntN.{ℤ, pos}
-use lib.ListN.{length, drop, length-map}
+use lib.ListN.{length, take, drop, length-map}
 use lib.Signed.{ltZ}
 use mir.Syntax.{w64}
 use mir.Val.{SFits}
@@ -22,11 +22,12 @@ use Rattle.job.specs.JobRecord.{jobRecord}
 use Rattle.numbers.specs.Padded.{padded}
 use Rattle.job_line.specs.Reading.{areaNumbers, costNumbers, areaAnswer, countAnswer, answerIn, LineAt}
 use Rattle.job.specs.ManyLines.{postLines, stopLines, countedLines, allPosts, allStops, lastLine, restLines, nextIn, PlacesHeld, PostsHold, StopsHold}
-use Rattle.job.specs.ManyLines.{AxisAt, PostsAt, StopsAt, LastAt, RestAt, FiguresAt, CheckedAt}
+use Rattle.job.specs.ManyLines.{AxisAt, PostsAt, StopsAt, LastAt, RestAt, CheckedAt}
 use Rattle.query.specs.Deck as Query
 use Rattle.query.specs.Travel as Travel
 use Rattle.query.specs.Cost.{before}
-use Rattle.deck.specs.DeckOf.{heldAxis, axisRecord}
+use Rattle.deck.specs.DeckOf.{heldAxis, axisRecord, places}
+use Rattle.deck.specs.StopFigures.{Nears, paid}
 use Rattle.deck.specs.declared.AxisCosts.{AxisCosts}
 use Rattle.deck.specs.declared.Rect.{Rect}
 use Rattle.job_line.specs.declared.AreaLine.{AreaLine}
@@ -109,7 +110,13 @@ accepted-is : (a c : List ℤ) (ps ss : List (List ℤ)) (n : List ℤ) → jobR
 unfolding jobRecord
 accepted-is a c ps ss n = refl
 
-parts-are : (a : Rect) (c : AxisCosts) (postsRead : Posts) (stopsRead : Stops) (near : List ℕ) (sum n : ℕ) → FiguresAt c postsRead stopsRead near sum →
+-- near and before, found of the posts and stops that were read
+pub record Found (c : AxisCosts) (postsRead : Posts) (stopsRead : Stops) (near : List ℕ) (sum : ℕ) : Type 0 where
+  pub nears : Nears (heldAxis c) (take (postsRead .count) (places (postsRead .x) (postsRead .y)))
+      (take (stopsRead .count) (places (stopsRead .x) (stopsRead .y))) near
+  pub sum-is : sum ≡ paid (stopsRead .visits) near (stopsRead .count)
+
+parts-are : (a : Rect) (c : AxisCosts) (postsRead : Posts) (stopsRead : Stops) (near : List ℕ) (sum n : ℕ) → Found c postsRead stopsRead near sum →
     {ps ss : List (List ℤ)} → PostsHold postsRead ps → StopsHold stopsRead ss →
     jobOfParts c (a .xlo) (a .ylo) (a .xhi) (a .yhi) postsRead stopsRead near sum n
     ≡ jobRecord (accepted (jobOf (areaNumbers a) (costNumbers c) ps ss (pos n ∷ [])))
@@ -158,7 +165,7 @@ module _ {a : Rect} {c : AxisCosts} {postsRead : Posts} {stopsRead : Stops} (n :
 
       module _ (some-stops : stopsRead .count ≡ 0 → ⊥) where
         pub checked-accepted : SFits w64 (a .xlo) → SFits w64 (a .ylo) → SFits w64 (a .xhi) → SFits w64 (a .yhi) →
-            {near : List ℕ} {sum : ℕ} → FiguresAt c postsRead stopsRead near sum → CheckedAt a c postsRead stopsRead n
+            {near : List ℕ} {sum : ℕ} → Found c postsRead stopsRead near sum → CheckedAt a c postsRead stopsRead n
             (jobOfParts c (back (a .xlo)) (back (a .ylo)) (back (a .xhi)) (back (a .yhi)) postsRead stopsRead near sum n)
         unfolding checked
         checked-accepted xlo ylo xhi yhi {near} {sum} found = record {

@@ -4,7 +4,7 @@ use Prim.Native.Nat.{ℕ, _+_, _≤_}
 use mathlib.Core.Path.{_≡_}
 use mathlib.Core.List.{List, [], _∷_, map}
 use lib.IntN.{ℤ, pos}
-use lib.ListN.{length, take, drop}
+use lib.ListN.{length, drop}
 use Rattle.job_line.specs.Kinds.{Kind, axis, posts, post, stops, stop, rounds, row}
 use Rattle.job_line.specs.OneLine.{Reading, fault, got, Reader, line}
 use Rattle.job.specs.Reader.{_>>=_, _>>_, return, repeated, optional, end}
@@ -13,9 +13,8 @@ use Rattle.job.specs.Format as Format
 use Rattle.job.specs.Format.{countOf, postOf, stopOf, jobOf, checked, readingResult}
 use Rattle.job.specs.JobRecord.{jobRecord}
 use Rattle.numbers.specs.Padded.{padded}
-use Rattle.deck.specs.DeckOf.{heldAxis, places}
+use Rattle.deck.specs.DeckOf.{heldAxis}
 use Rattle.deck.specs.Ranges.{VisitsInRange, CostsInRange, PlacesInRange}
-use Rattle.deck.specs.StopFigures.{Nears, paid}
 use Rattle.deck.specs.declared.AxisCosts.{AxisCosts}
 use Rattle.deck.specs.declared.Rect.{Rect}
 use Rattle.job.specs.declared.AxisRead.{AxisRead}
@@ -123,12 +122,6 @@ pub record ReadInRange (costs : AxisCosts) (postsRead : Posts) (stopsRead : Stop
   pub posts : PlacesInRange postsLimit (postsRead .x) (postsRead .y) (postsRead .count)
   pub stops : PlacesInRange stopsLimit (stopsRead .x) (stopsRead .y) (stopsRead .count)
   pub visits : VisitsInRange (stopsRead .visits) (stopsRead .count)
-
--- near and before, found of posts and stops that were read
-pub record FiguresAt (costs : AxisCosts) (postsRead : Posts) (stopsRead : Stops) (near : List ℕ) (sum : ℕ) : Type 0 where
-  pub nears : Nears (heldAxis costs) (take (postsRead .count) (places (postsRead .x) (postsRead .y)))
-      (take (stopsRead .count) (places (stopsRead .x) (stopsRead .y))) near
-  pub sum-is : sum ≡ paid (stopsRead .visits) near (stopsRead .count)
 
 -- refusals 4, 5 and 6 of what the lines hold, or the job
 pub record CheckedAt (area : Rect) (costs : AxisCosts) (postsRead : Posts) (stopsRead : Stops) (n : ℕ) (r : Job) : Type 0 where

@@ -23,7 +23,7 @@ ghost use Rattle.job.specs.File.{writesAxis};
 ghost use Rattle.job.specs.Format.{areaOf, emptyArea, readWith, readJob, refused};
 ghost use Rattle.job.specs.JobRecord.{jobRecord};
 ghost use Rattle.job.specs.ManyLines.{postLines, stopLines, allPosts, allStops};
-ghost use Rattle.job.specs.ManyLines.{AxisAt, PostsAt, StopsAt, LastAt, RestAt, FiguresAt, CheckedAt};
+ghost use Rattle.job.specs.ManyLines.{AxisAt, PostsAt, StopsAt, LastAt, RestAt, ReadInRange, CheckedAt};
 
 pub enum Outcome {
     Accepted(u64),
@@ -258,16 +258,8 @@ fn refuse(why: Refusal) -> Job
 }
 
 // Refusals 4, 5 and 6, in this order, or the job, with the near of its stops and its before.
-fn check(
-    area: Rect,
-    costs: AxisCosts,
-    posts: Posts,
-    stops: Stops,
-    near: [u64; STOPS],
-    before: u64,
-    rounds: u64,
-) -> Job
-    requires { ⌜ FiguresAt costs posts stops near before ⌝ }
+fn check(area: Rect, costs: AxisCosts, posts: Posts, stops: Stops, rounds: u64) -> Job
+    requires { ⌜ ReadInRange costs posts stops ⌝ }
     ensures { λ r. ⌜ CheckedAt area costs posts stops rounds r ⌝ }
 {
     let empty = empty_area(area);
@@ -287,6 +279,10 @@ fn check(
     let stop_x = stops.x;
     let stop_y = stops.y;
     let visits = stops.visits;
+    let k = posts.count;
+    let n = stops.count;
+    let near = deck::nears_of(costs, &post_x, &post_y, k, &stop_x, &stop_y, n);
+    let before = deck::before_of(&visits, &near, n);
     Job {
         outcome: Outcome::Accepted(rounds),
         deck: Deck {
@@ -295,10 +291,10 @@ fn check(
             ylo: area.ylo,
             xhi: area.xhi,
             yhi: area.yhi,
-            posts: posts.count,
+            posts: k,
             post_x,
             post_y,
-            stops: stops.count,
+            stops: n,
             stop_x,
             stop_y,
             visits,
@@ -327,13 +323,7 @@ fn read_rest(s: &[u8], at: usize, first: u64, area: Rect, costs: AxisCosts) -> J
         Next::Refused(why) => return refuse(why),
     };
     match last_line(s, at, line + 1 + stops.count as u64) {
-        CountLine::Read(rounds, _) => {
-            let k = posts.count;
-            let n = stops.count;
-            let near = deck::nears_of(costs, &posts.x, &posts.y, k, &stops.x, &stops.y, n);
-            let before = deck::before_of(&stops.visits, &near, n);
-            return check(area, costs, posts, stops, near, before, rounds as u64);
-        }
+        CountLine::Read(rounds, _) => return check(area, costs, posts, stops, rounds as u64),
         CountLine::Refused(why) => return refuse(why),
     }
 }

@@ -1,8 +1,7 @@
 -- `job::read_rest` meets its contract: each part is read as its definition says.
 -- Assumes nothing.
 use borrow.Author.Needs.{needs}
-use Rattle.job.specs.ManyLines.{ReadInRange}
-use Rattle.job.proofs.FilledLaws.{read-in-range, nears-range}
+use Rattle.job.proofs.FilledLaws.{read-in-range}
 use Rattle.job.proofs.ReadLaws.{rest-posts, rest-stops, rest-last, rest-all}
 use Rattle.job.proofs.read_rest.Statement.{statement}
 use Rattle.job.proofs.read_rest.Tie as tie
@@ -61,38 +60,21 @@ last-line-requires c κs = search needs
 enum-known-rounds : tie.Need-enum-known-rounds
 enum-known-rounds c = search needs
 
--- what was read is in range
-ranged : (c : tie.After-last-line) → let s = c .before .before .before .before in let p = s .before .before .before .before in
-    ReadInRange (p .before .before .args .costs) (p .read-posts .result) (s .read-stops .result)
-ranged c =
-    let s = c .before .before .before .before in
+check-requires : tie.Need-check-requires
+check-requires c κs =
+    let l = c .before .before .before in
+    let s = l .before .before .before .before in
     let p = s .before .before .before .before in
     read-in-range _ _ _ _ (p .before .before .pre .1) (p .read-posts .ensures) (s .before .before .after-posts .given .1) (s .read-stops .ensures)
-    (c .before .before .after-stops .given .1)
-
-nears-of-requires : tie.Need-nears-of-requires
-nears-of-requires c κs = let r = ranged (c .before .before .before .before .before .before .before .before .before .before .before .before .before) in (r .axis, r .posts, r .stops)
-
-slice-aggregate-before-of : tie.Need-slice-aggregate-before-of
-slice-aggregate-before-of c = search needs
-
-before-of-requires : tie.Need-before-of-requires
-before-of-requires c κs =
-    let found = c .before .before .before .before in
-    let r = ranged (found .before .before .before .before .before .before .before .before .before .before .before .before .before .before) in
-    (r .visits, nears-range (r .stops) (found .nears-of .ensures), r .stops .few)
-
-check-requires : tie.Need-check-requires
-check-requires c κs = record { nears = c .before .before .before .before .before .nears-of .ensures; sum-is = c .before-of .ensures }
+    (l .before .before .after-stops .given .1)
 
 returns-3 : tie.Need-returns-3
 returns-3 c =
-    let told = c .before .before .before .before .before .before .before .before .before .before .before .before .before .before .before .before .before in
-    let l = told .before .before .before in
+    let l = c .before .before .before .before in
     let s = l .before .before .before .before in
     let p = s .before .before .before .before in
     rest-all (p .read-posts .ensures) (s .before .before .after-posts .given .1) (s .read-stops .ensures) (l .before .before .after-stops .given .1)
-    (l .last-line .ensures) (told .before .rounds .given .1) (c .check .ensures)
+    (l .last-line .ensures) (c .before .before .rounds .given .1) (c .check .ensures)
 
 enum-known-why : tie.Need-enum-known-why
 enum-known-why c = search needs
@@ -128,9 +110,6 @@ read-rest-spec =
     add-last-line-2
     last-line-requires
     enum-known-rounds
-    nears-of-requires
-    slice-aggregate-before-of
-    before-of-requires
     check-requires
     returns-3
     enum-known-why

@@ -9,7 +9,7 @@ use Rattle.numbers.specs.Padded.{padded}
 use Rattle.query.specs.Travel.{near}
 use Rattle.deck.specs.DeckOf.{deckOf}
 use Rattle.deck.proofs.DeckLaws.{costs-range, stops-range, posts-range}
-use Rattle.deck.proofs.SoundLaws.{found-nears, sound-columns, sound-limit}
+use Rattle.deck.proofs.SoundLaws.{found-nears, sound-columns, sound-posts, sound-limit}
 use borrow.Author.Needs.{needs}
 use Rattle.kernels.proofs.near_at.Statement.{statement}
 use Rattle.kernels.proofs.near_at.Tie as tie
@@ -24,6 +24,7 @@ nears-of-requires c κs =
       costs-range _ columns (sound .range),
       posts-range _ columns (sound .range),
       stops-range _ columns (sound .range),
+      omega (arith, sound-posts sound, sound .range .some-posts),
     )
 
 mul-result : tie.Need-mul-result
