@@ -890,7 +890,6 @@ fn near_and_before_are_read_as_the_deck_has_them() {
     each_job(300, spelled(largest), &mut check);
     each_job(4_000, damaged, &mut check);
     each_job(500, noise, &mut check);
-    println!("{kinds:?}");
     assert!(kinds.axis_costs > 3_000 && kinds.one_post > 1_000 && kinds.one_stop > 500, "{kinds:?}");
     assert!(kinds.most_posts > 100 && kinds.most_stops >= 300 && kinds.equal_posts > 500, "{kinds:?}");
     assert!(kinds.stop_at_post > 2_000 && kinds.longest_travel > 3 && kinds.refused > 1_000, "{kinds:?}");
