@@ -4,21 +4,18 @@ use Prim.Native.Nat.{ℕ}
 use Prim.Native.String.{String}
 use mathlib.Core.Path.{_≡_}
 use mathlib.Core.List.{List, [], _∷_, _++_, map}
-use lib.ListN.{length, replicate, drop, set}
+use lib.ListN.{replicate, set}
 use Rattle.numbers.specs.Padded.{padded}
 use Rattle.calls.specs.Answers.{gives}
-use Rattle.calls.specs.ReadCall.{Read, readCall}
+use Rattle.calls.specs.ReadCall.{readCall}
 use Rattle.calls.specs.WriteCall.{writeCall}
 use Rattle.calls.specs.RefusalTable.{caseA, ended}
 use Rattle.calls.specs.WriteTable.{apart, apartLines, mostNatural}
 use Rattle.deck.specs.DeckOf.{withFigures}
 
--- all 512 numbers of near, and before
-abbrev pub figuresOf : Read → List ℕ × ℕ
-figuresOf r = (r .deck .near, r .deck .before)
-
+-- all 512 numbers of near, and before, of the record that a job is read as
 abbrev pub figuresIn : List String → List ℕ × ℕ
-figuresIn lines = figuresOf (readCall (ended lines))
+figuresIn lines = let r = readCall (ended lines) in (r .deck .near, r .deck .before)
 
 -- the same with these numbers in front
 abbrev pub keeping : List ℕ → ℕ → List ℕ × ℕ
@@ -40,7 +37,7 @@ pub record RecordTable : Type 0 where
       ≡ keeping (720000 ∷ []) 47185200000
   -- a refused job
   pub refused : figuresIn (set caseA 1 "posts=65") ≡ keeping [] 0
-  -- written with any figures, a record is the same job, and read with its own
+  -- written with any figures, a record is the same job
   pub written : map (λ (f : List ℕ × ℕ). writeCall (withFigures apart (f .0) (f .1)) 0 (replicate 95 7))
       (keeping [] 0 ∷ (replicate 512 mostNatural, mostNatural) ∷ [])
       ≡ replicate 2 (record { answer = gives 95; out = ended apartLines })
