@@ -1,8 +1,8 @@
 -- What was read of posts and stops: it is in range, and near and before found of it are those of the job's deck.
 -- Assumes nothing.
-use mathlib.Core.Path.{_≡_, refl, sym, ap, subst, _∙_}
+use mathlib.Core.Path.{_≡_, sym, ap, subst, _∙_}
 use mathlib.Core.Bool.{Bool, true, false, not}
-use mathlib.Core.List.{List, [], _∷_, map, map-map, List·Memᴰ}
+use mathlib.Core.List.{List, map, map-map, List·Memᴰ}
 use Prim.Native.Nat.{ℕ, _+_, _≤_}
 use native.Mathlib.Omega.{arith}
 use lib.Dec.{T}
@@ -20,25 +20,22 @@ use Rattle.query.specs.Travel.{closest}
 use Rattle.query.specs.Cost.{before}
 use Rattle.query.specs.Range.{PlaceInRange, StopInRange}
 use Rattle.deck.specs.DeckOf.{heldAxis, places}
-use Rattle.deck.specs.Ranges.{VisitsInRange, NearsInRange, CostsInRange, PlacesInRange}
+use Rattle.deck.specs.Ranges.{NearsInRange, CostsInRange, PlacesInRange}
 use Rattle.deck.specs.StopFigures.{Nears, paid}
 use Rattle.deck.specs.declared.AxisCosts.{AxisCosts}
 use Rattle.deck.proofs.ClosestLaws.{places-length}
 use Rattle.deck.proofs.DeckLaws.{front-places}
 use Rattle.deck.proofs.PaidLaws.{paid-stops}
 use Rattle.job_line.specs.Kinds.{Kind, axis, posts, post, stops, stop, row}
-use Rattle.job_line.specs.OneLine.{got, line}
+use Rattle.job_line.specs.OneLine.{line}
 use Rattle.job_line.specs.Reading.{costNumbers}
-use Rattle.job.specs.Reader.{optional}
 use Rattle.job.specs.Format.{axisCostsOf, countOf, postOf, stopOf, jobOf}
-use Rattle.job.specs.Spelling.{postLine, stopLine}
-use Rattle.job.specs.ManyLines.{nextIn, AxisAt, manyLines, countedLines, allPosts, allStops, PlacesHeld, StopsHeld, PostsHold, StopsHold, LinesAt}
-use Rattle.job.specs.ManyLines.{PostsAt, StopsAt, ReadInRange}
+use Rattle.job.specs.ManyLines.{nextIn, AxisAt, manyLines, countedLines, allPosts, allStops, PlacesHeld, StopsHeld, LinesAt}
+use Rattle.job.specs.ManyLines.{PostsAt, StopsAt, ListsHeld}
 use Rattle.job.specs.declared.AxisRead.{AxisRead}
+use Rattle.job.specs.declared.Listed.{Listed}
 use Rattle.job.specs.declared.Next.{Next}
 use Rattle.job.specs.declared.Next.the-variants.{At}
-use Rattle.job.specs.declared.Posts.{Posts}
-use Rattle.job.specs.declared.Stops.{Stops}
 use Rattle.job.proofs.RangeLaws.{axis-range, post-range, stop-range, post-back, stop-back}
 use Rattle.job.proofs.ReaderLaws.{Ranged, bind-got, all-got, OptionalGot, optional-got}
 
@@ -70,13 +67,21 @@ module _ (k kind : Kind) {Hold : List (List ℤ) → Type 0} {most : ℕ} {s : L
       (λ c n₁ b₁ e₁ e₂. all-got kind (countOf c) n₁ b₁ (lines-at .lines) (n + count) (drop to s) e₂ .2)
       (sym (lines-at .is) ∙ ap (nextIn s (lines-at .lines) (n + count)) e)
 
--- the places that they hold
-module _ {size count : ℕ} {x y : List ℤ} {lines : List (List ℤ)} (held : PlacesHeld size count x y lines) (few : count ≤ size) where
-  x-long : length x ≡ size
-  x-long = rw (held .x-is) (padded-length size (pos 0) (map (λ l. postOf l .x) lines) (omega (arith, length-map lines (λ l. postOf l .x), held .count-is)))
+-- each array that holds lines has its size
+held-long : {A : Type 0} (size : ℕ) (z : A) (f : List ℤ → A) (lines : List (List ℤ)) {xs : List A} {count : ℕ} → xs ≡ padded size z (map f lines) →
+    count ≡ length lines → count ≤ size → length xs ≡ size
+held-long size z f lines e g h = rw e (padded-length size z (map f lines) (omega (arith, length-map lines f)))
 
-  y-long : length y ≡ size
-  y-long = rw (held .y-is) (padded-length size (pos 0) (map (λ l. postOf l .y) lines) (omega (arith, length-map lines (λ l. postOf l .y), held .count-is)))
+pub visits-long : {count : ℕ} {x y : List ℤ} {visits : List ℕ} {lines : List (List ℤ)} → StopsHeld count x y visits lines → count ≤ 512 → length visits ≡ 512
+visits-long {lines = lines} held few = held-long 512 0 (λ l. stopOf l .visits) lines (held .visits-is) (held .places .count-is) few
+
+-- the places that lines hold
+module _ {size count : ℕ} {x y : List ℤ} {lines : List (List ℤ)} (held : PlacesHeld size count x y lines) (few : count ≤ size) where
+  pub x-long : length x ≡ size
+  x-long = held-long size (pos 0) (λ l. postOf l .x) lines (held .x-is) (held .count-is) few
+
+  pub y-long : length y ≡ size
+  y-long = held-long size (pos 0) (λ l. postOf l .y) lines (held .y-is) (held .count-is) few
 
   places-ranged : ((ns : List ℤ) → List·Memᴰ ns lines → PlaceInRange (postOf ns)) → PlacesInRange size x y count
   places-ranged each = record {
@@ -100,27 +105,23 @@ stop-in : (ns : List ℤ) → Ranged stop ns → StopInRange (stopOf ns)
 stop-in ns t = stop-range (stopOf ns) (subst (Ranged stop) (sym (stop-back ns t)) t)
 
 -- all that was read
-pub read-in-range : {s : List ℕ} {n₁ n₂ : ℕ} (m₁ : ℕ) (b₁ : List ℕ) (m₂ : ℕ) (b₂ : List ℕ) {costs : AxisCosts} {postsRead : Posts}
-    {stopsRead : Stops} {to₁ to₂ : ℕ} → CostsInRange (heldAxis costs) → PostsAt s n₁ (allPosts m₁ b₁) postsRead → postsRead .next ≡ At to₁ →
-    StopsAt s n₂ (allStops m₂ b₂) stopsRead →
-    stopsRead .next ≡ At to₂ → ReadInRange costs postsRead stopsRead
-read-in-range m₁ b₁ m₂ b₂ {stopsRead = stopsRead} costs posts-at e₁ stops-at e₂ = record {
-  axis = costs;
-  posts = places-ranged (posts-at .hold) (posts-at .few) (λ ns m. post-in ns (lines-ranged posts post m₁ b₁ posts-at e₁ ns m));
-  stops = places-ranged (stops-at .hold .places) (stops-at .few) (λ ns m. stop-in ns (lines-ranged stops stop m₂ b₂ stops-at e₂ ns m) .place);
-  visits = record {
-    count = omega (arith, visits-long, stops-at .few);
+pub lists-held : {s : List ℕ} {n₁ n₂ : ℕ} (m₁ : ℕ) (b₁ : List ℕ) (m₂ : ℕ) (b₂ : List ℕ) {px py sx sy : List ℤ} {visits : List ℕ}
+    {postsRead stopsRead : Listed} {to₁ to₂ : ℕ} (posts-at : PostsAt s n₁ (allPosts m₁ b₁) px py postsRead) → postsRead .next ≡ At to₁ →
+    (stops-at : StopsAt s n₂ (allStops m₂ b₂) sx sy visits stopsRead) → stopsRead .next ≡ At to₂ → 1 ≤ postsRead .count →
+    ListsHeld (postsRead .count) px py (stopsRead .count) sx sy visits (posts-at .lines) (stops-at .lines)
+lists-held m₁ b₁ m₂ b₂ posts-at e₁ stops-at e₂ some = record {
+  posts-held = posts-at .hold;
+  posts-range = places-ranged (posts-at .hold) (posts-at .few) (λ ns m. post-in ns (lines-ranged posts post m₁ b₁ posts-at e₁ ns m));
+  posts-some = some;
+  stops-held = stops-at .hold;
+  stops-range = places-ranged (stops-at .hold .places) (stops-at .few) (λ ns m. stop-in ns (lines-ranged stops stop m₂ b₂ stops-at e₂ ns m) .place);
+  visits-range = record {
+    count = omega (arith, visits-long (stops-at .hold) (stops-at .few), stops-at .few);
     range = λ i h. rw (stops-at .hold .visits-is) (padded-each (λ (v : ℕ). v ≤ 65535) 0 (omega arith) 512 (map (λ l. stopOf l .visits) (stops-at .lines))
         (each-map (λ (v : ℕ). v ≤ 65535) (λ l. stopOf l .visits) (stops-at .lines)
         (λ ns m. stop-in ns (lines-ranged stops stop m₂ b₂ stops-at e₂ ns m) .most-visits)) i);
   };
 }
-  where
-    visits-long : length (stopsRead .visits) ≡ 512
-    visits-long =
-        rw (stops-at .hold .visits-is)
-        (padded-length 512 0 (map (λ l. stopOf l .visits) (stops-at .lines))
-        (omega (arith, length-map (stops-at .lines) (λ l. stopOf l .visits), stops-at .hold .places .count-is, stops-at .few)))
 
 -- ---- near and before
 -- as many are found as there are stops
@@ -141,20 +142,19 @@ held-places {size} {count} {x} {y} {lines} held =
     y-same : y ≡ padded size (pos 0) (map (λ p. p .y) (map postOf lines))
     y-same = held .y-is ∙ ap (padded size (pos 0)) (sym (map-map (λ p. p .y) postOf lines))
 
-module _ (c : AxisCosts) (postsRead : Posts) (stopsRead : Stops) {ps ss : List (List ℤ)} (p : PostsHold postsRead ps) (s : StopsHold stopsRead ss)
-    (a n : List ℤ) where
+module _ (c : AxisCosts) {k m : ℕ} {px py sx sy : List ℤ} {visits : List ℕ} {ps ss : List (List ℤ)} (p : PlacesHeld 64 k px py ps)
+    (s : StopsHeld m sx sy visits ss) (a n : List ℤ) where
   abbrev deck : Query.Deck
   deck = jobOf a (costNumbers c) ps ss n .deck
 
-  module _ {near : List ℕ} (found : Nears (heldAxis c) (take (postsRead .count) (places (postsRead .x) (postsRead .y)))
-      (take (stopsRead .count) (places (stopsRead .x) (stopsRead .y))) near) where
+  module _ {near : List ℕ} (found : Nears (heldAxis c) (take k (places px py)) (take m (places sx sy)) near) where
     pub near-filled : near ≡ padded 512 0 (map (Travel.near deck) (deck .stops))
     unfolding Travel.near
     near-filled =
         found .are ∙ (λ i. padded 512 0 (map (λ q. closest (heldAxis c) q (held-places p i)) (held-places (s .places) i)))
         ∙ ap (padded 512 0) (map-map (λ q. closest (heldAxis c) q (map postOf ps)) postOf ss ∙ sym (map-map (Travel.near deck) stopOf ss))
 
-    pub before-filled : {sum : ℕ} → sum ≡ paid (stopsRead .visits) near (stopsRead .count) → sum ≡ before deck
+    pub before-filled : {sum : ℕ} → sum ≡ paid visits near m → sum ≡ before deck
     unfolding before
     before-filled e =
         e ∙ (λ i. paid ((s .visits-is ∙ ap (padded 512 0) (sym (map-map (λ (t : Stop). t .visits) stopOf ss))) i) (near-filled i)

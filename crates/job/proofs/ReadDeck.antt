@@ -23,7 +23,7 @@ use Rattle.deck.proofs.SoundLaws.{record-sound}
 pub differ : {P : Type 0} → true ≡ false → P
 differ e = absurd (subst T e tt)
 
-abbrev isAccepted : Outcome → Bool
+abbrev pub isAccepted : Outcome → Bool
 isAccepted (Accepted rounds) = true
 isAccepted (Refused why) = false
 

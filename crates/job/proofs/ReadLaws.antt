@@ -3,7 +3,7 @@
 use mathlib.Core.Path.{_≡_, refl, sym, ap, subst, _∙_}
 use mathlib.Core.Bool.{Bool, true, false}
 use mathlib.Core.List.{List, [], _∷_, map, map-map}
-use Prim.Native.Nat.{ℕ, _+_, _≤_, _<_}
+use Prim.Native.Nat.{ℕ, zero, suc, _+_, _≤_, _<_}
 use native.Mathlib.Omega.{arith}
 use borrow.Author.Tests.{lt-ltb}
 use lib.IntN.{ℤ, pos}
@@ -17,12 +17,12 @@ use Rattle.job_line.specs.OneLine.{Reading, fault, got, Reader, line}
 use Rattle.job.specs.Reader.{andThen, optional, end}
 use Rattle.job.specs.Format as Format
 use Rattle.job.specs.Format.{refused, accepted, areaOf, axisCostsOf, axisNumbers, countOf, postOf, stopOf, jobOf, emptyArea, checked, jobLines}
-use Rattle.job.specs.Format.{readWith, missingAxis, readJob}
+use Rattle.job.specs.Format.{readingResult, readWith, missingAxis, readJob}
 use Rattle.job.specs.JobRecord.{jobRecord}
 use Rattle.numbers.specs.Padded.{padded}
 use Rattle.job_line.specs.Reading.{areaNumbers, costNumbers, areaAnswer, countAnswer, answerIn, LineAt}
-use Rattle.job.specs.ManyLines.{postLines, stopLines, countedLines, allPosts, allStops, lastLine, restLines, nextIn, PlacesHeld, PostsHold, StopsHold}
-use Rattle.job.specs.ManyLines.{AxisAt, PostsAt, StopsAt, LastAt, RestAt, CheckedAt}
+use Rattle.job.specs.ManyLines.{postLines, stopLines, countedLines, allPosts, allStops, lastLine, restLines, nextIn}
+use Rattle.job.specs.ManyLines.{AxisAt, PostsAt, StopsAt, LastAt, CheckedAt, noLists, ListsAt, RestAt}
 use Rattle.query.specs.Deck as Query
 use Rattle.query.specs.Travel as Travel
 use Rattle.query.specs.Cost.{before}
@@ -36,15 +36,17 @@ use Rattle.job_line.specs.declared.CountLine.{CountLine}
 use Rattle.job_line.specs.declared.CountLine.the-variants as C
 use Rattle.job.specs.declared.Next.the-variants.{At, Refused}
 use Rattle.job.specs.declared.AxisRead.{AxisRead}
-use Rattle.job.specs.declared.Posts.{Posts}
-use Rattle.job.specs.declared.Stops.{Stops}
+use Rattle.job.specs.declared.Listed.{Listed}
+use Rattle.job.specs.declared.Lists.{Lists}
 use Rattle.job.specs.declared.Job.{Job}
-use Rattle.job.specs.declared.Outcome.the-variants.{Accepted}
+use Rattle.job.specs.declared.Outcome.{Outcome}
+use Rattle.job.specs.declared.Outcome.the-variants as Outcome
 use Rattle.refusal.specs.declared.Refusal.{Refusal}
 use Rattle.refusal.specs.declared.Refusal.the-variants.{TooLong, EmptyArea, NoPosts, NoStops}
 use Rattle.numbers.proofs.WordTests.{back, back-is}
 use Rattle.job.proofs.Meaning.{read-short, job-with}
-use Rattle.job.proofs.FilledLaws.{near-filled, before-filled}
+use Rattle.job.proofs.FilledLaws.{lists-held, near-filled, before-filled}
+use Rattle.job.proofs.ReadDeck.{differ, isAccepted}
 
 -- ---- refusal 4
 module _ {a : Rect} (xlo : SFits w64 (a .xlo)) (ylo : SFits w64 (a .ylo)) (xhi : SFits w64 (a .xhi)) (yhi : SFits w64 (a .yhi)) where
@@ -66,116 +68,45 @@ module _ {A : Type 0} where
   some-elements [] e = absurd (e refl)
   some-elements (x ∷ xs) e = refl
 
--- the job as the code makes it of its parts
-abbrev pub jobOfParts : AxisCosts → ℤ → ℤ → ℤ → ℤ → Posts → Stops → List ℕ → ℕ → ℕ → Job
-jobOfParts costs xlo ylo xhi yhi p s near sum n = record {
-  outcome = Accepted n;
-  deck = record {
-    axis = costs;
-    xlo = xlo;
-    ylo = ylo;
-    xhi = xhi;
-    yhi = yhi;
-    posts = p .count;
-    «post_x» = p .x;
-    «post_y» = p .y;
-    stops = s .count;
-    «stop_x» = s .x;
-    «stop_y» = s .y;
-    visits = s .visits;
-    near = near;
-    before = sum;
-  };
-}
+-- lines are some, or none, by their count
+module _ {A : Type 0} (f : List ℤ → A) {count : ℕ} (ls : List (List ℤ)) (e : count ≡ length ls) where
+  some-lines : (count ≡ 0 → ⊥) → nonEmpty (map f ls) ≡ true
+  some-lines some = some-elements (map f ls) (λ z. some (e ∙ sym (length-map ls f) ∙ z))
 
-accepted-is : (a c : List ℤ) (ps ss : List (List ℤ)) (n : List ℤ) → jobRecord (accepted (jobOf a c ps ss n)) ≡ record {
-  outcome = Accepted (countOf n);
-  deck = record {
-    axis = axisRecord (axisCostsOf c);
-    xlo = areaOf a .xlo;
-    ylo = areaOf a .ylo;
-    xhi = areaOf a .xhi;
-    yhi = areaOf a .yhi;
-    posts = length (map postOf ps);
-    «post_x» = padded 64 (pos 0) (map (λ p. p .x) (map postOf ps));
-    «post_y» = padded 64 (pos 0) (map (λ p. p .y) (map postOf ps));
-    stops = length (map stopOf ss);
-    «stop_x» = padded 512 (pos 0) (map (λ s. s .at .x) (map stopOf ss));
-    «stop_y» = padded 512 (pos 0) (map (λ s. s .at .y) (map stopOf ss));
-    visits = padded 512 0 (map (λ s. s .visits) (map stopOf ss));
-    near = padded 512 0 (map (Travel.near (jobOf a c ps ss n .deck)) (map stopOf ss));
-    before = before (jobOf a c ps ss n .deck);
-  };
-}
-unfolding jobRecord
-accepted-is a c ps ss n = refl
+  none-lines : count ≡ 0 → nonEmpty (map f ls) ≡ false
+  none-lines z = no-elements (map f ls) (length-map ls f ∙ sym e ∙ z)
 
--- near and before, found of the posts and stops that were read
-pub record Found (c : AxisCosts) (postsRead : Posts) (stopsRead : Stops) (near : List ℕ) (sum : ℕ) : Type 0 where
-  pub nears : Nears (heldAxis c) (take (postsRead .count) (places (postsRead .x) (postsRead .y)))
-      (take (stopsRead .count) (places (stopsRead .x) (stopsRead .y))) near
-  pub sum-is : sum ≡ paid (stopsRead .visits) near (stopsRead .count)
+not-accepted : {P : Type 0} {why : Refusal} {n : ℕ} → Outcome.Refused why ≡ Outcome.Accepted n → P
+not-accepted e = differ (sym (ap isAccepted e))
 
-parts-are : (a : Rect) (c : AxisCosts) (postsRead : Posts) (stopsRead : Stops) (near : List ℕ) (sum n : ℕ) → Found c postsRead stopsRead near sum →
-    {ps ss : List (List ℤ)} → PostsHold postsRead ps → StopsHold stopsRead ss →
-    jobOfParts c (a .xlo) (a .ylo) (a .xhi) (a .yhi) postsRead stopsRead near sum n
-    ≡ jobRecord (accepted (jobOf (areaNumbers a) (costNumbers c) ps ss (pos n ∷ [])))
-parts-are a c postsRead stopsRead near sum n found {ps} {ss} p s = rw (
-  accepted-is (areaNumbers a) (costNumbers c) ps ss (pos n ∷ []),
-  before-filled c postsRead stopsRead p s (areaNumbers a) (pos n ∷ []) (found .nears) (found .sum-is),
-  near-filled c postsRead stopsRead p s (areaNumbers a) (pos n ∷ []) (found .nears),
-  p .count-is,
-  p .x-is,
-  p .y-is,
-  s .places .count-is,
-  s .places .x-is,
-  s .places .y-is,
-  s .visits-is,
-  length-map ps postOf,
-  map-map (λ p. p .x) postOf ps,
-  map-map (λ p. p .y) postOf ps,
-  length-map ss stopOf,
-  map-map (λ s. s .at .x) stopOf ss,
-  map-map (λ s. s .at .y) stopOf ss,
-  map-map (λ s. s .visits) stopOf ss,
-)
-
--- places that are held are some, or none, by their count
-module _ {A : Type 0} (f : List ℤ → A) {size count : ℕ} {x y : List ℤ} {ls : List (List ℤ)} (p : PlacesHeld size count x y ls) where
-  some-held : (count ≡ 0 → ⊥) → nonEmpty (map f ls) ≡ true
-  some-held some = some-elements (map f ls) (λ z. some (p .count-is ∙ sym (length-map ls f) ∙ z))
-
-  none-held : count ≡ 0 → nonEmpty (map f ls) ≡ false
-  none-held z = no-elements (map f ls) (length-map ls f ∙ sym (p .count-is) ∙ z)
-
-module _ {a : Rect} {c : AxisCosts} {postsRead : Posts} {stopsRead : Stops} (n : ℕ) {t : Bool} (is-empty : t ≡ emptyArea (areaOf (areaNumbers a))) where
-  pub checked-empty : {r : Job} → t ≡ true → r ≡ jobRecord (refused EmptyArea) → CheckedAt a c postsRead stopsRead n r
+module _ {a : Rect} {k m : ℕ} (n : ℕ) {t : Bool} (is-empty : t ≡ emptyArea (areaOf (areaNumbers a))) where
+  pub checked-empty : t ≡ true → CheckedAt a k m n (Outcome.Refused EmptyArea)
   unfolding checked
-  checked-empty on e = record { is = λ p s. rw (← is-empty, on) e }
+  checked-empty on = record { is = λ c ps ss p s. rw (← is-empty, on); posts-some = not-accepted }
 
   module _ (off : t ≡ false) where
-    pub checked-no-posts : {r : Job} → postsRead .count ≡ 0 → r ≡ jobRecord (refused NoPosts) → CheckedAt a c postsRead stopsRead n r
+    pub checked-no-posts : k ≡ 0 → CheckedAt a k m n (Outcome.Refused NoPosts)
     unfolding checked
-    checked-no-posts z e = record { is = λ p s. rw (← is-empty, off, none-held postOf p z) e }
+    checked-no-posts z = record { is = λ c ps ss p s. rw (← is-empty, off, none-lines postOf ps p z); posts-some = not-accepted }
 
-    module _ (some-posts : postsRead .count ≡ 0 → ⊥) where
-      pub checked-no-stops : {r : Job} → stopsRead .count ≡ 0 → r ≡ jobRecord (refused NoStops) → CheckedAt a c postsRead stopsRead n r
+    module _ (some-posts : k ≡ 0 → ⊥) where
+      pub checked-no-stops : m ≡ 0 → CheckedAt a k m n (Outcome.Refused NoStops)
       unfolding checked
-      checked-no-stops z e = record { is = λ p s. rw (← is-empty, off, some-held postOf p some-posts, none-held stopOf (s .places) z) e }
+      checked-no-stops z = record {
+        is = λ c ps ss p s. rw (← is-empty, off, some-lines postOf ps p some-posts, none-lines stopOf ss s z);
+        posts-some = not-accepted;
+      }
 
-      module _ (some-stops : stopsRead .count ≡ 0 → ⊥) where
-        pub checked-accepted : SFits w64 (a .xlo) → SFits w64 (a .ylo) → SFits w64 (a .xhi) → SFits w64 (a .yhi) →
-            {near : List ℕ} {sum : ℕ} → Found c postsRead stopsRead near sum → CheckedAt a c postsRead stopsRead n
-            (jobOfParts c (back (a .xlo)) (back (a .ylo)) (back (a .xhi)) (back (a .yhi)) postsRead stopsRead near sum n)
-        unfolding checked
-        checked-accepted xlo ylo xhi yhi {near} {sum} found = record {
-          is = λ p s. rw (back-is xlo, back-is ylo, back-is xhi, back-is yhi) (parts-are a c postsRead stopsRead near sum n found p s)
-              ∙ ap jobRecord (job-accepted p s);
-        }
-          where
-            job-accepted : {ps ss : List (List ℤ)} → PostsHold postsRead ps → StopsHold stopsRead ss
-                → accepted (jobOf (areaNumbers a) (costNumbers c) ps ss (pos n ∷ [])) ≡ checked (jobOf (areaNumbers a) (costNumbers c) ps ss (pos n ∷ []))
-            job-accepted p s = rw (← is-empty, off, some-held postOf p some-posts, some-held stopOf (s .places) some-stops)
+      pub checked-accepted : (m ≡ 0 → ⊥) → CheckedAt a k m n (Outcome.Accepted n)
+      unfolding checked
+      checked-accepted some-stops = record {
+        is = λ c ps ss p s. rw (← is-empty, off, some-lines postOf ps p some-posts, some-lines stopOf ss s some-stops);
+        posts-some = λ e. at-least k some-posts;
+      }
+        where
+          at-least : (k : ℕ) → (k ≡ 0 → ⊥) → 1 ≤ k
+          at-least zero h = absurd (h refl)
+          at-least (suc k) h = omega arith
 
 -- ---- the lines of a job, part by part
 -- one reading after another
@@ -241,40 +172,138 @@ lines-are missing n bs = then-same (line (row area) n bs) _ _
 
 -- ---- the lines behind those of the area and the axis costs
 -- the reading that they come to
-record RestIs (s : List ℕ) (at first : ℕ) (a : Rect) (c : AxisCosts) (reading : Reading Format.Job) : Type 0 where
-  is : restLines (areaNumbers a) (costNumbers c) first (drop at s) ≡ reading
+record RestIs (s : List ℕ) (at first : ℕ) (a : Rect) (c : List ℤ) (reading : Reading Format.Job) : Type 0 where
+  is : restLines (areaNumbers a) c first (drop at s) ≡ reading
 
-module _ {s : List ℕ} {at first : ℕ} {a : Rect} {c : AxisCosts} {postsRead : Posts} (posts-at : PostsAt s (first + 1) (allPosts first (drop at s)) postsRead)
-  where
-    from-posts : RestIs s at first a c (andThen (nextIn s (posts-at .lines) (first + 1 + postsRead .count) (postsRead .next))
-        (after-posts (areaNumbers a) (costNumbers c)))
-    from-posts = record { is = rw (rest-is (areaNumbers a) (costNumbers c) first (drop at s), posts-at .is) }
+module _ {s : List ℕ} {at first : ℕ} {a : Rect} where
+  lists-refused : {why : Refusal} → ((c : List ℤ) → RestIs s at first a c (fault why)) → {px py sx sy : List ℤ} {visits : List ℕ} {r : Lists} →
+      r ≡ noLists why → ListsAt s at first a px py sx sy visits r
+  lists-refused rest {px} {py} {sx} {sy} {visits} e = subst (ListsAt s at first a px py sx sy visits) (sym e)
+      (record { post-lines = []; stop-lines = []; is = λ c. ap readingResult (rest c .is); held = not-accepted })
 
-    pub rest-posts : {why : Refusal} → postsRead .next ≡ Refused why → {r : Job} → r ≡ jobRecord (refused why) → RestAt s at first a c r
-    rest-posts e f = record { is = rw (from-posts .is, e) f }
+  module _ {px py : List ℤ} {postsRead : Listed} (posts-at : PostsAt s (first + 1) (allPosts first (drop at s)) px py postsRead) where
+    from-posts : (c : List ℤ) → RestIs s at first a c (andThen (nextIn s (posts-at .lines) (first + 1 + postsRead .count) (postsRead .next))
+        (after-posts (areaNumbers a) c))
+    from-posts c = record { is = rw (rest-is (areaNumbers a) c first (drop at s), posts-at .is) }
 
-    module _ {at₂ : ℕ} (posts-is : postsRead .next ≡ At at₂) {stopsRead : Stops}
-        (stops-at : StopsAt s (first + 1 + postsRead .count + 1) (allStops (first + 1 + postsRead .count) (drop at₂ s)) stopsRead) where
-      from-stops : RestIs s at first a c (andThen (nextIn s (stops-at .lines) (first + 1 + postsRead .count + 1 + stopsRead .count) (stopsRead .next))
-          (after-stops (areaNumbers a) (costNumbers c) (posts-at .lines)))
+    pub lists-posts : {why : Refusal} → postsRead .next ≡ Refused why → {sx sy : List ℤ} {visits : List ℕ} {r : Lists} → r ≡ noLists why →
+        ListsAt s at first a px py sx sy visits r
+    lists-posts e = lists-refused (λ c. record { is = rw (from-posts c .is, e) })
+
+    module _ {at₂ : ℕ} (posts-is : postsRead .next ≡ At at₂) {sx sy : List ℤ} {visits : List ℕ} {stopsRead : Listed}
+        (stops-at : StopsAt s (first + 1 + postsRead .count + 1) (allStops (first + 1 + postsRead .count) (drop at₂ s)) sx sy visits stopsRead) where
+      from-stops : (c : List ℤ) →
+          RestIs s at first a c (andThen (nextIn s (stops-at .lines) (first + 1 + postsRead .count + 1 + stopsRead .count) (stopsRead .next))
+          (after-stops (areaNumbers a) c (posts-at .lines)))
       unfolding after-posts
-      from-stops = record { is = rw (from-posts .is, posts-is, stops-at .is) }
+      from-stops c = record { is = rw (from-posts c .is, posts-is, stops-at .is) }
 
-      pub rest-stops : {why : Refusal} → stopsRead .next ≡ Refused why → {r : Job} → r ≡ jobRecord (refused why) → RestAt s at first a c r
-      rest-stops e f = record { is = rw (from-stops .is, e) f }
+      pub lists-stops : {why : Refusal} → stopsRead .next ≡ Refused why → {r : Lists} → r ≡ noLists why → ListsAt s at first a px py sx sy visits r
+      lists-stops e = lists-refused (λ c. record { is = rw (from-stops c .is, e) })
 
       module _ {at₃ : ℕ} (stops-is : stopsRead .next ≡ At at₃) {last : CountLine}
           (last-at : LastAt s at₃ (first + 1 + postsRead .count + 1 + stopsRead .count) last) where
-        from-last : RestIs s at first a c (andThen (answerIn s (first + 1 + postsRead .count + 1 + stopsRead .count) (countAnswer last))
-            (λ k n bs. got (jobOf (areaNumbers a) (costNumbers c) (posts-at .lines) (stops-at .lines) k) n bs))
+        from-last : (c : List ℤ) →
+            RestIs s at first a c (andThen (answerIn s (first + 1 + postsRead .count + 1 + stopsRead .count) (countAnswer last))
+            (λ k n bs. got (jobOf (areaNumbers a) c (posts-at .lines) (stops-at .lines) k) n bs))
         unfolding after-stops
-        from-last = record { is = rw (from-stops .is, stops-is, last-at .is) }
+        from-last c = record { is = rw (from-stops c .is, stops-is, last-at .is) }
 
-        pub rest-last : {why : Refusal} → last ≡ C.Refused why → {r : Job} → r ≡ jobRecord (refused why) → RestAt s at first a c r
-        rest-last e f = record { is = rw (from-last .is, e) f }
+        pub lists-last : {why : Refusal} → last ≡ C.Refused why → {r : Lists} → r ≡ noLists why → ListsAt s at first a px py sx sy visits r
+        lists-last e = lists-refused (λ c. record { is = rw (from-last c .is, e) })
 
-        pub rest-all : {n next : ℕ} → last ≡ C.Read n next → {r : Job} → CheckedAt a c postsRead stopsRead n r → RestAt s at first a c r
-        rest-all e checked-at = record { is = rw (from-last .is, e) (checked-at .is (posts-at .hold) (stops-at .hold)) }
+        pub lists-all : {n next : ℕ} → last ≡ C.Read n next → {o : Outcome} → CheckedAt a (postsRead .count) (stopsRead .count) n o
+            → ListsAt s at first a px py sx sy visits (record { outcome = o; posts = postsRead .count; stops = stopsRead .count })
+        lists-all e checked-at = record {
+          post-lines = posts-at .lines;
+          stop-lines = stops-at .lines;
+          is = λ c. rw (from-last c .is, e) (checked-at .is c _ _ (posts-at .hold .count-is) (stops-at .hold .places .count-is));
+          held = λ f. lists-held _ _ _ _ posts-at posts-is stops-at stops-is (checked-at .posts-some f);
+        }
+
+-- ---- the job that they come to
+accepted-is : (a c : List ℤ) (ps ss : List (List ℤ)) (n : List ℤ) → jobRecord (accepted (jobOf a c ps ss n)) ≡ record {
+  outcome = Outcome.Accepted (countOf n);
+  deck = record {
+    axis = axisRecord (axisCostsOf c);
+    xlo = areaOf a .xlo;
+    ylo = areaOf a .ylo;
+    xhi = areaOf a .xhi;
+    yhi = areaOf a .yhi;
+    posts = length (map postOf ps);
+    «post_x» = padded 64 (pos 0) (map (λ p. p .x) (map postOf ps));
+    «post_y» = padded 64 (pos 0) (map (λ p. p .y) (map postOf ps));
+    stops = length (map stopOf ss);
+    «stop_x» = padded 512 (pos 0) (map (λ s. s .at .x) (map stopOf ss));
+    «stop_y» = padded 512 (pos 0) (map (λ s. s .at .y) (map stopOf ss));
+    visits = padded 512 0 (map (λ s. s .visits) (map stopOf ss));
+    near = padded 512 0 (map (Travel.near (jobOf a c ps ss n .deck)) (map stopOf ss));
+    before = before (jobOf a c ps ss n .deck);
+  };
+}
+unfolding jobRecord
+accepted-is a c ps ss n = refl
+
+module _ {s : List ℕ} {at first : ℕ} {a : Rect} (c : AxisCosts) {px py sx sy : List ℤ} {visits : List ℕ} {r : Lists}
+    (lists-at : ListsAt s at first a px py sx sy visits r) where
+  pub rest-refused : {why : Refusal} → r .outcome ≡ Outcome.Refused why → {j : Job} → j ≡ jobRecord (refused why) → RestAt s at first a c j
+  rest-refused e f = record { is = rw (lists-at .is (costNumbers c), e) f }
+
+  -- the job as the code makes it of its parts
+  pub rest-accepted : SFits w64 (a .xlo) → SFits w64 (a .ylo) → SFits w64 (a .xhi) → SFits w64 (a .yhi) → {n : ℕ} → r .outcome ≡ Outcome.Accepted n →
+      {near : List ℕ} {sum : ℕ} → Nears (heldAxis c) (take (r .posts) (places px py)) (take (r .stops) (places sx sy)) near →
+      sum ≡ paid visits near (r .stops) →
+      RestAt s at first a c (record {
+        outcome = Outcome.Accepted n;
+        deck = record {
+          axis = c;
+          xlo = back (a .xlo);
+          ylo = back (a .ylo);
+          xhi = back (a .xhi);
+          yhi = back (a .yhi);
+          posts = r .posts;
+          «post_x» = px;
+          «post_y» = py;
+          stops = r .stops;
+          «stop_x» = sx;
+          «stop_y» = sy;
+          visits = visits;
+          near = near;
+          before = sum;
+        };
+      })
+  rest-accepted xlo ylo xhi yhi {n} e found summed =
+      let ps = lists-at .post-lines in
+      let ss = lists-at .stop-lines in
+      let p = lists-at .held e .posts-held in
+      let q = lists-at .held e .stops-held in
+      record {
+        is = rw (
+          lists-at .is (costNumbers c),
+          e,
+          accepted-is (areaNumbers a) (costNumbers c) ps ss (pos n ∷ []),
+          before-filled c p q (areaNumbers a) (pos n ∷ []) found summed,
+          near-filled c p q (areaNumbers a) (pos n ∷ []) found,
+          back-is xlo,
+          back-is ylo,
+          back-is xhi,
+          back-is yhi,
+          p .count-is,
+          p .x-is,
+          p .y-is,
+          q .places .count-is,
+          q .places .x-is,
+          q .places .y-is,
+          q .visits-is,
+          length-map ps postOf,
+          map-map (λ p. p .x) postOf ps,
+          map-map (λ p. p .y) postOf ps,
+          length-map ss stopOf,
+          map-map (λ s. s .at .x) stopOf ss,
+          map-map (λ s. s .at .y) stopOf ss,
+          map-map (λ s. s .visits) stopOf ss,
+        );
+      }
 
 -- ---- the whole reading
 pub read-long : (missing : Query.AxisCosts) (s : List ℕ) → 16384 < length s → refused TooLong ≡ readWith missing s

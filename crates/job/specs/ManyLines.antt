@@ -10,11 +10,10 @@ use Rattle.job_line.specs.OneLine.{Reading, fault, got, Reader, line}
 use Rattle.job.specs.Reader.{_>>=_, _>>_, return, repeated, optional, end}
 use Rattle.job_line.specs.Reading.{areaNumbers, costNumbers, countAnswer, answerIn, Within}
 use Rattle.job.specs.Format as Format
-use Rattle.job.specs.Format.{countOf, postOf, stopOf, jobOf, checked, readingResult}
+use Rattle.job.specs.Format.{Result, refused, accepted, countOf, postOf, stopOf, jobOf, checked, readingResult}
 use Rattle.job.specs.JobRecord.{jobRecord}
 use Rattle.numbers.specs.Padded.{padded}
-use Rattle.deck.specs.DeckOf.{heldAxis}
-use Rattle.deck.specs.Ranges.{VisitsInRange, CostsInRange, PlacesInRange}
+use Rattle.deck.specs.Ranges.{VisitsInRange, PlacesInRange}
 use Rattle.deck.specs.declared.AxisCosts.{AxisCosts}
 use Rattle.deck.specs.declared.Rect.{Rect}
 use Rattle.job.specs.declared.AxisRead.{AxisRead}
@@ -22,8 +21,11 @@ use Rattle.job.specs.declared.Job.{Job}
 use Rattle.job_line.specs.declared.CountLine.{CountLine}
 use Rattle.job.specs.declared.Next.{Next}
 use Rattle.job.specs.declared.Next.the-variants.{At, Refused}
-use Rattle.job.specs.declared.Posts.{Posts}
-use Rattle.job.specs.declared.Stops.{Stops}
+use Rattle.job.specs.declared.Listed.{Listed}
+use Rattle.job.specs.declared.Lists.{Lists}
+use Rattle.job.specs.declared.Outcome.{Outcome}
+use Rattle.job.specs.declared.Outcome.the-variants as Outcome
+use Rattle.refusal.specs.declared.Refusal.{Refusal}
 use Rattle.query.specs.Range.{postsLimit, stopsLimit}
 
 -- where reading goes on, in which line, and with what was read
@@ -58,12 +60,6 @@ pub record StopsHeld (count : ℕ) (x y : List ℤ) (visits : List ℕ) (lines :
   pub places : PlacesHeld stopsLimit count x y lines
   pub visits-is : visits ≡ padded stopsLimit 0 (map (λ l. stopOf l .visits) lines)
 
-abbrev pub PostsHold : Posts → List (List ℤ) → Type 0
-PostsHold r = PlacesHeld postsLimit (r .count) (r .x) (r .y)
-
-abbrev pub StopsHold : Stops → List (List ℤ) → Type 0
-StopsHold r = StopsHeld (r .count) (r .x) (r .y) (r .visits)
-
 -- what lines are read as from line n on: those read before the refusal, or all, are held, and they are `count`, at most `most`
 pub record LinesAt (Hold : List (List ℤ) → Type 0) (most : ℕ) (s : List ℕ) (n : ℕ) (reading : Reading (List (List ℤ))) (count : ℕ)
     (next : Next) : Type 0 where
@@ -72,11 +68,12 @@ pub record LinesAt (Hold : List (List ℤ) → Type 0) (most : ℕ) (s : List �
   pub few : count ≤ most
   pub is : nextIn s lines (n + count) next ≡ reading
 
-abbrev pub PostsAt : List ℕ → ℕ → Reading (List (List ℤ)) → Posts → Type 0
-PostsAt s n reading r = LinesAt (PostsHold r) postsLimit s n reading (r .count) (r .next)
+-- the same of posts and of stops, held in these arrays
+abbrev pub PostsAt : List ℕ → ℕ → Reading (List (List ℤ)) → List ℤ → List ℤ → Listed → Type 0
+PostsAt s n reading x y r = LinesAt (PlacesHeld postsLimit (r .count) x y) postsLimit s n reading (r .count) (r .next)
 
-abbrev pub StopsAt : List ℕ → ℕ → Reading (List (List ℤ)) → Stops → Type 0
-StopsAt s n reading r = LinesAt (StopsHold r) stopsLimit s n reading (r .count) (r .next)
+abbrev pub StopsAt : List ℕ → ℕ → Reading (List (List ℤ)) → List ℤ → List ℤ → List ℕ → Listed → Type 0
+StopsAt s n reading x y visits r = LinesAt (StopsHeld (r .count) x y visits) stopsLimit s n reading (r .count) (r .next)
 
 -- lines `post=x,y` and `stop=x,y,visits`: so many, and those that a line of a count counts
 abbrev pub postLines : ℕ → Reader (List (List ℤ))
@@ -112,18 +109,40 @@ restLines a c = do
   n ← lastLine
   return (jobOf a c ps ss n)
 
--- what they are read as, with refusals 4, 5 and 6 behind them
+-- the result that an outcome stands for, where these are the numbers of the lines before the last
+abbrev pub resultOf : List ℤ → List ℤ → List (List ℤ) → List (List ℤ) → Outcome → Result
+resultOf a c ps ss (Outcome.Accepted n) = accepted (jobOf a c ps ss (pos n ∷ []))
+resultOf a c ps ss (Outcome.Refused why) = refused why
+
+-- refusals 4, 5 and 6 of so many posts and stops, or the rounds n
+pub record CheckedAt (area : Rect) (posts stops n : ℕ) (r : Outcome) : Type 0 where
+  pub is : (c : List ℤ) (ps ss : List (List ℤ)) → posts ≡ length ps → stops ≡ length ss →
+      checked (jobOf (areaNumbers area) c ps ss (pos n ∷ [])) ≡ resultOf (areaNumbers area) c ps ss r
+  pub posts-some : {rounds : ℕ} → r ≡ Outcome.Accepted rounds → 1 ≤ posts
+
+-- a refusal, with nothing listed
+abbrev pub noLists : Refusal → Lists
+noLists why = record { outcome = Outcome.Refused why; posts = 0; stops = 0 }
+
+-- posts and stops as arrays hold them, in range, and at least one post
+pub record ListsHeld (posts : ℕ) (px py : List ℤ) (stops : ℕ) (sx sy : List ℤ) (visits : List ℕ) (ps ss : List (List ℤ)) : Type 0 where
+  pub posts-held : PlacesHeld postsLimit posts px py ps
+  pub posts-range : PlacesInRange postsLimit px py posts
+  pub posts-some : 1 ≤ posts
+  pub stops-held : StopsHeld stops sx sy visits ss
+  pub stops-range : PlacesInRange stopsLimit sx sy stops
+  pub visits-range : VisitsInRange visits stops
+
+-- what these lines are read as, with refusals 4, 5 and 6 behind them, whatever the axis costs are; where nothing is refused, the arrays
+-- hold the posts and stops
+pub record ListsAt (s : List ℕ) (at n : ℕ) (area : Rect) (px py sx sy : List ℤ) (visits : List ℕ) (r : Lists) : Type 0 where
+  pub post-lines : List (List ℤ)
+  pub stop-lines : List (List ℤ)
+  pub is : (c : List ℤ) → readingResult (restLines (areaNumbers area) c n (drop at s))
+      ≡ resultOf (areaNumbers area) c post-lines stop-lines (r .outcome)
+  pub held : {rounds : ℕ} → r .outcome ≡ Outcome.Accepted rounds →
+      ListsHeld (r .posts) px py (r .stops) sx sy visits post-lines stop-lines
+
+-- the job that they come to
 pub record RestAt (s : List ℕ) (at n : ℕ) (area : Rect) (costs : AxisCosts) (r : Job) : Type 0 where
   pub is : r ≡ jobRecord (readingResult (restLines (areaNumbers area) (costNumbers costs) n (drop at s)))
-
--- axis costs, posts and stops that were read are in range
-pub record ReadInRange (costs : AxisCosts) (postsRead : Posts) (stopsRead : Stops) : Type 0 where
-  pub axis : CostsInRange (heldAxis costs)
-  pub posts : PlacesInRange postsLimit (postsRead .x) (postsRead .y) (postsRead .count)
-  pub stops : PlacesInRange stopsLimit (stopsRead .x) (stopsRead .y) (stopsRead .count)
-  pub visits : VisitsInRange (stopsRead .visits) (stopsRead .count)
-
--- refusals 4, 5 and 6 of what the lines hold, or the job
-pub record CheckedAt (area : Rect) (costs : AxisCosts) (postsRead : Posts) (stopsRead : Stops) (n : ℕ) (r : Job) : Type 0 where
-  pub is : {ps ss : List (List ℤ)} → PostsHold postsRead ps → StopsHold stopsRead ss →
-      r ≡ jobRecord (checked (jobOf (areaNumbers area) (costNumbers costs) ps ss (pos n ∷ [])))

@@ -13,6 +13,7 @@ use limits::MOST_ROUNDS;
 use limits::POSTS;
 use limits::STOPS;
 use refusal::Refusal;
+ghost use mathlib.Core.List.{[]};
 ghost use mathlib.Core.Path.{_≡_};
 ghost use Prim.Native.Nat.{_+_, _≤_};
 ghost use lib.ListN.{drop};
@@ -23,7 +24,7 @@ ghost use Rattle.job.specs.File.{writesAxis};
 ghost use Rattle.job.specs.Format.{areaOf, emptyArea, readWith, readJob, refused};
 ghost use Rattle.job.specs.JobRecord.{jobRecord};
 ghost use Rattle.job.specs.ManyLines.{postLines, stopLines, allPosts, allStops};
-ghost use Rattle.job.specs.ManyLines.{AxisAt, PostsAt, StopsAt, LastAt, RestAt, ReadInRange, CheckedAt};
+ghost use Rattle.job.specs.ManyLines.{PlacesHeld, StopsHeld, AxisAt, PostsAt, StopsAt, LastAt, CheckedAt, noLists, ListsAt, RestAt};
 
 pub enum Outcome {
     Accepted(u64),
@@ -49,20 +50,17 @@ struct AxisRead {
     line: u64,
 }
 
-// The posts and stops that were read, in the first `count` elements.
-struct Posts {
+// How many posts or stops were read, and where reading goes on.
+struct Listed {
     next: Next,
     count: usize,
-    x: [i64; POSTS],
-    y: [i64; POSTS],
 }
 
-struct Stops {
-    next: Next,
-    count: usize,
-    x: [i64; STOPS],
-    y: [i64; STOPS],
-    visits: [u64; STOPS],
+// The rounds, and how many posts and stops were read, or a refusal.
+struct Lists {
+    outcome: Outcome,
+    posts: usize,
+    stops: usize,
 }
 
 // ---- parts
@@ -92,13 +90,19 @@ fn read_axis(s: &[u8], at: usize, missing: AxisCosts) -> AxisRead
     }
 }
 
-// `count` lines `post=x,y` from line `first` on.
-fn post_lines(s: &[u8], start: usize, count: usize, first: u64) -> Posts
-    requires { ⌜ (count ≤ 64) × (first ≤ 1000) ⌝ }
-    ensures { λ r. ⌜ PostsAt (now (s .entry)) first (postLines count first (drop start (now (s .entry)))) r ⌝ }
+// `count` lines `post=x,y` from line `first` on, into arrays that hold none.
+fn post_lines(
+    s: &[u8],
+    start: usize,
+    count: usize,
+    first: u64,
+    x: &mut [i64; POSTS],
+    y: &mut [i64; POSTS],
+) -> Listed
+    requires { ⌜ (count ≤ 64) × (first ≤ 1000) × PlacesHeld 64 0 (now x) (now y) [] ⌝ }
+    ensures { λ r.
+        ⌜ PostsAt (now (s .entry)) first (postLines count first (drop start (now (s .entry)))) (now (x .exit)) (now (y .exit)) r ⌝ }
 {
-    let mut x = [0i64; POSTS];
-    let mut y = [0i64; POSTS];
     let mut at = start;
     let mut i: usize = 0;
     while i < count {
@@ -110,31 +114,34 @@ fn post_lines(s: &[u8], start: usize, count: usize, first: u64) -> Posts
                 i += 1;
             }
             PostLine::Refused(why) => {
-                return Posts {
+                return Listed {
                     next: Next::Refused(why),
                     count: i,
-                    x,
-                    y,
                 };
             }
         }
     }
-    Posts {
+    Listed {
         next: Next::At(at),
         count: i,
-        x,
-        y,
     }
 }
 
-// `count` lines `stop=x,y,visits` from line `first` on.
-fn stop_lines(s: &[u8], start: usize, count: usize, first: u64) -> Stops
-    requires { ⌜ (count ≤ 512) × (first ≤ 1000) ⌝ }
-    ensures { λ r. ⌜ StopsAt (now (s .entry)) first (stopLines count first (drop start (now (s .entry)))) r ⌝ }
+// `count` lines `stop=x,y,visits` from line `first` on, into arrays that hold none.
+fn stop_lines(
+    s: &[u8],
+    start: usize,
+    count: usize,
+    first: u64,
+    x: &mut [i64; STOPS],
+    y: &mut [i64; STOPS],
+    visits: &mut [u64; STOPS],
+) -> Listed
+    requires { ⌜ (count ≤ 512) × (first ≤ 1000) × StopsHeld 0 (now x) (now y) (now visits) [] ⌝ }
+    ensures { λ r.
+        ⌜ StopsAt (now (s .entry)) first (stopLines count first (drop start (now (s .entry)))) (now (x .exit)) (now (y .exit))
+        (now (visits .exit)) r ⌝ }
 {
-    let mut x = [0i64; STOPS];
-    let mut y = [0i64; STOPS];
-    let mut visits = [0u64; STOPS];
     let mut at = start;
     let mut i: usize = 0;
     while i < count {
@@ -147,61 +154,54 @@ fn stop_lines(s: &[u8], start: usize, count: usize, first: u64) -> Stops
                 i += 1;
             }
             StopLine::Refused(why) => {
-                return Stops {
+                return Listed {
                     next: Next::Refused(why),
                     count: i,
-                    x,
-                    y,
-                    visits,
                 };
             }
         }
     }
-    Stops {
+    Listed {
         next: Next::At(at),
         count: i,
-        x,
-        y,
-        visits,
     }
 }
 
-// The line `posts=n` and the n lines behind it.
-fn read_posts(s: &[u8], at: usize, line: u64) -> Posts
-    requires { ⌜ line ≤ 900 ⌝ }
-    ensures { λ r. ⌜ PostsAt (now (s .entry)) (line + 1) (allPosts line (drop at (now (s .entry)))) r ⌝ }
+// The line `posts=n` and the n lines behind it, into arrays that hold none.
+fn read_posts(s: &[u8], at: usize, line: u64, x: &mut [i64; POSTS], y: &mut [i64; POSTS]) -> Listed
+    requires { ⌜ (line ≤ 900) × PlacesHeld 64 0 (now x) (now y) [] ⌝ }
+    ensures { λ r.
+        ⌜ PostsAt (now (s .entry)) (line + 1) (allPosts line (drop at (now (s .entry)))) (now (x .exit)) (now (y .exit)) r ⌝ }
 {
     match job_line::count_line(s, at, b"posts=", POSTS, line) {
-        CountLine::Read(count, next) => post_lines(s, next, count, line + 1),
-        CountLine::Refused(why) => {
-            let none = [0i64; POSTS];
-            Posts {
-                next: Next::Refused(why),
-                count: 0,
-                x: none,
-                y: none,
-            }
-        }
+        CountLine::Read(count, next) => post_lines(s, next, count, line + 1, x, y),
+        CountLine::Refused(why) => Listed {
+            next: Next::Refused(why),
+            count: 0,
+        },
     }
 }
 
-// The line `stops=n` and the n lines behind it.
-fn read_stops(s: &[u8], at: usize, line: u64) -> Stops
-    requires { ⌜ line ≤ 900 ⌝ }
-    ensures { λ r. ⌜ StopsAt (now (s .entry)) (line + 1) (allStops line (drop at (now (s .entry)))) r ⌝ }
+// The line `stops=n` and the n lines behind it, into arrays that hold none.
+fn read_stops(
+    s: &[u8],
+    at: usize,
+    line: u64,
+    x: &mut [i64; STOPS],
+    y: &mut [i64; STOPS],
+    visits: &mut [u64; STOPS],
+) -> Listed
+    requires { ⌜ (line ≤ 900) × StopsHeld 0 (now x) (now y) (now visits) [] ⌝ }
+    ensures { λ r.
+        ⌜ StopsAt (now (s .entry)) (line + 1) (allStops line (drop at (now (s .entry)))) (now (x .exit)) (now (y .exit))
+        (now (visits .exit)) r ⌝ }
 {
     match job_line::count_line(s, at, b"stops=", STOPS, line) {
-        CountLine::Read(count, next) => stop_lines(s, next, count, line + 1),
-        CountLine::Refused(why) => {
-            let none = [0i64; STOPS];
-            Stops {
-                next: Next::Refused(why),
-                count: 0,
-                x: none,
-                y: none,
-                visits: [0u64; STOPS],
-            }
-        }
+        CountLine::Read(count, next) => stop_lines(s, next, count, line + 1, x, y, visits),
+        CountLine::Refused(why) => Listed {
+            next: Next::Refused(why),
+            count: 0,
+        },
     }
 }
 
@@ -257,30 +257,105 @@ fn refuse(why: Refusal) -> Job
     }
 }
 
-// Refusals 4, 5 and 6, in this order, or the job, with the near of its stops and its before.
-fn check(area: Rect, costs: AxisCosts, posts: Posts, stops: Stops, rounds: u64) -> Job
-    requires { ⌜ ReadInRange costs posts stops ⌝ }
-    ensures { λ r. ⌜ CheckedAt area costs posts stops rounds r ⌝ }
+// Refusals 4, 5 and 6, in this order, or the rounds.
+fn check(area: Rect, posts: usize, stops: usize, rounds: u64) -> Outcome
+    ensures { λ r. ⌜ CheckedAt area posts stops rounds r ⌝ }
 {
     let empty = empty_area(area);
-    let no_posts = posts.count == 0;
-    let no_stops = stops.count == 0;
+    let no_posts = posts == 0;
+    let no_stops = stops == 0;
     if empty {
-        return refuse(Refusal::EmptyArea);
+        return Outcome::Refused(Refusal::EmptyArea);
     }
     if no_posts {
-        return refuse(Refusal::NoPosts);
+        return Outcome::Refused(Refusal::NoPosts);
     }
     if no_stops {
-        return refuse(Refusal::NoStops);
+        return Outcome::Refused(Refusal::NoStops);
     }
-    let post_x = posts.x;
-    let post_y = posts.y;
-    let stop_x = stops.x;
-    let stop_y = stops.y;
-    let visits = stops.visits;
-    let k = posts.count;
-    let n = stops.count;
+    Outcome::Accepted(rounds)
+}
+
+// A refusal, with nothing listed.
+fn no_lists(why: Refusal) -> Lists
+    ensures { λ r. ⌜ r ≡ noLists why ⌝ }
+{
+    Lists {
+        outcome: Outcome::Refused(why),
+        posts: 0,
+        stops: 0,
+    }
+}
+
+// The lines behind those of the area and the axis costs, from line `first` on, into arrays that hold none, and then refusals 4, 5 and 6.
+fn read_lists(
+    s: &[u8],
+    at: usize,
+    first: u64,
+    area: Rect,
+    post_x: &mut [i64; POSTS],
+    post_y: &mut [i64; POSTS],
+    stop_x: &mut [i64; STOPS],
+    stop_y: &mut [i64; STOPS],
+    visits: &mut [u64; STOPS],
+) -> Lists
+    requires { ⌜ (first ≤ 3) × PlacesHeld 64 0 (now «post_x») (now «post_y») []
+        × StopsHeld 0 (now «stop_x») (now «stop_y») (now visits) [] ⌝ }
+    ensures { λ r.
+        ⌜ ListsAt (now (s .entry)) at first area (now («post_x» .exit)) (now («post_y» .exit)) (now («stop_x» .exit))
+        (now («stop_y» .exit)) (now (visits .exit)) r ⌝ }
+{
+    let posts = read_posts(s, at, first, post_x, post_y);
+    let after_posts = posts.next;
+    let at = match after_posts {
+        Next::At(at) => at,
+        Next::Refused(why) => return no_lists(why),
+    };
+    let line = first + 1 + posts.count as u64;
+    let stops = read_stops(s, at, line, stop_x, stop_y, visits);
+    let after_stops = stops.next;
+    let at = match after_stops {
+        Next::At(at) => at,
+        Next::Refused(why) => return no_lists(why),
+    };
+    match last_line(s, at, line + 1 + stops.count as u64) {
+        CountLine::Read(rounds, _) => Lists {
+            outcome: check(area, posts.count, stops.count, rounds as u64),
+            posts: posts.count,
+            stops: stops.count,
+        },
+        CountLine::Refused(why) => no_lists(why),
+    }
+}
+
+// The same, as the job, with the near of its stops and its before.
+fn read_rest(s: &[u8], at: usize, first: u64, area: Rect, costs: AxisCosts) -> Job
+    requires { ⌜ (first ≤ 3) × CostsInRange (heldAxis costs) ⌝ }
+    ensures { λ r. ⌜ RestAt (now (s .entry)) at first area costs r ⌝ }
+{
+    let mut post_x = [0i64; POSTS];
+    let mut post_y = [0i64; POSTS];
+    let mut stop_x = [0i64; STOPS];
+    let mut stop_y = [0i64; STOPS];
+    let mut visits = [0u64; STOPS];
+    let lists = read_lists(
+        s,
+        at,
+        first,
+        area,
+        &mut post_x,
+        &mut post_y,
+        &mut stop_x,
+        &mut stop_y,
+        &mut visits,
+    );
+    let outcome = lists.outcome;
+    let rounds = match outcome {
+        Outcome::Accepted(rounds) => rounds,
+        Outcome::Refused(why) => return refuse(why),
+    };
+    let k = lists.posts;
+    let n = lists.stops;
     let near = deck::nears_of(costs, &post_x, &post_y, k, &stop_x, &stop_y, n);
     let before = deck::before_of(&visits, &near, n);
     Job {
@@ -301,30 +376,6 @@ fn check(area: Rect, costs: AxisCosts, posts: Posts, stops: Stops, rounds: u64) 
             near,
             before,
         },
-    }
-}
-
-// The lines behind those of the area and the axis costs, from line `first` on, and then refusals 4, 5 and 6.
-fn read_rest(s: &[u8], at: usize, first: u64, area: Rect, costs: AxisCosts) -> Job
-    requires { ⌜ (first ≤ 3) × CostsInRange (heldAxis costs) ⌝ }
-    ensures { λ r. ⌜ RestAt (now (s .entry)) at first area costs r ⌝ }
-{
-    let posts = read_posts(s, at, first);
-    let after_posts = posts.next;
-    let at = match after_posts {
-        Next::At(at) => at,
-        Next::Refused(why) => return refuse(why),
-    };
-    let line = first + 1 + posts.count as u64;
-    let stops = read_stops(s, at, line);
-    let after_stops = stops.next;
-    let at = match after_stops {
-        Next::At(at) => at,
-        Next::Refused(why) => return refuse(why),
-    };
-    match last_line(s, at, line + 1 + stops.count as u64) {
-        CountLine::Read(rounds, _) => return check(area, costs, posts, stops, rounds as u64),
-        CountLine::Refused(why) => return refuse(why),
     }
 }
 

@@ -8,7 +8,7 @@ use borrow.Author.Needs.{needs}
 use Rattle.job_line.specs.Kinds.{post}
 use Rattle.job_line.specs.Reading.{postAnswer}
 use Rattle.job.specs.ManyLines.{PlacesHeld}
-use Rattle.job.proofs.PartLaws.{Filled, filled-none, filled-all, filled-refused, filled-more, places-none, places-more}
+use Rattle.job.proofs.PartLaws.{Filled, filled-none, filled-all, filled-refused, filled-more, places-more}
 use Rattle.job.proofs.post_lines.Statement.{statement}
 use Rattle.job.proofs.post_lines.Tie as tie
 
@@ -19,7 +19,7 @@ abbrev μ-loop : tie.MeasureT-loop
 μ-loop s start count first x₀ y₀ at₀ i₀ x y at i = count - i
 
 loop-holds : tie.Need-loop-holds Inv-loop μ-loop
-loop-holds c = (omega arith, filled-none (places-none 64))
+loop-holds c = (omega arith, filled-none (c .before .pre .2))
 
 add-post-line : tie.Need-add-post-line Inv-loop μ-loop
 add-post-line c = omega arith
@@ -30,17 +30,17 @@ post-line-requires c κs = search needs
 enum-known-post-x : tie.Need-enum-known-post-x Inv-loop μ-loop
 enum-known-post-x c = search needs
 
-mul-x : tie.Need-mul-x Inv-loop μ-loop
-mul-x c = omega arith
+mul-post-x : tie.Need-mul-post-x Inv-loop μ-loop
+mul-post-x c = omega arith
 
-array-set-from-x : tie.Need-array-set-from-x Inv-loop μ-loop
-array-set-from-x c = omega arith
+element-set-from-post-x : tie.Need-element-set-from-post-x Inv-loop μ-loop
+element-set-from-post-x c = omega arith
 
-mul-y : tie.Need-mul-y Inv-loop μ-loop
-mul-y c = omega arith
+mul-post-y : tie.Need-mul-post-y Inv-loop μ-loop
+mul-post-y c = omega arith
 
-array-set-from-y : tie.Need-array-set-from-y Inv-loop μ-loop
-array-set-from-y c = omega arith
+element-set-from-post-y : tie.Need-element-set-from-post-y Inv-loop μ-loop
+element-set-from-post-y c = omega arith
 
 add-i : tie.Need-add-i Inv-loop μ-loop
 add-i c = omega arith
@@ -78,10 +78,10 @@ post-lines-spec =
     add-post-line
     post-line-requires
     enum-known-post-x
-    mul-x
-    array-set-from-x
-    mul-y
-    array-set-from-y
+    mul-post-x
+    element-set-from-post-x
+    mul-post-y
+    element-set-from-post-y
     add-i
     loop-less
     loop-again

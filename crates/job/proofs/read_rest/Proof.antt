@@ -1,117 +1,95 @@
--- `job::read_rest` meets its contract: each part is read as its definition says.
+-- `job::read_rest` meets its contract: near and before are found of what was read.
 -- Assumes nothing.
+use mathlib.Core.Path.{sym}
+use native.Mathlib.Omega.{arith}
 use borrow.Author.Needs.{needs}
-use Rattle.job.proofs.FilledLaws.{read-in-range}
-use Rattle.job.proofs.ReadLaws.{rest-posts, rest-stops, rest-last, rest-all}
+use Rattle.job.proofs.PartLaws.{places-none, stops-none}
+use Rattle.job.proofs.FilledLaws.{x-long, y-long, visits-long, nears-range}
+use Rattle.job.proofs.ReadLaws.{rest-refused, rest-accepted}
 use Rattle.job.proofs.read_rest.Statement.{statement}
 use Rattle.job.proofs.read_rest.Tie as tie
 
-read-posts-requires : tie.Need-read-posts-requires
-read-posts-requires c κs = search needs
+read-lists-requires : tie.Need-read-lists-requires
+read-lists-requires c κs = (omega arith, places-none 64, stops-none)
 
-enum-known-after-posts : tie.Need-enum-known-after-posts
-enum-known-after-posts c = search needs
+enum-known-outcome : tie.Need-enum-known-outcome
+enum-known-outcome c = search needs
 
-enum-known-after-posts-2 : tie.Need-enum-known-after-posts-2
-enum-known-after-posts-2 c = search needs
+enum-known-outcome-2 : tie.Need-enum-known-outcome-2
+enum-known-outcome-2 c = search needs
 
 refuse-requires : tie.Need-refuse-requires
 refuse-requires c κs = search needs
 
 returns : tie.Need-returns
-returns c =
-    let p = c .before .before .before .before in
-    rest-posts (p .read-posts .ensures) (c .before .before .after-posts2 .given .1) (c .refuse .ensures)
+returns c = rest-refused _ (c .before .before .before .before .read-lists .ensures) (c .before .before .outcome2 .given .1) (c .refuse .ensures)
 
-add-line : tie.Need-add-line
-add-line c = search needs
+slice-aggregate-nears-of : tie.Need-slice-aggregate-nears-of
+slice-aggregate-nears-of c =
+    let o = c .before .before in
+    let h = o .before .before .read-lists .ensures .held (o .outcome .given .1) in
+    sym (x-long (h .posts-held) (h .posts-range .few))
 
-add-line-2 : tie.Need-add-line-2
-add-line-2 c = search needs
+slice-aggregate-nears-of-2 : tie.Need-slice-aggregate-nears-of-2
+slice-aggregate-nears-of-2 c =
+    let o = c .before .before .before in
+    let h = o .before .before .read-lists .ensures .held (o .outcome .given .1) in
+    sym (y-long (h .posts-held) (h .posts-range .few))
 
-read-stops-requires : tie.Need-read-stops-requires
-read-stops-requires c κs = search needs
+slice-aggregate-nears-of-3 : tie.Need-slice-aggregate-nears-of-3
+slice-aggregate-nears-of-3 c =
+    let o = c .before .before .before .before in
+    let h = o .before .before .read-lists .ensures .held (o .outcome .given .1) in
+    sym (x-long (h .stops-held .places) (h .stops-range .few))
 
-enum-known-after-stops : tie.Need-enum-known-after-stops
-enum-known-after-stops c = search needs
+slice-aggregate-nears-of-4 : tie.Need-slice-aggregate-nears-of-4
+slice-aggregate-nears-of-4 c =
+    let o = c .before .before .before .before .before in
+    let h = o .before .before .read-lists .ensures .held (o .outcome .given .1) in
+    sym (y-long (h .stops-held .places) (h .stops-range .few))
 
-enum-known-after-stops-2 : tie.Need-enum-known-after-stops-2
-enum-known-after-stops-2 c = search needs
+nears-of-requires : tie.Need-nears-of-requires
+nears-of-requires c κs =
+    let o = c .before .before .before .before .before in
+    let h = o .before .before .read-lists .ensures .held (o .outcome .given .1) in
+    (o .before .before .before .before .before .before .before .before .before .pre .1, h .posts-range, h .stops-range, h .posts-some)
 
-refuse-requires-2 : tie.Need-refuse-requires-2
-refuse-requires-2 c κs = search needs
+slice-aggregate-before-of : tie.Need-slice-aggregate-before-of
+slice-aggregate-before-of c =
+    let o = c .before .before .before .before .before .before .before in
+    let h = o .before .before .read-lists .ensures .held (o .outcome .given .1) in
+    sym (visits-long (h .stops-held) (h .stops-range .few))
+
+slice-aggregate-before-of-2 : tie.Need-slice-aggregate-before-of-2
+slice-aggregate-before-of-2 c = search needs
+
+before-of-requires : tie.Need-before-of-requires
+before-of-requires c κs =
+    let o = c .before .before .before .before .before .before .before .before in
+    let h = o .before .before .read-lists .ensures .held (o .outcome .given .1) in
+    (h .visits-range, nears-range (h .stops-range) (c .before .before .nears-of .ensures), h .stops-range .few)
 
 returns-2 : tie.Need-returns-2
 returns-2 c =
-    let s = c .before .before .before .before in
-    let p = s .before .before .before .before in
-    rest-stops (p .read-posts .ensures) (s .before .before .after-posts .given .1) (s .read-stops .ensures) (c .before .before .after-stops2 .given .1)
-    (c .refuse2 .ensures)
-
-add-last-line : tie.Need-add-last-line
-add-last-line c = search needs
-
-add-last-line-2 : tie.Need-add-last-line-2
-add-last-line-2 c = search needs
-
-last-line-requires : tie.Need-last-line-requires
-last-line-requires c κs = search needs
-
-enum-known-rounds : tie.Need-enum-known-rounds
-enum-known-rounds c = search needs
-
-check-requires : tie.Need-check-requires
-check-requires c κs =
-    let l = c .before .before .before in
-    let s = l .before .before .before .before in
-    let p = s .before .before .before .before in
-    read-in-range _ _ _ _ (p .before .before .pre .1) (p .read-posts .ensures) (s .before .before .after-posts .given .1) (s .read-stops .ensures)
-    (l .before .before .after-stops .given .1)
-
-returns-3 : tie.Need-returns-3
-returns-3 c =
-    let l = c .before .before .before .before in
-    let s = l .before .before .before .before in
-    let p = s .before .before .before .before in
-    rest-all (p .read-posts .ensures) (s .before .before .after-posts .given .1) (s .read-stops .ensures) (l .before .before .after-stops .given .1)
-    (l .last-line .ensures) (c .before .before .rounds .given .1) (c .check .ensures)
-
-enum-known-why : tie.Need-enum-known-why
-enum-known-why c = search needs
-
-refuse-requires-3 : tie.Need-refuse-requires-3
-refuse-requires-3 c κs = search needs
-
-returns-4 : tie.Need-returns-4
-returns-4 c =
-    let l = c .before .before .before .before in
-    let s = l .before .before .before .before in
-    let p = s .before .before .before .before in
-    rest-last (p .read-posts .ensures) (s .before .before .after-posts .given .1) (s .read-stops .ensures) (l .before .before .after-stops .given .1)
-    (l .last-line .ensures) (c .before .before .why .given .1) (c .refuse3 .ensures)
+    let o = c .before .before .before .before .before .before .before .before .before .before in
+    rest-accepted _ (o .before .before .read-lists .ensures) (search needs) (search needs) (search needs) (search needs) (o .outcome .given .1)
+    (c .before .before .before .before .nears-of .ensures) (c .before .before-of .ensures)
 
 pub read-rest-spec : {M : Type 1} → statement M
 read-rest-spec =
     tie.close
     (tie.spec
-    read-posts-requires
-    enum-known-after-posts
-    enum-known-after-posts-2
+    read-lists-requires
+    enum-known-outcome
+    enum-known-outcome-2
     refuse-requires
     returns
-    add-line
-    add-line-2
-    read-stops-requires
-    enum-known-after-stops
-    enum-known-after-stops-2
-    refuse-requires-2
-    returns-2
-    add-last-line
-    add-last-line-2
-    last-line-requires
-    enum-known-rounds
-    check-requires
-    returns-3
-    enum-known-why
-    refuse-requires-3
-    returns-4)
+    slice-aggregate-nears-of
+    slice-aggregate-nears-of-2
+    slice-aggregate-nears-of-3
+    slice-aggregate-nears-of-4
+    nears-of-requires
+    slice-aggregate-before-of
+    slice-aggregate-before-of-2
+    before-of-requires
+    returns-2)

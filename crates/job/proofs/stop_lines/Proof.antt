@@ -7,7 +7,7 @@ use borrow.Author.Needs.{needs}
 use Rattle.job_line.specs.Kinds.{stop}
 use Rattle.job_line.specs.Reading.{stopAnswer}
 use Rattle.job.specs.ManyLines.{StopsHeld}
-use Rattle.job.proofs.PartLaws.{Filled, filled-none, filled-all, filled-refused, filled-more, stops-none, stops-more}
+use Rattle.job.proofs.PartLaws.{Filled, filled-none, filled-all, filled-refused, filled-more, stops-more}
 use Rattle.job.proofs.stop_lines.Statement.{statement}
 use Rattle.job.proofs.stop_lines.Tie as tie
 
@@ -18,7 +18,7 @@ abbrev μ-loop : tie.MeasureT-loop
 μ-loop s start count first x₀ y₀ visits₀ at₀ i₀ x y visits at i = count - i
 
 loop-holds : tie.Need-loop-holds Inv-loop μ-loop
-loop-holds c = (omega arith, filled-none stops-none)
+loop-holds c = (omega arith, filled-none (c .before .pre .2))
 
 add-stop-line : tie.Need-add-stop-line Inv-loop μ-loop
 add-stop-line c = omega arith
@@ -29,23 +29,23 @@ stop-line-requires c κs = search needs
 enum-known-stop-x : tie.Need-enum-known-stop-x Inv-loop μ-loop
 enum-known-stop-x c = search needs
 
-mul-x : tie.Need-mul-x Inv-loop μ-loop
-mul-x c = omega arith
+mul-stop-x : tie.Need-mul-stop-x Inv-loop μ-loop
+mul-stop-x c = omega arith
 
-array-set-from-x : tie.Need-array-set-from-x Inv-loop μ-loop
-array-set-from-x c = omega arith
+element-set-from-stop-x : tie.Need-element-set-from-stop-x Inv-loop μ-loop
+element-set-from-stop-x c = omega arith
 
-mul-y : tie.Need-mul-y Inv-loop μ-loop
-mul-y c = omega arith
+mul-stop-y : tie.Need-mul-stop-y Inv-loop μ-loop
+mul-stop-y c = omega arith
 
-array-set-from-y : tie.Need-array-set-from-y Inv-loop μ-loop
-array-set-from-y c = omega arith
+element-set-from-stop-y : tie.Need-element-set-from-stop-y Inv-loop μ-loop
+element-set-from-stop-y c = omega arith
 
 mul-visits : tie.Need-mul-visits Inv-loop μ-loop
 mul-visits c = omega arith
 
-array-write-visits : tie.Need-array-write-visits Inv-loop μ-loop
-array-write-visits c = omega arith
+element-write-visits : tie.Need-element-write-visits Inv-loop μ-loop
+element-write-visits c = omega arith
 
 add-i : tie.Need-add-i Inv-loop μ-loop
 add-i c = omega arith
@@ -83,12 +83,12 @@ stop-lines-spec =
     add-stop-line
     stop-line-requires
     enum-known-stop-x
-    mul-x
-    array-set-from-x
-    mul-y
-    array-set-from-y
+    mul-stop-x
+    element-set-from-stop-x
+    mul-stop-y
+    element-set-from-stop-y
     mul-visits
-    array-write-visits
+    element-write-visits
     add-i
     loop-less
     loop-again
