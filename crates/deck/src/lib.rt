@@ -13,7 +13,7 @@ ghost use mathlib.Core.List.{[], map};
 ghost use Prim.Native.Nat.{_+_, _≤_};
 ghost use lib.IntN.{pos, natAbs};
 ghost use lib.Signed.{ltZ};
-ghost use lib.ListN.{length, take, drop};
+ghost use lib.ListN.{length, take, drop, replicate};
 ghost use lib.Seq.{paste};
 ghost use Rattle.numbers.specs.Integer.{dist, times};
 ghost use Rattle.query.specs.Deck.{plain};
@@ -228,29 +228,28 @@ pub fn before_of<'a>(visits: &'a [u64], near: &'a [u64], n: usize) -> u64
     sum
 }
 
-// What pricing needs of a record's axis costs and stops: the columns of its objects, scaled x and y, visits and near as it holds them, from
-// 0, 512, 1,024 and 1,536 on, with 0 behind the last of each, and the axis costs behind them.
-pub fn columns_of<'a>(
+// Puts what pricing needs of a record's axis costs and stops into an array of zeros: the columns of its objects, scaled x and y, visits and
+// near as it holds them, from 0, 512, 1,024 and 1,536 on, with 0 behind the last of each, and the axis costs behind them.
+pub fn put_columns<'a>(
     axis: AxisCosts,
     x: &'a [i64],
     y: &'a [i64],
     visits: &'a [u64],
     near: &'a [u64],
     n: usize,
-) -> [i32; COLUMNS]
+    columns: &mut [i32],
+)
     requires { ⌜ CostsInRange (heldAxis axis) × PlacesInRange 512 (now x) (now y) n × VisitsInRange (now visits) n
-        × NearsInRange (now near) n ⌝ }
-    ensures { λ r. ⌜ r
+        × NearsInRange (now near) n × (now columns ≡ replicate 2050 (pos 0)) ⌝ }
+    ensures { λ _. ⌜ now (columns .exit)
         ≡ columnsOf (storedPricing (heldAxis axis) (now (x .entry)) (now (y .entry)) (now (visits .entry)) (now (near .entry)) n) ⌝ }
 {
     let a = axis.a as i32;
     let b = axis.b as i32;
-    let mut columns = [0i32; COLUMNS];
-    copy_coordinates(x, a, &mut columns, 0, n);
-    copy_coordinates(y, b, &mut columns, Y_COLUMN, n);
-    copy_naturals(visits, &mut columns, VISITS_COLUMN, n);
-    copy_naturals(near, &mut columns, NEAR_COLUMN, n);
+    copy_coordinates(x, a, columns, 0, n);
+    copy_coordinates(y, b, columns, Y_COLUMN, n);
+    copy_naturals(visits, columns, VISITS_COLUMN, n);
+    copy_naturals(near, columns, NEAR_COLUMN, n);
     columns[X_COST] = a;
     columns[Y_COST] = b;
-    columns
 }

@@ -1,3 +1,2 @@
 pub mod LineCounts
-pub mod ReadJob
 pub mod EstimateLaws

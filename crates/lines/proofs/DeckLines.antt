@@ -16,8 +16,7 @@ use Rattle.query.specs.Reach.{reach}
 use Rattle.query.specs.Lines.{stopCoordinates, lines, gaps}
 use Rattle.query.proofs.LineLaws.{lines-law}
 use Rattle.numbers.specs.Padded.{padded}
-use Rattle.lines.specs.LineRecord.{LinesInOrder, Lined, flagged, marked, linesBetween, linesRecord}
-use Rattle.lines.specs.declared.Lines.{Lines}
+use Rattle.lines.specs.LineRecord.{LinesInOrder, Lined, Lines, flagged, marked, linesBetween, linesRecord}
 use Rattle.lines.proofs.LineRecordLaws.{linesBetween-length, record-front}
 use Rattle.numbers.proofs.Padded.{padded-front}
 

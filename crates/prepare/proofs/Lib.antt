@@ -1,3 +1,4 @@
 pub mod Coordinates
+pub mod JobProblem
 pub mod MadeProblem
 pub mod RecordParts

@@ -20,8 +20,7 @@ use Rattle.reach.specs.ObjectReach.{flagsOf}
 use Rattle.reach.specs.Columns.{Priceable, Ranged}
 use Rattle.reach.proofs.ReachLaws.{flags-law}
 use Rattle.reach.proofs.RecordLaws.{made-priceable, made-pricing}
-use Rattle.lines.specs.LineRecord.{marked, linesBetween, linesRecord}
-use Rattle.lines.specs.declared.Lines.{Lines}
+use Rattle.lines.specs.LineRecord.{Lines, marked, linesBetween, linesRecord}
 use Rattle.lines.proofs.DeckLines.{coordinates, reached, lines-marked, padded-reached}
 use Rattle.numbers.proofs.WordTests.{back}
 use Rattle.prepare.specs.declared.Problem.{Problem}

@@ -1,8 +1,10 @@
 -- The parts of the record of a deck's problem.
 -- Assumes nothing.
 use mathlib.Core.Path.{_≡_, sym, ap, _∙_}
+use Prim.Native.Nat.{_≤_}
+use native.Mathlib.Omega.{arith}
 use lib.IntN.{pos}
-use lib.ListN.{length, take}
+use lib.ListN.{length, take, length-take}
 use Rattle.numbers.proofs.Padded.{padded-front}
 use Rattle.query.specs.Place.{x-axis, y-axis}
 use Rattle.query.specs.Deck as Query
@@ -48,3 +50,9 @@ module _ (deck : Query.Deck) (p : Problem) (e : p ≡ problemRecord deck) where
 
   pub horizontal-taken : p .nh ≡ length (take (p .nh) (p .h))
   horizontal-taken = horizontal-count ∙ sym (ap length record-horizontal)
+
+  pub vertical-within : p .nv ≤ length (p .v)
+  vertical-within = omega (arith, vertical-taken, length-take (p .nv) (p .v))
+
+  pub horizontal-within : p .nh ≤ length (p .h)
+  horizontal-within = omega (arith, horizontal-taken, length-take (p .nh) (p .h))

@@ -1,13 +1,13 @@
-// The problem of a deck as both searches and the estimate take it, prepared once for each call: its area, the columns of its objects and
-// its lines.
-use deck::Deck;
+// The problem of a job's deck as both searches and the estimate take it, prepared once for each call: its area, the columns of its objects
+// and its lines.
 use deck::Rect;
+use job::Outcome;
 use limits::COLUMNS;
 use limits::LINES;
+use refusal::Refusal;
 ghost use mathlib.Core.Path.{_≡_};
-ghost use Rattle.deck.specs.DeckOf.{deckOf};
-ghost use Rattle.deck.specs.Sound.{Sound};
-ghost use Rattle.prepare.specs.ProblemRecord.{problemRecord};
+ghost use Rattle.job.specs.Format.{readJob};
+ghost use Rattle.prepare.specs.ProblemRecord.{Cleared, givenBy, givenFor, refusedParts};
 
 // The problem of a deck: its area; the columns of its `count` objects; `nv` vertical lines in `v` and `nh` horizontal ones in `h`, in
 // increasing order, with 0 behind them.
@@ -21,38 +21,75 @@ pub struct Problem {
     pub h: [i64; LINES],
 }
 
-// The problem of a sound record's deck, with near as the record holds it.
-pub fn of_deck(deck: Deck) -> Problem
-    requires { ⌜ Sound deck ⌝ }
-    ensures { λ r. ⌜ r ≡ problemRecord (deckOf deck) ⌝ }
+// What a job gives besides the arrays of its deck's problem: the rounds or the refusal, what is paid before, the area and the counts.
+pub struct Parts {
+    pub outcome: Outcome,
+    pub before: u64,
+    pub area: Rect,
+    pub count: usize,
+    pub nv: usize,
+    pub nh: usize,
+}
+
+fn refuse(why: Refusal) -> Parts
+    ensures { λ r. ⌜ r ≡ refusedParts why ⌝ }
 {
-    let n = deck.stops;
+    Parts {
+        outcome: Outcome::Refused(why),
+        before: 0,
+        area: Rect {
+            xlo: 0,
+            ylo: 0,
+            xhi: 0,
+            yhi: 0,
+        },
+        count: 0,
+        nv: 0,
+        nh: 0,
+    }
+}
+
+// Reads a job, and puts the columns of its deck's objects and its lines into arrays of zeros; they stay so where the job is refused.
+pub fn of_job(
+    bytes: &[u8],
+    columns: &mut [i32; COLUMNS],
+    v: &mut [i64; LINES],
+    h: &mut [i64; LINES],
+) -> Parts
+    requires { ⌜ Cleared (now columns) (now v) (now h) ⌝ }
+    ensures { λ r. ⌜ givenBy r (now (columns .exit)) (now (v .exit)) (now (h .exit)) ≡ givenFor (readJob (now (bytes .entry))) ⌝ }
+{
+    let j = job::read(bytes);
+    let outcome = j.outcome;
+    match outcome {
+        Outcome::Accepted(_) => {}
+        Outcome::Refused(why) => return refuse(why),
+    }
+    let n = j.deck.stops;
     let area = Rect {
-        xlo: deck.xlo,
-        ylo: deck.ylo,
-        xhi: deck.xhi,
-        yhi: deck.yhi,
+        xlo: j.deck.xlo,
+        ylo: j.deck.ylo,
+        xhi: j.deck.xhi,
+        yhi: j.deck.yhi,
     };
-    let columns = deck::columns_of(
-        deck.axis,
-        &deck.stop_x,
-        &deck.stop_y,
-        &deck.visits,
-        &deck.near,
+    deck::put_columns(
+        j.deck.axis,
+        &j.deck.stop_x,
+        &j.deck.stop_y,
+        &j.deck.visits,
+        &j.deck.near,
         n,
+        columns,
     );
-    let flags = reach::reach_flags(&columns, n, area);
-    let vertical = lines::find_lines(&deck.stop_x, &flags, n, area.xlo, area.xhi);
-    let horizontal = lines::find_lines(&deck.stop_y, &flags, n, area.ylo, area.yhi);
-    let v = vertical.at;
-    let h = horizontal.at;
-    Problem {
+    let flags = reach::reach_flags(columns, n, area);
+    let nv = lines::find_lines(&j.deck.stop_x, &flags, n, area.xlo, area.xhi, v);
+    let nh = lines::find_lines(&j.deck.stop_y, &flags, n, area.ylo, area.yhi, h);
+    Parts {
+        outcome,
+        before: j.deck.before,
         area,
         count: n,
-        columns,
-        nv: vertical.count,
-        v,
-        nh: horizontal.count,
-        h,
+        nv,
+        nh,
     }
 }

@@ -12,10 +12,9 @@ use Rattle.query.specs.Bound.{span, bound}
 use Rattle.query.specs.Reach.{load}
 use Rattle.query.specs.Grid.{grid}
 use Rattle.query.specs.Problem.{problem}
+use Rattle.query.specs.Range.{InRange}
 use Rattle.query.proofs.BoundLaws.{bound-is, cornerSum-is}
-use Rattle.deck.specs.declared.Deck.{Deck}
 use Rattle.deck.specs.declared.Rect.{Rect}
-use Rattle.deck.specs.DeckOf.{deckOf}
 use Rattle.deck.specs.Rectangle.{rectOf}
 use Rattle.deck.specs.Objects.{Pricing, pricingOf}
 use Rattle.deck.specs.ObjectColumns.{columnsOf, pricingIn}
@@ -26,7 +25,6 @@ use Rattle.pricing.proofs.ObjectLaws.{cost-law, load-law}
 use Rattle.lines.specs.LineRecord.{LinesInOrder, Lined, gridOf}
 use Rattle.lines.proofs.DeckLines.{deck-lined}
 use Rattle.prepare.specs.declared.Problem.{Problem}
-use Rattle.deck.specs.Sound.{Sound}
 use Rattle.prepare.specs.ProblemRecord.{problemRecord}
 use Rattle.prepare.proofs.RecordParts.{record-columns, record-count, record-vertical, record-horizontal, record-area}
 use Rattle.problem.specs.ObjectProblem.{boundOf, objectProblem}
@@ -87,16 +85,16 @@ module _ {columns : List ℤ} {n : ℕ} {v h : List ℤ} {area : Rect} (prepared
   pub prepared-problem : problemOf columns n v h area ≡ problem deck
   prepared-problem = (λ i. objectProblem (prepared-pricing i) (prepared-grid i) (prepared .area-is i)) ∙ deck-problem deck
 
--- ---- the problem of a sound record was prepared
-abbrev pub sound-prepared : (deck : Deck) → Sound deck → (p : Problem) → p ≡ problemRecord (deckOf deck) →
+-- ---- the problem that was made of a deck in range was prepared
+abbrev pub made-prepared : (deck : Query.Deck) → InRange deck → Place.NonEmpty (deck .area) → (p : Problem) → p ≡ problemRecord deck →
     Prepared (p .columns) (p .count) (take (p .nv) (p .v)) (take (p .nh) (p .h)) (p .area)
-sound-prepared deck h p e = record {
-  deck = deckOf deck;
-  range = h .range;
-  full = h .full;
-  columns-are = record-columns (deckOf deck) p e;
-  count-is = record-count (deckOf deck) p e;
-  vertical-are = record-vertical (deckOf deck) p e;
-  horizontal-are = record-horizontal (deckOf deck) p e;
-  area-is = record-area (deckOf deck) p e;
+made-prepared deck range full p e = record {
+  deck = deck;
+  range = range;
+  full = full;
+  columns-are = record-columns deck p e;
+  count-is = record-count deck p e;
+  vertical-are = record-vertical deck p e;
+  horizontal-are = record-horizontal deck p e;
+  area-is = record-area deck p e;
 }

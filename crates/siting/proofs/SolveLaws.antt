@@ -19,30 +19,26 @@ use Rattle.query.specs.Figures as Figures
 use Rattle.query.specs.Figures.{figures, figuresOf}
 use Rattle.query.specs.Estimate as Estimate
 use Rattle.query.specs.Space.{allNumbers, space, spaceNeeded}
-use Rattle.query.specs.Range.{costLimit, FiguresInRange}
+use Rattle.query.specs.Cost.{before}
+use Rattle.query.specs.Range.{costLimit, InRange, FiguresInRange}
 use Rattle.query.proofs.EstimateLaws.{needs-most}
 use Rattle.query.proofs.SpaceLaws.{space-law}
 use Rattle.query.proofs.Ranges.{figure-limits}
 use Rattle.query.proofs.FigureRanges.{run-in-range}
 use Rattle.job.specs.Format.{Job, accepted, readJob}
-use Rattle.job.specs.JobRecord.{jobRecord}
-use Rattle.job.specs.declared.Job as Read
 use Rattle.job.specs.declared.Outcome.the-variants.{Accepted}
-use Rattle.job.proofs.ReadDeck.{read-deckOf}
+use Rattle.job.proofs.ReadDeck.{Spelt, spelt-range}
 use Rattle.refusal.specs.declared.Refusal.{Refusal}
 use Rattle.refusal.specs.declared.Refusal.the-variants.{SmallSpace, ShortOutput}
-use Rattle.deck.specs.declared.Deck.{Deck}
 use Rattle.deck.specs.declared.Rect.{Rect}
-use Rattle.deck.specs.DeckOf.{deckOf}
-use Rattle.deck.specs.Sound.{Sound}
 use Rattle.deck.specs.ObjectColumns.{pricingIn}
-use Rattle.deck.proofs.SoundLaws.{sound-before}
 use Rattle.pricing.specs.ObjectFigures.{beforeOf, Figure}
 use Rattle.pricing.proofs.ObjectLaws.{before-law}
-use Rattle.prepare.specs.declared.Problem as Made
-use Rattle.prepare.specs.ProblemRecord.{problemRecord}
+use Rattle.prepare.specs.declared.Parts.{Parts}
+use Rattle.prepare.specs.ProblemRecord.{problemRecord, givenBy, givenFor}
+use Rattle.prepare.proofs.JobProblem.{spelt, rounds-same, rounds-limit, before-same, problem-same}
 use Rattle.problem.specs.Prepared.{problemOf, Prepared}
-use Rattle.problem.proofs.DeckProblem.{prepared-pricing, prepared-problem, sound-prepared}
+use Rattle.problem.proofs.DeckProblem.{prepared-pricing, prepared-problem, made-prepared}
 use Rattle.report.specs.Report.{reportState, reportFigures}
 use Rattle.report.specs.Text.{reportText}
 use Rattle.write.specs.Written.{overwritten, Overwrote}
@@ -56,9 +52,8 @@ use Rattle.calls.specs.declared.Estimate as Held
 use Rattle.calls.specs.Answers.{gives, estimateNumbers}
 use Rattle.calls.specs.Call.{Left, turnedDown, reported, answered, reportCall}
 use Rattle.calls.proofs.Demands.{more-rounds, call-of, small-answer, short-answer, report-answer}
-use Rattle.estimate.specs.LineCounts.{estimateBy}
-use Rattle.estimate.proofs.ReadJob.{spelt, rounds-same}
-use Rattle.estimate.proofs.EstimateLaws.{deck-estimate}
+use Rattle.estimate.specs.LineCounts.{LineCounts, estimateBy}
+use Rattle.estimate.proofs.EstimateLaws.{deck-estimate, job-counts}
 use Rattle.siting.specs.declared.Response.{Response}
 use Rattle.siting.specs.Response.{stateFor, Solved, refusedResponse, Responded}
 
@@ -125,78 +120,89 @@ reported-is : (job : Job) (cells cells′ : List ℤ) (out out′ : List ℕ) (r
 unfolding reported
 reported-is job cells cells′ out out′ r text e f g h = rw (h, g, f, e)
 
--- a sound record whose problem was made
-module _ (deck : Deck) (h : Sound deck) (p : Made.Problem) (e : p ≡ problemRecord (deckOf deck)) where
-  -- what the exhaustive search asks of the record's before
-  pub before-figure : Figure (beforeOf (pricingIn (p .columns) (p .count))) costLimit (deck .before)
+-- ---- an accepted job that was prepared
+module _ (bytes : List ℕ) {p : Parts} {columns v h : List ℤ} (e : givenBy p columns v h ≡ givenFor (readJob bytes)) {rounds : ℕ}
+    (o : p .outcome ≡ Accepted rounds) where
+  abbrev pub spells : Spelt bytes
+  spells = spelt bytes p e rounds o
+
+  abbrev deck : Query.Deck
+  deck = spells .job .deck
+
+  abbrev range : InRange deck
+  range = spelt-range spells
+
+  pub made : givenBy p columns v h .problem ≡ problemRecord deck
+  made = problem-same bytes p e rounds o
+
+  abbrev pub prepared : Prepared columns (p .count) (take (p .nv) v) (take (p .nh) h) (p .area)
+  prepared = made-prepared deck range (spells .allowed .area-full) _ made
+
+  abbrev held : Problem
+  held = problemOf columns (p .count) (take (p .nv) v) (take (p .nh) h) (p .area)
+
+  paid : p .before ≡ before deck
+  paid = before-same bytes p e rounds o
+
+  -- what the exhaustive search asks of what is paid before
+  pub before-figure : Figure (beforeOf (pricingIn columns (p .count))) costLimit (p .before)
   before-figure = record {
-    is = sound-before h ∙ sym (ap beforeOf (prepared-pricing (sound-prepared deck h p e)) ∙ before-law (deckOf deck));
-    within = rw (sound-before h) (figure-limits (deckOf deck) (h .range) .before-limit);
+    is = paid ∙ sym (ap beforeOf (prepared-pricing prepared) ∙ before-law deck);
+    within = rw paid (figure-limits deck range .before-limit);
   }
 
--- the same, and rounds
-module _ (deck : Deck) (h : Sound deck) (p : Made.Problem) (e : p ≡ problemRecord (deckOf deck)) (n : ℕ) (few : n ≤ 1000) where
-  abbrev held : Problem
-  held = problemOf (p .columns) (p .count) (take (p .nv) (p .v)) (take (p .nh) (p .h)) (p .area)
+  pub counted : LineCounts (p .nv) (p .nh) rounds
+  counted = job-counts bytes p e rounds o
 
-  abbrev job : Job
-  job = record { deck = deckOf deck; rounds = n }
-
-  problem-is : held ≡ problem (deckOf deck)
-  problem-is = prepared-problem (sound-prepared deck h p e)
+  -- what is answered is what the call answers
+  call-is : (cells : List ℤ) (out : List ℕ) → answered (accepted (record { deck = deck; rounds = rounds })) cells out ≡ reportCall bytes cells out
+  call-is cells out =
+      ap (λ (n : ℕ). answered (accepted (record { deck = deck; rounds = n })) cells out) (rounds-same bytes p e rounds o)
+      ∙ sym (call-of bytes cells out (accepted (spells .job)) (spells .read))
 
   -- refusals 7 and 8, and the room that a search has without them
-  module _ (needs : Held.Estimate) (f : estimateNumbers needs ≡ estimateBy (p .nv) (p .nh) n) where
-    space-is : 5 * needs .cells ≡ spaceNeeded (deckOf deck) n
+  module _ (needs : Held.Estimate) (f : estimateNumbers needs ≡ estimateBy (p .nv) (p .nh) rounds) where
+    space-is : 5 * needs .cells ≡ spaceNeeded deck rounds
     unfolding Estimate.estimate
-    space-is = ap (λ (x : Estimate.Estimate). 5 * x .cells) (f ∙ deck-estimate deck p e n)
+    space-is = ap (λ (x : Estimate.Estimate). 5 * x .cells) (f ∙ deck-estimate deck _ made rounds)
 
     pub few-cells : needs .cells ≤ 1001
-    few-cells = omega (arith, space-is, needs-most (deckOf deck) n)
+    few-cells = omega (arith, space-is, needs-most deck rounds, rounds-limit bytes p e rounds o)
 
-    pub small : (cells : List ℤ) (out : List ℕ) → length cells < 5 * needs .cells → answered (accepted job) cells out ≡ turnedDown SmallSpace cells out
-    small cells out g = small-answer job cells out (omega (arith, space-is))
+    pub small : (cells : List ℤ) (out : List ℕ) → length cells < 5 * needs .cells → reportCall bytes cells out ≡ turnedDown SmallSpace cells out
+    small cells out g = sym (call-is cells out) ∙ small-answer _ cells out (omega (arith, space-is))
 
     pub short : (cells : List ℤ) (out : List ℕ) → 5 * needs .cells ≤ length cells → length out < 128 →
-        answered (accepted job) cells out ≡ turnedDown ShortOutput cells out
-    short cells out g k = short-answer job cells out (omega (arith, space-is)) k
+        reportCall bytes cells out ≡ turnedDown ShortOutput cells out
+    short cells out g k = sym (call-is cells out) ∙ short-answer _ cells out (omega (arith, space-is)) k
 
-    pub room : (lent : ℕ) → 5 * needs .cells ≤ lent → Room held n lent
+    pub room : (lent : ℕ) → 5 * needs .cells ≤ lent → Room held rounds lent
     room lent g = record {
-      rounds-limit = few;
-      room = subst (λ (q : Problem). length (allNumbers (run q n .live)) ≤ lent) (sym problem-is) (omega (arith, space-is, space-law (deckOf deck) n .numbers));
+      rounds-limit = rounds-limit bytes p e rounds o;
+      room = subst (λ (q : Problem). length (allNumbers (run q rounds .live)) ≤ lent) (sym (prepared-problem prepared))
+          (omega (arith, space-is, space-law deck rounds .numbers));
     }
 
-    module _ (cells cells′ : List ℤ) (r : Report) (s : Solved held (deck .before) n cells cells′ r) where
-      solved-figures : reportFigures r ≡ figures (deckOf deck) n
+    module _ (cells cells′ : List ℤ) (r : Report) (s : Solved held (p .before) rounds cells cells′ r) where
+      solved-figures : reportFigures r ≡ figures deck rounds
       unfolding figures
-      solved-figures = s .report ∙ ap₂ (λ (b : ℕ) (q : Problem). figuresOf b (run q n)) (sound-before h) problem-is
+      solved-figures = s .report ∙ ap₂ (λ (b : ℕ) (q : Problem). figuresOf b (run q rounds)) paid (prepared-problem prepared)
 
-      solved-cells : cells′ ≡ space (deckOf deck) n (length cells)
+      solved-cells : cells′ ≡ space deck rounds (length cells)
       unfolding space
-      solved-cells = s .cells ∙ ap (λ (q : Problem). padded (length cells) (pos 0) (allNumbers (run q n .live))) problem-is
+      solved-cells = s .cells ∙ ap (λ (q : Problem). padded (length cells) (pos 0) (allNumbers (run q rounds .live))) (prepared-problem prepared)
 
       pub report-limits : FiguresInRange 1000 (reportFigures r)
-      report-limits = subst (FiguresInRange 1000) (sym solved-figures) (more-rounds (run-in-range (deckOf deck) (h .range) (h .full) n .figures-range) few)
+      report-limits = subst (FiguresInRange 1000) (sym solved-figures)
+          (more-rounds (run-in-range deck range (spells .allowed .area-full) rounds .figures-range) (rounds-limit bytes p e rounds o))
 
       pub respond-reported : (out out′ : List ℕ) (m : ℕ) → 5 * needs .cells ≤ length cells → 128 ≤ length out →
           Overwrote out (reportText (reportFigures r)) out′ m →
-          Responded (answered (accepted job) cells out) out cells′ out′ (record { answer = Answered.Report r; bytes = m })
-      respond-reported out out′ m g k o = record {
+          Responded (reportCall bytes cells out) out cells′ out′ (record { answer = Answered.Report r; bytes = m })
+      respond-reported out out′ m g k w = record {
         left =
-            reported-is job cells cells′ out out′ r (reportText (reportFigures r)) solved-figures solved-cells (ap reportText solved-figures) (o .content)
-            ∙ sym (report-answer job cells out (omega (arith, space-is)) k);
-        filled = o;
-        few = omega (arith, o .number, report-fits .report-fits (reportFigures r) report-limits);
+            reported-is _ cells cells′ out out′ r (reportText (reportFigures r)) solved-figures solved-cells (ap reportText solved-figures) (w .content)
+            ∙ sym (report-answer _ cells out (omega (arith, space-is)) k) ∙ call-is cells out;
+        filled = w;
+        few = omega (arith, w .number, report-fits .report-fits (reportFigures r) report-limits);
       }
-
--- an accepted job, as it was read
-pub respond-accepted : (job : List ℕ) (cells : List ℤ) (out : List ℕ) (j : Read.Job) (e : j ≡ jobRecord (readJob job)) (rounds : ℕ)
-    (o : j .outcome ≡ Accepted rounds) (cells′ : List ℤ) (out′ : List ℕ) (r : Response) →
-    Responded (answered (accepted (record { deck = deckOf (j .deck); rounds = rounds })) cells out) out cells′ out′ r →
-    Responded (reportCall job cells out) out cells′ out′ r
-respond-accepted job cells out j e rounds o cells′ out′ r =
-    let s = spelt job j e rounds o in
-    subst (λ (call : Left). Responded call out cells′ out′ r)
-    (ap₂ (λ (d : Query.Deck) (n : ℕ). answered (accepted (record { deck = d; rounds = n })) cells out) (read-deckOf s j e) (rounds-same job j e rounds o)
-    ∙ sym (call-of job cells out (accepted (s .job)) (s .read)))

@@ -11,9 +11,9 @@ use job::Outcome;
 use job_check::Checked;
 use limits::CELL_NUMBERS;
 use limits::COLUMNS;
+use limits::LINES;
 use limits::REPORT_BYTES;
 use limits::SPACE;
-use problem::Spot;
 use refusal::Refusal;
 use report::Report;
 use report::State;
@@ -22,20 +22,13 @@ ghost use Prim.Native.Nat.{_≤_};
 ghost use mathlib.Core.Path.{_≡_};
 ghost use lib.ListN.{length};
 ghost use Rattle.calls.specs.Answers.{reportAnswer, cheapestAnswer, estimatedAnswer, readAnswer, writtenAnswer};
-ghost use Rattle.calls.specs.Call.{answered, reportCall};
+ghost use Rattle.calls.specs.Call.{reportCall};
 ghost use Rattle.calls.specs.Entry.{entry};
 ghost use Rattle.calls.specs.Program.{answerText, textRecord};
 ghost use Rattle.calls.specs.CheapestCall.{exhaustiveCall};
 ghost use Rattle.calls.specs.EstimateCall.{estimateCall};
 ghost use Rattle.calls.specs.ReadCall.{readCall};
 ghost use Rattle.calls.specs.WriteCall.{writeCall};
-ghost use Rattle.job.specs.Format.{accepted};
-ghost use Rattle.query.specs.Problem.{problem};
-ghost use Rattle.query.specs.Exhaustive as Query;
-ghost use Rattle.query.specs.Range.{roundsLimit};
-ghost use Rattle.deck.specs.DeckOf.{deckOf};
-ghost use Rattle.deck.specs.Sound.{Sound};
-ghost use Rattle.problem.specs.ObjectProblem.{pricedOf};
 ghost use Rattle.problem.specs.Prepared.{problemOf, Prepared};
 ghost use Rattle.search.specs.Answer.{Room};
 ghost use Rattle.siting.specs.Response.{stateFor, Solved, refusedResponse, Responded};
@@ -91,14 +84,21 @@ fn refuse(why: Refusal) -> Response
     }
 }
 
-// What the calls below answer to a job that was read as a deck and rounds. Refusals 7 and 8 come before any place is priced.
-fn respond_to(deck: Deck, rounds: u64, cells: &mut [i64], out: &mut [u8]) -> Response
-    requires { ⌜ Sound deck × (rounds ≤ roundsLimit) ⌝ }
+// What the calls below answer. Refusals 7 and 8 come before any place is priced. A refusal leaves the cell space and the output as they were.
+fn respond(job: &[u8], cells: &mut [i64], out: &mut [u8]) -> Response
     ensures { λ r.
-        ⌜ Responded (answered (accepted (record { deck = deckOf deck; rounds = rounds })) (now (cells .entry)) (now (out .entry)))
-        (now (out .entry)) (now (cells .exit)) (now (out .exit)) r ⌝ }
+        ⌜ Responded (reportCall (now (job .entry)) (now (cells .entry)) (now (out .entry))) (now (out .entry)) (now (cells .exit))
+        (now (out .exit)) r ⌝ }
 {
-    let p = prepare::of_deck(deck);
+    let mut columns = [0i32; COLUMNS];
+    let mut v = [0i64; LINES];
+    let mut h = [0i64; LINES];
+    let p = prepare::of_job(job, &mut columns, &mut v, &mut h);
+    let outcome = p.outcome;
+    let rounds = match outcome {
+        Outcome::Accepted(rounds) => rounds,
+        Outcome::Refused(why) => return refuse(why),
+    };
     let n = p.count;
     let nv = p.nv;
     let nh = p.nh;
@@ -109,15 +109,13 @@ fn respond_to(deck: Deck, rounds: u64, cells: &mut [i64], out: &mut [u8]) -> Res
     if out.len() < REPORT_BYTES {
         return refuse(Refusal::ShortOutput);
     }
-    let v: &[i64] = &p.v;
-    let h: &[i64] = &p.h;
     let r = solve(
-        &p.columns,
+        &columns,
         n,
         &v[..nv],
         &h[..nh],
         p.area,
-        deck.before,
+        p.before,
         rounds,
         cells,
     );
@@ -125,20 +123,6 @@ fn respond_to(deck: Deck, rounds: u64, cells: &mut [i64], out: &mut [u8]) -> Res
     Response {
         answer: Answer::Report(r),
         bytes,
-    }
-}
-
-// What the calls below answer. A refusal leaves the cell space and the output as they were.
-fn respond(job: &[u8], cells: &mut [i64], out: &mut [u8]) -> Response
-    ensures { λ r.
-        ⌜ Responded (reportCall (now (job .entry)) (now (cells .entry)) (now (out .entry))) (now (out .entry)) (now (cells .exit))
-        (now (out .exit)) r ⌝ }
-{
-    let j = job::read(job);
-    let outcome = j.outcome;
-    match outcome {
-        Outcome::Accepted(rounds) => respond_to(j.deck, rounds, cells, out),
-        Outcome::Refused(why) => refuse(why),
     }
 }
 
@@ -165,30 +149,23 @@ pub extern "C" fn siting_report(job: &[u8], out: &mut [u8]) -> i64
     }
 }
 
-// The cheapest crossing of a deck's lines.
-fn cheapest_in(deck: Deck) -> Spot
-    requires { ⌜ Sound deck ⌝ }
-    ensures { λ r. ⌜ pricedOf r ≡ Query.exhaustive (problem (deckOf deck)) ⌝ }
-{
-    let p = prepare::of_deck(deck);
-    let n = p.count;
-    let nv = p.nv;
-    let nh = p.nh;
-    let v: &[i64] = &p.v;
-    let h: &[i64] = &p.h;
-    exhaustive::cheapest(&p.columns, n, &v[..nv], &h[..nh], p.area, deck.before)
-}
-
 // The cheapest crossing of lines, the earliest among equals, or the refusal of the job. Its rounds are not used.
 pub fn exhaustive(job: &[u8]) -> Cheapest
     ensures { λ r. ⌜ cheapestAnswer r ≡ exhaustiveCall (now (job .entry)) ⌝ }
 {
-    let j = job::read(job);
-    let outcome = j.outcome;
+    let mut columns = [0i32; COLUMNS];
+    let mut v = [0i64; LINES];
+    let mut h = [0i64; LINES];
+    let p = prepare::of_job(job, &mut columns, &mut v, &mut h);
+    let outcome = p.outcome;
     match outcome {
-        Outcome::Accepted(_) => Cheapest::At(cheapest_in(j.deck)),
-        Outcome::Refused(why) => Cheapest::Refused(why),
+        Outcome::Accepted(_) => {}
+        Outcome::Refused(why) => return Cheapest::Refused(why),
     }
+    let n = p.count;
+    let nv = p.nv;
+    let nh = p.nh;
+    Cheapest::At(exhaustive::cheapest(&columns, n, &v[..nv], &h[..nh], p.area, p.before))
 }
 
 // What the job needs, or the refusal of the job. No place is priced.

@@ -5,22 +5,25 @@ use mathlib.Core.Bool.{Bool, true, false, cond}
 use mathlib.Core.List.{List}
 use Prim.Native.Nat.{ℕ, _≤_}
 use native.Mathlib.Omega.{arith}
+use lib.IntN.{ℤ}
 use lib.ListN.{take}
 use Rattle.job.specs.Format.{Job, Result, refused, accepted, readJob}
 use Rattle.job.specs.JobRecord.{jobRecord}
 use Rattle.job.specs.declared.Job as Held
 use Rattle.refusal.specs.declared.Refusal.{Refusal}
+use Rattle.job.specs.declared.Outcome.{Outcome}
 use Rattle.job.specs.declared.Outcome.the-variants.{Accepted}
 use Rattle.job.proofs.JobLaws.{most-rounds}
 use Rattle.job.proofs.Meaning.{accepted-job}
 use Rattle.deck.specs.DeckOf.{deckOf, deckRecord}
 use Rattle.deck.specs.Sound.{Sound}
-use Rattle.job.proofs.ReadDeck.{differ, Spelt, read-accepted, read-deck, read-rounds, read-deckOf, read-sound}
+use Rattle.job.proofs.ReadDeck.{differ, isAccepted, Spelt, read-accepted, read-deck, read-rounds, read-deckOf, read-sound}
 use Rattle.prepare.specs.declared.Problem.{Problem}
-use Rattle.prepare.specs.ProblemRecord.{problemRecord}
+use Rattle.prepare.specs.declared.Parts.{Parts}
+use Rattle.prepare.specs.ProblemRecord.{problemRecord, Given, givenBy, givenFor}
 use Rattle.problem.specs.Prepared.{Prepared}
-use Rattle.problem.proofs.DeckProblem.{sound-prepared}
-use Rattle.trial.specs.Opened.{Whole, noProblem, openedDeck, openedRecord}
+use Rattle.problem.proofs.DeckProblem.{made-prepared}
+use Rattle.trial.specs.Opened.{Whole, openedDeck, openedRecord}
 use Rattle.trial.specs.Trial.{onJob}
 use Rattle.trial.specs.declared.opened.Opened.{Opened}
 
@@ -32,21 +35,22 @@ rounds-read bytes j e rounds f =
     let g = read-rounds bytes j e rounds f s in
     (omega (arith, g, most-rounds (s .allowed .writable)), g)
 
-module _ {bytes : List ℕ} (s : Spelt bytes) (j : Held.Job) (e : j ≡ jobRecord (readJob bytes)) where
-  pub opened-accepted : (p : Problem) → p ≡ problemRecord (deckOf (j .deck)) →
-      record { accepted = true; deck = j .deck; problem = p } ≡ openedRecord (readJob bytes)
-  unfolding openedRecord openedDeck
-  opened-accepted p f = rw (s .read, f, read-deckOf s j e, read-deck bytes j e s)
+-- a job that was read, and what preparing it gives
+opened-is : (r : Result) → record { accepted = isAccepted (givenFor r .outcome); deck = jobRecord r .deck; problem = givenFor r .problem } ≡ openedRecord r
+unfolding openedRecord openedDeck givenFor jobRecord
+opened-is (refused why) = refl
+opened-is (accepted job) = refl
 
-pub opened-refused : (bytes : List ℕ) (j : Held.Job) (why : Refusal) → j ≡ jobRecord (readJob bytes) → readJob bytes ≡ refused why →
-    record { accepted = false; deck = j .deck; problem = noProblem } ≡ openedRecord (readJob bytes)
-unfolding openedRecord jobRecord
-opened-refused bytes j why e f = rw (e, f)
+pub opened : (bytes : List ℕ) (j : Held.Job) → j ≡ jobRecord (readJob bytes) → (p : Parts) {columns v h : List ℤ} →
+    givenBy p columns v h ≡ givenFor (readJob bytes) → {k : Outcome} → p .outcome ≡ k →
+    record { accepted = isAccepted k; deck = j .deck; problem = givenBy p columns v h .problem } ≡ openedRecord (readJob bytes)
+opened bytes j e p f g =
+    (λ i. record { accepted = isAccepted ((sym g ∙ ap (λ (x : Given). x .outcome) f) i); deck = e i .deck; problem = f i .problem }) ∙ opened-is (readJob bytes)
 
 -- ---- a deck in range with its problem: it is prepared, and its deck is the one held
 abbrev pub prepared : {o : Opened} → Whole o →
     Prepared (o .problem .columns) (o .problem .count) (take (o .problem .nv) (o .problem .v)) (take (o .problem .nh) (o .problem .h)) (o .problem .area)
-prepared {o} w = sound-prepared (o .deck) (w .sound) (o .problem) (w .problem-is)
+prepared {o} w = made-prepared (deckOf (o .deck)) (w .sound .range) (w .sound .full) (o .problem) (w .problem-is)
 
 -- ---- what `open_job` answers
 module _ (bytes : List ℕ) (o : Opened) (e : o ≡ openedRecord (readJob bytes)) where

@@ -2,8 +2,6 @@
 -- Assumes nothing.
 use mathlib.Core.Path.{_≡_}
 use mathlib.Core.Bool.{Bool, true, false, _&&_}
-use lib.IntN.{pos}
-use lib.ListN.{replicate}
 use lib.Signed.{leZ}
 use Rattle.query.specs.Place.{Place, Rect, corner}
 use Rattle.query.specs.Deck as Query
@@ -12,19 +10,8 @@ use Rattle.job.specs.Format.{Result, refused, accepted}
 use Rattle.deck.specs.DeckOf.{deckOf, deckRecord, emptyDeck}
 use Rattle.prepare.specs.declared.Problem.{Problem}
 use Rattle.deck.specs.Sound.{Sound}
-use Rattle.prepare.specs.ProblemRecord.{problemRecord}
+use Rattle.prepare.specs.ProblemRecord.{problemRecord, noProblem}
 use Rattle.trial.specs.declared.opened.Opened.{Opened}
-
-abbrev pub noProblem : Problem
-noProblem = record {
-  area = record { xlo = pos 0; ylo = pos 0; xhi = pos 0; yhi = pos 0 };
-  count = 0;
-  columns = replicate 2050 (pos 0);
-  nv = 0;
-  v = replicate 514 (pos 0);
-  nh = 0;
-  h = replicate 514 (pos 0);
-}
 
 unfoldable pub openedDeck : Query.Deck → Opened
 unfolding deckRecord problemRecord

@@ -30,42 +30,34 @@ pub struct Opened {
 pub fn open_job(bytes: &[u8]) -> Opened
     ensures { λ r. ⌜ r ≡ openedRecord (readJob (now (bytes .entry))) ⌝ }
 {
+    let mut columns = [0i32; COLUMNS];
+    let mut v = [0i64; LINES];
+    let mut h = [0i64; LINES];
+    let p = prepare::of_job(bytes, &mut columns, &mut v, &mut h);
     let j = job::read(bytes);
-    let outcome = j.outcome;
     let deck = j.deck;
+    let area = p.area;
+    let problem = Problem {
+        area,
+        count: p.count,
+        columns,
+        nv: p.nv,
+        v,
+        nh: p.nh,
+        h,
+    };
+    let outcome = p.outcome;
     match outcome {
-        Outcome::Accepted(_) => {
-            let problem = prepare::of_deck(deck);
-            Opened {
-                accepted: true,
-                deck,
-                problem,
-            }
-        }
-        Outcome::Refused(_) => {
-            let area = Rect {
-                xlo: 0,
-                ylo: 0,
-                xhi: 0,
-                yhi: 0,
-            };
-            let columns = [0i32; COLUMNS];
-            let none = [0i64; LINES];
-            let problem = Problem {
-                area,
-                count: 0,
-                columns,
-                nv: 0,
-                v: none,
-                nh: 0,
-                h: none,
-            };
-            Opened {
-                accepted: false,
-                deck,
-                problem,
-            }
-        }
+        Outcome::Accepted(_) => Opened {
+            accepted: true,
+            deck,
+            problem,
+        },
+        Outcome::Refused(_) => Opened {
+            accepted: false,
+            deck,
+            problem,
+        },
     }
 }
 
