@@ -84,7 +84,8 @@ fn refuse(why: Refusal) -> Response
     }
 }
 
-// What the calls below answer. Refusals 7 and 8 come before any place is priced. A refusal leaves the cell space and the output as they were.
+// What the calls below answer. Refusals 7 and 8 come before any place is priced. A refusal leaves the cell space and the output as they
+// were.
 fn respond(job: &[u8], cells: &mut [i64], out: &mut [u8]) -> Response
     ensures { λ r.
         ⌜ Responded (reportCall (now (job .entry)) (now (cells .entry)) (now (out .entry))) (now (out .entry)) (now (cells .exit))

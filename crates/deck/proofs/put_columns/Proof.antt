@@ -65,7 +65,9 @@ slice-set-from-b : tie.Need-slice-set-from-b
 slice-set-from-b c = simp length-set (omega (arith, with-near (c .before)))
 
 same-length : tie.Need-same-length
-same-length c = simp length-set (omega (arith, with-near (c .before), long (start (c .before .before .before .before .before .before .before .before .before .before))))
+same-length c =
+    let x = c .before .before .before .before .before .before .before .before .before .before in
+    simp length-set (omega (arith, with-near (c .before), long (start x)))
 
 returns : tie.Need-returns
 returns c =

@@ -55,7 +55,8 @@ put-columns-requires c κs =
     let told = c .before .before .before .before .before .before .before .before .before .before .before .before .before .before .before in
     let h = sound told in
     let columns = sound-columns h in
-    (costs-range _ columns (h .range), stops-range _ columns (h .range), visits-range _ columns (h .range), sound-nears h, read told .before .before .pre .columns-are)
+    let zeros = read told .before .before .pre in
+    (costs-range _ columns (h .range), stops-range _ columns (h .range), visits-range _ columns (h .range), sound-nears h, zeros .columns-are)
 
 -- the columns are those of the deck's objects
 abbrev told : tie.After-put-columns → tie.After-enum-told

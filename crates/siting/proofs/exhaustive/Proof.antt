@@ -33,7 +33,9 @@ array-share-prefix-h : tie.Need-array-share-prefix-h
 array-share-prefix-h c = horizontal-within _ _ (made _ (c .before .before .before .before .of-job .ensures) (c .before .before .enum-told .given .1))
 
 slice-aggregate-cheapest-2 : tie.Need-slice-aggregate-cheapest-2
-slice-aggregate-cheapest-2 c = horizontal-taken _ _ (made _ (c .before .before .before .before .before .of-job .ensures) (c .before .before .before .enum-told .given .1))
+slice-aggregate-cheapest-2 c =
+    let told = c .before .before .before in
+    horizontal-taken _ _ (made _ (told .before .before .of-job .ensures) (told .enum-told .given .1))
 
 cheapest-requires : tie.Need-cheapest-requires
 cheapest-requires c κs =
