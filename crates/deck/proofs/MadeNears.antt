@@ -3,7 +3,6 @@
 use mathlib.Core.Path.{_≡_, refl, sym, ap, _∙_}
 use mathlib.Core.List.{List, [], _∷_, _++_, map, map-map, append-assoc, List·Memᴰ, List·Memᴰ·not-nil}
 use Prim.Native.Nat.{ℕ, zero, suc, _+_, _≤_, _<_}
-use native.Mathlib.Nat.{mul-le-mul}
 use native.Mathlib.Numerals.{add-one}
 use native.Mathlib.Omega.{arith}
 use lib.IntN.{ℤ, pos, negsuc, natAbs}
@@ -18,15 +17,15 @@ use Rattle.numbers.specs.Integer.{times}
 use Rattle.numbers.specs.Padded.{padded}
 use Rattle.numbers.proofs.Integer.{order}
 use Rattle.numbers.proofs.Words.{natural-cast}
-use Rattle.numbers.proofs.Distance.{dist-most}
 use Rattle.numbers.proofs.Joined.{map-each}
 use Rattle.numbers.proofs.Members.{each-cons, each-map, length-nonEmpty}
 use Rattle.numbers.proofs.Padded.{padded-length, padded-more, padded-each}
 use Rattle.query.specs.Place.{Place}
 use Rattle.query.specs.Deck.{AxisCosts, plain}
-use Rattle.query.specs.Travel.{travel, closest}
+use Rattle.query.specs.Travel.{closest}
 use Rattle.query.specs.Range.{PlaceInRange}
 use Rattle.query.proofs.NearLaws.{closest-some}
+use Rattle.query.proofs.Ranges.{costs-limit}
 use Rattle.deck.specs.DeckOf.{places}
 use Rattle.deck.specs.Objects.{scaledPlace}
 use Rattle.deck.specs.Ranges.{CoordinatesInRange, NearColumn, CostsInRange, PlacesInRange}
@@ -97,14 +96,6 @@ each-place (suc n) (x ∷ xs) (y ∷ ys) f g p m = each-cons PlaceInRange (recor
 pub places-each : {most : ℕ} {xs ys : List ℤ} {n : ℕ} → PlacesInRange most xs ys n → (p : Place) → List·Memᴰ p (take n (places xs ys)) → PlaceInRange p
 places-each {most} {xs} {ys} {n} range = each-place n xs ys (range .x .range) (range .y .range)
 
-travel-limit : (axis : AxisCosts) → CostsInRange axis → (p q : Place) → PlaceInRange p → PlaceInRange q → travel axis p q ≤ 720000
-unfolding travel
-travel-limit axis costs p q h k = omega (
-  arith,
-  mul-le-mul (costs .most .0) (dist-most 20000 (p .x) (q .x) (h .x-range) (k .x-range)),
-  mul-le-mul (costs .most .1) (dist-most 20000 (p .y) (q .y) (h .y-range) (k .y-range)),
-)
-
 module _ (axis : AxisCosts) (costs : CostsInRange axis) {px py xs ys : List ℤ} {k n : ℕ} (posts : PlacesInRange 64 px py k) (stops : PlacesInRange 512 xs ys n)
     (some : 1 ≤ k) where
   abbrev postsAt : List Place
@@ -125,7 +116,7 @@ module _ (axis : AxisCosts) (costs : CostsInRange axis) {px py xs ys : List ℤ}
   near-limit : (p : Place) → List·Memᴰ p stopsAt → closest axis p postsAt ≤ 720000
   near-limit p m =
       let (post, i, e) = closest-some axis p postsAt (length-nonEmpty postsAt (omega (arith, posts-count))) in
-      omega (arith, e, travel-limit axis costs p post (places-each stops p m) (places-each posts post i))
+      omega (arith, e, costs-limit axis (costs .most) p post (places-each stops p m) (places-each posts post i))
 
   -- near of scaled places, by scaled posts
   near-scaled : (p : Place) →

@@ -13,13 +13,11 @@ use Rattle.numbers.proofs.Ranges.{range-between}
 use Rattle.query.specs.Place.{Place, Rect, NonEmpty}
 use Rattle.query.specs.Deck.{AxisCosts, Stop}
 use Rattle.query.specs.Range.{PlaceInRange, RectInRange, StopInRange, InRange}
-use Rattle.job_line.specs.Kinds.{area, axis, post, stop, coordinates, row, inRange, inRanges}
+use Rattle.job_line.specs.Kinds.{area, axis, post, stop, coordinates, row, inRange}
 use Rattle.job.specs.Format.{Job, axisNumbers}
-use Rattle.job.specs.Spelling.{JobLine, areaLine, axisLine, postLine, stopLine, Writable, Allowed}
+use Rattle.job.specs.Spelling.{areaLine, axisLine, postLine, stopLine, Writable, Allowed}
+use Rattle.job.proofs.JobLaws.{InRanges}
 use Rattle.job.proofs.RangeLaws.{in-each, coordinate-range, count-range}
-
-InRanges : JobLine → Type 0
-InRanges l = T (inRanges (row (l .kind) .ranges) (l .numbers))
 
 -- ---- a number in its range
 coordinate-in : (v : ℤ) → natAbs v ≤ 20000 → T (inRange coordinates v)

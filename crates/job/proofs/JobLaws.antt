@@ -42,7 +42,7 @@ seven-length : (a b c d e f g : List ℕ) →
     length (a ++ (b ++ (c ++ (d ++ (e ++ (f ++ (g ++ []))))))) ≡ length a + length b + length c + length d + length e + length f + length g
 seven-length a b c d e f g = simp length-append (omega arith)
 
-InRanges : JobLine → Type 0
+unfoldable pub InRanges : JobLine → Type 0
 InRanges l = T (inRanges (row (l .kind) .ranges) (l .numbers))
 
 -- ---- the axis line, where a job carries it

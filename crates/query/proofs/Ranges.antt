@@ -11,24 +11,28 @@ use Rattle.numbers.proofs.Distance.{dist-most}
 use Rattle.numbers.proofs.Members.{length-nonEmpty}
 use Rattle.numbers.proofs.Sums.{sumOf-most, sumOf-keep-le}
 use Rattle.query.specs.Place.{Place, Rect, corner}
-use Rattle.query.specs.Deck.{Stop, Deck}
+use Rattle.query.specs.Deck.{AxisCosts, Stop, Deck}
 use Rattle.query.specs.Travel.{travel, near}
 use Rattle.query.specs.Cost.{cost, before}
 use Rattle.query.specs.Reach.{reach, load}
 use Rattle.query.specs.Bound.{span, cornerSum, bound}
-use Rattle.query.specs.Range.{PlaceInRange, RectInRange, InRange, travelLimit, loadLimit, costLimit, FigureLimits}
+use Rattle.query.specs.Range.{PlaceInRange, RectInRange, InRange, axisCostLimit, travelLimit, loadLimit, costLimit, FigureLimits}
 use Rattle.query.proofs.CostLaws.{cost-sum}
 use Rattle.query.proofs.NearLaws.{near-law}
 use Rattle.query.proofs.BoundLaws.{bound-is, cornerSum-is}
 
+pub costs-limit : (axis : AxisCosts) → (axis .a ≤ axisCostLimit) × (axis .b ≤ axisCostLimit) → (p q : Place) → PlaceInRange p → PlaceInRange q →
+    travel axis p q ≤ travelLimit
+unfolding travel
+costs-limit axis most p q h k = omega (
+  arith,
+  mul-le-mul (most .0) (dist-most 20000 (p .x) (q .x) (h .x-range) (k .x-range)),
+  mul-le-mul (most .1) (dist-most 20000 (p .y) (q .y) (h .y-range) (k .y-range)),
+)
+
 module _ (deck : Deck) (range : InRange deck) where
   travel-limit : (p q : Place) → PlaceInRange p → PlaceInRange q → travel (deck .axis) p q ≤ travelLimit
-  unfolding travel
-  travel-limit p q h k = omega (
-    arith,
-    mul-le-mul (range .axis-most .0) (dist-most 20000 (p .x) (q .x) (h .x-range) (k .x-range)),
-    mul-le-mul (range .axis-most .1) (dist-most 20000 (p .y) (q .y) (h .y-range) (k .y-range)),
-  )
+  travel-limit = costs-limit (deck .axis) (range .axis-most)
 
   span-limit : (r : Rect) → RectInRange r → span (deck .axis) r ≤ travelLimit
   unfolding span travel
