@@ -33,6 +33,7 @@ problemRecord deck = record {
   h = padded 514 (pos 0) (lines deck y-axis);
 }
 
+-- all zeros, for a job that is refused
 abbrev pub noProblem : Problem
 noProblem = record {
   area = record { xlo = pos 0; ylo = pos 0; xhi = pos 0; yhi = pos 0 };

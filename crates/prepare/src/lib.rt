@@ -31,6 +31,7 @@ pub struct Parts {
     pub nh: usize,
 }
 
+// A refusal, with no problem.
 fn refuse(why: Refusal) -> Parts
     ensures { λ r. ⌜ r ≡ refusedParts why ⌝ }
 {
