@@ -1,9 +1,9 @@
 -- The lines that `find_lines` finds for a deck's stops are the deck's, and stand in order.
 -- Assumes nothing.
-use mathlib.Core.Path.{_≡_, refl, ap, _∙_}
+use mathlib.Core.Path.{_≡_, refl, ap}
 use mathlib.Core.Bool.{Bool, true, false, cond}
 use mathlib.Core.List.{List, [], _∷_, map}
-use Prim.Native.Nat.{ℕ, _+_, _-_, max, _≤_}
+use Prim.Native.Nat.{ℕ, _+_, _≤_}
 use native.Mathlib.Omega.{arith}
 use lib.Dec.{eqb}
 use lib.IntN.{ℤ}
@@ -13,17 +13,14 @@ use Rattle.numbers.proofs.Members.{keep-length}
 use Rattle.query.specs.Place.{Axis, x-axis, y-axis, coordinate, low-edge, high-edge}
 use Rattle.query.specs.Deck.{Stop, Deck}
 use Rattle.query.specs.Reach.{reach}
-use Rattle.query.specs.Lines.{stopCoordinates, lines, gaps}
+use Rattle.query.specs.Lines.{stopCoordinates, lines}
 use Rattle.query.proofs.LineLaws.{lines-law}
 use Rattle.numbers.specs.Padded.{padded}
-use Rattle.lines.specs.LineRecord.{LinesInOrder, Lined, Lines, flagged, marked, linesBetween, linesRecord}
-use Rattle.lines.proofs.LineRecordLaws.{linesBetween-length, record-front}
+use Rattle.lines.specs.LineRecord.{LinesInOrder, Lined, flagged, marked, linesBetween}
+use Rattle.lines.proofs.LineRecordLaws.{linesBetween-length}
 use Rattle.numbers.proofs.Padded.{padded-front}
 
 -- ---- the lines of a deck
-pub deck-front : (deck : Deck) (axis : Axis) (l : Lines) → l ≡ linesRecord (lines deck axis) → take (l .count) (l .at) ≡ lines deck axis
-deck-front deck axis l e = ap (λ (r : Lines). take (r .count) (r .at)) e ∙ record-front (lines deck axis)
-
 abbrev pub flag : Bool → ℕ
 flag b = cond b 1 0
 
@@ -78,11 +75,6 @@ module _ (deck : Deck) (axis : Axis) where
   -- an array that holds the flags in front
   pub padded-reached : take (length (deck .stops)) (padded 512 0 reached) ≡ reached
   padded-reached = rw (← length-map (deck .stops) (λ stop. flag (reach deck (deck .area) stop))) (padded-front 512 0 reached)
-
-  -- what `gaps` makes of the count
-  pub count-gaps : max 1 (linesRecord (lines deck axis) .count - 1) ≡ gaps deck axis
-  unfolding gaps linesRecord
-  count-gaps = refl
 
 -- those of both axes
 pub deck-lined : (deck : Deck) → length (deck .stops) ≤ 512 → Lined (lines deck x-axis) (lines deck y-axis)

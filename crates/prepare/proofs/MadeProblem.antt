@@ -1,4 +1,4 @@
--- What `of_deck` makes of a deck's record: the columns and the flags give the deck's lines.
+-- What `of_job` makes of the record that it reads: the columns and the flags give the deck's lines.
 -- Assumes nothing.
 use mathlib.Core.Path.{_≡_, sym, ap, subst, _∙_}
 use mathlib.Core.List.{List}

@@ -10,7 +10,6 @@ use lib.ListN.{take}
 use Rattle.job.specs.Format.{Job, Result, refused, accepted, readJob}
 use Rattle.job.specs.JobRecord.{jobRecord}
 use Rattle.job.specs.declared.Job as Held
-use Rattle.refusal.specs.declared.Refusal.{Refusal}
 use Rattle.job.specs.declared.Outcome.{Outcome}
 use Rattle.job.specs.declared.Outcome.the-variants.{Accepted}
 use Rattle.job.proofs.JobLaws.{most-rounds}
@@ -18,7 +17,6 @@ use Rattle.job.proofs.Meaning.{accepted-job}
 use Rattle.deck.specs.DeckOf.{deckOf, deckRecord}
 use Rattle.deck.specs.Sound.{Sound}
 use Rattle.job.proofs.ReadDeck.{differ, isAccepted, Spelt, read-accepted, read-deck, read-rounds, read-deckOf, read-sound}
-use Rattle.prepare.specs.declared.Problem.{Problem}
 use Rattle.prepare.specs.declared.Parts.{Parts}
 use Rattle.prepare.specs.ProblemRecord.{problemRecord, Given, givenBy, givenFor}
 use Rattle.problem.specs.Prepared.{Prepared}

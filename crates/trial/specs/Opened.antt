@@ -8,7 +8,6 @@ use Rattle.query.specs.Deck as Query
 use Rattle.job_line.specs.Kinds.{coordinates, inRange}
 use Rattle.job.specs.Format.{Result, refused, accepted}
 use Rattle.deck.specs.DeckOf.{deckOf, deckRecord, emptyDeck}
-use Rattle.prepare.specs.declared.Problem.{Problem}
 use Rattle.deck.specs.Sound.{Sound}
 use Rattle.prepare.specs.ProblemRecord.{problemRecord, noProblem}
 use Rattle.trial.specs.declared.opened.Opened.{Opened}
