@@ -1,25 +1,27 @@
 // What the calls of the siting tool answer. specs/ defines each call, and the customer's demands of them; proofs/ proves these.
+#![tactic(auto)]
+
 use limits::REPORT_BYTES;
 use problem::Spot;
 use refusal::Refusal;
 use report::Report;
 
 // Each answer is either a report, itself done or stopped, or one refusal.
-#[derive(Drop)]
+#[derive(Clone, Copy)]
 pub enum Answer {
     Report(Report),
     Refused(Refusal),
 }
 
 // The place and the cost of the cheapest crossing of lines, or one refusal.
-#[derive(Drop)]
+#[derive(Clone, Copy)]
 pub enum Cheapest {
     At(Spot),
     Refused(Refusal),
 }
 
 // What a job needs: the gaps across and deep, the cut limit, and the cells that suffice.
-#[derive(Drop)]
+#[derive(Clone, Copy)]
 pub struct Estimate {
     pub across: u64,
     pub deep: u64,
@@ -28,14 +30,14 @@ pub struct Estimate {
 }
 
 // What a job needs, or one refusal.
-#[derive(Drop)]
+#[derive(Clone, Copy)]
 pub enum Estimated {
     Needs(Estimate),
     Refused(Refusal),
 }
 
 // The number of bytes that a job was written in, or one refusal.
-#[derive(Drop)]
+#[derive(Clone, Copy)]
 pub enum Written {
     Bytes(usize),
     Refused(Refusal),

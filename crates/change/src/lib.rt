@@ -1,4 +1,6 @@
 // Changes of a deck's record: a post or a stop is added or removed, and near and before follow.
+#![tactic(auto)]
+
 ghost use Rattle.std.specs.Prelude.{◌≡◌, ◌∷◌, [], ◌-◌, ◌≤◌, ◌<◌, pos, length, take};
 ghost use Rattle.std.proofs.Math.Option.{some};
 ghost use Rattle.query.specs.Range.{PlaceInRange, StopInRange, travel_limit};
@@ -15,7 +17,7 @@ use limits::{POSTS, STOPS};
 use refusal::Refusal;
 
 // Whether a change was made.
-#[derive(Drop)]
+#[derive(Clone, Copy)]
 pub enum Verdict {
     Made,
     Refused(Refusal),

@@ -1,4 +1,6 @@
 // The choice of a cut.
+#![tactic(auto)]
+
 ghost use Rattle.std.specs.Prelude.{◌≡◌, ◌≤◌, length, ◌+ℤ◌};
 ghost use Rattle.numbers.specs.Integer.{half_up, strictly_between};
 ghost use Rattle.numbers.specs.Lists.{keep};
@@ -12,7 +14,7 @@ use deck::Rect;
 use lines::first_at_least;
 
 // Whether a cell can be cut, and at which line: at an x where `across` is true, else at a y. Where it cannot the others are false and 0.
-#[derive(Drop)]
+#[derive(Clone, Copy)]
 pub struct Cut {
     pub found: bool,
     pub across: bool,

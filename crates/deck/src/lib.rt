@@ -1,4 +1,6 @@
 // The deck as a record, and its objects: its stops in columns, each with its near.
+#![tactic(auto)]
+
 ghost use Rattle.std.specs.Prelude.{◌≡◌, cond, [], map, ◌+◌, ◌≤◌, pos, nat_abs, length, take, drop, replicate};
 ghost use Rattle.std.specs.Int.Signed.{lt_z};
 ghost use Rattle.std.proofs.Math.Seq.{paste};
@@ -19,7 +21,7 @@ ghost use Rattle.deck.specs.StopFigures.{Nears, paid};
 use limits::{COLUMNS, NEAR_COLUMN, POSTS, STOPS, VISITS_COLUMN, X_COST, Y_COLUMN, Y_COST};
 
 // A rectangle, its edges included.
-#[derive(Drop)]
+#[derive(Clone, Copy)]
 pub struct Rect {
     pub xlo: i64,
     pub ylo: i64,
@@ -28,7 +30,7 @@ pub struct Rect {
 }
 
 // What a tenth costs in x and in y.
-#[derive(Drop)]
+#[derive(Clone, Copy)]
 pub struct AxisCosts {
     pub a: u64,
     pub b: u64,
@@ -36,7 +38,7 @@ pub struct AxisCosts {
 
 // A deck, one array a field. The first `posts` and `stops` elements of the arrays count; in a record that reading made the others are 0.
 // `near` has each stop's near, and `before` is the deck's.
-#[derive(Drop)]
+#[derive(Clone, Copy)]
 pub struct Deck {
     pub axis: AxisCosts,
     pub xlo: i64,

@@ -1,4 +1,6 @@
 // What a job needs, from the lines of its deck and its rounds. No place is priced for it: crates.txt lets this crate use none that prices.
+#![tactic(auto)]
+
 ghost use Rattle.std.specs.Prelude.{◌≡◌};
 ghost use Rattle.calls.specs.Answers.{estimate_numbers, estimated_answer};
 ghost use Rattle.calls.specs.EstimateCall.{estimate_call};

@@ -1,6 +1,8 @@
 // The exhaustive search: the cheapest crossing of a deck's lines. Along one vertical line the cost is a sum of ramps (specs/Ramps.antt),
 // so that the costs of all its crossings follow from prefix sums, with no pass over the objects for each. Line by line these costs are
 // written into an array (`costs_along`), and then the cheapest is chosen (`choose`). Objects and ramps are at scaled places, lines are not.
+#![tactic(auto)]
+
 ghost use Rattle.std.specs.Prelude.{◌≡◌, ◌+◌, ◌*◌, ◌/◌, ◌≤◌, pos, nat_abs, length};
 ghost use mathlib.Core.List.{flat_map};
 ghost use Rattle.query.specs.Range.{cost_limit};
@@ -40,7 +42,7 @@ use numbers::abs_diff;
 use problem::Spot;
 
 // A number to divide by, and what is multiplied with instead: 2 ^ 32 / by + 1.
-#[derive(Drop)]
+#[derive(Clone, Copy)]
 struct Divisor {
     by: u64,
     reciprocal: u64,

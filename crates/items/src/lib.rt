@@ -1,4 +1,6 @@
 // Posts and stops found by their values, and an element taken out of an array.
+#![tactic(auto)]
+
 ghost use Rattle.std.specs.Prelude.{◌≡◌, ◌≤◌, ◌<◌, pos, length, take};
 ghost use Rattle.deck.specs.DeckOf.{places, stops_of};
 ghost use Rattle.items.specs.Items.{is_same_place, is_same_stop, first_place, taken_out_at};

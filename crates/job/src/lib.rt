@@ -1,5 +1,7 @@
 // The job format: a job's bytes are read as the deck and rounds that they spell, or refused at their first fault.
 
+#![tactic(auto)]
+
 ghost use Rattle.std.specs.Prelude.{[], ◌≡◌, ◌+◌, ◌≤◌, drop};
 ghost use Rattle.deck.specs.DeckOf.{held_axis};
 ghost use Rattle.deck.specs.Ranges.{CostsInRange};
@@ -15,7 +17,7 @@ use job_line::{AreaLine, AxisLine, CountLine, PostLine, StopLine};
 use limits::{JOB_BYTES, MOST_ROUNDS, POSTS, STOPS};
 use refusal::Refusal;
 
-#[derive(Drop)]
+#[derive(Clone, Copy)]
 pub enum Outcome {
     Accepted(u64),
     Refused(Refusal),
@@ -29,14 +31,14 @@ pub struct Job {
 }
 
 // Where reading goes on, or the refusal.
-#[derive(Drop)]
+#[derive(Clone, Copy)]
 enum Next {
     At(usize),
     Refused(Refusal),
 }
 
 // The axis costs, and the line where reading goes on.
-#[derive(Drop)]
+#[derive(Clone, Copy)]
 struct AxisRead {
     next: Next,
     costs: AxisCosts,
@@ -44,14 +46,14 @@ struct AxisRead {
 }
 
 // How many posts or stops were read, and where reading goes on.
-#[derive(Drop)]
+#[derive(Clone, Copy)]
 struct Listed {
     next: Next,
     count: usize,
 }
 
 // The rounds, and how many posts and stops were read, or a refusal.
-#[derive(Drop)]
+#[derive(Clone, Copy)]
 struct Lists {
     outcome: Outcome,
     posts: usize,

@@ -1,4 +1,6 @@
 // The refusal that reading the file of a deck's record and rounds would give, found from their numbers.
+#![tactic(auto)]
+
 ghost use Rattle.std.specs.Prelude.{◌≡◌, cond, [], ◌∷◌, map, ◌≤◌, pos, length, take};
 ghost use Rattle.deck.specs.DeckOf.{held_axis, places, stops_of};
 ghost use Rattle.job_line.specs.Kinds.{area, axis, posts, post, stops, stop, up_to, row};
@@ -13,7 +15,7 @@ use job_line::Place;
 use limits::{MOST_ROUNDS, POSTS, STOPS};
 use refusal::Refusal;
 
-#[derive(Drop)]
+#[derive(Clone, Copy)]
 pub enum Checked {
     Fine,
     Refused(Refusal),

@@ -1,4 +1,6 @@
 // The file of a deck's record and rounds: its length, and its bytes written into an output that has room for them.
+#![tactic(auto)]
+
 ghost use Rattle.std.specs.Prelude.{◌≡◌, ◌++◌, ◌+◌, ◌*◌, ◌≤◌, pos, length};
 ghost use Rattle.text.specs.Ascii.{newline};
 ghost use Rattle.text.specs.Decimal.{spell_int};

@@ -1,5 +1,7 @@
 // One line of a job: what it holds and the place after it, or the refusal of a line without its form or of a value out of range.
 
+#![tactic(auto)]
+
 ghost use Rattle.std.specs.Prelude.{◌≡◌, ◌∷◌, [], pos};
 ghost use Rattle.numbers.specs.Integer.{between};
 ghost use Rattle.job_line.specs.Kinds.{area, axis, post, stop, coordinates, axis_costs, row, in_range, in_ranges};
@@ -12,38 +14,38 @@ use refusal::Refusal;
 use text::ParsedNumber;
 
 // A place as a line has it.
-#[derive(Drop)]
+#[derive(Clone, Copy)]
 pub struct Place {
     pub x: i64,
     pub y: i64,
 }
 
 // What one line is read as: what it holds and the place after it, or the refusal.
-#[derive(Drop)]
+#[derive(Clone, Copy)]
 pub enum AreaLine {
     Read(Rect, usize),
     Refused(Refusal),
 }
 
-#[derive(Drop)]
+#[derive(Clone, Copy)]
 pub enum AxisLine {
     Read(AxisCosts, usize),
     Refused(Refusal),
 }
 
-#[derive(Drop)]
+#[derive(Clone, Copy)]
 pub enum CountLine {
     Read(usize, usize),
     Refused(Refusal),
 }
 
-#[derive(Drop)]
+#[derive(Clone, Copy)]
 pub enum PostLine {
     Read(i64, i64, usize),
     Refused(Refusal),
 }
 
-#[derive(Drop)]
+#[derive(Clone, Copy)]
 pub enum StopLine {
     Read(i64, i64, u64, usize),
     Refused(Refusal),

@@ -1,4 +1,6 @@
 // The kernels of pricing over many places and rectangles, for the benchmarks: the job is read once and the loop runs here.
+#![tactic(auto)]
+
 ghost use Rattle.std.specs.Prelude.{◌≡◌, ◌*◌, ◌≤◌};
 ghost use Rattle.query.specs.Range.{cost_limit};
 ghost use Rattle.job.specs.Format.{read_job};

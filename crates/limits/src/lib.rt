@@ -2,6 +2,8 @@
 // job/specs/Format.antt and calls/specs/Call.antt.
 
 // A job's bytes, and the bytes that hold every report.
+#![tactic(auto)]
+
 pub const JOB_BYTES: usize = 16384;
 
 pub const REPORT_BYTES: usize = 128;

@@ -1,4 +1,6 @@
 // The near of stops with one post more, and with one less.
+#![tactic(auto)]
+
 ghost use Rattle.std.specs.Prelude.{◌≡◌, ◌≤◌, pos, length, take};
 ghost use mathlib.Core.List.{zip_with};
 ghost use Rattle.std.proofs.Math.Seq.{paste};

@@ -1,4 +1,6 @@
 // Whole numbers and lists: definitions in specs/, their laws in proofs/, and the two operations of whole numbers that document 01 needs.
+#![tactic(auto)]
+
 ghost use Rattle.std.specs.Prelude.{◌≡◌, ◌^◌, ◌≤◌, nat_abs};
 ghost use Rattle.numbers.specs.Integer.{dist, half_up};
 

@@ -1,5 +1,7 @@
 // The problem of a job's deck as both searches and the estimate take it, prepared once for each call: its area, the columns of its objects
 // and its lines.
+#![tactic(auto)]
+
 ghost use Rattle.std.specs.Prelude.{◌≡◌};
 ghost use Rattle.job.specs.Format.{read_job};
 ghost use Rattle.prepare.specs.ProblemRecord.{Cleared, given_by, given_for, refused_parts};

@@ -1,5 +1,7 @@
 // The price of a place or a rectangle, over columns of objects at scaled places: one pass each, in 32-bit columns, so that the passes can
 // be vectorised. What is priced is scaled once, before the pass.
+#![tactic(auto)]
+
 ghost use Rattle.std.specs.Prelude.{◌≡◌, cond, ◌+◌, ◌*◌, min, max, ltb, pos, nat_abs, ◌-ℤ◌};
 ghost use Rattle.numbers.specs.Integer.{dist, clamp, half_up};
 ghost use Rattle.query.specs.Bound as Bound;

@@ -1,4 +1,6 @@
 // Places with their costs. And, in specs/, the problem that both searches take, of the parts that are lent.
+#![tactic(auto)]
+
 ghost use Rattle.std.specs.Prelude.{◌≡◌};
 ghost use Rattle.query.specs.Range.{PlaceInRange};
 ghost use Rattle.deck.specs.ObjectColumns.{pricing_in};
@@ -8,7 +10,7 @@ ghost use Rattle.problem.specs.ObjectProblem.{spot_of, spot_at};
 use limits::COLUMNS;
 
 // A place with its cost.
-#[derive(Drop)]
+#[derive(Clone, Copy)]
 pub struct Spot {
     pub x: i64,
     pub y: i64,

@@ -1,5 +1,7 @@
 // Which objects reach a rectangle, over columns of objects at scaled places: one pass in 32-bit columns, so that it can be vectorised. The
 // rectangle is scaled once, before the pass.
+#![tactic(auto)]
+
 ghost use Rattle.std.specs.Prelude.{◌≡◌, cond, ◌+◌, ◌≤◌, ltb, pos, nat_abs, ◌≤ℤ◌};
 ghost use Rattle.numbers.specs.Integer.{dist, clamp};
 ghost use Rattle.deck.specs.Ranges.{Near180000};
@@ -12,7 +14,7 @@ use deck::{Rect, scaled};
 use limits::{COLUMNS, NEAR_COLUMN, STOPS, X_COST, Y_COLUMN, Y_COST};
 
 // The edges of a rectangle, scaled.
-#[derive(Drop)]
+#[derive(Clone, Copy)]
 pub struct Edges {
     pub xlo: i32,
     pub ylo: i32,

@@ -1,4 +1,6 @@
 // The text of a report and of a refusal.
+#![tactic(auto)]
+
 ghost use Rattle.std.specs.Prelude.{◌+◌, ◌≤◌, [], ◌∷◌, ◌++◌, length};
 ghost use Rattle.refusal.specs.Refusal.{number_of, line_of};
 ghost use Rattle.text.specs.Ascii.{bytes, comma};
@@ -10,14 +12,14 @@ ghost use Rattle.query.specs.Range.{FiguresInRange};
 
 use refusal::Refusal;
 
-#[derive(Drop)]
+#[derive(Clone, Copy)]
 pub enum State {
     Done,
     Stopped,
 }
 
 // What a report carries.
-#[derive(Drop)]
+#[derive(Clone, Copy)]
 pub struct Report {
     pub state: State,
     pub x: i64,

@@ -18,7 +18,7 @@ use problem::Spot;
 use slots::{Cell, Costs};
 
 // What a cut makes of a cell: its two new corners, and its two parts with the costs of their corners.
-#[derive(Drop)]
+#[derive(Clone, Copy)]
 pub struct Halves {
     pub low: Spot,
     pub high: Spot,

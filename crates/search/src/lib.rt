@@ -1,3 +1,5 @@
 // The search by cells.
+#![tactic(auto)]
+
 pub mod halves;
 pub mod run;

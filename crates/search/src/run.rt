@@ -23,7 +23,7 @@ use problem::Spot;
 use slots::{Cell, Costs};
 
 // A search while it runs: where its live cells stand in the order, the best place so far and the cuts made.
-#[derive(Drop)]
+#[derive(Clone, Copy)]
 pub struct Running {
     pub head: usize,
     pub tail: usize,
@@ -32,7 +32,7 @@ pub struct Running {
 }
 
 // What a search answers.
-#[derive(Drop)]
+#[derive(Clone, Copy)]
 pub struct Found {
     pub done: bool,
     pub x: i64,

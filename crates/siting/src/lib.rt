@@ -1,4 +1,6 @@
 // The public calls of the siting tool; crate `calls` defines what they answer.
+#![tactic(auto)]
+
 ghost use Rattle.std.specs.Prelude.{◌≤◌, ◌≡◌, length};
 ghost use Rattle.calls.specs.Answers.{report_answer, cheapest_answer, estimated_answer, read_answer, written_answer};
 ghost use Rattle.calls.specs.Call.{report_call};
@@ -22,7 +24,7 @@ use report::{Report, State};
 use search::run;
 
 // An answer, and how many bytes it has written.
-#[derive(Drop)]
+#[derive(Clone, Copy)]
 struct Response {
     answer: Answer,
     bytes: usize,

@@ -1,4 +1,6 @@
 // Reads a job from standard input and prints its report, or why there is none.
+#![tactic(auto)]
+
 use libc::{STDIN_FILENO, STDOUT_FILENO};
 
 fn main() {

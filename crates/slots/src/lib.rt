@@ -1,5 +1,7 @@
 // The slots in which a search keeps its cells while it runs. A cell stands in a slot: five numbers in one array, the costs of its four
 // corners in another. A third array holds the numbers of the slots, each once.
+#![tactic(auto)]
+
 ghost use Rattle.std.specs.Prelude.{◌≡◌, ◌+◌, ◌*◌, ◌<◌, length};
 ghost use Rattle.slots.specs.Slot.{cell_at, costs_at, CellPut, CostsPut, EntryPut};
 ghost use Rattle.slots.specs.Numbering.{Numbered, slot_numbers, cells_in, costs_in};
@@ -7,14 +9,14 @@ ghost use Rattle.slots.specs.Numbering.{Numbered, slot_numbers, cells_in, costs_
 use deck::Rect;
 use limits::{CELLS, CORNER_COSTS, SPACE};
 
-#[derive(Drop)]
+#[derive(Clone, Copy)]
 pub struct Cell {
     pub rect: Rect,
     pub bound: i64,
 }
 
 // The costs of a cell's corners: c00 at (xlo, ylo), c01 at (xlo, yhi), c10 at (xhi, ylo), c11 at (xhi, yhi).
-#[derive(Drop)]
+#[derive(Clone, Copy)]
 pub struct Costs {
     pub c00: u64,
     pub c01: u64,

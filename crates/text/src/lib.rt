@@ -1,22 +1,24 @@
 // Numbers and fixed keys read from byte slices.
+#![tactic(auto)]
+
 ghost use Rattle.text.specs.TextReading.{ByteIs, Starts, DigitAt, DigitsAt, NaturalAt, NegativeAt, NumberAt};
 
 // A number that is not negative and the place after it, or nothing that has a number's form.
-#[derive(Drop)]
+#[derive(Clone, Copy)]
 enum ParsedNatural {
     Read(u64, usize),
     Fault,
 }
 
 // A number and the place after it, or nothing that has a number's form.
-#[derive(Drop)]
+#[derive(Clone, Copy)]
 pub enum ParsedNumber {
     Read(i64, usize),
     Fault,
 }
 
 // The first ten digits, or all where there are fewer: how many, and the number that they spell.
-#[derive(Drop)]
+#[derive(Clone, Copy)]
 struct DigitRun {
     count: usize,
     value: u64,

@@ -1,5 +1,7 @@
 // Functions for tests and benchmarks from Rust, and for nothing else: each reads a job's bytes and answers one number of the job or of
 // its deck.
+#![tactic(auto)]
+
 pub mod opened;
 
 ghost use Rattle.std.specs.Prelude.{◌≡◌, ◌++◌, ◌≤◌, length, get_or, drop};

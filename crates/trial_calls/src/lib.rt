@@ -1,6 +1,8 @@
 // The calls `siting::report` and `siting::exhaustive`, for the tests and benchmarks from Rust: a number of the answer, and all that the
 // first leaves in the memory that it is lent. `estimates`: the call that estimates a job.
 // `records`: the calls that read and write jobs.
+#![tactic(auto)]
+
 pub mod estimates;
 pub mod records;
 

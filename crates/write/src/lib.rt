@@ -1,5 +1,7 @@
 // Text and decimal numbers written into a byte slice from a place on, with room for their bytes and no more. Each `put` returns the place
 // after what it wrote. `nat_len` and `int_len`: how many bytes a number takes.
+#![tactic(auto)]
+
 ghost use Rattle.std.specs.Prelude.{◌+◌, ◌≤◌, ◌≡◌, length, nat_abs};
 ghost use Rattle.text.specs.Decimal.{spell_nat, spell_int};
 ghost use Rattle.write.specs.Digits.{at_least};
