@@ -17,7 +17,7 @@ ROOT = Path("crates")
 TABLE = Path(__file__).resolve().parent / "spelling.tsv"
 WORDS = set("use open module where unfolding infix infixl infixr mod pub field syntax ruleset let in mutual".split())
 NAME = r"[^\s(){}:.,;=→]+"
-DECLARED = re.compile(rf"( *)((?:(?:pub|abbrev|unfoldable) )*)(record |data )?({NAME})((?: {NAME})*) ?(:|where|\(|\{{)")
+DECLARED = re.compile(rf"( *)((?:(?:pub|abbrev|unfoldable) )*)(record |data )?({NAME})((?: {NAME})*) :(?: |$)")
 TOKEN = re.compile(r'"(?:\\.|[^"\\])*"|«[^»]*»|[^\s(){}\[\];,.«»⌜⌝:&`"]+|.', re.S)
 
 # Names that would fall together with another one in a file, and are told apart by a word.

@@ -11,7 +11,7 @@ use lib.Arith.{le→nltb}
 use lib.IntN.{ℤ}
 use lib.ListN.{length}
 use lib.Signed.{◌≤ℤ◌}
-use Rattle.numbers.proofs.Truth.{test, cond_true, cond_false}
+use Rattle.numbers.proofs.Truth.{test, cond-true, cond-false}
 use Rattle.query.specs.Figures.{Figures}
 use Rattle.query.specs.Space.{space, space_needed}
 use Rattle.query.specs.Demand3.{Demand3}
@@ -79,18 +79,18 @@ spells_more false j h = without_line refl (((spelling_law j).left_out missing_ax
 module _ (j : Job) (cells : List ℤ) (out : List ℕ) where
   pub small_answer : length cells < space_needed j.deck j.rounds → answered (accepted j) cells out ≡ turned_down SmallSpace cells out
   unfolding answered
-  small_answer h = cond_true (ltb (length cells) (space_needed j.deck j.rounds)) _ _ (lt→ltb _ _ h)
+  small_answer h = cond-true (ltb (length cells) (space_needed j.deck j.rounds)) _ _ (lt→ltb _ _ h)
 
   module _ (h : space_needed j.deck j.rounds ≤ length cells) where
     pub short_answer : length out < 128 → answered (accepted j) cells out ≡ turned_down ShortOutput cells out
     unfolding answered
-    short_answer k = cond_false (ltb (length cells) (space_needed j.deck j.rounds)) _ _ (le→nltb _ _ h)
-        ∙ cond_true (ltb (length out) 128) _ _ (lt→ltb _ _ k)
+    short_answer k = cond-false (ltb (length cells) (space_needed j.deck j.rounds)) _ _ (le→nltb _ _ h)
+        ∙ cond-true (ltb (length out) 128) _ _ (lt→ltb _ _ k)
 
     pub report_answer_lem : 128 ≤ length out → answered (accepted j) cells out ≡ reported j cells out
     unfolding answered
-    report_answer_lem k = cond_false (ltb (length cells) (space_needed j.deck j.rounds)) _ _ (le→nltb _ _ h)
-        ∙ cond_false (ltb (length out) 128) _ _ (le→nltb _ _ k)
+    report_answer_lem k = cond-false (ltb (length cells) (space_needed j.deck j.rounds)) _ _ (le→nltb _ _ h)
+        ∙ cond-false (ltb (length out) 128) _ _ (le→nltb _ _ k)
 
 module _ (job : List ℕ) (cells : List ℤ) (out : List ℕ) where
   -- ---- how the call ends

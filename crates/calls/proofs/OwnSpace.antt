@@ -5,7 +5,7 @@ use mathlib.Core.Path.{◌≡◌}
 use mathlib.Core.List.{List}
 use native.Mathlib.Omega.{arith}
 use lib.IntN.{pos}
-use lib.ListN.{length, length_replicate}
+use lib.ListN.{length, length-replicate}
 use Rattle.query.specs.Space.{space_needed}
 use Rattle.query.proofs.EstimateLaws.{needs_most}
 use Rattle.job.specs.Format.{Job, accepted, read_job}
@@ -16,7 +16,7 @@ use Rattle.calls.proofs.Demands.{read_exactly}
 
 module _ (job out : List ℕ) (j : Job) (e : read_job job ≡ accepted j) where
   pub own_enough : space_needed j.deck j.rounds ≤ length own_space
-  own_enough = let a = ((read_exactly job j).0 e).1 in omega (arith, needs_most j.deck j.rounds, most_rounds a.writable, length_replicate 5005 (pos 0))
+  own_enough = let a = ((read_exactly job j).0 e).1 in omega (arith, needs_most j.deck j.rounds, most_rounds a.writable, length-replicate 5005 (pos 0))
 
   pub own_accepted : 128 ≤ length out → Accepted job own_space out j
   own_accepted h = record { read = e; space = own_enough; output = h }

@@ -5,7 +5,7 @@ use mathlib.Core.Path.{◌≡◌, refl, sym, ap, ◌∙◌}
 use mathlib.Core.List.{List}
 use mathlib.Core.Logic.{◌≢◌}
 use native.Mathlib.Omega.{arith}
-use lib.ListN.{replicate, length_replicate}
+use lib.ListN.{replicate, length-replicate}
 use Rattle.query.specs.Figures.{Figures}
 use Rattle.refusal.specs.Refusal.{number_of, line_of}
 use Rattle.refusal.specs.declared.Refusal.{Refusal}
@@ -40,7 +40,7 @@ module _ (job : List ℕ) where
   text_of_lem = refl
 
   reported_text : (j : Job) → read_job job ≡ accepted j → answer_text job ≡ report_text (job_figures j)
-  reported_text j e = text_of_lem ∙ ap text_of (reports job own_space output j (own_accepted job output j e (omega (arith, length_replicate {A = ℕ} 128 0)))).answer
+  reported_text j e = text_of_lem ∙ ap text_of (reports job own_space output j (own_accepted job output j e (omega (arith, length-replicate {A = ℕ} 128 0)))).answer
       ∙ given_text (job_figures j)
 
   refusal_text_lem : (why : Refusal) → Condition job why → answer_text job ≡ refusal_text (number_of why) (line_of why)

@@ -4,8 +4,8 @@ use mathlib.Core.Path.{◌≡◌, refl, sym, ap, subst, ◌∙◌}
 use mathlib.Core.List.{List, map}
 use Prim.Native.Nat.{ℕ, ◌≤◌, ◌<◌}
 use native.Mathlib.Omega.{arith}
-use lib.ListN.{length, get_or, length_map}
-use lib.Seq.{get_or_take}
+use lib.ListN.{length, get_or, length-map}
+use lib.Seq.{get_or-take}
 use Rattle.numbers.specs.Padded.{padded}
 use Rattle.numbers.proofs.Joined.{map_at}
 use Rattle.numbers.proofs.Padded.{padded_at, padded_behind}
@@ -53,11 +53,11 @@ module _ (deck : Deck) (sound : Sound deck) (i : ℕ) where
   near_at_lem h =
       rw (sound_near sound)
       (padded_at 512 0 (map (near (deck_of deck)) (deck_of deck).stops) i
-      (omega (arith, length_map (deck_of deck).stops (near (deck_of deck)), sound_stops sound))
+      (omega (arith, length-map (deck_of deck).stops (near (deck_of deck)), sound_stops sound))
       ∙ each)
     where
       stop_at_lem : get_or (deck_of deck).stops i (stop_in deck i) ≡ stop_in deck i
-      stop_at_lem = get_or_take deck.stops (all_stops deck) i (stop_in deck i) h
+      stop_at_lem = get_or-take deck.stops (all_stops deck) i (stop_in deck i) h
           ∙ stops_at deck (sound_columns sound) i (stop_in deck i) (omega (arith, (sound_columns sound).stops))
 
       each : get_or (map (near (deck_of deck)) (deck_of deck).stops) i 0 ≡ near (deck_of deck) (stop_in deck i)
@@ -65,7 +65,7 @@ module _ (deck : Deck) (sound : Sound deck) (i : ℕ) where
 
   near_past : deck.stops ≤ i → get_or deck.near i 0 ≡ 0
   near_past h = rw (sound_near sound) (padded_behind 512 0 (map (near (deck_of deck)) (deck_of deck).stops) i
-      (omega (arith, length_map (deck_of deck).stops (near (deck_of deck)), sound_stops sound)))
+      (omega (arith, length-map (deck_of deck).stops (near (deck_of deck)), sound_stops sound)))
 
 pub record_law : (deck : Deck) → RecordLaw deck
 record_law deck = record {

@@ -8,10 +8,10 @@ use Prim.Native.Nat.{ℕ, ◌+◌, ◌≤◌, ◌<◌}
 use native.Mathlib.Omega.{arith}
 use lib.Arith.{le→nltb}
 use lib.Dec.{ltb, ltb→lt, lt→ltb, nltb→le}
-use lib.ListN.{length, take, drop, length_append, length_drop, length_map}
+use lib.ListN.{length, take, drop, length-append, length-drop, length-map}
 use lib.Seq.{take_at, drop_at}
 use Rattle.numbers.specs.Padded.{padded}
-use Rattle.numbers.proofs.Truth.{test, cond_true, cond_false}
+use Rattle.numbers.proofs.Truth.{test, cond-true, cond-false}
 use Rattle.numbers.proofs.Padded.{padded_length}
 use Rattle.query.specs.Deck as Query
 use Rattle.query.specs.Deck.{AxisCosts, plain}
@@ -64,9 +64,9 @@ line_length j e =
     let line : length (spell_line (axis_line j.deck.axis)) ≡ 9 = ap (λ (c : AxisCosts). length (spell_line (axis_line c))) e ∙ nine in
     omega (
       arith,
-      length_append first (spell_line (axis_line j.deck.axis) ++ later),
-      length_append (spell_line (axis_line j.deck.axis)) later,
-      length_append first later,
+      length-append first (spell_line (axis_line j.deck.axis) ++ later),
+      length-append (spell_line (axis_line j.deck.axis)) later,
+      length-append first later,
       line,
     )
 
@@ -82,7 +82,7 @@ module _ (text out : List ℕ) where
 
   length_kept : length text ≤ length out → length (overwritten text out) ≡ length out
   unfolding overwritten
-  length_kept h = omega (arith, length_append text (drop (length text) out), length_drop (length text) out)
+  length_kept h = omega (arith, length-append text (drop (length text) out), length-drop (length text) out)
 
 -- ---- the call `read`
 module _ (job : List ℕ) where
@@ -103,13 +103,13 @@ module _ (deck : Deck) (rounds : ℕ) (out : List ℕ) where
   module _ (job : Job) (e : read_text (file_text deck rounds) ≡ accepted job) where
     pub file_short : length out < length (file_text deck rounds) → write_call deck rounds out ≡ not_saved ShortOutput out
     unfolding write_call saved_as
-    file_short h = ap (λ (r : Result). saved_as r (file_text deck rounds) out) e ∙ cond_true (ltb (length out) (length (file_text deck rounds))) _ _ (lt→ltb _ _ h)
+    file_short h = ap (λ (r : Result). saved_as r (file_text deck rounds) out) e ∙ cond-true (ltb (length out) (length (file_text deck rounds))) _ _ (lt→ltb _ _ h)
 
     pub file_written : length (file_text deck rounds) ≤ length out →
         write_call deck rounds out ≡ record { answer = gives (length (file_text deck rounds)); out = overwritten (file_text deck rounds) out }
     unfolding write_call saved_as
     file_written h = ap (λ (r : Result). saved_as r (file_text deck rounds) out) e
-        ∙ cond_false (ltb (length out) (length (file_text deck rounds))) _ _ (le→nltb _ _ h)
+        ∙ cond-false (ltb (length out) (length (file_text deck rounds))) _ _ (le→nltb _ _ h)
 
 -- ---- how it ends
 module _ (deck : Deck) (rounds : ℕ) (out : List ℕ) (sized : Sized deck) where
@@ -296,7 +296,7 @@ module _ (deck : Deck) (rounds : ℕ) (out : List ℕ) (sized : Sized deck) wher
   }
 
 column_sized : {A B : Type 0} (f : A → B) (z : B) (size : ℕ) (xs : List A) → length xs ≤ size → length (padded size z (map f xs)) ≡ size
-column_sized f z size xs h = padded_length size z (map f xs) (rw (length_map xs f) h)
+column_sized f z size xs h = padded_length size z (map f xs) (rw (length-map xs f) h)
 
 -- the record of an allowed job's deck, and the job that it holds
 module _ (j : Job) (a : Allowed j) where

@@ -3,7 +3,7 @@
 use mathlib.Core.Path.{◌≡◌, refl, sym, ap, subst, ◌∙◌}
 use mathlib.Core.Option.{Option, none, some}
 use mathlib.Core.List.{List, [], ◌∷◌, foldl}
-use Rattle.numbers.proofs.Truth.{cond_true}
+use Rattle.numbers.proofs.Truth.{cond-true}
 use Rattle.query.specs.Place.{NonEmpty}
 use Rattle.query.specs.Deck as Query
 use Rattle.deck.specs.DeckOf.{deck_of, deck_record}
@@ -33,7 +33,7 @@ refused_is deck change e = ap (λ (r : Changed). r.deck) (refused_answer deck ch
 -- ---- a change of a sound record
 pub sound_refusal : (deck : Deck) (change : Change) → Sound deck → record_refusal change deck ≡ change_refusal change (deck_of deck)
 unfolding record_refusal
-sound_refusal deck change sound = cond_true (usable deck) (change_refusal change (deck_of deck)) (some (OutOfRange 0)) (sound_usable deck sound)
+sound_refusal deck change sound = cond-true (usable deck) (change_refusal change (deck_of deck)) (some (OutOfRange 0)) (sound_usable deck sound)
 
 pub changed_is : (deck : Deck) (change : Change) → Sound deck → (changed_record change deck).deck ≡ deck_record (changed (deck_of deck) change)
 unfolding changed_record changed

@@ -9,7 +9,7 @@ use native.Mathlib.Omega.{arith}
 use lib.Dec.{eqb, ltb, ltb→lt, nltb→le}
 use lib.IntN.{ℤ, pos, nat_abs}
 use lib.ListN.{length, get_or, take, set, length-set}
-use lib.Seq.{paste, length_paste, ext_get_or, get_or-set_same, get_or-set_other}
+use lib.Seq.{paste, length-paste, ext_get_or, get_or-set_same, get_or-set_other}
 use mir.Syntax.{w64}
 use mir.Val.{SFits}
 use Rattle.numbers.proofs.Members.{length_non_empty}
@@ -79,7 +79,7 @@ module _ (f : Place → ℕ → ℕ) (near : List ℕ) {sx sy : List ℤ} {n : �
       many = target_long f near stops nears.count
 
       long : length to ≡ length near
-      long = ap length e ∙ length_paste near 0 target n (omega (arith, nears.count)) many
+      long = ap length e ∙ length-paste near 0 target n (omega (arith, nears.count)) many
 
       at_most : (i : ℕ) → i < n → get_or to i 0 ≤ 720000
       at_most i h =

@@ -6,7 +6,7 @@ use Prim.Native.Nat.{ℕ, ◌≤◌, ◌<◌}
 use native.Mathlib.Omega.{arith}
 use lib.Dec.{T}
 use lib.ListN.{length, get_or, take}
-use lib.Seq.{length_take_le, get_or_take}
+use lib.Seq.{length-take-le, get_or-take}
 use Rattle.numbers.proofs.Truth.{and_intro}
 use Rattle.deck.specs.Ranges.{NearsInRange}
 use Rattle.deck.specs.Sound.{Sound}
@@ -41,10 +41,10 @@ module _ (deck : Deck) (sound : Sound deck) where
       nears = sound_nears sound
 
       long : length (take deck.stops deck.near) ≡ deck.stops
-      long = length_take_le deck.stops deck.near nears.count
+      long = length-take-le deck.stops deck.near nears.count
 
       each : (i : ℕ) → i < deck.stops → get_or (take deck.stops deck.near) i 0 ≤ 720000
-      each i h = rw (get_or_take deck.stops deck.near i 0 h) (nears.range i h)
+      each i h = rw (get_or-take deck.stops deck.near i 0 h) (nears.range i h)
 
   pub sound_usable : T (usable deck)
   unfolding usable

@@ -7,8 +7,8 @@ use Prim.Native.Nat.{ℕ, suc, ◌-◌, ◌≤◌, ◌<◌}
 use native.Mathlib.Nat.{zero-add}
 use native.Mathlib.Omega.{arith}
 use lib.IntN.{ℤ, pos}
-use lib.ListN.{length, take, drop, set, replicate, length_map}
-use lib.Seq.{paste, drop_append_seam}
+use lib.ListN.{length, take, drop, set, replicate, length-map}
+use lib.Seq.{paste, drop-append_seam}
 use Rattle.numbers.specs.Padded.{padded}
 use Rattle.numbers.proofs.Joined.{map_each}
 use Rattle.numbers.proofs.Padded.{padded_map}
@@ -51,9 +51,9 @@ module _ (f : Place → ℕ → ℕ) (g : Stop → ℕ) where
   unfolding padded
   nears_renewed size stops =
       ap₂ (λ (l r : List ℕ). l ++ r) (each_near stops _ _ _)
-      (ap (λ (n : ℕ). drop n (map g stops ++ replicate (size - length (map g stops)) 0)) (zero-add (length stops) ∙ sym (length_map stops g))
-      ∙ drop_append_seam (map g stops) (replicate (size - length (map g stops)) 0)
-      ∙ ap (λ (n : ℕ). replicate (size - n) 0) (length_map stops g ∙ sym (length_map stops (λ s. f s.at (g s)))))
+      (ap (λ (n : ℕ). drop n (map g stops ++ replicate (size - length (map g stops)) 0)) (zero-add (length stops) ∙ sym (length-map stops g))
+      ∙ drop-append_seam (map g stops) (replicate (size - length (map g stops)) 0)
+      ∙ ap (λ (n : ℕ). replicate (size - n) 0) (length-map stops g ∙ sym (length-map stops (λ s. f s.at (g s)))))
 
 -- ---- a record whose columns are those of a deck with other posts, and with other stops
 module _ (deck : Query.Deck) where

@@ -8,7 +8,7 @@ use native.Mathlib.Numerals.{add-one}
 use native.Mathlib.Omega.{arith}
 use lib.Dec.{T, leb, leb→le, le→leb, not_T}
 use lib.ListN.{length, get_or, take, drop, drop_of_length-le}
-use lib.Seq.{drop_cons, length_take_le, get_or_take}
+use lib.Seq.{drop-cons, length-take-le, get_or-take}
 use Rattle.numbers.proofs.Truth.{holds, fails, and_left, and_right, and_intro}
 use Rattle.change.specs.ChangedRecord.{all_up_to}
 
@@ -27,7 +27,7 @@ module _ (most : ℕ) where
   module _ {xs : List ℕ} {i : ℕ} (so_far : UpTo xs i) (h : i < length xs) where
     next_all : all_up_to most xs ≡ leb (get_or xs i 0) most && all_up_to most (drop (suc i) xs)
     unfolding all_up_to
-    next_all = so_far.later ∙ ap (all_up_to most) (drop_cons xs i 0 h)
+    next_all = so_far.later ∙ ap (all_up_to most) (drop-cons xs i 0 h)
 
     pub upto_next : get_or xs i 0 ≤ most → UpTo xs (i + 1)
     upto_next l = record {
@@ -45,13 +45,13 @@ module _ (most : ℕ) where
 -- the first n numbers of a column
 module _ (most : ℕ) (near : List ℕ) (n : ℕ) (g : n ≤ length near) {i : ℕ} (so_far : UpTo most (take n near) i) where
   many : length (take n near) ≡ n
-  many = length_take_le n near g
+  many = length-take-le n near g
 
   pub column_next : i < n → get_or near i 0 ≤ most → UpTo most (take n near) (i + 1)
-  column_next h l = upto_next most so_far (omega (arith, many)) (rw (get_or_take n near i 0 h) l)
+  column_next h l = upto_next most so_far (omega (arith, many)) (rw (get_or-take n near i 0 h) l)
 
   pub column_fails : i < n → most < get_or near i 0 → false ≡ all_up_to most (take n near)
-  column_fails h l = sym (upto_fails most so_far (omega (arith, many)) (rw (get_or_take n near i 0 h) l))
+  column_fails h l = sym (upto_fails most so_far (omega (arith, many)) (rw (get_or-take n near i 0 h) l))
 
   pub column_all : n ≤ i → true ≡ all_up_to most (take n near)
   column_all h = sym (upto_all most so_far (omega (arith, many)))

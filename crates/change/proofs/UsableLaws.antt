@@ -9,7 +9,7 @@ use native.Mathlib.Omega.{arith}
 use lib.Dec.{T, not_T}
 use lib.IntN.{ℤ, pos}
 use lib.ListN.{length, get_or, take}
-use lib.Seq.{length_take_le, get_or_take}
+use lib.Seq.{length-take-le, get_or-take}
 use lib.Signed.{le_z}
 use mir.Syntax.{w64}
 use mir.Val.{SFits, to_z}
@@ -88,8 +88,8 @@ module _ (deck : Deck) (sized : Sized deck) (long : length deck.near ≡ 512) wh
       few = omega (arith, file.few_stops, long)
 
       each : (i : ℕ) → i < deck.stops → get_or deck.near i 0 ≤ 720000
-      each i h = rw (get_or_take deck.stops deck.near i 0 h) at
-          (all_up_to_lem 720000 (take deck.stops deck.near) i travels (omega (arith, length_take_le deck.stops deck.near few)))
+      each i h = rw (get_or-take deck.stops deck.near i 0 h) at
+          (all_up_to_lem 720000 (take deck.stops deck.near) i travels (omega (arith, length-take-le deck.stops deck.near few)))
 
 pub usable_columns : {deck : Deck} → Sized deck → Usable deck → DeckColumns deck
 usable_columns sized u = record { sized = sized; posts = u.few_posts; stops = u.few_stops }

@@ -2,14 +2,14 @@
 -- Assumes nothing.
 use mathlib.Core.Path.{◌≡◌, refl, ap}
 use mathlib.Core.Bool.{cond}
-use mathlib.Core.List.{List, [], ◌∷◌, ◌++◌, zip_with, map, map_map}
+use mathlib.Core.List.{List, [], ◌∷◌, ◌++◌, zip_with, map, map-map}
 use Prim.Native.Nat.{ℕ, zero, suc, ◌+◌, ◌≤◌, ◌<◌, min}
 use native.Mathlib.Numerals.{add-one}
 use native.Mathlib.Omega.{arith}
 use lib.Dec.{ltb}
 use lib.IntN.{ℤ, pos}
 use lib.ListN.{length, get_or, take}
-use lib.Seq.{length_take_le, take_suc}
+use lib.Seq.{length-take-le, take-suc}
 use Rattle.numbers.specs.Lists.{least_by}
 use Rattle.numbers.proofs.Joined.{map_each}
 use Rattle.query.specs.Place.{Place}
@@ -90,7 +90,7 @@ closest_scaled c p [] = refl
 closest_scaled c p (post ∷ posts) = rw (
   travel_scaled c p post,
   map_each (travel c p) (λ q. travel plain (scaled_place c p) (scaled_place c q)) posts (λ q m. travel_scaled c p q),
-  ← map_map (travel plain (scaled_place c p)) (scaled_place c) posts,
+  ← map-map (travel plain (scaled_place c p)) (scaled_place c) posts,
 )
 
 -- the first posts, one more, and its place
@@ -99,12 +99,12 @@ module _ {px py : List ℤ} {k : ℕ} (gx : CoordinatesInRange px k) (gy : Coord
   posts_count = omega (arith, places_length px py, gx.count, gy.count)
 
   pub some_posts : 1 ≤ k → 1 ≤ length (take k (places px py))
-  some_posts h = omega (arith, length_take_le k (places px py) posts_count)
+  some_posts h = omega (arith, length-take-le k (places px py) posts_count)
 
   pub posts_more : (j : ℕ) → j < k → take (j + 1) (places px py) ≡ take j (places px py) ++ place_at px py j ∷ []
   posts_more j h = rw (
     add-one j,
-    take_suc (places px py) j (place_at px py 0) (omega (arith, posts_count)),
+    take-suc (places px py) j (place_at px py 0) (omega (arith, posts_count)),
     places_at px py j (place_at px py 0) (omega (arith, gx.count)) (omega (arith, gy.count)),
   )
 

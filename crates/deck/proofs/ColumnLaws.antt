@@ -6,8 +6,8 @@ use Prim.Native.Nat.{ℕ, zero, suc, ◌+◌, ◌≤◌, ◌<◌}
 use native.Mathlib.Numerals.{add-one}
 use native.Mathlib.Omega.{arith}
 use lib.IntN.{ℤ, pos, nat_abs}
-use lib.ListN.{length, get_or, take, length_append, length_map, get_or_append, get_or_map}
-use lib.Seq.{get_or_append_add, take_suc, take-length}
+use lib.ListN.{length, get_or, take, length-append, length-map, get_or-append, get_or-map}
+use lib.Seq.{get_or-append-add, take-suc, take-length}
 use Rattle.numbers.proofs.Padded.{padded_length, padded_at}
 use Rattle.deck.specs.Objects.{Object, Pricing}
 use Rattle.deck.specs.ObjectColumns.{column, object_columns, columns_of, object_at, objects_in, axis_in}
@@ -24,31 +24,31 @@ objects_in_more columns i = rw (add-one i)
 pub objects_in_length : (columns : List ℤ) (n : ℕ) → length (objects_in columns n) ≡ n
 unfolding objects_in
 objects_in_length columns zero = refl
-objects_in_length columns (suc n) = omega (arith, length_append (objects_in columns n) (object_at columns n ∷ []), objects_in_length columns n)
+objects_in_length columns (suc n) = omega (arith, length-append (objects_in columns n) (object_at columns n ∷ []), objects_in_length columns n)
 
 -- ---- four columns of 512, one after another
 behind : (xs ys : List ℤ) (n i : ℕ) → length xs ≡ n → get_or (xs ++ ys) (n + i) (pos 0) ≡ get_or ys i (pos 0)
-behind xs ys n i e = rw (← e) (get_or_append_add xs ys i (pos 0))
+behind xs ys n i e = rw (← e) (get_or-append-add xs ys i (pos 0))
 
 module _ (a b c d : List ℤ) (ea : length a ≡ 512) (eb : length b ≡ 512) (ec : length c ≡ 512) where
   two : length (a ++ b) ≡ 1024
-  two = omega (arith, length_append a b)
+  two = omega (arith, length-append a b)
 
   three : length (a ++ b ++ c) ≡ 1536
-  three = omega (arith, length_append (a ++ b) c, two)
+  three = omega (arith, length-append (a ++ b) c, two)
 
   first_row : (i : ℕ) → i < 512 → get_or (a ++ b ++ c ++ d) i (pos 0) ≡ get_or a i (pos 0)
   first_row i h =
-      get_or_append (a ++ b ++ c) d (pos 0) i (omega (arith, three)) ∙ get_or_append (a ++ b) c (pos 0) i (omega (arith, two))
-      ∙ get_or_append a b (pos 0) i (omega arith)
+      get_or-append (a ++ b ++ c) d (pos 0) i (omega (arith, three)) ∙ get_or-append (a ++ b) c (pos 0) i (omega (arith, two))
+      ∙ get_or-append a b (pos 0) i (omega arith)
 
   second_row : (i : ℕ) → i < 512 → get_or (a ++ b ++ c ++ d) (512 + i) (pos 0) ≡ get_or b i (pos 0)
   second_row i h =
-      get_or_append (a ++ b ++ c) d (pos 0) (512 + i) (omega (arith, three)) ∙ get_or_append (a ++ b) c (pos 0) (512 + i) (omega (arith, two))
+      get_or-append (a ++ b ++ c) d (pos 0) (512 + i) (omega (arith, three)) ∙ get_or-append (a ++ b) c (pos 0) (512 + i) (omega (arith, two))
       ∙ behind a b 512 i ea
 
   third_row : (i : ℕ) → i < 512 → get_or (a ++ b ++ c ++ d) (1024 + i) (pos 0) ≡ get_or c i (pos 0)
-  third_row i h = get_or_append (a ++ b ++ c) d (pos 0) (1024 + i) (omega (arith, three)) ∙ behind (a ++ b) c 1024 i two
+  third_row i h = get_or-append (a ++ b ++ c) d (pos 0) (1024 + i) (omega (arith, three)) ∙ behind (a ++ b) c 1024 i two
 
   fourth_row : (i : ℕ) → get_or (a ++ b ++ c ++ d) (1536 + i) (pos 0) ≡ get_or d i (pos 0)
   fourth_row i = behind (a ++ b ++ c) d 1536 i three
@@ -60,7 +60,7 @@ nothing = record { at = record { x = pos 0; y = pos 0 }; visits = 0; near = 0 }
 module _ (objects : List Object) (few : length objects ≤ 512) where
   pub column_length : (number : Object → ℤ) → length (column number objects) ≡ 512
   unfolding column
-  column_length number = padded_length 512 (pos 0) (map number objects) (omega (arith, length_map objects number))
+  column_length number = padded_length 512 (pos 0) (map number objects) (omega (arith, length-map objects number))
 
   abbrev x : List ℤ
   x = column (λ s. s.at.x) objects
@@ -83,7 +83,7 @@ module _ (objects : List Object) (few : length objects ≤ 512) where
       rw columns_are
       (omega (
         arith,
-        length_append (x ++ y ++ visits) near,
+        length-append (x ++ y ++ visits) near,
         three x y visits near (column_length _) (column_length _) (column_length _),
         column_length (λ s. pos s.near),
       ))
@@ -107,8 +107,8 @@ module _ (objects : List Object) (few : length objects ≤ 512) where
       get_or (column number objects) i (pos 0) ≡ number (get_or objects i nothing)
   unfolding column
   number_at number e i h =
-      padded_at 512 (pos 0) (map number objects) i (omega (arith, length_map objects number))
-      ∙ ap (get_or (map number objects) i) (sym e) ∙ get_or_map number objects i nothing
+      padded_at 512 (pos 0) (map number objects) i (omega (arith, length-map objects number))
+      ∙ ap (get_or (map number objects) i) (sym e) ∙ get_or-map number objects i nothing
 
 -- ---- what pricing needs in one array
 module _ (P : Pricing) (few : length P.objects ≤ 512) where
@@ -120,10 +120,10 @@ module _ (P : Pricing) (few : length P.objects ≤ 512) where
   whole = refl
 
   pub pricing_length : length (columns_of P) ≡ 2050
-  pricing_length = rw whole (omega (arith, length_append (object_columns P.objects) costs, columns_length P.objects few))
+  pricing_length = rw whole (omega (arith, length-append (object_columns P.objects) costs, columns_length P.objects few))
 
   before_costs : (i : ℕ) → i < 2048 → get_or (columns_of P) i (pos 0) ≡ get_or (object_columns P.objects) i (pos 0)
-  before_costs i h = rw whole (get_or_append (object_columns P.objects) costs (pos 0) i (omega (arith, columns_length P.objects few)))
+  before_costs i h = rw whole (get_or-append (object_columns P.objects) costs (pos 0) i (omega (arith, columns_length P.objects few)))
 
   pub x_cost_at : get_or (columns_of P) 2048 (pos 0) ≡ pos P.axis.a
   x_cost_at = rw whole (behind (object_columns P.objects) costs 2048 0 (columns_length P.objects few))
@@ -162,7 +162,7 @@ module _ (P : Pricing) (few : length P.objects ≤ 512) where
   columns_front : (n : ℕ) → n ≤ length P.objects → objects_in (columns_of P) n ≡ take n P.objects
   unfolding objects_in
   columns_front zero h = refl
-  columns_front (suc n) h = rw (columns_front n (omega arith), row_object n (omega arith)) (sym (take_suc P.objects n nothing (omega arith)))
+  columns_front (suc n) h = rw (columns_front n (omega arith), row_object n (omega arith)) (sym (take-suc P.objects n nothing (omega arith)))
 
   pub columns_objects : objects_in (columns_of P) (length P.objects) ≡ P.objects
   columns_objects = columns_front (length P.objects) (omega arith) ∙ take-length P.objects

@@ -6,8 +6,8 @@ use Prim.Native.Nat.{ℕ, ◌+◌, ◌-◌, ◌≤◌, ◌<◌}
 use native.Mathlib.Numerals.{add-one}
 use native.Mathlib.Omega.{arith}
 use lib.IntN.{ℤ, pos}
-use lib.ListN.{length, get_or, take, drop, set, replicate, length_replicate, replicate-append-replicate, get_or_append}
-use lib.Seq.{paste, paste-zero, paste-suc, length_paste, drop-paste, length_take_le, get_or_take, get_or_drop, take_at, drop_at, drop_append_add}
+use lib.ListN.{length, get_or, take, drop, set, replicate, length-replicate, replicate-append-replicate, get_or-append}
+use lib.Seq.{paste, paste-zero, paste-suc, length-paste, drop-paste, length-take-le, get_or-take, get_or-drop, take_at, drop_at, drop-append-add}
 use Rattle.numbers.specs.Padded.{padded}
 
 -- an array d into which the first n elements of s are copied from `at` on, i of them so far
@@ -22,7 +22,7 @@ module _ {A : Type 0} (d : List A) (at : ℕ) (s : List A) (n : ℕ) where
 
   pub copied_more : {to : List A} {i : ℕ} (v z : A) → at + n ≤ length d → n ≤ length s → Copied to i → i < n → v ≡ get_or s i z →
       Copied (set to (at + i) v) (i + 1)
-  copied_more {to} {i} v z g h so_far l e = record { count = omega arith; long = rw is (length_paste d at s (i + 1) (omega arith) (omega arith)); copied = is }
+  copied_more {to} {i} v z g h so_far l e = record { count = omega arith; long = rw is (length-paste d at s (i + 1) (omega arith) (omega arith)); copied = is }
     where
       is : set to (at + i) v ≡ paste d at s (i + 1)
       is = rw (so_far.copied, e, add-one i) (paste-suc d at s i z (omega arith) (omega arith))
@@ -34,29 +34,29 @@ module _ {A : Type 0} (d : List A) (at : ℕ) (s : List A) (n : ℕ) where
   pub copied_before : {to : List A} {i : ℕ} → Copied to i → at ≤ length d → (j : ℕ) (z : A) → j < at → get_or to j z ≡ get_or d j z
   copied_before {to} {i} so_far h j z l =
       rw (so_far.copied, append_assoc (take at d) (take i s) (drop (at + i) d))
-      (get_or_append (take at d) _ z j (omega (arith, length_take_le at d h)) ∙ get_or_take at d j z l)
+      (get_or-append (take at d) _ z j (omega (arith, length-take-le at d h)) ∙ get_or-take at d j z l)
 
   -- the next element is not copied yet, and those before it are
   pub copied_next : {to : List A} {i : ℕ} → Copied to i → at ≤ length d → n ≤ length s → (z : A) → get_or to (at + i) z ≡ get_or d (at + i) z
   copied_next {to} {i} so_far g h z =
       let e : at + i ≡ at + i + 0 = omega arith in
-      ap (λ (k : ℕ). get_or to k z) e ∙ sym (get_or_drop (at + i) to 0 z)
-      ∙ rw (so_far.copied, drop-paste d at s i g (omega (arith, so_far.count))) (get_or_drop (at + i) d 0 z ∙ ap (λ (k : ℕ). get_or d k z) (sym e))
+      ap (λ (k : ℕ). get_or to k z) e ∙ sym (get_or-drop (at + i) to 0 z)
+      ∙ rw (so_far.copied, drop-paste d at s i g (omega (arith, so_far.count))) (get_or-drop (at + i) d 0 z ∙ ap (λ (k : ℕ). get_or d k z) (sym e))
 
   pub copied_within : {to : List A} {i : ℕ} → Copied to i → at ≤ length d → n ≤ length s → (j : ℕ) (z : A) → j < i → get_or to (at + j) z ≡ get_or s j z
   copied_within {to} {i} so_far g h j z l =
-      sym (get_or_drop at to j z)
+      sym (get_or-drop at to j z)
       ∙ rw (
         so_far.copied,
         append_assoc (take at d) (take i s) (drop (at + i) d),
-        drop_at (take at d) (take i s ++ drop (at + i) d) at (length_take_le at d g),
+        drop_at (take at d) (take i s ++ drop (at + i) d) at (length-take-le at d g),
       )
-      (get_or_append (take i s) _ z j (omega (arith, length_take_le i s (omega (arith, so_far.count)))) ∙ get_or_take i s j z l)
+      (get_or-append (take i s) _ z j (omega (arith, length-take-le i s (omega (arith, so_far.count)))) ∙ get_or-take i s j z l)
 
 -- of two copies to the same place the second counts
 pub copied_again : {A : Type 0} (d : List A) (at : ℕ) (s t : List A) (n : ℕ) → at ≤ length d → n ≤ length s → paste (paste d at s n) at t n ≡ paste d at t n
 copied_again d at s t n g h =
-    rw (drop-paste d at s n g h, append_assoc (take at d) (take n s) (drop (at + n) d), take_at (take at d) _ at (length_take_le at d g))
+    rw (drop-paste d at s n g h, append_assoc (take at d) (take n s) (drop (at + n) d), take_at (take at d) _ at (length-take-le at d g))
 
 -- a column copied behind others, where all is 0 yet
 pub put_column : (before : List ℤ) (at m n : ℕ) (xs : List ℤ) → length before ≡ at → n ≤ 512 → n ≤ length xs →
@@ -64,11 +64,11 @@ pub put_column : (before : List ℤ) (at m n : ℕ) (xs : List ℤ) → length b
 unfolding padded
 put_column before at m n xs e h l =
     ap (λ (r : List ℤ). r ++ take n xs ++ drop (at + n) (before ++ replicate (512 + m) (pos 0))) (take_at before _ at e)
-    ∙ rw (← e, drop_append_add before (replicate (512 + m) (pos 0)) n, length_take_le n xs l, split)
+    ∙ rw (← e, drop-append-add before (replicate (512 + m) (pos 0)) n, length-take-le n xs l, split)
     (sym (append_assoc (before ++ take n xs) _ _) ∙ ap (λ (r : List ℤ). r ++ replicate m (pos 0)) (append_assoc before (take n xs) _))
   where
     split : drop n (replicate (512 + m) (pos 0)) ≡ replicate (512 - n) (pos 0) ++ replicate m (pos 0)
     split =
         let k : 512 + m ≡ n + (512 - n + m) = omega arith in
-        rw (k, ← replicate-append-replicate n (512 - n + m) (pos 0), drop_at (replicate n (pos 0)) _ n (length_replicate n (pos 0)))
+        rw (k, ← replicate-append-replicate n (512 - n + m) (pos 0), drop_at (replicate n (pos 0)) _ n (length-replicate n (pos 0)))
         (sym (replicate-append-replicate (512 - n) m (pos 0)))

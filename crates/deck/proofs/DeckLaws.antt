@@ -5,8 +5,8 @@ use mathlib.Core.List.{List, [], ◌∷◌, ◌++◌, map, zip_with, map-id, Mem
 use Prim.Native.Nat.{ℕ, zero, suc, ◌≤◌, ◌<◌, min}
 use native.Mathlib.Omega.{arith}
 use lib.IntN.{ℤ, pos}
-use lib.ListN.{length, get_or, take, length_take}
-use lib.Seq.{take-nil, take_take}
+use lib.ListN.{length, get_or, take, length-take}
+use lib.Seq.{take-nil, take-take}
 use Rattle.query.specs.Place.{Place}
 use Rattle.query.specs.Deck as Query
 use Rattle.query.specs.Deck.{AxisCosts, Stop}
@@ -65,28 +65,28 @@ module _ {D : Type 0} {xs ys : List ℤ} {vs : List ℕ} {n : ℕ} (long : StopC
   unfolding stops_of
   by_place g h e =
       map_take g n (stops_of (places xs ys) vs) ∙ ap (take n) (zip_first stop_of g h e (places xs ys) vs)
-      ∙ take_take n (length vs) (map h (places xs ys)) long.visits
+      ∙ take-take n (length vs) (map h (places xs ys)) long.visits
 
   pub by_x : (g : Stop → D) (h : ℤ → D) → ((a b : ℤ) (v : ℕ) → g (stop_of (place_of a b) v) ≡ h a) →
       map g (take n (stops_of (places xs ys) vs)) ≡ take n (map h xs)
   unfolding places
   by_x g h e =
       by_place g (λ p. g (stop_of p 0)) (λ p w. e p.x p.y w ∙ sym (e p.x p.y 0))
-      ∙ ap (take n) (zip_first place_of (λ p. g (stop_of p 0)) h (λ a b. e a b 0) xs ys) ∙ take_take n (length ys) (map h xs) long.y
+      ∙ ap (take n) (zip_first place_of (λ p. g (stop_of p 0)) h (λ a b. e a b 0) xs ys) ∙ take-take n (length ys) (map h xs) long.y
 
   pub by_y : (g : Stop → D) (h : ℤ → D) → ((a b : ℤ) (v : ℕ) → g (stop_of (place_of a b) v) ≡ h b) →
       map g (take n (stops_of (places xs ys) vs)) ≡ take n (map h ys)
   unfolding places
   by_y g h e =
       by_place g (λ p. g (stop_of p 0)) (λ p w. e p.x p.y w ∙ sym (e p.x p.y 0))
-      ∙ ap (take n) (zip_second place_of (λ p. g (stop_of p 0)) h (λ a b. e a b 0) xs ys) ∙ take_take n (length xs) (map h ys) long.x
+      ∙ ap (take n) (zip_second place_of (λ p. g (stop_of p 0)) h (λ a b. e a b 0) xs ys) ∙ take-take n (length xs) (map h ys) long.x
 
   pub by_visits : (g : Stop → D) (h : ℕ → D) → ((p : Place) (v : ℕ) → g (stop_of p v) ≡ h v) →
       map g (take n (stops_of (places xs ys) vs)) ≡ take n (map h vs)
   unfolding stops_of
   by_visits g h e =
       map_take g n (stops_of (places xs ys) vs) ∙ ap (take n) (zip_second stop_of g h e (places xs ys) vs)
-      ∙ take_take n (length (places xs ys)) (map h vs) (omega (arith, places_length xs ys, long.x, long.y))
+      ∙ take-take n (length (places xs ys)) (map h vs) (omega (arith, places_length xs ys, long.x, long.y))
 
 -- ---- scaled places
 pub scaled_places : (c : AxisCosts) (xs ys : List ℤ) → map (scaled_place c) (places xs ys) ≡ places (map (times c.a) xs) (map (times c.b) ys)
@@ -126,7 +126,7 @@ module _ (deck : Deck) (sized : Sized deck) where
   unfolding deck_of
   posts_counted = omega (
     arith,
-    length_take deck.posts (places deck.post_x deck.post_y),
+    length-take deck.posts (places deck.post_x deck.post_y),
     places_length deck.post_x deck.post_y,
     sized.post_x,
     sized.post_y,
@@ -136,7 +136,7 @@ module _ (deck : Deck) (sized : Sized deck) where
   unfolding deck_of
   stops_counted = omega (
     arith,
-    length_take deck.stops (all_stops deck),
+    length-take deck.stops (all_stops deck),
     stops_length deck.stop_x deck.stop_y deck.visits,
     sized.stop_x,
     sized.stop_y,

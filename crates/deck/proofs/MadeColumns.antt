@@ -5,8 +5,8 @@ use mathlib.Core.List.{List, [], ◌∷◌, ◌++◌, map, append_assoc}
 use Prim.Native.Nat.{ℕ, ◌≤◌}
 use native.Mathlib.Omega.{arith}
 use lib.IntN.{ℤ, pos}
-use lib.ListN.{length, take, drop, set, replicate, length_append, length_map, length_take}
-use lib.Seq.{paste, set_at, take_append_le, drop_at, length_take_le}
+use lib.ListN.{length, take, drop, set, replicate, length-append, length-map, length-take}
+use lib.Seq.{paste, set_at, take-append-le, drop_at, length-take-le}
 use Rattle.numbers.specs.Integer.{times}
 use Rattle.numbers.specs.Padded.{padded}
 use Rattle.numbers.proofs.Padded.{padded_length, padded_front}
@@ -22,7 +22,7 @@ use Rattle.deck.proofs.StoredLaws.{stored, stored_count, stored_columns}
 costs_put : (xs : List ℤ) (u v : ℤ) → length xs ≡ 2048 → set (set (xs ++ replicate 2 (pos 0)) 2048 u) 2049 v ≡ xs ++ (u ∷ v ∷ [])
 costs_put xs u v e = rw (set_at xs (pos 0) (pos 0 ∷ []) u 2048 e) (
     ap (λ (l : List ℤ). set l 2049 v) (sym (append_assoc xs (u ∷ []) (pos 0 ∷ [])))
-    ∙ set_at (xs ++ (u ∷ [])) (pos 0) [] v 2049 (omega (arith, length_append xs (u ∷ [])))
+    ∙ set_at (xs ++ (u ∷ [])) (pos 0) [] v 2049 (omega (arith, length-append xs (u ∷ [])))
     ∙ append_assoc xs (u ∷ []) (v ∷ []))
 
 -- numbers up to a limit are up to a larger one
@@ -35,10 +35,10 @@ module _ (n : ℕ) (few : n ≤ 512) where
   padded_column xs = padded 512 (pos 0) (take n xs)
 
   pub column_long : (xs : List ℤ) → length (padded_column xs) ≡ 512
-  column_long xs = padded_length 512 (pos 0) (take n xs) (omega (arith, length_take n xs))
+  column_long xs = padded_length 512 (pos 0) (take n xs) (omega (arith, length-take n xs))
 
   column_front : (xs : List ℤ) → n ≤ length xs → take n (padded_column xs) ≡ take n xs
-  column_front xs h = ap (λ (m : ℕ). take m (padded_column xs)) (sym (length_take_le n xs h)) ∙ padded_front 512 (pos 0) (take n xs)
+  column_front xs h = ap (λ (m : ℕ). take m (padded_column xs)) (sym (length-take-le n xs h)) ∙ padded_front 512 (pos 0) (take n xs)
 
   -- those of x and y
   module _ (us ws : List ℤ) {a b : List ℤ} (x : n ≤ length us) (y : n ≤ length ws) (ea : a ≡ paste (replicate 2050 (pos 0)) 0 us n)
@@ -48,12 +48,12 @@ module _ (n : ℕ) (few : n ≤ 512) where
         ∙ put_column (padded_column us) 512 1026 n ws (column_long us) few y
 
     pub two_columns : length (padded_column us ++ padded_column ws) ≡ 1024
-    two_columns = omega (arith, length_append (padded_column us) (padded_column ws), column_long us, column_long ws)
+    two_columns = omega (arith, length-append (padded_column us) (padded_column ws), column_long us, column_long ws)
 
     pub x_front : take n b ≡ take n us
     x_front = rw places_put
-        (take_append_le n (padded_column us ++ padded_column ws) _ (omega (arith, two_columns))
-        ∙ take_append_le n (padded_column us) (padded_column ws) (omega (arith, column_long us)) ∙ column_front us x)
+        (take-append-le n (padded_column us ++ padded_column ws) _ (omega (arith, two_columns))
+        ∙ take-append-le n (padded_column us) (padded_column ws) (omega (arith, column_long us)) ∙ column_front us x)
 
     pub y_front : take n (drop 512 b) ≡ take n ws
     y_front =
@@ -62,19 +62,19 @@ module _ (n : ℕ) (few : n ≤ 512) where
           append_assoc (padded_column us) (padded_column ws) (replicate 1026 (pos 0)),
           drop_at (padded_column us) (padded_column ws ++ replicate 1026 (pos 0)) 512 (column_long us),
         )
-        (take_append_le n (padded_column ws) _ (omega (arith, column_long ws)) ∙ column_front ws y)
+        (take-append-le n (padded_column ws) _ (omega (arith, column_long ws)) ∙ column_front ws y)
 
 -- ---- all columns, of what a record holds
 module _ (axis : AxisCosts) {xs ys : List ℤ} {vs ns : List ℕ} {n : ℕ} (places : PlacesInRange 512 xs ys n) (visits : VisitsInRange vs n)
     (nears : NearsInRange ns n) where
   scaled_x : n ≤ length (map (times axis.a) xs)
-  scaled_x = omega (arith, places.x.count, length_map xs (times axis.a))
+  scaled_x = omega (arith, places.x.count, length-map xs (times axis.a))
 
   scaled_y : n ≤ length (map (times axis.b) ys)
-  scaled_y = omega (arith, places.y.count, length_map ys (times axis.b))
+  scaled_y = omega (arith, places.y.count, length-map ys (times axis.b))
 
   naturals : (l : List ℕ) → n ≤ length l → n ≤ length (map pos l)
-  naturals l h = omega (arith, length_map {B = ℤ} l pos)
+  naturals l h = omega (arith, length-map {B = ℤ} l pos)
 
   abbrev x : List ℤ
   x = padded_column n places.few (map (times axis.a) xs)
@@ -91,7 +91,7 @@ module _ (axis : AxisCosts) {xs ys : List ℤ} {vs ns : List ℕ} {n : ℕ} (pla
     two = two_columns n places.few _ _ scaled_x scaled_y ea eb
 
     three : length (x ++ y ++ v) ≡ 1536
-    three = omega (arith, length_append (x ++ y) v, two, column_long n places.few (map pos vs))
+    three = omega (arith, length-append (x ++ y) v, two, column_long n places.few (map pos vs))
 
     objects : d ≡ x ++ y ++ v ++ padded_column n places.few (map pos ns) ++ replicate 2 (pos 0)
     objects =

@@ -2,17 +2,17 @@
 -- Assumes nothing.
 use mathlib.Core.Path.{◌≡◌, refl, sym, ap, ◌∙◌}
 use mathlib.Core.List.Memᴰ
-use mathlib.Core.List.{List, [], ◌∷◌, ◌++◌, map, map_map, append_assoc, Memᴰ}
+use mathlib.Core.List.{List, [], ◌∷◌, ◌++◌, map, map-map, append_assoc, Memᴰ}
 use Prim.Native.Nat.{ℕ, zero, suc, ◌+◌, ◌≤◌, ◌<◌}
 use native.Mathlib.Numerals.{add-one}
 use native.Mathlib.Omega.{arith}
 use lib.IntN.{ℤ, pos, negsuc, nat_abs}
-use lib.ListN.{length, get_or, take, drop, set, replicate, length_append, length_map, length_drop, length_replicate, get_or_map}
+use lib.ListN.{length, get_or, take, drop, set, replicate, length-append, length-map, length-drop, length-replicate, get_or-map}
 use lib.Dec.{T}
-use lib.Seq.{paste, length_paste, take_at, take_suc, length_take_le, get_or_take, get_or_drop, drop_at}
+use lib.Seq.{paste, length-paste, take_at, take-suc, length-take-le, get_or-take, get_or-drop, drop_at}
 use mir.Syntax.{w32, w64}
 use mir.Val.{Fits, SFits, to_z, of_z}
-use mir.ValLaws.{to_z_of_z}
+use mir.ValLaws.{to_z-of_z}
 use lib.Signed.{non_neg, ◌≤ℤ◌}
 use Rattle.numbers.specs.Integer.{times}
 use Rattle.numbers.specs.Padded.{padded}
@@ -40,7 +40,7 @@ use Rattle.deck.proofs.MadeColumns.{places_put, two_columns, x_front, y_front}
 pub front_range : (us xs : List ℤ) (n : ℕ) → take n us ≡ take n xs → n ≤ length us → CoordinatesInRange xs n → CoordinatesInRange us n
 front_range us xs n e h range = record {
   count = h;
-  range = λ i l. rw (sym (get_or_take n us i (pos 0) l) ∙ ap (λ (r : List ℤ). get_or r i (pos 0)) e ∙ get_or_take n xs i (pos 0) l) (range.range i l);
+  range = λ i l. rw (sym (get_or-take n us i (pos 0) l) ∙ ap (λ (r : List ℤ). get_or r i (pos 0)) e ∙ get_or-take n xs i (pos 0) l) (range.range i l);
 }
 
 -- near, found by posts and stops of the same first numbers
@@ -66,7 +66,7 @@ module _ {columns : List ℤ} {n : ℕ} (held : NearColumn columns n) where
       go (negsuc m) l f = absurd (omega (arith, order))
 
   pub row_wide : (i : ℕ) → SFits w32 (get_or columns (1536 + i) (pos 0)) → Fits w64 (nat_abs (to_z w32 (of_z w32 (get_or columns (1536 + i) (pos 0)))))
-  row_wide i fits = rw (to_z_of_z w32 (get_or columns (1536 + i) (pos 0)) fits) (go (get_or columns (1536 + i) (pos 0)) fits)
+  row_wide i fits = rw (to_z-of_z w32 (get_or columns (1536 + i) (pos 0)) fits) (go (get_or columns (1536 + i) (pos 0)) fits)
     where
       go : (z : ℤ) → SFits w32 z → Fits w64 (nat_abs z)
       go (pos m) f = let g = f.sfits in record { fits = omega arith }
@@ -75,14 +75,14 @@ module _ {columns : List ℤ} {n : ℕ} (held : NearColumn columns n) where
   pub row_more : (few : n ≤ 512) {near : List ℕ} {i : ℕ} → i < n → SFits w32 (get_or columns (1536 + i) (pos 0)) → near ≡ padded 512 0 (take i (rows columns)) →
       set near i (nat_abs (to_z w32 (of_z w32 (get_or columns (1536 + i) (pos 0))))) ≡ padded 512 0 (take (i + 1) (rows columns))
   row_more few {near} {i} h fits e =
-      rw (e, to_z_of_z w32 (get_or columns (1536 + i) (pos 0)) fits)
-      (padded_more 512 0 (take i (rows columns)) i _ (length_take_le i (rows columns) (omega (arith, long))) (omega arith)
-      ∙ ap (padded 512 0) (sym (rw (add-one i) (take_suc (rows columns) i 0 (omega (arith, long)))
+      rw (e, to_z-of_z w32 (get_or columns (1536 + i) (pos 0)) fits)
+      (padded_more 512 0 (take i (rows columns)) i _ (length-take-le i (rows columns) (omega (arith, long))) (omega arith)
+      ∙ ap (padded 512 0) (sym (rw (add-one i) (take-suc (rows columns) i 0 (omega (arith, long)))
       ∙ ap (λ (m : ℕ). take i (rows columns) ++ (m ∷ []))
-      (get_or_map nat_abs (drop 1536 columns) i (pos 0) ∙ ap nat_abs (get_or_drop 1536 columns i (pos 0))))))
+      (get_or-map nat_abs (drop 1536 columns) i (pos 0) ∙ ap nat_abs (get_or-drop 1536 columns i (pos 0))))))
     where
       long : length (rows columns) ≡ 514
-      long = omega (arith, length_map (drop 1536 columns) nat_abs, length_drop 1536 columns, held.long)
+      long = omega (arith, length-map (drop 1536 columns) nat_abs, length-drop 1536 columns, held.long)
 
 -- ---- the first n places of columns are in range, and so is the travel to the closest of them
 each_place : (n : ℕ) (xs ys : List ℤ) → ((i : ℕ) → i < n → nat_abs (get_or xs i (pos 0)) ≤ 20000) → ((i : ℕ) → i < n → nat_abs (get_or ys i (pos 0)) ≤ 20000) →
@@ -109,10 +109,10 @@ module _ (axis : AxisCosts) (costs : CostsInRange axis) {px py xs ys : List ℤ}
   nears = map (λ p. closest axis p posts_at) stops_at
 
   posts_count : length posts_at ≡ k
-  posts_count = length_take_le k (places px py) (omega (arith, places_length px py, posts.x.count, posts.y.count))
+  posts_count = length-take-le k (places px py) (omega (arith, places_length px py, posts.x.count, posts.y.count))
 
   stops_count : length stops_at ≡ n
-  stops_count = length_take_le n (places xs ys) (omega (arith, places_length xs ys, stops.x.count, stops.y.count))
+  stops_count = length-take-le n (places xs ys) (omega (arith, places_length xs ys, stops.x.count, stops.y.count))
 
   near_limit : (p : Place) → Memᴰ p stops_at → closest axis p posts_at ≤ 720000
   near_limit p m =
@@ -131,9 +131,9 @@ module _ (axis : AxisCosts) (costs : CostsInRange axis) {px py xs ys : List ℤ}
       sym (map_take scaled_near n (places (map (times axis.a) xs) (map (times axis.b) ys)))
       ∙ ap (λ (l : List Place). map scaled_near (take n l)) (sym (scaled_places axis xs ys))
       ∙ ap (map scaled_near) (sym (map_take (scaled_place axis) n (places xs ys)))
-      ∙ map_map scaled_near (scaled_place axis) stops_at
+      ∙ map-map scaled_near (scaled_place axis) stops_at
       ∙ map_each (λ p. scaled_near (scaled_place axis p)) (λ p. pos (closest axis p posts_at)) stops_at (λ p m. near_scaled p)
-      ∙ sym (map_map pos (λ p. closest axis p posts_at) stops_at)
+      ∙ sym (map-map pos (λ p. closest axis p posts_at) stops_at)
     where
       scaled_near : Place → ℤ
       scaled_near = near_by (map (times axis.a) px) (map (times axis.b) py) k
@@ -154,7 +154,7 @@ module _ (axis : AxisCosts) (costs : CostsInRange axis) {px py xs ys : List ℤ}
   -- a column of posts
   module _ {us ws : List ℤ} (range : CoordinatesInRange ws k) (e : us ≡ paste (replicate 64 (pos 0)) 0 ws k) where
     post_front : take k us ≡ take k ws
-    post_front = rw e (take_at (take k ws) _ k (length_take_le k ws range.count))
+    post_front = rw e (take_at (take k ws) _ k (length-take-le k ws range.count))
 
     post_copied : CoordinatesInRange us k
     post_copied = front_range us ws k post_front (omega (arith, posts.few, long)) range
@@ -162,8 +162,8 @@ module _ (axis : AxisCosts) (costs : CostsInRange axis) {px py xs ys : List ℤ}
         long : length us ≡ 64
         long =
             rw e
-            (length_paste (replicate 64 (pos 0)) 0 ws k (omega (arith, posts.few, length_replicate 64 (pos 0))) range.count
-            ∙ length_replicate 64 (pos 0))
+            (length-paste (replicate 64 (pos 0)) 0 ws k (omega (arith, posts.few, length-replicate 64 (pos 0))) range.count
+            ∙ length-replicate 64 (pos 0))
 
   module _ {a b qx qy : List ℤ} (ea : a ≡ paste (replicate 2050 (pos 0)) 0 (map (times axis.a) xs) n) (eb : b ≡ paste a 512 (map (times axis.b) ys) n)
       (ex : qx ≡ paste (replicate 64 (pos 0)) 0 (map (times axis.a) px) k) (ey : qy ≡ paste (replicate 64 (pos 0)) 0 (map (times axis.b) py) k) where
@@ -172,10 +172,10 @@ module _ (axis : AxisCosts) (costs : CostsInRange axis) {px py xs ys : List ℤ}
         rw (places_put n stops.few _ _ scaled_stops_x.count scaled_stops_y.count ea eb)
         (omega (
           arith,
-          length_append (padded 512 (pos 0) (take n (map (times axis.a) xs)) ++ padded 512 (pos 0) (take n (map (times axis.b) ys)))
+          length-append (padded 512 (pos 0) (take n (map (times axis.a) xs)) ++ padded 512 (pos 0) (take n (map (times axis.b) ys)))
               (replicate 1026 (pos 0)),
           two_columns n stops.few _ _ scaled_stops_x.count scaled_stops_y.count ea eb,
-          length_replicate 1026 (pos 0),
+          length-replicate 1026 (pos 0),
         ))
 
     x_same : take n b ≡ take n (map (times axis.a) xs)
@@ -189,7 +189,7 @@ module _ (axis : AxisCosts) (costs : CostsInRange axis) {px py xs ys : List ℤ}
     stops_x_copied = front_range b _ n x_same (omega (arith, columns_long, stops.few)) scaled_stops_x
 
     pub stops_y_copied : CoordinatesInRange (drop 512 b) n
-    stops_y_copied = front_range (drop 512 b) _ n y_same (omega (arith, length_drop 512 b, columns_long, stops.few)) scaled_stops_y
+    stops_y_copied = front_range (drop 512 b) _ n y_same (omega (arith, length-drop 512 b, columns_long, stops.few)) scaled_stops_y
 
     pub posts_x_copied : CoordinatesInRange qx k
     posts_x_copied = post_copied scaled_posts_x ex
@@ -202,7 +202,7 @@ module _ (axis : AxisCosts) (costs : CostsInRange axis) {px py xs ys : List ℤ}
       found_count : n ≤ length (map (near_by qx qy k) (places b (drop 512 b)))
       found_count = omega (
         arith,
-        length_map (places b (drop 512 b)) (near_by qx qy k),
+        length-map (places b (drop 512 b)) (near_by qx qy k),
         places_length b (drop 512 b),
         stops_x_copied.count,
         stops_y_copied.count,
@@ -211,8 +211,8 @@ module _ (axis : AxisCosts) (costs : CostsInRange axis) {px py xs ys : List ℤ}
       near_rows : take n (drop 1536 d) ≡ map pos nears
       near_rows =
           rw (ed, append_assoc (take 1536 b) (take n (map (near_by qx qy k) (places b (drop 512 b)))) (drop (1536 + n) b))
-          (ap (take n) (drop_at (take 1536 b) _ 1536 (length_take_le 1536 b (omega (arith, columns_long))))
-          ∙ take_at (take n (map (near_by qx qy k) (places b (drop 512 b)))) _ n (length_take_le n _ found_count)
+          (ap (take n) (drop_at (take 1536 b) _ 1536 (length-take-le 1536 b (omega (arith, columns_long))))
+          ∙ take_at (take n (map (near_by qx qy k) (places b (drop 512 b)))) _ n (length-take-le n _ found_count)
           ∙ near_front k n qx qy b (drop 512 b) _ _ _ _ (post_front scaled_posts_x ex) (post_front scaled_posts_y ey) x_same y_same
           ∙ nears_scaled)
 
@@ -222,11 +222,11 @@ module _ (axis : AxisCosts) (costs : CostsInRange axis) {px py xs ys : List ℤ}
           long : length d ≡ 2050
           long =
               rw ed
-              (length_paste b 1536 (map (near_by qx qy k) (places b (drop 512 b))) n (omega (arith, columns_long, stops.few)) found_count ∙ columns_long)
+              (length-paste b 1536 (map (near_by qx qy k) (places b (drop 512 b))) n (omega (arith, columns_long, stops.few)) found_count ∙ columns_long)
 
           row : (i : ℕ) → i < n → get_or d (1536 + i) (pos 0) ≡ pos (get_or nears i 0)
-          row i h = sym (get_or_take n (drop 1536 d) i (pos 0) h ∙ get_or_drop 1536 d i (pos 0)) ∙ ap (λ (l : List ℤ). get_or l i (pos 0)) near_rows
-              ∙ get_or_map pos nears i 0
+          row i h = sym (get_or-take n (drop 1536 d) i (pos 0) h ∙ get_or-drop 1536 d i (pos 0)) ∙ ap (λ (l : List ℤ). get_or l i (pos 0)) near_rows
+              ∙ get_or-map pos nears i 0
 
           some_near : (i : ℕ) → i < n → pos 0 ≤ℤ get_or d (1536 + i) (pos 0)
           some_near i h = rw (row i h) (omega (arith, order))
@@ -241,10 +241,10 @@ module _ (axis : AxisCosts) (costs : CostsInRange axis) {px py xs ys : List ℤ}
       }
         where
           nears_count : length nears ≡ n
-          nears_count = length_map stops_at (λ p. closest axis p posts_at) ∙ stops_count
+          nears_count = length-map stops_at (λ p. closest axis p posts_at) ∙ stops_count
 
           is : r ≡ padded 512 0 nears
-          is = e ∙ ap (padded 512 0) (sym (map_take nat_abs n (drop 1536 d)) ∙ ap (map nat_abs) near_rows ∙ map_map nat_abs pos nears ∙ map_same nears)
+          is = e ∙ ap (padded 512 0) (sym (map_take nat_abs n (drop 1536 d)) ∙ ap (map nat_abs) near_rows ∙ map-map nat_abs pos nears ∙ map_same nears)
             where
               map_same : (l : List ℕ) → map (λ m. nat_abs (pos m)) l ≡ l
               map_same [] = refl

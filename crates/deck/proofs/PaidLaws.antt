@@ -6,8 +6,8 @@ use Prim.Native.Nat.{ℕ, ◌+◌, ◌*◌, ◌≤◌, ◌<◌, min}
 use native.Mathlib.Nat.{mul-le-mul}
 use native.Mathlib.Numerals.{add-one}
 use native.Mathlib.Omega.{arith}
-use lib.ListN.{length, get_or, take, length_append, length_map, length_replicate}
-use lib.Seq.{take_suc}
+use lib.ListN.{length, get_or, take, length-append, length-map, length-replicate}
+use lib.Seq.{take-suc}
 use Rattle.numbers.specs.Lists.{sum_of}
 use Rattle.numbers.specs.Padded.{padded}
 use Rattle.query.specs.Deck.{Stop}
@@ -40,7 +40,7 @@ module _ {visits nears : List ℕ} {n : ℕ} (v : VisitsInRange visits n) (k : N
     count = omega arith;
     is =
         ap (λ (m : ℕ). m + get_or visits i 0 * get_or nears i 0) so_far.is
-        ∙ sym (rw (add-one i, take_suc (zip_with ◌*◌ visits nears) i 0 (omega (arith, zip_length ◌*◌ visits nears, v.count, k.count)))
+        ∙ sym (rw (add-one i, take-suc (zip_with ◌*◌ visits nears) i 0 (omega (arith, zip_length ◌*◌ visits nears, v.count, k.count)))
         (sum_snoc (take i (zip_with ◌*◌ visits nears)) (get_or (zip_with ◌*◌ visits nears) i 0))
         ∙ ap (λ (m : ℕ). sum_of (λ (m : ℕ). m) (take i (zip_with ◌*◌ visits nears)) + m)
         (zip_at ◌*◌ 0 0 0 visits nears i (omega (arith, v.count)) (omega (arith, k.count))));

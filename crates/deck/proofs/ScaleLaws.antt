@@ -5,7 +5,7 @@ use mathlib.Core.List.{List, map}
 use Prim.Native.Nat.{ℕ, ◌≤◌, ◌<◌}
 use native.Mathlib.Omega.{arith}
 use lib.IntN.{ℤ, pos, negsuc, nat_abs, ◌*ℤ◌}
-use lib.ListN.{get_or, length_map}
+use lib.ListN.{get_or, length-map}
 use lib.Signed.{◌≤ℤ◌}
 use mir.Syntax.{w32, w64}
 use mir.Val.{SFits, to_z, of_z}
@@ -54,7 +54,7 @@ scaled_word {k} {r} v h e = coordinate r e.small ∙ e.is ∙ ap (times (nat_abs
 -- the first n coordinates of a column, scaled
 pub scaled_range : (k : ℕ) (xs : List ℤ) (n : ℕ) → k ≤ 9 → CoordinatesUpTo 20000 xs n → CoordinatesInRange (map (times k) xs) n
 scaled_range k xs n h range = record {
-  count = omega (arith, range.count, length_map xs (times k));
+  count = omega (arith, range.count, length-map xs (times k));
   range = λ i l. rw (scaled_at k xs i) (scale_most k 9 20000 (get_or xs i (pos 0)) h (range.range i l));
 }
 

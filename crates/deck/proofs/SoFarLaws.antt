@@ -5,15 +5,15 @@ use mathlib.Core.Bool.{Bool, true, false, cond}
 use mathlib.Core.List.{List, [], ◌∷◌, ◌++◌, zip_with, map}
 use Prim.Native.Nat.{ℕ, ◌+◌, ◌≤◌, ◌<◌}
 use native.Mathlib.Omega.{arith}
-use borrow.Author.Tests.{lt_ltb}
+use borrow.Author.Tests.{lt-ltb}
 use lib.Dec.{ltb}
 use lib.IntN.{ℤ, pos}
-use lib.ListN.{length, get_or, take, drop, set, length_map, length_drop, get_or_map}
-use lib.Seq.{paste, length_paste, length_take_le, get_or_take, get_or_drop, ext_get_or}
+use lib.ListN.{length, get_or, take, drop, set, length-map, length-drop, get_or-map}
+use lib.Seq.{paste, length-paste, length-take-le, get_or-take, get_or-drop, ext_get_or}
 use lib.Signed.{lt_z}
 use mir.Syntax.{w32}
 use mir.Val.{SFits, to_z, of_z}
-use mir.ValLaws.{to_z_of_z}
+use mir.ValLaws.{to_z-of_z}
 use Rattle.numbers.proofs.Distance.{dist_most}
 use Rattle.numbers.proofs.Joined.{map_each}
 use Rattle.query.specs.Place.{Place}
@@ -39,7 +39,7 @@ unfolding closest_so_far
 so_far_more post p [] at new = closest_one plain p post ∙ ap (λ (b : Bool). cond b (travel plain p post) 720001) (sym first)
   where
     first : ltb (travel plain p post) 720001 ≡ true
-    first = lt_ltb (travel plain p post) 720001 (rw travel_plain
+    first = lt-ltb (travel plain p post) 720001 (rw travel_plain
         (omega (arith, dist_most 180000 p.x post.x at.x_range new.x_range, dist_most 180000 p.y post.y at.y_range new.y_range)))
 so_far_more post p (q ∷ posts) at new = closest_snoc plain p (q ∷ posts) post (omega arith)
 
@@ -86,19 +86,19 @@ module _ {columns : List ℤ} {n : ℕ} (fit : ColumnsFit columns n) where
   room = omega (arith, fit.few, fit.long)
 
   stops_count : n ≤ length (places columns (drop 512 columns))
-  stops_count = omega (arith, places_length columns (drop 512 columns), length_drop 512 columns, fit.few, fit.long)
+  stops_count = omega (arith, places_length columns (drop 512 columns), length-drop 512 columns, fit.few, fit.long)
 
   stops_at : (d : Place) (i : ℕ) → i < n → get_or (places columns (drop 512 columns)) i d ≡ stop columns i
   stops_at d i h =
-      places_at columns (drop 512 columns) i d (omega (arith, fit.few, fit.long)) (omega (arith, length_drop 512 columns, fit.few, fit.long))
+      places_at columns (drop 512 columns) i d (omega (arith, fit.few, fit.long)) (omega (arith, length-drop 512 columns, fit.few, fit.long))
 
   figures_count : (posts : List Place) → n ≤ length (figures columns posts)
-  figures_count posts = omega (arith, length_map (places columns (drop 512 columns)) (λ p. pos (closest_so_far posts p)), stops_count)
+  figures_count posts = omega (arith, length-map (places columns (drop 512 columns)) (λ p. pos (closest_so_far posts p)), stops_count)
 
   figures_at : (posts : List Place) (d : Place) (i : ℕ) → i < n →
       get_or (figures columns posts) i (pos (closest_so_far posts d)) ≡ pos (closest_so_far posts (stop columns i))
   figures_at posts d i h =
-      get_or_map (λ p. pos (closest_so_far posts p)) (places columns (drop 512 columns)) i d
+      get_or-map (λ p. pos (closest_so_far posts p)) (places columns (drop 512 columns)) i d
       ∙ ap (λ (p : Place). pos (closest_so_far posts p)) (stops_at d i h)
 
   better_count : (post : Place) → n ≤ length (better columns post)
@@ -106,7 +106,7 @@ module _ {columns : List ℤ} {n : ℕ} (fit : ColumnsFit columns n) where
     arith,
     zip_length (improved post) (places columns (drop 512 columns)) (drop 1536 columns),
     stops_count,
-    length_drop 1536 columns,
+    length-drop 1536 columns,
     fit.few,
     fit.long,
   )
@@ -115,8 +115,8 @@ module _ {columns : List ℤ} {n : ℕ} (fit : ColumnsFit columns n) where
       get_or (better columns post) i z ≡ improved post (stop columns i) (get_or columns (1536 + i) f)
   better_at post f z i h =
       zip_at (improved post) (stop columns 0) f z (places columns (drop 512 columns)) (drop 1536 columns) i (omega (arith, stops_count))
-      (omega (arith, length_drop 1536 columns, fit.few, fit.long))
-      ∙ rw (stops_at (stop columns 0) i h, get_or_drop 1536 columns i f)
+      (omega (arith, length-drop 1536 columns, fit.few, fit.long))
+      ∙ rw (stops_at (stop columns 0) i h, get_or-drop 1536 columns i f)
 
   -- whatever is put into the last column, the places stay
   module _ {s to : List ℤ} {i : ℕ} (so_far : Copied columns 1536 s n to i) where
@@ -125,10 +125,10 @@ module _ {columns : List ℤ} {n : ℕ} (fit : ColumnsFit columns n) where
 
     y_kept : (j : ℕ) → j < n → get_or to (512 + j) (pos 0) ≡ get_or (drop 512 columns) j (pos 0)
     y_kept j h = copied_before columns 1536 s n so_far (omega (arith, room)) (512 + j) (pos 0) (omega (arith, fit.few))
-        ∙ sym (get_or_drop 512 columns j (pos 0))
+        ∙ sym (get_or-drop 512 columns j (pos 0))
 
     stop_kept : (j : ℕ) → j < n → stop to j ≡ stop columns j
-    stop_kept j h = rw (get_or_drop 512 to j (pos 0), x_kept j h, y_kept j h)
+    stop_kept j h = rw (get_or-drop 512 to j (pos 0), x_kept j h, y_kept j h)
 
   -- before the first post, stop by stop
   pub none_more : {to : List ℤ} {i : ℕ} → Copied columns 1536 (figures columns []) n to i → i < n →
@@ -140,7 +140,7 @@ module _ {columns : List ℤ} {n : ℕ} (fit : ColumnsFit columns n) where
   -- all figures are put
   put : (posts : List Place) → Copied columns 1536 (figures columns posts) n (columns_so_far columns n posts) n
   unfolding columns_so_far
-  put posts = record { count = omega arith; long = length_paste columns 1536 (figures columns posts) n room (figures_count posts); copied = refl }
+  put posts = record { count = omega arith; long = length-paste columns 1536 (figures columns posts) n room (figures_count posts); copied = refl }
 
   so_far_fit : (posts : List Place) → ColumnsFit (columns_so_far columns n posts) n
   so_far_fit posts = record { few = fit.few; long = (put posts).long ∙ fit.long }
@@ -161,15 +161,15 @@ module _ {columns : List ℤ} {n : ℕ} (fit : ColumnsFit columns n) where
       z = pos (closest_so_far new d)
 
       few : length (take n s) ≡ n
-      few = length_take_le n s count
+      few = length-take-le n s count
 
       few_figures : length (take n (figures columns new)) ≡ n
-      few_figures = length_take_le n (figures columns new) (figures_count new)
+      few_figures = length-take-le n (figures columns new) (figures_count new)
 
       same : (i : ℕ) → i < length (take n s) → get_or (take n s) i z ≡ get_or (take n (figures columns new)) i z
       same i h =
           let l : i < n = omega (arith, few) in
-          get_or_take n s i z l ∙ rows d i l ∙ sym (get_or_take n (figures columns new) i z l ∙ figures_at new d i l)
+          get_or-take n s i z l ∙ rows d i l ∙ sym (get_or-take n (figures columns new) i z l ∙ figures_at new d i l)
 
 -- ---- one more post, stop by stop
 module _ {columns : List ℤ} {n : ℕ} (stops : StopsInRange columns n) (post : Place) {to : List ℤ} {i : ℕ}
@@ -183,8 +183,8 @@ module _ {columns : List ℤ} {n : ℕ} (stops : StopsInRange columns n) (post :
       Copied columns 1536 (better columns post) n (set to (1536 + i) (to_z w32 (of_z w32 r))) (i + 1)
   better_more r h fits old e =
       copied_more columns 1536 (better columns post) n (to_z w32 (of_z w32 r)) (pos 0) (room stops.fit) (better_count stops.fit post) so_far h
-      (to_z_of_z w32 r fits ∙ e ∙ rw (
-        to_z_of_z w32 (get_or to (1536 + i) (pos 0)) old,
+      (to_z-of_z w32 r fits ∙ e ∙ rw (
+        to_z-of_z w32 (get_or to (1536 + i) (pos 0)) old,
         copied_next columns 1536 (better columns post) n so_far (omega (arith, room stops.fit)) (better_count stops.fit post) (pos 0),
         x_kept stops.fit so_far i h,
         y_kept stops.fit so_far i h,
@@ -210,8 +210,8 @@ module _ {columns : List ℤ} {n : ℕ} (stops : StopsInRange columns n) (posts 
     fit = so_far_fit stops.fit posts;
     x = record { count = omega (arith, kept.long, stops.x.count); range = λ j h. rw (x_kept stops.fit kept j h) (stops.x.range j h) };
     y = record {
-      count = omega (arith, length_drop 512 now, room (so_far_fit stops.fit posts));
-      range = λ j h. rw (get_or_drop 512 now j (pos 0), y_kept stops.fit kept j h) (stops.y.range j h);
+      count = omega (arith, length-drop 512 now, room (so_far_fit stops.fit posts));
+      range = λ j h. rw (get_or-drop 512 now j (pos 0), y_kept stops.fit kept j h) (stops.y.range j h);
     };
   }
 

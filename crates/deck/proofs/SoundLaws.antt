@@ -5,7 +5,7 @@ use mathlib.Core.List.{List, [], ◌∷◌, ◌++◌, map, Memᴰ}
 use Prim.Native.Nat.{ℕ, ◌≤◌}
 use native.Mathlib.Omega.{arith}
 use lib.IntN.{pos}
-use lib.ListN.{length, get_or, take, length_map}
+use lib.ListN.{length, get_or, take, length-map}
 use Rattle.numbers.specs.Padded.{padded}
 use Rattle.numbers.proofs.Members.{each_map}
 use Rattle.numbers.proofs.Padded.{padded_length, padded_each}
@@ -29,11 +29,11 @@ module _ (deck : Query.Deck) (range : InRange deck) where
   pub record_sized : Sized (deck_record deck)
   unfolding deck_record
   record_sized = record {
-    post_x = padded_length 64 (pos 0) (map (λ p. p.x) deck.posts) (omega (arith, length_map deck.posts (λ p. p.x), range.most_posts));
-    post_y = padded_length 64 (pos 0) (map (λ p. p.y) deck.posts) (omega (arith, length_map deck.posts (λ p. p.y), range.most_posts));
-    stop_x = padded_length 512 (pos 0) (map (λ s. s.at.x) deck.stops) (omega (arith, length_map deck.stops (λ s. s.at.x), range.most_stops));
-    stop_y = padded_length 512 (pos 0) (map (λ s. s.at.y) deck.stops) (omega (arith, length_map deck.stops (λ s. s.at.y), range.most_stops));
-    visits = padded_length 512 0 (map (λ s. s.visits) deck.stops) (omega (arith, length_map deck.stops (λ s. s.visits), range.most_stops));
+    post_x = padded_length 64 (pos 0) (map (λ p. p.x) deck.posts) (omega (arith, length-map deck.posts (λ p. p.x), range.most_posts));
+    post_y = padded_length 64 (pos 0) (map (λ p. p.y) deck.posts) (omega (arith, length-map deck.posts (λ p. p.y), range.most_posts));
+    stop_x = padded_length 512 (pos 0) (map (λ s. s.at.x) deck.stops) (omega (arith, length-map deck.stops (λ s. s.at.x), range.most_stops));
+    stop_y = padded_length 512 (pos 0) (map (λ s. s.at.y) deck.stops) (omega (arith, length-map deck.stops (λ s. s.at.y), range.most_stops));
+    visits = padded_length 512 0 (map (λ s. s.visits) deck.stops) (omega (arith, length-map deck.stops (λ s. s.visits), range.most_stops));
   }
 
   pub record_sound : NonEmpty deck.area → Sound (deck_record deck)
@@ -55,7 +55,7 @@ module _ (deck : Query.Deck) (range : InRange deck) where
   }
     where
       few : length (map (near deck) deck.stops) ≡ length deck.stops
-      few = length_map deck.stops (near deck)
+      few = length-map deck.stops (near deck)
 
 -- ---- near found of a record's columns is that of its deck
 pub found_nears : (deck : Deck) → DeckColumns deck → {nears : List ℕ} → Nears (held_axis deck.axis)

@@ -5,8 +5,8 @@ use mathlib.Core.List.{List, ◌++◌, map}
 use Prim.Native.Nat.{ℕ, ◌≤◌, min}
 use native.Mathlib.Omega.{arith}
 use lib.IntN.{ℤ, pos}
-use lib.ListN.{length, take, length_take, length_map}
-use lib.Seq.{take_all, length_take_le}
+use lib.ListN.{length, take, length-take, length-map}
+use lib.Seq.{take_all, length-take-le}
 use Rattle.numbers.specs.Integer.{times}
 use Rattle.numbers.specs.Padded.{padded}
 use Rattle.query.specs.Deck.{AxisCosts, Stop}
@@ -32,7 +32,7 @@ module _ (axis : AxisCosts) {xs ys : List ℤ} {vs ns : List ℕ} {n : ℕ} (pla
   stored = stored_objects axis stops ns
 
   stops_count : length stops ≡ n
-  stops_count = length_take_le n (stops_of (places xs ys) vs) (omega (arith, stops_length xs ys vs, counted.x, counted.y, counted.visits))
+  stops_count = length-take-le n (stops_of (places xs ys) vs) (omega (arith, stops_length xs ys vs, counted.x, counted.y, counted.visits))
 
   pub stored_count : length stored ≡ n
   unfolding stored_objects
@@ -41,7 +41,7 @@ module _ (axis : AxisCosts) {xs ys : List ℤ} {vs ns : List ℕ} {n : ℕ} (pla
   -- what of an object depends on its stop alone
   by_stop : {D : Type 0} (g : Object → D) (h : Stop → D) → ((s : Stop) (m : ℕ) → g (object_of axis s m) ≡ h s) → map g stored ≡ map h stops
   unfolding stored_objects
-  by_stop g h e = zip_first (object_of axis) g h e stops ns ∙ take_all (length ns) (map h stops) (omega (arith, length_map stops h, stops_count, nears.count))
+  by_stop g h e = zip_first (object_of axis) g h e stops ns ∙ take_all (length ns) (map h stops) (omega (arith, length-map stops h, stops_count, nears.count))
 
   x_column : map (λ (s : Object). s.at.x) stored ≡ take n (map (times axis.a) xs)
   x_column = by_stop (λ (s : Object). s.at.x) (λ (s : Stop). times axis.a s.at.x) (λ s m. refl)

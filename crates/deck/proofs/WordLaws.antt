@@ -10,7 +10,7 @@ use lib.IntN.{ℤ, pos, nat_abs, ◌+ℤ◌}
 use lib.Signed.{lt_z}
 use mir.Syntax.{w32, w64}
 use mir.Val.{SFits, to_z, of_z}
-use mir.ValLaws.{to_z_of_z, to_z_pos}
+use mir.ValLaws.{to_z-of_z, to_z_pos}
 use Rattle.numbers.proofs.Words.{word_fits}
 
 -- the sum of two natural numbers
@@ -30,12 +30,12 @@ module _ (z : ℤ) (t n : ℕ) (e : z ≡ pos t) (g : t < 2 ^ 31) (h : n < 2 ^ 3
 
 -- a coordinate as a word
 pub coordinate : (z : ℤ) → nat_abs z ≤ 180000 → to_z w32 (of_z w32 z) ≡ z
-coordinate z h = to_z_of_z w32 z (word_fits w32 z (omega arith))
+coordinate z h = to_z-of_z w32 z (word_fits w32 z (omega arith))
 
 -- a coordinate that a 64-bit word is narrowed to
 module _ (z : ℤ) (h : nat_abs z ≤ 180000) where
   pub wide : to_z w64 (of_z w64 z) ≡ z
-  wide = to_z_of_z w64 z (word_fits w64 z (omega arith))
+  wide = to_z-of_z w64 z (word_fits w64 z (omega arith))
 
   pub narrow_fits : SFits w32 (to_z w64 (of_z w64 z))
   narrow_fits = rw wide (word_fits w32 z (omega arith))

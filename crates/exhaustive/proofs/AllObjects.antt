@@ -7,7 +7,7 @@ use Prim.Native.Nat.{ℕ, ◌+◌, ◌*◌, ◌≤◌, ◌<◌, min}
 use native.Mathlib.Omega.{arith}
 use lib.IntN.{ℤ, pos, nat_abs}
 use lib.Dec.{ltb, ltb→lt, nltb→le}
-use lib.ListN.{length, get_or, set, length-set, length_map}
+use lib.ListN.{length, get_or, set, length-set, length-map}
 use lib.Seq.{get_or-set_same, get_or-set_other}
 use mir.Syntax.{w64}
 use mir.Val.{SFits}
@@ -151,7 +151,7 @@ module _ {columns : List ℤ} {n i : ℕ} (priceable : Priceable columns n) (h :
         let p : Place = record { x = v; y = get_or ls j (pos 0) } in
         let read = rw (x_is, y_is, visits_word (row priceable h), near_word (row priceable h), eu, eb) at one in
         let c = (axis_in columns).b in
-        let paid = rw (scaled_at c ls j) at (read.added j (omega (arith, length_map ls (times c)))) in
+        let paid = rw (scaled_at c ls j) at (read.added j (omega (arith, length-map ls (times c)))) in
         let past = rw (scaled_at c ls j) at (so_far.cost j k) in
         rw (scaled_at c ls j) (omega (arith, cost_more columns i p, before_more columns i, past, paid));
   }

@@ -5,7 +5,7 @@ use mathlib.Core.List.{List, flat_map}
 use Prim.Native.Nat.{ℕ, zero, suc, ◌+◌, ◌≤◌, ◌<◌}
 use native.Mathlib.Omega.{arith}
 use lib.IntN.{ℤ, pos}
-use lib.ListN.{length, get_or, drop, replicate, length_replicate, length_map, drop_of_length-le}
+use lib.ListN.{length, get_or, drop, replicate, length-replicate, length-map, drop_of_length-le}
 use Rattle.numbers.specs.Integer.{times}
 use Rattle.query.specs.Range.{cost_limit}
 use Rattle.deck.specs.Objects.{Pricing}
@@ -27,8 +27,8 @@ zeros (suc n) (suc k) = zeros n k
 
 zero_ramps : RampSums (replicate 515 0) (replicate 515 0) 0
 zero_ramps = record {
-  weights_long = length_replicate {A = ℕ} 515 0;
-  starts_long = length_replicate {A = ℕ} 515 0;
+  weights_long = length-replicate {A = ℕ} 515 0;
+  starts_long = length-replicate {A = ℕ} 515 0;
   weights_most = λ k. omega (arith, zeros 515 k);
   starts_most = λ k. omega (arith, zeros 515 k);
 }
@@ -43,7 +43,7 @@ module _ (P : Pricing) (m : ℕ) (ls : List ℤ) (v : ℤ) (up us down ds : List
   sweepable = record {
     before_most = now.within;
     sums = sums_few m added.sums (omega arith);
-    enough = λ j h. omega (arith, added.cost j (omega (arith, length_map ls (times P.axis.b))), now.is);
+    enough = λ j h. omega (arith, added.cost j (omega (arith, length-map ls (times P.axis.b))), now.is);
   }
 
   pub swept_line : (b : ℕ) (old costs : List ℕ) → P.axis.b ≡ b → Swept ls b up us down ds before old costs → costs ≡ costs_along P ls v old

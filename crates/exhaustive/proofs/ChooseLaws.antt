@@ -7,7 +7,7 @@ use native.Mathlib.Numerals.{add-one}
 use native.Mathlib.Omega.{arith}
 use lib.IntN.{ℤ, pos}
 use lib.ListN.{length, get_or, drop, drop_of_length-le}
-use lib.Seq.{drop_cons}
+use lib.Seq.{drop-cons}
 use Rattle.deck.specs.Objects.{Pricing}
 use Rattle.problem.specs.declared.Spot.{Spot}
 use Rattle.problem.specs.ObjectProblem.{spot_of, spot_at}
@@ -20,7 +20,7 @@ use Rattle.exhaustive.proofs.CheapestLaws.{cheapest_none, cheapest_more}
 
 -- the lines from j on are line j and those behind it
 pub next_line : (ls : List ℤ) (j : ℕ) → j < length ls → drop j ls ≡ get_or ls j (pos 0) ∷ drop (j + 1) ls
-next_line ls j h = drop_cons ls j (pos 0) h ∙ rw (add-one j)
+next_line ls j h = drop-cons ls j (pos 0) h ∙ rw (add-one j)
 
 pub record Choosing (ls : List ℤ) (v : ℤ) (costs : List ℕ) (first found : Spot) (j : ℕ) : Type 0 where
   pub count : j ≤ length ls

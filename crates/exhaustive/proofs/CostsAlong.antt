@@ -5,7 +5,7 @@ use mathlib.Core.List.{List, [], ◌∷◌, map, ◌++◌}
 use Prim.Native.Nat.{ℕ, zero, suc, ◌+◌, ◌≤◌, ◌<◌}
 use native.Mathlib.Omega.{arith}
 use lib.IntN.{ℤ, pos}
-use lib.ListN.{length, get_or, set, drop, length_append, length_map, length_drop, get_or_map, get_or_append}
+use lib.ListN.{length, get_or, set, drop, length-append, length-map, length-drop, get_or-map, get_or-append}
 use lib.Seq.{take_all}
 use Rattle.deck.specs.Objects.{Pricing}
 use Rattle.pricing.specs.ObjectFigures.{cost_of}
@@ -32,18 +32,18 @@ module _ (P : Pricing) (ls : List ℤ) (v : ℤ) (old : List ℕ) where
   pub costs_more : {costs : List ℕ} (j cost : ℕ) → j < length ls → j < length old → costs ≡ costs_to j → cost ≡ price (get_or ls j (pos 0))
       → set costs j cost ≡ costs_to (j + 1)
   costs_more {costs} j cost h k e f =
-      rw (e, f, ← get_or_map price ls j (pos 0)) (over_set (map price ls) j old (price (pos 0)) (omega (arith, length_map ls price)) k)
+      rw (e, f, ← get_or-map price ls j (pos 0)) (over_set (map price ls) j old (price (pos 0)) (omega (arith, length-map ls price)) k)
 
   costs_is : costs_along P ls v old ≡ map price ls ++ drop (length ls) old
   unfolding costs_along
   costs_is = refl
 
   pub costs_all : (j : ℕ) → j ≡ length ls → costs_to j ≡ costs_along P ls v old
-  costs_all j e = rw (e, costs_is, take_all (length ls) (map price ls) (omega (arith, length_map ls price)))
+  costs_all j e = rw (e, costs_is, take_all (length ls) (map price ls) (omega (arith, length-map ls price)))
 
   pub costs_length : length ls ≤ length old → length (costs_along P ls v old) ≡ length old
-  costs_length h = rw costs_is (simp (length_append, length_map, length_drop) (omega arith))
+  costs_length h = rw costs_is (simp (length-append, length-map, length-drop) (omega arith))
 
   pub costs_at_lem : (j : ℕ) → j < length ls → get_or (costs_along P ls v old) j 0 ≡ price (get_or ls j (pos 0))
   costs_at_lem j h =
-      rw (costs_is, get_or_append (map price ls) (drop (length ls) old) 0 j (omega (arith, length_map ls price)), map_at price ls j (pos 0) 0 h)
+      rw (costs_is, get_or-append (map price ls) (drop (length ls) old) 0 j (omega (arith, length-map ls price)), map_at price ls j (pos 0) 0 h)

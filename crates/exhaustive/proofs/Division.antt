@@ -2,7 +2,7 @@
 -- Assumes nothing.
 use mathlib.Core.Path.{◌≡◌, ap, ◌∙◌}
 use Prim.Native.Nat.{ℕ, ◌+◌, ◌*◌, ◌-◌, ◌/◌, ◌≤◌, ◌<◌}
-use native.Mathlib.Nat.{mul-le-mul, mul_le_mul_left, div-le_self, div-mul-le_self, lt-div-mul-add, lt_of_mul-lt-mul_right, div_eq_of_lt_le}
+use native.Mathlib.Nat.{mul-le-mul, mul-le-mul_left, div-le_self, div-mul-le_self, lt-div-mul-add, lt_of_mul-lt-mul_right, div-eq_of_lt-le}
 use native.Mathlib.Omega.{arith}
 use lib.IntN.{ℤ, pos, nat_abs}
 use Rattle.numbers.proofs.Integer.{order}
@@ -20,15 +20,15 @@ cost_some {k} h = omega (arith, order, h.some, cost_natural h)
 module _ (n b q r : ℕ) (some : 1 ≤ b) (most : b ≤ 9) (small : n ≤ 2000000) (q_le : q * b ≤ n) (q_lt : n < q * b + b) (r_le : r * b ≤ 4294967296)
     (r_lt : 4294967296 < r * b + b) where
   product_least : q * 4294967296 ≤ n * (r + 1)
-  product_least = omega (arith, mul_le_mul_left q (let h : 4294967296 ≤ r * b + b = omega arith in h), mul_le_mul_left (r + 1) q_le)
+  product_least = omega (arith, mul-le-mul_left q (let h : 4294967296 ≤ r * b + b = omega arith in h), mul-le-mul_left (r + 1) q_le)
 
   product_most : n * (r + 1) < (q + 1) * 4294967296
-  product_most = lt_of_mul-lt-mul_right b (omega (arith, mul_le_mul_left n r_le, mul-le-mul small most))
+  product_most = lt_of_mul-lt-mul_right b (omega (arith, mul-le-mul_left n r_le, mul-le-mul small most))
 
 pub divided_is : (n b m : ℕ) → 1 ≤ b → b ≤ 9 → m ≡ 4294967296 / b + 1 → n ≤ 2000000 → n * m / 4294967296 ≡ n / b
 divided_is n b m some most e small =
     ap (λ (z : ℕ). n * z / 4294967296) e
-    ∙ div_eq_of_lt_le 4294967296 (product_least n b (n / b) (4294967296 / b) some most small q_le q_lt r_le r_lt)
+    ∙ div-eq_of_lt-le 4294967296 (product_least n b (n / b) (4294967296 / b) some most small q_le q_lt r_le r_lt)
     (product_most n b (n / b) (4294967296 / b) some most small q_le q_lt r_le r_lt)
   where
     q_le : n / b * b ≤ n

@@ -8,7 +8,7 @@ use lib.IntN.{ℤ, pos, negsuc, nat_abs, ◌+ℤ◌}
 use lib.Signed.{non_neg, ◌≤ℤ◌, ◌<ℤ◌}
 use mir.Syntax.{w64}
 use mir.Val.{SFits, Fits}
-use mir.ValLaws.{to_z_of_z}
+use mir.ValLaws.{to_z-of_z}
 use Rattle.numbers.specs.Integer.{dist}
 use Rattle.numbers.proofs.Integer.{pp, nn, order, add_nat, dist_nat, abs_range}
 use Rattle.numbers.proofs.Words.{word_fits, natural_fits, natural_is, natural_cast}
@@ -42,7 +42,7 @@ module _ (a b : ℤ) (g : nat_abs a ≤ 1000000) (h : nat_abs b ≤ 1000000) whe
 -- ---- as the code computes it
 module _ (y : ℤ) (h : nat_abs y ≤ 900000) where
   raised : back y +ℤ pos 1000000 ≡ pos (height_of y)
-  raised = rw (to_z_of_z w64 y (word_fits w64 y (omega arith))) (omega (arith, order, add_nat y (pos 1000000), height_nat y (omega arith)))
+  raised = rw (to_z-of_z w64 y (word_fits w64 y (omega arith))) (omega (arith, order, add_nat y (pos 1000000), height_nat y (omega arith)))
 
   small : height_of y < 2 ^ 63
   small = omega (arith, height_most y 900000 h (omega arith))

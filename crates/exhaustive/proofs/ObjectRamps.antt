@@ -8,7 +8,7 @@ use lib.IntN.{ℤ, pos, nat_abs, ◌+ℤ◌, ◌-ℤ◌}
 use lib.ListN.{get_or}
 use mir.Syntax.{w64}
 use mir.Val.{SFits, to_z}
-use mir.ValLaws.{to_z_of_z, to_z_pos}
+use mir.ValLaws.{to_z-of_z, to_z_pos}
 use Rattle.numbers.specs.Integer.{dist}
 use Rattle.numbers.proofs.Integer.{add_nat, sub_nat, sum_abs, sub_abs}
 use Rattle.numbers.proofs.Words.{word_fits}
@@ -28,7 +28,7 @@ sums_more m k s h = record {
 }
 
 pub small_back : (z : ℤ) → nat_abs z ≤ 900000 → back z ≡ z
-small_back z h = to_z_of_z w64 z (word_fits w64 z (omega arith))
+small_back z h = to_z-of_z w64 z (word_fits w64 z (omega arith))
 
 -- ---- an object whose near is d + r, and whose height is s
 ramp_sum : (near d r s t : ℕ) → near ≡ d + r → r ≤ s → min near (d + ((s - t) + (t - s))) + (t - (s - r)) + (t - (s + r)) ≡ near + 2 * (t - s)

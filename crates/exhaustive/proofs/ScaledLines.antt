@@ -4,7 +4,7 @@ use mathlib.Core.List.{List}
 use Prim.Native.Nat.{ℕ, ◌≤◌, ◌<◌}
 use native.Mathlib.Omega.{arith}
 use lib.IntN.{ℤ, pos, nat_abs}
-use lib.ListN.{length, get_or, length_map}
+use lib.ListN.{length, get_or, length-map}
 use Rattle.numbers.specs.Integer.{times}
 use Rattle.numbers.proofs.Scaling.{scaled_at, scale_most}
 use Rattle.exhaustive.specs.Ramps.{scaled_lines, LinesInRange}
@@ -19,6 +19,6 @@ module _ (b : ℕ) (most : b ≤ 9) (ls : List ℤ) (lines : LinesInRange ls) wh
 
   pub scaled_in_range : ScaledInRange (scaled_lines b ls)
   scaled_in_range = record {
-    few = omega (arith, lines.in_order.few, length_map ls (times b));
-    range = λ j h. rw (scaled_at b ls j) (scaled_line j (omega (arith, length_map ls (times b))));
+    few = omega (arith, lines.in_order.few, length-map ls (times b));
+    range = λ j h. rw (scaled_at b ls j) (scaled_line j (omega (arith, length-map ls (times b))));
   }

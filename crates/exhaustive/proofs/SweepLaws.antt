@@ -5,7 +5,7 @@ use mathlib.Core.List.{List}
 use Prim.Native.Nat.{ℕ, ◌+◌, ◌*◌, ◌^◌, ◌≤◌, ◌<◌}
 use native.Mathlib.Omega.{arith}
 use lib.IntN.{ℤ, pos, nat_abs}
-use lib.ListN.{length, get_or, set, length-set, length_map}
+use lib.ListN.{length, get_or, set, length-set, length-map}
 use Rattle.deck.specs.Objects.{Pricing}
 use Rattle.pricing.specs.ObjectFigures.{cost_of, before_of}
 use Rattle.numbers.specs.Integer.{times}
@@ -92,7 +92,7 @@ module _ (ls : List ℤ) (cost : ℕ) (up us down ds : List ℕ) (before : ℕ) 
     z_small = scaled_line cost most ls lines j h
 
     enough : prefix_sum down (j + 1) * height_of z + prefix_sum us (j + 1) ≤ before + (prefix_sum up (j + 1) * height_of z + prefix_sum ds (j + 1))
-    enough = rw (scaled_at cost ls j) at (ok.enough j (omega (arith, length_map ls (times cost))))
+    enough = rw (scaled_at cost ls j) at (ok.enough j (omega (arith, length-map ls (times cost))))
 
     at_line : (k m n : ℕ) → k ≡ cost → m + lowered_at (scaled_lines k ls) down us j ≡ n + raised_at (scaled_lines k ls) up ds j
         → m + (prefix_sum down (j + 1) * height_of z + prefix_sum us (j + 1)) ≡ n + (prefix_sum up (j + 1) * height_of z + prefix_sum ds (j + 1))

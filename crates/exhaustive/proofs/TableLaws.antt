@@ -4,11 +4,11 @@ use mathlib.Core.Path.{◌≡◌, refl, sym, ap, subst, ◌∙◌}
 use mathlib.Core.List.{List}
 use mathlib.Core.Logic.{⊎_elim}
 use Prim.Native.Nat.{ℕ, ◌+◌, ◌*◌, ◌-◌, ◌≤◌, ◌<◌}
-use native.Mathlib.Nat.{mul_le_mul_left}
+use native.Mathlib.Nat.{mul-le-mul_left}
 use native.Mathlib.Omega.{arith}
 use lib.Dec.{ltb, ltb→lt, nltb→le}
 use lib.IntN.{ℤ, pos, nat_abs}
-use lib.ListN.{length, get_or, set, length-set, length_map}
+use lib.ListN.{length, get_or, set, length-set, length-map}
 use lib.Signed.{◌≤ℤ◌, ◌<ℤ◌}
 use lib.Seq.{get_or-set_same, get_or-set_other, ext_get_or}
 use Rattle.numbers.specs.Integer.{times}
@@ -134,17 +134,17 @@ module _ (b : ℕ) (some : 1 ≤ b) (ls : List ℤ) (lines : LinesInRange ls) (s
     from_below h = record {
       within = omega arith;
       before = λ k l. absurd (omega arith);
-      after = λ k l m. let in_list : k < length ls = omega (arith, length_map ls (times b)) in
-          is_not_below k in_list (omega (arith, e, mul_le_mul_left b (slot_least ls lines k in_list)));
+      after = λ k l m. let in_List : k < length ls = omega (arith, length-map ls (times b)) in
+          is_not_below k in_List (omega (arith, e, mul-le-mul_left b (slot_least ls lines k in_List)));
     }
 
     module _ (low : 1000000 - 20000 * b ≤ t) (s : ℕ) (up : Upwards (t - (1000000 - 20000 * b)) b s) where
       from_slot : {r : ℕ} → Parted ls (s + 980000) r → FirstAtLeast (scaled_lines b ls) start r
       from_slot p = record {
-        within = omega (arith, p.within, length_map ls (times b));
-        before = λ k l. is_below k (omega (arith, p.within)) (omega (arith, e, up.least, mul_le_mul_left b (p.before k l)));
-        after = λ k l m. let in_list : k < length ls = omega (arith, length_map ls (times b)) in
-            is_not_below k in_list (omega (arith, e, up.enough, mul_le_mul_left b (p.after k l in_list)));
+        within = omega (arith, p.within, length-map ls (times b));
+        before = λ k l. is_below k (omega (arith, p.within)) (omega (arith, e, up.least, mul-le-mul_left b (p.before k l)));
+        after = λ k l m. let in_List : k < length ls = omega (arith, length-map ls (times b)) in
+            is_not_below k in_List (omega (arith, e, up.enough, mul-le-mul_left b (p.after k l in_List)));
       }
 
       pub from_above : 40000 < s → FirstAtLeast (scaled_lines b ls) start (length ls)

@@ -8,7 +8,7 @@ use native.Mathlib.Numerals.{add-one}
 use native.Mathlib.Omega.{arith}
 use lib.Dec.{ltb, lt→ltb, leb-suc-suc}
 use lib.ListN.{length, get_or, take, drop, drop_of_length-le}
-use lib.Seq.{drop_cons}
+use lib.Seq.{drop-cons}
 use Rattle.numbers.specs.Lists.{keep, non_empty}
 use Rattle.numbers.proofs.Truth.{holds}
 use Rattle.items.specs.Items.{remove_first, held, first_place}
@@ -32,7 +32,7 @@ module _ {A : Type 0} (same : A → Bool) where
 
   module _ {xs : List A} {i : ℕ} (passed : Passed xs i) (d : A) (h : i < length xs) where
     next_place : first_place same (drop i xs) ≡ cond (same (get_or xs i d)) 0 (suc (first_place same (drop (suc i) xs)))
-    next_place = ap (first_place same) (drop_cons xs i d h) ∙ place_cons (get_or xs i d) (drop (suc i) xs)
+    next_place = ap (first_place same) (drop-cons xs i d h) ∙ place_cons (get_or xs i d) (drop (suc i) xs)
 
     pub passed_next : same (get_or xs i d) ≡ false → Passed xs (i + 1)
     passed_next e = record { count = omega arith; later = rw (add-one i) (go (next_place ∙ rw e)) }

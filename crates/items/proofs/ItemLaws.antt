@@ -8,7 +8,7 @@ use native.Mathlib.Omega.{arith}
 use lib.Dec.{T, eqb, not_T}
 use lib.IntN.{ℤ}
 use lib.ListN.{length, get_or, take}
-use lib.Seq.{length_take_le, get_or_take}
+use lib.Seq.{length-take-le, get_or-take}
 use mir.Syntax.{w64}
 use mir.Val.{SFits, of_z, to_z}
 use Rattle.numbers.specs.Integer.{eq_z}
@@ -44,10 +44,10 @@ module _ {A : Type 0} (same : A → A → Bool) {xs : List A} {n : ℕ} (count :
 -- ---- posts
 module _ (px py : List ℤ) (n : ℕ) (g : n ≤ length px) (h : n ≤ length py) where
   pub posts_length : length (take n (places px py)) ≡ n
-  posts_length = length_take_le n (places px py) (omega (arith, places_length px py))
+  posts_length = length-take-le n (places px py) (omega (arith, places_length px py))
 
   pub post_at : (i : ℕ) → i < n → (d : Place) → get_or (take n (places px py)) i d ≡ place_at px py i
-  post_at i l d = get_or_take n (places px py) i d l ∙ places_at px py i d (omega arith) (omega arith)
+  post_at i l d = get_or-take n (places px py) i d l ∙ places_at px py i d (omega arith) (omega arith)
 
 pub place_back : {x y : ℤ} → SFits w64 x → SFits w64 y → place_of (back x) (back y) ≡ place_of x y
 place_back f g = ap₂ place_of (back_is f) (back_is g)
@@ -55,10 +55,10 @@ place_back f g = ap₂ place_of (back_is f) (back_is g)
 -- ---- stops
 module _ (sx sy : List ℤ) (vs : List ℕ) (n : ℕ) (g : n ≤ length sx) (h : n ≤ length sy) (k : n ≤ length vs) where
   pub stops_many : length (take n (stops_of (places sx sy) vs)) ≡ n
-  stops_many = length_take_le n (stops_of (places sx sy) vs) (omega (arith, stops_length sx sy vs))
+  stops_many = length-take-le n (stops_of (places sx sy) vs) (omega (arith, stops_length sx sy vs))
 
   pub stop_at_lem : (i : ℕ) → i < n → (d : Stop) → get_or (take n (stops_of (places sx sy) vs)) i d ≡ stop_in sx sy vs i
-  stop_at_lem i l d = get_or_take n (stops_of (places sx sy) vs) i d l ∙ stops_in sx sy vs i d (omega arith) (omega arith) (omega arith)
+  stop_at_lem i l d = get_or-take n (stops_of (places sx sy) vs) i d l ∙ stops_in sx sy vs i d (omega arith) (omega arith) (omega arith)
 
 pub stop_back_lem : {x y : ℤ} (v : ℕ) → SFits w64 x → SFits w64 y → stop_of (place_of (back x) (back y)) v ≡ stop_of (place_of x y) v
 stop_back_lem v f g = ap (λ (p : Place). stop_of p v) (place_back f g)

@@ -2,11 +2,11 @@
 -- Assumes nothing.
 use mathlib.Core.Path.{◌≡◌, refl, sym, ap, ◌∙◌}
 use mathlib.Core.Bool.{Bool}
-use mathlib.Core.List.{List, [], ◌∷◌, map, map_append, append_assoc}
+use mathlib.Core.List.{List, [], ◌∷◌, map, map-append, append_assoc}
 use Prim.Native.Nat.{ℕ, zero, suc, ◌-◌, ◌≤◌, ◌<◌}
 use native.Mathlib.Omega.{arith}
-use lib.ListN.{length, take, drop, replicate, length_map}
-use lib.Seq.{take_append_le, take_append_seam, drop_append_seam}
+use lib.ListN.{length, take, drop, replicate, length-map}
+use lib.Seq.{take-append-le, take-append_seam, drop-append_seam}
 use Rattle.numbers.specs.Padded.{padded}
 use Rattle.deck.proofs.DeckLaws.{map_take}
 use Rattle.items.specs.Items.{remove_first, first_place, taken_out_at}
@@ -20,7 +20,7 @@ map_drop f (suc n) (x ∷ xs) = map_drop f n xs
 
 -- a list without element i
 map_removed : {A B : Type 0} (f : A → B) (i : ℕ) (xs : List A) → map f (removed i xs) ≡ removed i (map f xs)
-map_removed f i xs = rw (map_append f (take i xs) (drop (suc i) xs), map_take f i xs, map_drop f (suc i) xs)
+map_removed f i xs = rw (map-append f (take i xs) (drop (suc i) xs), map_take f i xs, map_drop f (suc i) xs)
 
 module _ {A : Type 0} (size : ℕ) (z : A) where
   -- one element less leaves one z more
@@ -35,9 +35,9 @@ module _ {A : Type 0} (size : ℕ) (z : A) where
       taken_out_at (length xs) i z (padded size z xs) ≡ padded size z (removed i xs)
   unfolding taken_out_at padded
   taken_out xs i h k = rw (
-    take_append_le i xs (replicate (size - length xs) z) (omega arith),
-    take_append_seam xs (replicate (size - length xs) z),
-    drop_append_seam xs (replicate (size - length xs) z),
+    take-append-le i xs (replicate (size - length xs) z) (omega arith),
+    take-append_seam xs (replicate (size - length xs) z),
+    drop-append_seam xs (replicate (size - length xs) z),
     one_more xs i h k,
   ) (sym (append_assoc (take i xs) (drop (suc i) xs) (z ∷ replicate (size - length xs) z)))
 
@@ -45,8 +45,8 @@ module _ {A : Type 0} (size : ℕ) (z : A) where
   column_out : {B : Type 0} (f : B → A) (bs : List B) (i : ℕ) → i < length bs → length bs ≤ size →
       taken_out_at (length bs) i z (padded size z (map f bs)) ≡ padded size z (map f (removed i bs))
   column_out f bs i h k =
-      ap (λ (n : ℕ). taken_out_at n i z (padded size z (map f bs))) (sym (length_map bs f))
-      ∙ taken_out (map f bs) i (omega (arith, length_map bs f)) (omega (arith, length_map bs f)) ∙ ap (padded size z) (sym (map_removed f i bs))
+      ap (λ (n : ℕ). taken_out_at n i z (padded size z (map f bs))) (sym (length-map bs f))
+      ∙ taken_out (map f bs) i (omega (arith, length-map bs f)) (omega (arith, length-map bs f)) ∙ ap (padded size z) (sym (map_removed f i bs))
 
   -- and of which the first that passes a test is taken out
   pub column_removed : {B : Type 0} (f : B → A) (same : B → Bool) (bs : List B) → first_place same bs < length bs → length bs ≤ size →

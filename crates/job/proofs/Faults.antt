@@ -9,7 +9,7 @@ use Prim.Native.Nat.{ℕ, zero, suc, ◌+◌}
 use native.Mathlib.Omega.{arith}
 use lib.Dec.{T}
 use lib.IntN.{ℤ}
-use lib.ListN.{length, length_append, replicate}
+use lib.ListN.{length, length-append, replicate}
 use Rattle.numbers.proofs.Joined.{flatten_snoc}
 use Rattle.numbers.proofs.Truth.{holds, fails, cond_ind}
 use Rattle.query.specs.Deck.{AxisCosts}
@@ -138,7 +138,7 @@ from_top : {lines : List (List ℕ)} {rest : List ℕ} {due : List Kind} → Goo
 unfolding flatten
 from_top top f = f
 from_top (one_more {lines} {rest} {k} {due} text ns good e t) {why} f =
-    let count : suc (length (lines ++ (text ∷ []))) ≡ suc (length lines) + 1 = omega (arith, length_append lines (text ∷ [])) in
+    let count : suc (length (lines ++ (text ∷ []))) ≡ suc (length lines) + 1 = omega (arith, length-append lines (text ∷ [])) in
     let here : Faults (k ∷ due) (suc (length lines)) (text ++ rest) why = further ns rest (form_local (row k) text ns rest e) t (rw count at f) in
     rw (flatten_snoc lines text rest) (from_top good here)
 
@@ -166,7 +166,7 @@ first_fault_lem {lines} bytes good number split (further {k} {due} {n} {bs} {why
     let text = ((form_spells (row k)).reads bs ns rest e).0 in
     first_fault_lem bytes (one_more (text_of (row k) ns) ns (subst (λ (l : List ℕ). Good lines l (k ∷ due)) text good)
     (form_whole (row k) ns (range_fits k ns t)) t)
-    (omega (arith, length_append lines (text_of (row k) ns ∷ [])))
+    (omega (arith, length-append lines (text_of (row k) ns ∷ [])))
     (split ∙ ap (λ (l : List ℕ). flatten lines ++ l) text ∙ sym (flatten_snoc lines (text_of (row k) ns) rest)) f
 
 pub malformed_faults : (bytes : List ℕ) (n : ℕ) → FirstMalformed bytes n → Faults all_due 1 bytes (Malformed n)

@@ -2,13 +2,13 @@
 -- Assumes nothing.
 use mathlib.Core.Path.{◌≡◌, sym, ap, subst, ◌∙◌}
 use mathlib.Core.Bool.{Bool, true, false, not}
-use mathlib.Core.List.{List, map, map_map, Memᴰ}
+use mathlib.Core.List.{List, map, map-map, Memᴰ}
 use Prim.Native.Nat.{ℕ, ◌+◌, ◌≤◌}
 use native.Mathlib.Omega.{arith}
 use lib.Dec.{T}
 use lib.IntN.{ℤ, pos, nat_abs}
-use lib.ListN.{length, take, drop, length_map}
-use lib.Seq.{length_take_le}
+use lib.ListN.{length, take, drop, length-map}
+use lib.Seq.{length-take-le}
 use Rattle.numbers.specs.Padded.{padded}
 use Rattle.numbers.proofs.Members.{each_map}
 use Rattle.numbers.proofs.Padded.{padded_length, padded_each}
@@ -70,7 +70,7 @@ module _ (k kind : Kind) {Hold : List (List ℤ) → Type 0} {most : ℕ} {s : L
 -- each array that holds lines has its size
 held_long : {A : Type 0} (size : ℕ) (z : A) (f : List ℤ → A) (lines : List (List ℤ)) {xs : List A} {count : ℕ} → xs ≡ padded size z (map f lines) →
     count ≡ length lines → count ≤ size → length xs ≡ size
-held_long size z f lines e g h = rw e (padded_length size z (map f lines) (omega (arith, length_map lines f)))
+held_long size z f lines e g h = rw e (padded_length size z (map f lines) (omega (arith, length-map lines f)))
 
 pub visits_long : {count : ℕ} {x y : List ℤ} {visits : List ℕ} {lines : List (List ℤ)} → StopsHeld count x y visits lines → count ≤ 512 → length visits ≡ 512
 visits_long {lines = lines} held few = held_long 512 0 (λ l. (stop_of l).visits) lines held.visits_is held.places.count_is few
@@ -128,19 +128,19 @@ lists_held m₁ b₁ m₂ b₂ posts-at e₁ stops_at e₂ some = record {
 pub nears_range : {axis : Query.AxisCosts} {posts : List Place} {size : ℕ} {x y : List ℤ} {n : ℕ} {r : List ℕ} → PlacesInRange size x y n →
     Nears axis posts (take n (places x y)) r → NearsInRange r n
 nears_range {x = x} {y = y} {n = n} {r = r} range found =
-    subst (NearsInRange r) (length_take_le n (places x y) (omega (arith, places_length x y, range.x.count, range.y.count))) found.range
+    subst (NearsInRange r) (length-take-le n (places x y) (omega (arith, places_length x y, range.x.count, range.y.count))) found.range
 
 -- the places that lines hold are those that they say
 held_places : {size count : ℕ} {x y : List ℤ} {lines : List (List ℤ)} → PlacesHeld size count x y lines → take count (places x y) ≡ map post_of lines
 unfolding padded
 held_places {size} {count} {x} {y} {lines} held =
-    (λ i. take ((held.count_is ∙ sym (length_map lines post_of)) i) (places (x_same i) (y_same i))) ∙ front_places (map post_of lines) _ _
+    (λ i. take ((held.count_is ∙ sym (length-map lines post_of)) i) (places (x_same i) (y_same i))) ∙ front_places (map post_of lines) _ _
   where
     x_same : x ≡ padded size (pos 0) (map (λ p. p.x) (map post_of lines))
-    x_same = held.x_is ∙ ap (padded size (pos 0)) (sym (map_map (λ p. p.x) post_of lines))
+    x_same = held.x_is ∙ ap (padded size (pos 0)) (sym (map-map (λ p. p.x) post_of lines))
 
     y_same : y ≡ padded size (pos 0) (map (λ p. p.y) (map post_of lines))
-    y_same = held.y_is ∙ ap (padded size (pos 0)) (sym (map_map (λ p. p.y) post_of lines))
+    y_same = held.y_is ∙ ap (padded size (pos 0)) (sym (map-map (λ p. p.y) post_of lines))
 
 module _ (c : AxisCosts) {k m : ℕ} {px py sx sy : List ℤ} {visits : List ℕ} {ps ss : List (List ℤ)} (p : PlacesHeld 64 k px py ps)
     (s : StopsHeld m sx sy visits ss) (a n : List ℤ) where
@@ -152,11 +152,11 @@ module _ (c : AxisCosts) {k m : ℕ} {px py sx sy : List ℤ} {visits : List ℕ
     unfolding Travel.near
     near_filled =
         found.are ∙ (λ i. padded 512 0 (map (λ q. closest (held_axis c) q (held_places p i)) (held_places s.places i)))
-        ∙ ap (padded 512 0) (map_map (λ q. closest (held_axis c) q (map post_of ps)) post_of ss ∙ sym (map_map (Travel.near deck) stop_of ss))
+        ∙ ap (padded 512 0) (map-map (λ q. closest (held_axis c) q (map post_of ps)) post_of ss ∙ sym (map-map (Travel.near deck) stop_of ss))
 
     pub before_filled : {sum : ℕ} → sum ≡ paid visits near m → sum ≡ before deck
     unfolding before
     before_filled e =
-        e ∙ (λ i. paid ((s.visits_is ∙ ap (padded 512 0) (sym (map_map (λ (t : Stop). t.visits) stop_of ss))) i) (near_filled i)
-        ((s.places.count_is ∙ sym (length_map ss stop_of)) i))
+        e ∙ (λ i. paid ((s.visits_is ∙ ap (padded 512 0) (sym (map-map (λ (t : Stop). t.visits) stop_of ss))) i) (near_filled i)
+        ((s.places.count_is ∙ sym (length-map ss stop_of)) i))
         ∙ paid_stops (Travel.near deck) 512 deck.stops

@@ -2,7 +2,7 @@
 -- Assumes nothing.
 use mathlib.Core.Path.{◌≡◌, refl, ap, ◌∙◌}
 use mathlib.Core.Bool.{not}
-use mathlib.Core.List.{List, [], ◌∷◌, ◌++◌, append_nil, append_assoc}
+use mathlib.Core.List.{List, [], ◌∷◌, ◌++◌, append-nil, append_assoc}
 use mathlib.Core.Logic.{◌⊎◌, inl, inr}
 use mathlib.Core.Option.{Option, none, some, bind-eq-some_iff, none-ne-some, some-injective}
 use Prim.Native.Nat.{ℕ, suc, ◌^◌, ◌≤◌, ◌<◌}
@@ -10,7 +10,7 @@ use native.Mathlib.Omega.{arith}
 use lib.Dec.{T, eqb, eqb→eq, eqb_refl}
 use lib.IntN.{ℤ, nat_abs}
 use lib.ListN.{length}
-use Rattle.numbers.proofs.Truth.{cond_ind, cond_true, cond_false}
+use Rattle.numbers.proofs.Truth.{cond_ind, cond-true, cond-false}
 use Rattle.text.specs.Ascii.{is_digit}
 use Rattle.text.specs.Numeral.{digits, number}
 use Rattle.text.specs.Decimal.{spell_int}
@@ -36,7 +36,7 @@ bind_reads first next bs go e = let (s, p, q) = (bind-eq-some_iff (first bs) (λ
 
 pub byte_spells : (b : ℕ) → Spells (byte b) (λ u rest. b ∷ rest) (λ u. Unit)
 unfolding byte
-byte_spells b = record { reads = reads; writes = λ u rest s. cond_true (eqb b b) _ _ (eqb_refl b) }
+byte_spells b = record { reads = reads; writes = λ u rest s. cond-true (eqb b b) _ _ (eqb_refl b) }
   where
     reads : (bs : List ℕ) (u : Unit {0}) (rest : List ℕ) → byte b bs ≡ some (u, rest) → (bs ≡ b ∷ rest) × Unit {0}
     reads [] u rest = λ e. absurd (none-ne-some (u, rest) e)
@@ -60,7 +60,7 @@ field_spells end t = record {
       let n = number_reads bs y mid p in
       let (same, last) = some_parts e in
       rw (← same, ← last) (n.text ∙ ap (λ (l : List ℕ). spell_int y ++ l) ((byte_spells end).reads mid v after q).0, n.small)));
-  writes = λ z rest small. rw (number_spelled z (end ∷ rest) small (cond_false (is_digit end) _ _ t), (byte_spells end).writes tt rest tt);
+  writes = λ z rest small. rw (number_spelled z (end ∷ rest) small (cond-false (is_digit end) _ _ t), (byte_spells end).writes tt rest tt);
 }
 
 -- ---- the numbers of a line, each with its end
@@ -162,8 +162,8 @@ module _ (row : Row) where
   form_long ns rest e s = rw (append_assoc, (key_spells row.key).writes tt (spell_numbers ns ++ rest) tt) (numbers_long row.ranges ns rest e s)
 
   pub form_whole : (ns : List ℤ) → Fitting row.ranges ns → form_of row (text_of row ns) ≡ some (ns, [])
-  form_whole ns fit = rw append_nil at (form_spells.writes ns [] fit)
+  form_whole ns fit = rw append-nil at (form_spells.writes ns [] fit)
 
   -- a form that reads a text whole reads it at the start of any text
   pub form_local : (text : List ℕ) (ns : List ℤ) (rest : List ℕ) → form_of row text ≡ some (ns, []) → form_of row (text ++ rest) ≡ some (ns, rest)
-  form_local text ns rest e = let (t, fit) = form_spells.reads text ns [] e in rw (t, append_nil) (form_spells.writes ns rest fit)
+  form_local text ns rest e = let (t, fit) = form_spells.reads text ns [] e in rw (t, append-nil) (form_spells.writes ns rest fit)

@@ -4,12 +4,12 @@
 use mathlib.Core.Path.{◌≡◌, refl, sym, ap, subst, ◌∙◌}
 use mathlib.Core.Bool.{Bool, true, false, not, cond}
 use mathlib.Core.List.Memᴰ
-use mathlib.Core.List.{List, [], ◌∷◌, ◌++◌, map, map_map, map-id, flat_map, Memᴰ}
+use mathlib.Core.List.{List, [], ◌∷◌, ◌++◌, map, map-map, map-id, flat_map, Memᴰ}
 use Prim.Native.Nat.{ℕ, ◌+◌, ◌≤◌}
 use native.Mathlib.Omega.{arith}
 use lib.Dec.{T}
 use lib.IntN.{ℤ, pos}
-use lib.ListN.{length, length_append, length_map}
+use lib.ListN.{length, length-append, length-map}
 use Rattle.numbers.proofs.Joined.{flat_map_append, flat_map_map, flat_map_length, map_each}
 use Rattle.numbers.proofs.Members.{each_cons, each_append, each_map}
 use Rattle.query.specs.Place.{Place}
@@ -40,7 +40,7 @@ kind_text k all others = flat_map_append spell_line (map (line_of k) all) others
 
 seven_length : (a b c d e f g : List ℕ) →
     length (a ++ (b ++ (c ++ (d ++ (e ++ (f ++ (g ++ []))))))) ≡ length a + length b + length c + length d + length e + length f + length g
-seven_length a b c d e f g = simp length_append (omega arith)
+seven_length a b c d e f g = simp length-append (omega arith)
 
 unfoldable pub InRanges : JobLine → Type 0
 InRanges l = T (in_ranges (row l.kind).ranges l.numbers)
@@ -108,12 +108,12 @@ module _ (carried : Bool) (a c n : List ℤ) (ps : List (List ℤ)) (m : List �
     lines_are = cc (
       area_back_lem a i.area_in,
       axis_same carried c i.axis_in_lem,
-      length_map ps post_of ∙ i.all_posts_lem,
+      length-map ps post_of ∙ i.all_posts_lem,
       count_back_lem 64 n i.posts_in,
-      map_map post_line post_of ps ∙ map_each (λ ns. post_line (post_of ns)) (line_of post) ps (λ ns j. ap (line_of post) (post_back_lem ns (i.post_in ns j))),
-      length_map ss stop_of ∙ i.all_stops_lem,
+      map-map post_line post_of ps ∙ map_each (λ ns. post_line (post_of ns)) (line_of post) ps (λ ns j. ap (line_of post) (post_back_lem ns (i.post_in ns j))),
+      length-map ss stop_of ∙ i.all_stops_lem,
       count_back_lem 512 m i.stops_in,
-      map_map stop_line stop_of ss ∙ map_each (λ ns. stop_line (stop_of ns)) (line_of stop) ss (λ ns j. ap (line_of stop) (stop_back_lem ns (i.stop_in_lem ns j))),
+      map-map stop_line stop_of ss ∙ map_each (λ ns. stop_line (stop_of ns)) (line_of stop) ss (λ ns j. ap (line_of stop) (stop_back_lem ns (i.stop_in_lem ns j))),
       count_back_lem 1000 k i.rounds_in_lem,
     )
 
@@ -328,8 +328,8 @@ deck_lines {carried} job n w h = record {
   stops_in = stops_in w;
   stop_in_lem = each_map (Ranged stop) (λ s. (stop_line s).numbers) job.deck.stops (stop_in_lem w);
   rounds_in_lem = (count_range 1000 n).1 h;
-  all_posts_lem = length_map job.deck.posts (λ p. (post_line p).numbers);
-  all_stops_lem = length_map job.deck.stops (λ s. (stop_line s).numbers);
+  all_posts_lem = length-map job.deck.posts (λ p. (post_line p).numbers);
+  all_stops_lem = length-map job.deck.stops (λ s. (stop_line s).numbers);
 }
 
 -- the job that they are read as, with these axis costs
@@ -342,8 +342,8 @@ with_axis c job = record {
 job_back : (c : AxisCosts) (job : Job) → job_of (area_line job.deck.area).numbers (axis_numbers c) (posts_numbers job.deck) (stops_numbers job.deck)
     (pos job.rounds ∷ []) ≡ with_axis c job
 job_back c job =
-    let p = map_map post_of (λ p. (post_line p).numbers) job.deck.posts ∙ map-id job.deck.posts in
-    let s = map_map stop_of (λ s. (stop_line s).numbers) job.deck.stops ∙ map-id job.deck.stops in
+    let p = map-map post_of (λ p. (post_line p).numbers) job.deck.posts ∙ map-id job.deck.posts in
+    let s = map-map stop_of (λ s. (stop_line s).numbers) job.deck.stops ∙ map-id job.deck.stops in
     λ i. record { deck = record { axis = c; area = job.deck.area; posts = p i; stops = s i }; rounds = job.rounds }
 
 -- what a spelling is read as: the job, with the costs that stand for a missing line where the line is missing
@@ -395,7 +395,7 @@ line_tells job e =
     let line = spell_line (axis_line job.deck.axis) in
     let later = flat_map spell_line (later_lines (length job.deck.posts) (length job.deck.stops) job) in
     let same = ap length (sym (spelling_without job) ∙ e ∙ spelling_with job) in
-    omega (arith, same, axis_key job.deck.axis, length_append area later, length_append area (line ++ later), length_append line later)
+    omega (arith, same, axis_key job.deck.axis, length-append area later, length-append area (line ++ later), length-append line later)
 
 -- another number of rounds
 pub other_rounds : {carried : Bool} (job : Job) (n : ℕ) → Writable carried job → n ≤ 1000 → Writable carried (record { deck = job.deck; rounds = n })

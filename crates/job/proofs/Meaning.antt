@@ -11,7 +11,7 @@ use lib.Arith.{le→nltb}
 use lib.ListN.{length}
 use lib.Signed.{lt_z}
 use Rattle.numbers.specs.Lists.{non_empty}
-use Rattle.numbers.proofs.Truth.{holds, fails, cond_ind, cond_true, cond_false, nor_left, nor_right, nor_intro}
+use Rattle.numbers.proofs.Truth.{holds, fails, cond_ind, cond-true, cond-false, nor_left, nor_right, nor_intro}
 use Rattle.numbers.proofs.Members.{length_non_empty, non_empty_length, non_empty_iff, empty_iff}
 use Rattle.numbers.proofs.Integer.{order}
 use Rattle.query.specs.Place.{Rect, NonEmpty}
@@ -90,7 +90,7 @@ read_says missing bytes = cond_ind (λ (r : Result). SaysSized missing r bytes) 
 -- ---- no other result is so
 pub read_short : (missing : AxisCosts) (bytes : List ℕ) → length bytes ≤ 16384 → read_with missing bytes ≡ text_with missing bytes
 unfolding read_with
-read_short missing bytes short = cond_false (ltb 16384 (length bytes)) _ _ (le→nltb 16384 (length bytes) short)
+read_short missing bytes short = cond-false (ltb 16384 (length bytes)) _ _ (le→nltb 16384 (length bytes) short)
 
 pub text_fault : (missing : AxisCosts) (bytes : List ℕ) (why : Refusal) → Faults all_due 1 bytes why → text_with missing bytes ≡ refused why
 text_fault missing bytes why f = ap reading_result ((job_faults missing 1 bytes why).1 f)
@@ -120,7 +120,7 @@ condition_text missing bytes _ (no_stops s t p q) = text_read missing bytes s.jo
 
 condition_read : (missing : AxisCosts) (bytes : List ℕ) (why : Refusal) → Condition bytes why → read_with missing bytes ≡ refused why
 unfolding read_with
-condition_read missing bytes _ (too_long h) = cond_true (ltb 16384 (length bytes)) _ _ (lt→ltb 16384 (length bytes) h)
+condition_read missing bytes _ (too_long h) = cond-true (ltb 16384 (length bytes)) _ _ (lt→ltb 16384 (length bytes) h)
 condition_read missing bytes why (in_text short c) = read_short missing bytes short ∙ condition_text missing bytes why c
 
 pub allowed_text : (missing : AxisCosts) (bytes : List ℕ) (job : Job) → Spells missing bytes job → Allowed job → text_with missing bytes ≡ accepted job

@@ -7,7 +7,7 @@ use mathlib.Core.List.{List, [], ◌∷◌, ◌++◌}
 use Prim.Native.Nat.{ℕ, suc, ◌+◌, ◌-◌, ◌≤◌, ◌<◌}
 use native.Mathlib.Nat.{add-zero, sub_zero}
 use native.Mathlib.Omega.{arith}
-use lib.ListN.{length, drop, set, replicate, length_append, drop_of_length-le}
+use lib.ListN.{length, drop, set, replicate, length-append, drop_of_length-le}
 use lib.IntN.{ℤ, pos}
 use mir.Syntax.{w64}
 use mir.Val.{SFits}
@@ -107,7 +107,7 @@ module _ {i : ℕ} {x y : List ℤ} {lines : List (List ℤ)} {px py : ℤ} (fx 
   places_more {size} others h p =
       rw (back_is fx, back_is fy)
       (record {
-        count_is = rw (length_append, ← p.count_is);
+        count_is = rw (length-append, ← p.count_is);
         x_is = padded_map size (pos 0) (λ l. (post_of l).x) lines (px ∷ py ∷ others) p.count_is h p.x_is;
         y_is = padded_map size (pos 0) (λ l. (post_of l).y) lines (px ∷ py ∷ others) p.count_is h p.y_is;
       })

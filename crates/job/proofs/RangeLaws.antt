@@ -8,7 +8,7 @@ use Prim.Native.Nat.{ℕ, suc, ◌+◌, ◌≤◌, ◌<◌, ◌^◌, max}
 use native.Mathlib.Omega.{arith}
 use lib.Dec.{T}
 use lib.IntN.{ℤ, pos, negsuc, nat_abs}
-use lib.ListN.{length, length_append}
+use lib.ListN.{length, length-append}
 use lib.Signed.{◌≤ℤ◌}
 use Rattle.numbers.proofs.Truth.{and_left, and_right, and_intro}
 use Rattle.numbers.proofs.Integer.{order, abs_range}
@@ -119,7 +119,7 @@ unfolding spell_numbers
 numbers_widths [] [] e = omega arith
 numbers_widths [] (n ∷ ns) e = absurd e
 numbers_widths (range ∷ ranges) [] e = absurd e
-numbers_widths (range ∷ ranges) (n ∷ ns) e = simp length_append (omega (arith, widest_is range n e.0, numbers_widths ranges ns e.1))
+numbers_widths (range ∷ ranges) (n ∷ ns) e = simp length-append (omega (arith, widest_is range n e.0, numbers_widths ranges ns e.1))
 
 -- the longest line of each kind
 abbrev pub longest : Kind → ℕ
@@ -143,7 +143,7 @@ longest_is rounds = refl
 
 pub line_length : (k : Kind) (ns : List ℤ) → T (in_ranges (row k).ranges ns) → length (text_of (row k) ns) ≤ longest k
 line_length k ns t =
-    omega (arith, longest_is k, length_append (row k).key (spell_numbers ns), numbers_widths (row k).ranges ns (each_in (row k).ranges ns t))
+    omega (arith, longest_is k, length-append (row k).key (spell_numbers ns), numbers_widths (row k).ranges ns (each_in (row k).ranges ns t))
 
 -- ---- what a range says of a number
 pub coordinate_range : (v : ℤ) → T (in_range coordinates v) ↔ (nat_abs v ≤ 20000)

@@ -2,12 +2,12 @@
 -- Assumes nothing.
 use mathlib.Core.Path.{◌≡◌, refl, sym, ap, subst, ◌∙◌}
 use mathlib.Core.Bool.{Bool, true, false}
-use mathlib.Core.List.{List, [], ◌∷◌, map, map_map}
+use mathlib.Core.List.{List, [], ◌∷◌, map, map-map}
 use Prim.Native.Nat.{ℕ, zero, suc, ◌+◌, ◌≤◌, ◌<◌}
 use native.Mathlib.Omega.{arith}
-use borrow.Author.Tests.{lt_ltb}
+use borrow.Author.Tests.{lt-ltb}
 use lib.IntN.{ℤ, pos}
-use lib.ListN.{length, take, drop, length_map}
+use lib.ListN.{length, take, drop, length-map}
 use lib.Signed.{lt_z}
 use mir.Syntax.{w64}
 use mir.Val.{SFits}
@@ -71,10 +71,10 @@ module _ {A : Type 0} where
 -- lines are some, or none, by their count
 module _ {A : Type 0} (f : List ℤ → A) {count : ℕ} (ls : List (List ℤ)) (e : count ≡ length ls) where
   some_lines : (count ≡ 0 → ⊥) → non_empty (map f ls) ≡ true
-  some_lines some = some_elements (map f ls) (λ z. some (e ∙ sym (length_map ls f) ∙ z))
+  some_lines some = some_elements (map f ls) (λ z. some (e ∙ sym (length-map ls f) ∙ z))
 
   none_lines : count ≡ 0 → non_empty (map f ls) ≡ false
-  none_lines z = no_elements (map f ls) (length_map ls f ∙ sym e ∙ z)
+  none_lines z = no_elements (map f ls) (length-map ls f ∙ sym e ∙ z)
 
 not_accepted : {P : Type 0} {why : Refusal} {n : ℕ} → Outcome.Refused why ≡ Outcome.Accepted n → P
 not_accepted e = differ (sym (ap is_accepted e))
@@ -295,20 +295,20 @@ module _ {s : List ℕ} {at first : ℕ} {a : Rect} (c : AxisCosts) {px py sx sy
           q.places.x_is,
           q.places.y_is,
           q.visits_is,
-          length_map ps post_of,
-          map_map (λ p. p.x) post_of ps,
-          map_map (λ p. p.y) post_of ps,
-          length_map ss stop_of,
-          map_map (λ s. s.at.x) stop_of ss,
-          map_map (λ s. s.at.y) stop_of ss,
-          map_map (λ s. s.visits) stop_of ss,
+          length-map ps post_of,
+          map-map (λ p. p.x) post_of ps,
+          map-map (λ p. p.y) post_of ps,
+          length-map ss stop_of,
+          map-map (λ s. s.at.x) stop_of ss,
+          map-map (λ s. s.at.y) stop_of ss,
+          map-map (λ s. s.visits) stop_of ss,
         );
       }
 
 -- ---- the whole reading
 pub read_long : (missing : Query.AxisCosts) (s : List ℕ) → 16384 < length s → refused TooLong ≡ read_with missing s
 unfolding read_with
-read_long missing s h = rw (lt_ltb 16384 (length s) h)
+read_long missing s h = rw (lt-ltb 16384 (length s) h)
 
 module _ (missing : AxisCosts) {s : List ℕ} (short : length s ≤ 16384) {area-answer : AreaLine}
     (area-at : LineAt (row area) s 0 1 (area_answer area-answer)) where

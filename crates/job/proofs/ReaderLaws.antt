@@ -3,7 +3,7 @@
 use mathlib.Core.Path.{◌≡◌, refl, sym, ap, ◌∙◌}
 use mathlib.Core.Bool.{Bool, true, false, not, cond}
 use mathlib.Core.List.Memᴰ
-use mathlib.Core.List.{List, [], ◌∷◌, ◌++◌, append_nil, append_assoc, flat_map, Memᴰ}
+use mathlib.Core.List.{List, [], ◌∷◌, ◌++◌, append-nil, append_assoc, flat_map, Memᴰ}
 use mathlib.Core.Option.{Option, none, some}
 use Prim.Native.Nat.{ℕ, zero, suc, ◌+◌}
 use native.Mathlib.Omega.{arith}
@@ -109,7 +109,7 @@ module _ (k : Kind) where
       (more : List (List ℤ)) × (read ++ more ≡ all) × (bs ≡ flat_map (text_of (row k)) more ++ rest) × (length more ≡ count) × ((ns : List ℤ) →
       Memᴰ ns more → Ranged ns)
   unfolding repeated flat_map
-  repeated_got zero read n bs all m rest = λ e. ([], cc (append_nil read), cc, refl, λ ns i. absurd (Memᴰ.not-nil i))
+  repeated_got zero read n bs all m rest = λ e. ([], cc (append-nil read), cc, refl, λ ns i. absurd (Memᴰ.not-nil i))
   repeated_got (suc count) read n bs all m rest = bind_got (line (row k)) (λ ns. repeated count (line (row k)) (read ++ (ns ∷ []))) n bs (λ ns j mid p e.
       let (text, t) = line_got n bs ns j mid p in
       let (more, same, texts, long, ts) = repeated_got count (read ++ (ns ∷ [])) j mid all m rest e in (
@@ -127,7 +127,7 @@ module _ (k : Kind) where
   pub repeated_gets : (more read : List (List ℤ)) (n : ℕ) (rest : List ℕ) → ((ns : List ℤ) → Memᴰ ns more → Ranged ns) →
       (m : ℕ) × (repeated (length more) (line (row k)) read n (flat_map (text_of (row k)) more ++ rest) ≡ got (read ++ more) m rest)
   unfolding repeated flat_map
-  repeated_gets [] read n rest ts = (n, rw append_nil)
+  repeated_gets [] read n rest ts = (n, rw append-nil)
   repeated_gets (ns ∷ more) read n rest ts =
       let (m, e) = repeated_gets more (read ++ (ns ∷ [])) (n + 1) rest (λ w i. ts w (Memᴰ.tail i)) in
       (m, rw (append_assoc, line_gets n ns (flat_map (text_of (row k)) more ++ rest) (ts ns (Memᴰ.head refl)), ← append_snoc read ns more) e)

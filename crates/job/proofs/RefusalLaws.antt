@@ -6,7 +6,7 @@ use mathlib.Core.Option.{Option, none, some}
 use Prim.Native.Nat.{ℕ, suc, ◌≤◌}
 use native.Mathlib.Omega.{arith}
 use lib.IntN.{ℤ}
-use lib.ListN.{length, length_append}
+use lib.ListN.{length, length-append}
 use Rattle.numbers.proofs.Joined.{flatten_snoc}
 use Rattle.job_line.specs.Kinds.{Kind, area, axis, posts, post, stops, stop, rounds, row, form_of}
 use Rattle.job.specs.Format.{refused, read_job}
@@ -43,16 +43,16 @@ good_length (one_more {lines} {rest} {k} {due} text ns good e t) =
       arith,
       good_length good,
       some_bytes k text e,
-      length_append lines (text ∷ []),
-      length_append (flatten lines) (text ++ []),
-      length_append text [],
-      length_append (flatten (lines ++ (text ∷ []))) [],
+      length-append lines (text ∷ []),
+      length-append (flatten lines) (text ++ []),
+      length-append text [],
+      length-append (flatten (lines ++ (text ∷ []))) [],
       same,
     )
 
 line_number : (bytes : List ℕ) (lines : List (List ℕ)) (rest : List ℕ) {due : List Kind} {n : ℕ} → length bytes ≤ 16384 → Good lines rest due →
     bytes ≡ flatten lines ++ rest → n ≡ suc (length lines) → n ≤ 16385
-line_number bytes lines rest short good split number = omega (arith, good_length good, ap length split, length_append (flatten lines) rest)
+line_number bytes lines rest short good split number = omega (arith, good_length good, ap length split, length-append (flatten lines) rest)
 
 malformed_most : (bytes : List ℕ) (n : ℕ) → length bytes ≤ 16384 → FirstMalformed bytes n → n ≤ 16385
 malformed_most bytes n short (no_form lines rest k due good split number e) = line_number bytes lines rest short good split number

@@ -10,7 +10,7 @@ use Prim.Native.Nat.{ℕ, zero, suc, ◌+◌, ◌≤◌, ◌<◌}
 use native.Mathlib.Omega.{arith}
 use lib.Dec.{T, ltb, eqb, ltb→lt, nltb→le, eqb-suc-zero}
 use lib.IntN.{ℤ, nat_abs}
-use lib.ListN.{length, replicate, length_append, length_map}
+use lib.ListN.{length, replicate, length-append, length-map}
 use Rattle.numbers.proofs.Truth.{test, holds, fails}
 use Rattle.numbers.proofs.Members.{each_cons}
 use Rattle.numbers.specs.Lists.{non_empty}
@@ -139,17 +139,17 @@ lines_fine (l ∷ ls) n e = each_cons InRanges (go (line_is n l)) (lines_fine ls
     rest (fine p w t) = sym (ap (λ (o : Option Refusal). or_else o (first_fault (n + 1) ls)) p) ∙ e
 
 -- so many lines of a kind that makes no others due
-many_follow : {A : Type 0} (k : Kind) (numbers_of : A → List ℤ) → ((a : A) → length (numbers_of a) ≡ length (row k).ranges)
+many_follow : {A : Type 0} (k : Kind) (numbersOf : A → List ℤ) → ((a : A) → length (numbersOf a) ≡ length (row k).ranges)
     → ((ns : List ℤ) (rest : List ℕ) → due_after k ns rest ≡ []) → (xs : List A) (count : ℕ) → length xs ≡ count → (due : List Kind) (ls : List JobLine)
-    → Follows due ls → Follows (replicate count k ++ due) (map (λ a. record { kind = k; numbers = numbers_of a }) xs ++ ls)
+    → Follows due ls → Follows (replicate count k ++ due) (map (λ a. record { kind = k; numbers = numbersOf a }) xs ++ ls)
 unfolding Follows
-many_follow k numbers_of as_many alone [] zero e due ls f = f
-many_follow k numbers_of as_many alone [] (suc count) e due ls f = absurd (omega arith)
-many_follow k numbers_of as_many alone (x ∷ xs) zero e due ls f = absurd (omega arith)
-many_follow k numbers_of as_many alone (x ∷ xs) (suc count) e due ls f = (
+many_follow k numbersOf as_many alone [] zero e due ls f = f
+many_follow k numbersOf as_many alone [] (suc count) e due ls f = absurd (omega arith)
+many_follow k numbersOf as_many alone (x ∷ xs) zero e due ls f = absurd (omega arith)
+many_follow k numbersOf as_many alone (x ∷ xs) (suc count) e due ls f = (
   refl,
   as_many x,
-  λ t. rw (alone (numbers_of x) _) (many_follow k numbers_of as_many alone xs count (omega arith) due ls f),
+  λ t. rw (alone (numbersOf x) _) (many_follow k numbersOf as_many alone xs count (omega arith) due ls f),
 )
 
 -- the lines behind that of the area: the axis line is due where the text goes on with its key, and `posts=` does not
@@ -187,14 +187,14 @@ checked_same held job = go (empty_area held.deck.area) (non_empty held.deck.post
     go false true true e = cc
 
 -- ---- the file of a record
-module _ (deck : Deck) (rounds_held : ℕ) (sized : Sized deck) where
+module _ (deck : Deck) (rounds-held : ℕ) (sized : Sized deck) where
   posts_held : deck.posts ≤ 64 → length (deck_of deck).posts ≡ deck.posts
   posts_held h = omega (arith, posts_counted deck sized)
 
   stops_held : deck.stops ≤ 512 → length (deck_of deck).stops ≡ deck.stops
   stops_held h = omega (arith, stops_counted deck sized)
 
-  file_follows : Follows all_due (file_lines deck rounds_held)
+  file_follows : Follows all_due (file_lines deck rounds-held)
   unfolding Follows
   file_follows = (
     refl,
@@ -213,11 +213,11 @@ module _ (deck : Deck) (rounds_held : ℕ) (sized : Sized deck) where
   )
 
   lines_held : deck.posts ≤ 64 → deck.stops ≤ 512 →
-      file_lines deck rounds_held ≡ lines_of (writes_axis (deck_of deck).axis) (held_job deck rounds_held)
-  lines_held p s = ap₂ (λ (p s : ℕ). lines_counting (writes_axis (deck_of deck).axis) p s (held_job deck rounds_held)) (sym (posts_held p)) (sym (stops_held s))
+      file_lines deck rounds-held ≡ lines_of (writes_axis (deck_of deck).axis) (held_job deck rounds-held)
+  lines_held p s = ap₂ (λ (p s : ℕ). lines_counting (writes_axis (deck_of deck).axis) p s (held_job deck rounds-held)) (sym (posts_held p)) (sym (stops_held s))
 
   -- where the counts are those of the lists, the file is the spelling of the job that is held
-  pub file_spelled : deck.posts ≤ 64 → deck.stops ≤ 512 → file_text deck rounds_held ≡ saved_spelling (held_job deck rounds_held)
+  pub file_spelled : deck.posts ≤ 64 → deck.stops ≤ 512 → file_text deck rounds-held ≡ saved_spelling (held_job deck rounds-held)
   unfolding file_text spell
   file_spelled p s = ap (flat_map spell_line) (lines_held p s)
 
@@ -225,14 +225,14 @@ module _ (deck : Deck) (rounds_held : ℕ) (sized : Sized deck) where
   record AllFine : Type 0 where
     posts_few : deck.posts ≤ 64
     stops_few : deck.stops ≤ 512
-    writable : Writable (writes_axis (deck_of deck).axis) (held_job deck rounds_held)
-    spelled : file_text deck rounds_held ≡ saved_spelling (held_job deck rounds_held)
+    writable : Writable (writes_axis (deck_of deck).axis) (held_job deck rounds-held)
+    spelled : file_text deck rounds-held ≡ saved_spelling (held_job deck rounds-held)
 
-  all_fine : first_fault 1 (file_lines deck rounds_held) ≡ none → AllFine
+  all_fine : first_fault 1 (file_lines deck rounds-held) ≡ none → AllFine
   unfolding InRanges
   all_fine e =
-      let each = lines_fine (file_lines deck rounds_held) 1 e in
-      let later : (l : JobLine) → Memᴰ l (later_lines deck.posts deck.stops (held_job deck rounds_held)) → InRanges l
+      let each = lines_fine (file_lines deck rounds-held) 1 e in
+      let later : (l : JobLine) → Memᴰ l (later_lines deck.posts deck.stops (held_job deck rounds-held)) → InRanges l
       = λ l i. each l (Memᴰ.tail (Memᴰ.append_right (axis_lines (deck_of deck).axis) i)) in
       let p : deck.posts ≤ 64 = (count_range 64 deck.posts).0 (later _ (Memᴰ.head refl)) in
       let s : deck.stops ≤ 512 = (count_range 512 deck.stops).0
@@ -244,66 +244,66 @@ module _ (deck : Deck) (rounds_held : ℕ) (sized : Sized deck) where
         spelled = file_spelled p s;
       }
 
-  parts_is : AllFine → refusal_in (checked (held_job deck rounds_held)) ≡ parts_fault (deck_of deck).area deck.posts deck.stops
+  parts_is : AllFine → refusal_in (checked (held_job deck rounds-held)) ≡ parts_fault (deck_of deck).area deck.posts deck.stops
   unfolding checked parts_fault
   parts_is f = go (empty_area (deck_of deck).area) (deck_of deck).posts (deck_of deck).stops
       ∙ ap₂ (parts_fault (deck_of deck).area) (posts_held f.posts_few) (stops_held f.stops_few)
     where
       go : (b : Bool) (ps : List Place) (ss : List Stop) → refusal_in (cond b (refused EmptyArea) (cond (non_empty ps)
-          (cond (non_empty ss) (accepted (held_job deck rounds_held)) (refused NoStops)) (refused NoPosts)))
+          (cond (non_empty ss) (accepted (held_job deck rounds-held)) (refused NoStops)) (refused NoPosts)))
           ≡ cond b (some EmptyArea) (cond (eqb (length ps) 0) (some NoPosts) (cond (eqb (length ss) 0) (some NoStops) none))
       go true ps ss = refl
       go false [] ss = refl
       go false (p ∷ ps) [] = rw (eqb-suc-zero (length ps))
       go false (p ∷ ps) (s ∷ ss) = rw (eqb-suc-zero (length ps), eqb-suc-zero (length ss))
 
-  all_read : AllFine → read_text (file_text deck rounds_held) ≡ checked (held_job deck rounds_held)
-  all_read f = text_checked missing_axis _ (held_job deck rounds_held) f.spelled f.writable (left_out (deck_of deck).axis)
+  all_read : AllFine → read_text (file_text deck rounds-held) ≡ checked (held_job deck rounds-held)
+  all_read f = text_checked missing_axis _ (held_job deck rounds-held) f.spelled f.writable (left_out (deck_of deck).axis)
 
   -- what reading the file gives
-  pub file_fault : refusal_in (read_text (file_text deck rounds_held))
-      ≡ or_else (first_fault 1 (file_lines deck rounds_held)) (parts_fault (deck_of deck).area deck.posts deck.stops)
+  pub file_fault : refusal_in (read_text (file_text deck rounds-held))
+      ≡ or_else (first_fault 1 (file_lines deck rounds-held)) (parts_fault (deck_of deck).area deck.posts deck.stops)
   unfolding file_text
-  file_fault = go (first_fault 1 (file_lines deck rounds_held)) refl
+  file_fault = go (first_fault 1 (file_lines deck rounds-held)) refl
     where
-      go : (o : Option Refusal) → first_fault 1 (file_lines deck rounds_held) ≡ o →
-          refusal_in (read_text (file_text deck rounds_held)) ≡ or_else o (parts_fault (deck_of deck).area deck.posts deck.stops)
-      go (some why) e = ap refusal_in (text_fault missing_axis _ why (lines_fault all_due (file_lines deck rounds_held) 1 why file_follows e))
+      go : (o : Option Refusal) → first_fault 1 (file_lines deck rounds-held) ≡ o →
+          refusal_in (read_text (file_text deck rounds-held)) ≡ or_else o (parts_fault (deck_of deck).area deck.posts deck.stops)
+      go (some why) e = ap refusal_in (text_fault missing_axis _ why (lines_fault all_due (file_lines deck rounds-held) 1 why file_follows e))
       go none e = let f = all_fine e in ap refusal_in (all_read f) ∙ parts_is f
 
   -- at a line of the file, of which there are at most 581
-  lines_few : length (file_lines deck rounds_held) ≤ 581
+  lines_few : length (file_lines deck rounds-held) ≤ 581
   lines_few =
       let axis = axis_end (deck_of deck).axis in
-      simp (length_append, length_map) (omega (arith, axis, third_line (writes_axis (deck_of deck).axis), posts_counted deck sized, stops_counted deck sized))
+      simp (length-append, length-map) (omega (arith, axis, third_line (writes_axis (deck_of deck).axis), posts_counted deck sized, stops_counted deck sized))
 
-  pub file_line : (why : Refusal) → read_text (file_text deck rounds_held) ≡ refused why → line_of why ≤ 581
-  file_line why e = go (first_fault 1 (file_lines deck rounds_held)) refl (sym file_fault ∙ ap refusal_in e)
+  pub file_line : (why : Refusal) → read_text (file_text deck rounds-held) ≡ refused why → line_of why ≤ 581
+  file_line why e = go (first_fault 1 (file_lines deck rounds-held)) refl (sym file_fault ∙ ap refusal_in e)
     where
-      go : (o : Option Refusal) → first_fault 1 (file_lines deck rounds_held) ≡ o →
+      go : (o : Option Refusal) → first_fault 1 (file_lines deck rounds-held) ≡ o →
           or_else o (parts_fault (deck_of deck).area deck.posts deck.stops) ≡ some why → line_of why ≤ 581
-      go (some found) p f = omega (arith, fault_line 1 (file_lines deck rounds_held) why (p ∙ f), lines_few)
+      go (some found) p f = omega (arith, fault_line 1 (file_lines deck rounds-held) why (p ∙ f), lines_few)
       go none p f = omega (arith, parts_line (deck_of deck).area deck.posts deck.stops why f)
 
   -- and where it finds no fault: the job that is held, whose file has the record's own counts
   pub record FileIs : Type 0 where
     pub few_posts : deck.posts ≤ 64
     pub few_stops : deck.stops ≤ 512
-    pub text : file_text deck rounds_held ≡ saved_spelling (held_job deck rounds_held)
-    pub allowed : Allowed (held_job deck rounds_held)
-    pub read : read_text (file_text deck rounds_held) ≡ accepted (held_job deck rounds_held)
+    pub text : file_text deck rounds-held ≡ saved_spelling (held_job deck rounds-held)
+    pub allowed : Allowed (held_job deck rounds-held)
+    pub read : read_text (file_text deck rounds-held) ≡ accepted (held_job deck rounds-held)
 
-  pub file_is : refusal_in (read_text (file_text deck rounds_held)) ≡ none → FileIs
+  pub file_is : refusal_in (read_text (file_text deck rounds-held)) ≡ none → FileIs
   unfolding file_text
-  file_is e = go (first_fault 1 (file_lines deck rounds_held)) refl
+  file_is e = go (first_fault 1 (file_lines deck rounds-held)) refl
     where
-      held : (r : Result) → read_text (file_text deck rounds_held) ≡ r → AllFine → FileIs
+      held : (r : Result) → read_text (file_text deck rounds-held) ≡ r → AllFine → FileIs
       held (refused why) p f = none_some (sym e ∙ ap refusal_in p)
       held (accepted job) p f =
           let (spelt, allowed) = text_accepted missing_axis _ job missing_ranged p in
-          let same : job ≡ held_job deck rounds_held = checked_same (held_job deck rounds_held) job (sym (all_read f) ∙ p) in
+          let same : job ≡ held_job deck rounds-held = checked_same (held_job deck rounds-held) job (sym (all_read f) ∙ p) in
           record { few_posts = f.posts_few; few_stops = f.stops_few; text = f.spelled; allowed = subst Allowed same allowed; read = p ∙ ap accepted same }
 
-      go : (o : Option Refusal) → first_fault 1 (file_lines deck rounds_held) ≡ o → FileIs
+      go : (o : Option Refusal) → first_fault 1 (file_lines deck rounds-held) ≡ o → FileIs
       go (some why) p = none_some (sym e ∙ file_fault ∙ ap (λ (o : Option Refusal). or_else o (parts_fault (deck_of deck).area deck.posts deck.stops)) p)
-      go none p = held (read_text (file_text deck rounds_held)) refl (all_fine p)
+      go none p = held (read_text (file_text deck rounds-held)) refl (all_fine p)

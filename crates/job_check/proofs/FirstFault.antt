@@ -8,8 +8,8 @@ use Prim.Native.Nat.{ℕ, ◌+◌, ◌^◌, ◌≤◌, ◌<◌}
 use native.Mathlib.Omega.{arith}
 use borrow.Author.Tests.{eq-eqb, ne_eqb}
 use lib.IntN.{ℤ, pos}
-use lib.ListN.{length, get_or, take, drop, length_take, length_map, drop_of_length-le, get_or_map}
-use lib.Seq.{get_or_take}
+use lib.ListN.{length, get_or, take, drop, length-take, length-map, drop_of_length-le, get_or-map}
+use lib.Seq.{get_or-take}
 use lib.Signed.{mag}
 use Rattle.numbers.proofs.Joined.{drop_next}
 use Rattle.numbers.proofs.WordTests.{back, fitting}
@@ -85,7 +85,7 @@ post_lines xs ys n = map post_line (take n (places xs ys))
 
 module _ (xs ys : List ℤ) (n : ℕ) (hx : n ≤ length xs) (hy : n ≤ length ys) where
   pub posts_count : length (post_lines xs ys n) ≡ n
-  posts_count = omega (arith, length_map (take n (places xs ys)) post_line, length_take n (places xs ys), places_length xs ys)
+  posts_count = omega (arith, length-map (take n (places xs ys)) post_line, length-take n (places xs ys), places_length xs ys)
 
   pub all_posts_passed : {first i : ℕ} → Passed first (post_lines xs ys n) i → n ≤ i → none ≡ first_fault first (post_lines xs ys n)
   all_posts_passed passed h = all_passed passed (omega (arith, posts_count))
@@ -97,8 +97,8 @@ module _ (xs ys : List ℤ) (n : ℕ) (hx : n ≤ length xs) (hy : n ≤ length 
     post_fault = e ∙ rw (
       fitting (get_or xs i (pos 0)) fx,
       fitting (get_or ys i (pos 0)) fy,
-      get_or_map post_line (take n (places xs ys)) i (place_at xs ys 0),
-      get_or_take n (places xs ys) i (place_at xs ys 0) h,
+      get_or-map post_line (take n (places xs ys)) i (place_at xs ys 0),
+      get_or-take n (places xs ys) i (place_at xs ys 0) h,
       places_at xs ys i (place_at xs ys 0) (omega arith) (omega arith),
     )
 
@@ -116,8 +116,8 @@ module _ (xs ys : List ℤ) (vs : List ℕ) (n : ℕ) (hx : n ≤ length xs) (hy
   pub stops_count : length (stop_lines xs ys vs n) ≡ n
   stops_count = omega (
     arith,
-    length_map (take n (stops_of (places xs ys) vs)) stop_line,
-    length_take n (stops_of (places xs ys) vs),
+    length-map (take n (stops_of (places xs ys) vs)) stop_line,
+    length-take n (stops_of (places xs ys) vs),
     stops_length xs ys vs,
   )
 
@@ -131,8 +131,8 @@ module _ (xs ys : List ℤ) (vs : List ℕ) (n : ℕ) (hx : n ≤ length xs) (hy
     stop_fault = e ∙ rw (
       fitting (get_or xs i (pos 0)) fx,
       fitting (get_or ys i (pos 0)) fy,
-      get_or_map stop_line (take n (stops_of (places xs ys) vs)) i (stop_in xs ys vs 0),
-      get_or_take n (stops_of (places xs ys) vs) i (stop_in xs ys vs 0) h,
+      get_or-map stop_line (take n (stops_of (places xs ys) vs)) i (stop_in xs ys vs 0),
+      get_or-take n (stops_of (places xs ys) vs) i (stop_in xs ys vs 0) h,
       stops_in xs ys vs i (stop_in xs ys vs 0) (omega arith) (omega arith) (omega arith),
     )
 

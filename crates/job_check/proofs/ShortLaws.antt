@@ -7,7 +7,7 @@ use mathlib.Core.Option.{Option, none, some, none-ne-some}
 use mathlib.Core.Logic.{⊎_elim}
 use Prim.Native.Nat.{ℕ, suc, ◌≤◌, ◌<◌}
 use native.Mathlib.Omega.{arith}
-use borrow.Author.Tests.{ltb-true, ltb-false, lt_ltb, le_ltb}
+use borrow.Author.Tests.{ltb-true, ltb-false, lt-ltb, le-ltb}
 use lib.Dec.{ltb, ltb→lt, nltb→le}
 use lib.IntN.{ℤ, pos, negsuc}
 use lib.Signed.{lt_z}
@@ -27,12 +27,12 @@ use Rattle.job_check.specs.LineFaults.{short, all_short, numbers_fault}
 short_above : (z : ℤ) → lt_z (negsuc 999999999) z ≡ true → lt_z z (pos 1000000000) ≡ short z
 unfolding short
 short_above (pos n) e = refl
-short_above (negsuc n) e = let h = ltb-true n 999999999 e in sym (lt_ltb (suc n) 1000000000 (omega arith))
+short_above (negsuc n) e = let h = ltb-true n 999999999 e in sym (lt-ltb (suc n) 1000000000 (omega arith))
 
 short_below : (z : ℤ) → lt_z (negsuc 999999999) z ≡ false → false ≡ short z
 unfolding short
 short_below (pos n) e = absurd (is_true _ (sym e))
-short_below (negsuc n) e = let h = ltb-false n 999999999 e in sym (le_ltb (suc n) 1000000000 (omega arith))
+short_below (negsuc n) e = let h = ltb-false n 999999999 e in sym (le-ltb (suc n) 1000000000 (omega arith))
 
 module _ {z : ℤ} (f : SFits w64 z) where
   pub short_on : lt_z (negsuc 999999999) (back z) ≡ true → lt_z (back z) (pos 1000000000) ≡ short z
@@ -43,11 +43,11 @@ module _ {z : ℤ} (f : SFits w64 z) where
 
 natural_short : (n : ℕ) → n ≤ 999999999 → short (pos n) ≡ true
 unfolding short
-natural_short n h = lt_ltb n 1000000000 (omega arith)
+natural_short n h = lt-ltb n 1000000000 (omega arith)
 
 natural_long : (n : ℕ) → 999999999 < n → short (pos n) ≡ false
 unfolding short
-natural_long n h = le_ltb n 1000000000 (omega arith)
+natural_long n h = le-ltb n 1000000000 (omega arith)
 
 -- ---- some numbers
 short_one : (z : ℤ) → all_short (z ∷ []) ≡ short z

@@ -4,9 +4,9 @@ use mathlib.Core.Path.{◌≡◌, refl, ap}
 use Prim.Native.Nat.{ℕ, ◌+◌, ◌≤◌}
 use native.Mathlib.Omega.{arith}
 use mathlib.Core.Bool.{cond}
-use mathlib.Core.List.{List, [], ◌∷◌, ◌++◌, map, flat_map, append_assoc, append_nil}
+use mathlib.Core.List.{List, [], ◌∷◌, ◌++◌, map, flat_map, append_assoc, append-nil}
 use lib.IntN.{pos}
-use lib.ListN.{length, take, length_append}
+use lib.ListN.{length, take, length-append}
 use Rattle.numbers.proofs.Joined.{flat_map_append}
 use Rattle.text.specs.Ascii.{bytes, comma, newline}
 use Rattle.text.specs.Decimal.{spell_nat, spell_int}
@@ -65,7 +65,7 @@ joined f a b c d xs ps ss = rw (
   flat_map_append f xs (b ∷ (ps ++ (c ∷ (ss ++ (d ∷ []))))),
   flat_map_append f ps (c ∷ (ss ++ (d ∷ []))),
   flat_map_append f ss (d ∷ []),
-  append_nil (f d),
+  append-nil (f d),
 ) (simp append_assoc)
 
 pub file_parts : (deck : Deck) (n : ℕ) → file_text deck n ≡ front₈ deck ++ count_part (bytes "rounds=") n
@@ -74,7 +74,7 @@ file_parts deck n = rw (file_lines_lem deck n, joined, area_text, count_text pos
 -- ---- their lengths
 nine : (a b c d e f g h i : List ℕ) →
     length (a ++ b ++ c ++ d ++ e ++ f ++ g ++ h ++ i) ≡ length a + length b + length c + length d + length e + length f + length g + length h + length i
-nine a b c d e f g h i = simp length_append
+nine a b c d e f g h i = simp length-append
 
 pub length_file : (deck : Deck) (n : ℕ) → length (file_text deck n) ≡
     5 + (length (spell_int deck.xlo) + length (spell_int deck.ylo) + 2) + (length (spell_int deck.xhi) + length (spell_int deck.yhi) + 2)
@@ -108,7 +108,7 @@ pub record Fronts (deck : Deck) (room : ℕ) : Type 0 where
 
 -- a front of what has room
 front : {room : ℕ} (a b : List ℕ) → length (a ++ b) ≤ room → length a ≤ room
-front a b h = omega (arith, length_append a b)
+front a b h = omega (arith, length-append a b)
 
 pub fronts : (deck : Deck) (n : ℕ) {room : ℕ} → length (file_text deck n) ≤ room → Fronts deck room
 fronts deck n {room} h =
@@ -134,4 +134,4 @@ fronts deck n {room} h =
 pub part_room : {out mid : List ℕ} {end : ℕ} (before part : List ℕ) → Wrote out 0 before mid end → length (before ++ part) ≤ length out →
     end + length part ≤ length mid
 part_room before part w h =
-    let room = length_append before part in omega (arith, w.next, room, wrote_kept w (omega (arith, room)))
+    let room = length-append before part in omega (arith, w.next, room, wrote_kept w (omega (arith, room)))

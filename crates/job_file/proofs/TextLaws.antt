@@ -5,10 +5,10 @@ use Prim.Native.Nat.{ℕ, zero, suc, ◌+◌, ◌≤◌, ◌<◌}
 use native.Mathlib.Numerals.{add-one}
 use native.Mathlib.Omega.{arith}
 use mathlib.Core.Bool.{true, false}
-use mathlib.Core.List.{List, [], ◌∷◌, ◌++◌, map, map_append, flat_map, append_assoc, append_nil}
+use mathlib.Core.List.{List, [], ◌∷◌, ◌++◌, map, map-append, flat_map, append_assoc, append-nil}
 use lib.IntN.{ℤ, pos}
-use lib.ListN.{length, get_or, take, length_append}
-use lib.Seq.{take_suc}
+use lib.ListN.{length, get_or, take, length-append}
+use lib.Seq.{take-suc}
 use Rattle.numbers.proofs.Joined.{flat_map_append}
 use Rattle.query.specs.Place.{Rect}
 use Rattle.query.specs.Deck.{AxisCosts}
@@ -27,7 +27,7 @@ use Rattle.job_file.specs.Texts.{number_text, place_text, axis_text, post_text, 
 -- ---- lines of a list, one after another
 one : (j : JobLine) → flat_map spell_line (j ∷ []) ≡ spell_line j
 unfolding flat_map
-one j = append_nil (spell_line j)
+one j = append-nil (spell_line j)
 
 module _ {A : Type 0} (g : A → JobLine) where
   -- those of its first n elements
@@ -39,7 +39,7 @@ module _ {A : Type 0} (g : A → JobLine) where
   texts_fewer zero n l h = omega arith
   texts_fewer (suc k) n [] h = omega arith
   texts_fewer (suc k) zero (x ∷ xs) h = absurd (omega arith)
-  texts_fewer (suc k) (suc n) (x ∷ xs) h = simp length_append (omega (arith, texts_fewer k n xs (omega arith)))
+  texts_fewer (suc k) (suc n) (x ∷ xs) h = simp length-append (omega (arith, texts_fewer k n xs (omega arith)))
 
   pub texts_none : (l : List A) → texts l 0 ≡ []
   unfolding flat_map
@@ -55,17 +55,17 @@ module _ {A : Type 0} (g : A → JobLine) where
   module _ {l : List A} {i : ℕ} {text : List ℕ} (t : LineText l i text) where
     texts_more : texts l (i + 1) ≡ texts l i ++ text
     texts_more =
-        let e : take (i + 1) l ≡ take i l ++ (get_or l i t.other ∷ []) = rw add-one (take_suc l i t.other t.within) in
+        let e : take (i + 1) l ≡ take i l ++ (get_or l i t.other ∷ []) = rw add-one (take-suc l i t.other t.within) in
         rw (
           e,
-          map_append g (take i l) (get_or l i t.other ∷ []),
+          map-append g (take i l) (get_or l i t.other ∷ []),
           flat_map_append spell_line (map g (take i l)) (g (get_or l i t.other) ∷ []),
           one (g (get_or l i t.other)),
           ← t.is,
         )
 
     pub line_counted : length (texts l (i + 1)) ≡ length (texts l i) + length text
-    line_counted = ap length texts_more ∙ length_append (texts l i) text
+    line_counted = ap length texts_more ∙ length-append (texts l i) text
 
     pub line_room : {out mid : List ℕ} {start at n room : ℕ} → Wrote out start (texts l i) mid at → i < n → start + length (texts l n) ≤ room →
         at + length text ≤ room
@@ -136,39 +136,39 @@ unfolding spell_int
 spelled_pos n = refl
 
 pub length_number : (z : ℤ) (end : ℕ) → length (number_text z end) ≡ length (spell_int z) + 1
-length_number z end = length_append (spell_int z) (end ∷ [])
+length_number z end = length-append (spell_int z) (end ∷ [])
 
 pub length_nat : (n end : ℕ) → length (number_text (pos n) end) ≡ length (spell_nat n) + 1
 length_nat n end = omega (arith, length_number (pos n) end, ap length (spelled_pos n))
 
 pub length_count : (key : List ℕ) (n : ℕ) → length (key ++ number_text (pos n) newline) ≡ length key + length (spell_nat n) + 1
-length_count key n = omega (arith, length_append key (number_text (pos n) newline), length_nat n newline)
+length_count key n = omega (arith, length-append key (number_text (pos n) newline), length_nat n newline)
 
 pub length_place : (x y : ℤ) (end : ℕ) → length (place_text x y end) ≡ length (spell_int x) + length (spell_int y) + 2
-length_place x y end = omega (arith, length_append (number_text x comma) (number_text y end), length_number x comma, length_number y end)
+length_place x y end = omega (arith, length-append (number_text x comma) (number_text y end), length_number x comma, length_number y end)
 
 pub length_axis : (c : AxisCosts) → writes_axis c ≡ true → length (axis_text c) ≡ 5 + length (spell_nat c.a) + length (spell_nat c.b) + 2
 unfolding bytes
 length_axis c e = omega (
   arith,
   ap length (axis_text_lem c e),
-  length_append (bytes "axis=" ++ number_text (pos c.a) comma) (number_text (pos c.b) newline),
-  length_append (bytes "axis=") (number_text (pos c.a) comma),
+  length-append (bytes "axis=" ++ number_text (pos c.a) comma) (number_text (pos c.b) newline),
+  length-append (bytes "axis=") (number_text (pos c.a) comma),
   length_nat c.a comma,
   length_nat c.b newline,
 )
 
 pub length_post : (x y : ℤ) → length (post_text x y) ≡ 5 + (length (spell_int x) + length (spell_int y) + 2)
 unfolding bytes
-length_post x y = omega (arith, ap length (post_text_lem x y), length_append (bytes "post=") (place_text x y newline), length_place x y newline)
+length_post x y = omega (arith, ap length (post_text_lem x y), length-append (bytes "post=") (place_text x y newline), length_place x y newline)
 
 pub length_stop : (x y : ℤ) (v : ℕ) → length (stop_text x y v) ≡ 5 + (length (spell_int x) + length (spell_int y) + 2) + length (spell_nat v) + 1
 unfolding bytes
 length_stop x y v = omega (
   arith,
   ap length (stop_text_lem x y v),
-  length_append (bytes "stop=" ++ place_text x y comma) (number_text (pos v) newline),
-  length_append (bytes "stop=") (place_text x y comma),
+  length-append (bytes "stop=" ++ place_text x y comma) (number_text (pos v) newline),
+  length-append (bytes "stop=") (place_text x y comma),
   length_place x y comma,
   length_nat v newline,
 )

@@ -8,8 +8,8 @@ use Prim.Native.Nat.{ℕ, ◌+◌, ◌≤◌, ◌<◌, ◌^◌, max}
 use native.Mathlib.Omega.{arith}
 use lib.Dec.{T, eqb}
 use lib.IntN.{ℤ, pos, negsuc, nat_abs}
-use lib.ListN.{length, drop, length_drop}
-use lib.Seq.{drop_drop}
+use lib.ListN.{length, drop, length-drop}
+use lib.Seq.{drop-drop}
 use lib.Signed.{lt_z, non_neg, pos-nat_abs}
 use mir.Syntax.{w64}
 use mir.Val.{Fits, SFits}
@@ -57,14 +57,14 @@ key_starts (k ∷ ks) (b ∷ bs) = go (eqb b k) (key_starts ks bs)
 
 module _ {s : List ℕ} {at b : ℕ} {t : Bool} (is_byte_lem : ByteIs s at b t) where
   pub byte_on : t ≡ true → byte b (drop at s) ≡ some (tt, drop (at + 1) s)
-  byte_on on = byte_starts b (drop at s) ∙ rw (← is_byte_lem.is, on, drop_drop 1 at s)
+  byte_on on = byte_starts b (drop at s) ∙ rw (← is_byte_lem.is, on, drop-drop 1 at s)
 
   pub byte_off : t ≡ false → byte b (drop at s) ≡ none
   byte_off off = byte_starts b (drop at s) ∙ rw (← is_byte_lem.is, off)
 
 module _ {s : List ℕ} {at : ℕ} {k : List ℕ} {t : Bool} (is_key : Starts s at k t) where
   pub key_on : t ≡ true → key k (drop at s) ≡ some (tt, drop (at + length k) s)
-  key_on on = key_starts k (drop at s) ∙ rw (← is_key.is, on, drop_drop (length k) at s)
+  key_on on = key_starts k (drop at s) ∙ rw (← is_key.is, on, drop-drop (length k) at s)
 
   pub key_off : t ≡ false → key k (drop at s) ≡ none
   key_off off = key_starts k (drop at s) ∙ rw (← is_key.is, off)
@@ -130,7 +130,7 @@ starts_fits (k ∷ ks) [] e = let z : ◌≡◌ {A = ℕ} 0 1 = cc in absurd (om
 starts_fits (k ∷ ks) (b ∷ bs) e = omega (arith, starts_fits ks bs (holds _ (and_right (eqb b k) (starts_with ks bs) (is_true _ e))))
 
 pub after_key : {s : List ℕ} {at : ℕ} {k : List ℕ} {t : Bool} → Starts s at k t → t ≡ true → at + length k ≤ max at (length s)
-after_key {s} {at} {k} is_key on = omega (arith, length_drop at s, starts_fits k (drop at s) (sym is_key.is ∙ on))
+after_key {s} {at} {k} is_key on = omega (arith, length-drop at s, starts_fits k (drop at s) (sym is_key.is ∙ on))
 
 -- ---- the numbers of a line, from the place where they start
 numbers_is : (range : Range) (others : List Range) (bs : List ℕ) →

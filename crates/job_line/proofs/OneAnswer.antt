@@ -6,7 +6,7 @@ use mathlib.Core.List.{List}
 use Prim.Native.Nat.{ℕ, ◌-◌}
 use native.Mathlib.Omega.{arith}
 use lib.IntN.{ℤ, pos, nat_abs}
-use lib.ListN.{length, get_or, length_drop}
+use lib.ListN.{length, get_or, length-drop}
 use Rattle.job_line.specs.Kinds.{Row}
 use Rattle.job_line.specs.OneLine.{Reading, fault, got}
 use Rattle.job_line.specs.Reading.{LineAnswer, read, refused, answer_in, Within, LineAt}
@@ -28,7 +28,7 @@ answer_back s (fault why) = refused why
 answer_back s (got ns n bs) = read ns (length s - length bs)
 
 answer_back_lem : (s : List ℕ) (n : ℕ) (r : LineAnswer) → Within s r → r ≡ answer_back s (answer_in s n r)
-answer_back_lem s n (read ns next) h = ap (read ns) (omega (arith, length_drop next s))
+answer_back_lem s n (read ns next) h = ap (read ns) (omega (arith, length-drop next s))
 answer_back_lem s n (refused why) h = refl
 
 one_answer : {row : Row} {s : List ℕ} {at n : ℕ} {r r' : LineAnswer} → LineAt row s at n r → LineAt row s at n r' → r ≡ r'

@@ -5,7 +5,7 @@ use mathlib.Core.Bool.{Bool, true, false, ◌&&◌}
 use mathlib.Core.List.{List, [], ◌∷◌}
 use Prim.Native.Nat.{ℕ, ◌≤◌, ◌<◌}
 use native.Mathlib.Omega.{arith}
-use borrow.Author.Tests.{ltb-true, le_leb, lt-leb}
+use borrow.Author.Tests.{ltb-true, le-leb, lt-leb}
 use lib.Dec.{T, leb}
 use lib.IntN.{ℤ, pos, negsuc, nat_abs}
 use lib.Signed.{le_z, lt_z, non_neg}
@@ -62,7 +62,7 @@ module _ {n : ℤ} {r : Bool} (f : SFits w64 n) where
 -- ---- axis costs
 pub cost_on : {v : ℕ} → 1 ≤ v → leb v 9 ≡ in_range axis_costs (pos v)
 unfolding in_range
-cost_on {v} h = rw (le_leb 1 v h)
+cost_on {v} h = rw (le-leb 1 v h)
 
 pub cost_off : {v : ℕ} → v < 1 → false ≡ in_range axis_costs (pos v)
 unfolding in_range
@@ -137,10 +137,10 @@ count_below most (negsuc n) e = refl
 
 pub count_above : (most : ℕ) (z : ℤ) → T (non_neg z) → most < nat_abs z → in_ranges (up_to most ∷ []) (z ∷ []) ≡ false
 unfolding in_ranges
-count_above most (pos n) t h = rw (le_leb 0 n (omega arith), lt-leb n most h)
+count_above most (pos n) t h = rw (le-leb 0 n (omega arith), lt-leb n most h)
 count_above most (negsuc n) t h = absurd t
 
 pub count_within : (most : ℕ) (z : ℤ) → T (non_neg z) → nat_abs z ≤ most → in_ranges (up_to most ∷ []) (z ∷ []) ≡ true
 unfolding in_ranges
-count_within most (pos n) t h = rw (le_leb 0 n (omega arith), le_leb n most h)
+count_within most (pos n) t h = rw (le-leb 0 n (omega arith), le-leb n most h)
 count_within most (negsuc n) t h = absurd t

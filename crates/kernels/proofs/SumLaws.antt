@@ -7,14 +7,14 @@ use Prim.Native.Nat.{ℕ, zero, suc, ◌+◌, ◌*◌, ◌%◌, ◌≤◌, ◌<�
 use native.Mathlib.Nat.{mul-le-mul}
 use native.Mathlib.Numerals.{add-one}
 use native.Mathlib.Omega.{arith}
-use borrow.Author.Tests.{lt_ltb, le_ltb}
+use borrow.Author.Tests.{lt-ltb, le-ltb}
 use lib.Dec.{ltb}
 use lib.ListN.{take}
 use lib.IntN.{ℤ, pos, nat_abs, ◌-ℤ◌}
 use lib.Signed.{◌≤ℤ◌}
 use mir.Syntax.{w64}
 use mir.Val.{SFits, to_z, of_z}
-use mir.ValLaws.{to_z_of_z, to_z_pos}
+use mir.ValLaws.{to_z-of_z, to_z_pos}
 use Rattle.numbers.proofs.WordTests.{back}
 use Rattle.numbers.proofs.Integer.{order, abs_range, sub_nat}
 use Rattle.numbers.proofs.Words.{difference, difference_fits}
@@ -135,14 +135,14 @@ module _ {o : Opened} (whole : Whole o) (which k : ℕ) {n : ℕ} where
 
 -- ---- what `kernel_sum` answers
 pub kernel_none : (which k : ℕ) (r : Result) → 4 < which → least ≡ kernel_sum which k r
-kernel_none which k r h = rw (lt_ltb 4 which h)
+kernel_none which k r h = rw (lt-ltb 4 which h)
 
 module _ (which k : ℕ) (w : which ≤ 4) where
   abbrev on_deck : Result → ℤ
   on_deck r = on_job minus_one (λ job. cond (ltb 100000 k) minus_one (pos (sum_to (turn job.deck which) k))) r
 
   kernel_is : (r : Result) → on_deck r ≡ kernel_sum which k r
-  kernel_is r = rw (le_ltb 4 which w)
+  kernel_is r = rw (le-ltb 4 which w)
 
   pub kernel_refused : (bytes : List ℕ) (o : Opened) → o ≡ opened_record (read_job bytes) → o.accepted ≡ false → minus_one ≡ kernel_sum which k (read_job bytes)
   kernel_refused bytes o e f = open_refused bytes o e _ _ f ∙ kernel_is (read_job bytes)
@@ -152,13 +152,13 @@ module _ (which k : ℕ) (w : which ≤ 4) where
     sum_is = on_job_lem minus_one (λ job. cond (ltb 100000 k) minus_one (pos (sum_to (turn job.deck which) k))) s ∙ kernel_is (read_job bytes)
 
     pub too_many : 100000 < k → minus_one ≡ kernel_sum which k (read_job bytes)
-    too_many h = sym (ap (λ (b : Bool). cond b minus_one (pos (sum_to (turn s.job.deck which) k))) (lt_ltb 100000 k h)) ∙ sum_is
+    too_many h = sym (ap (λ (b : Bool). cond b minus_one (pos (sum_to (turn s.job.deck which) k))) (lt-ltb 100000 k h)) ∙ sum_is
 
     pub kernel_answer : {deck : Deck} {n : ℕ} → deck ≡ s.job.deck → k ≤ 100000 → SumIs (turn deck which) k n →
         to_z w64 n ≡ kernel_sum which k (read_job bytes)
     kernel_answer {deck} {n} e h fig =
         to_z_pos w64 n (omega (arith, fig.within)) ∙ ap pos (fig.is ∙ ap (λ (d : Deck). sum_to (turn d which) k) e)
-        ∙ sym (ap (λ (b : Bool). cond b minus_one (pos (sum_to (turn s.job.deck which) k))) (le_ltb 100000 k h)) ∙ sum_is
+        ∙ sym (ap (λ (b : Bool). cond b minus_one (pos (sum_to (turn s.job.deck which) k))) (le-ltb 100000 k h)) ∙ sum_is
 
 -- ---- numbers of a turn
 pub product_fits : (t factor : ℕ) → factor ≤ 65536 → (t % 65536) * factor ≤ 65536 * 65536
@@ -175,7 +175,7 @@ module _ (m s : ℕ) (g : m ≤ 20000) (h : s ≤ 20000) where
   less_fits = difference_fits m s (omega arith) (omega arith)
 
   less_is : to_z w64 (of_z w64 (to_z w64 m -ℤ to_z w64 s)) ≡ pos m -ℤ pos s
-  less_is = to_z_of_z w64 (to_z w64 m -ℤ to_z w64 s) less_fits ∙ difference m s (omega arith) (omega arith)
+  less_is = to_z-of_z w64 (to_z w64 m -ℤ to_z w64 s) less_fits ∙ difference m s (omega arith) (omega arith)
 
   less_range : nat_abs (pos m -ℤ pos s) ≤ 20000
   less_range = (abs_range (pos m -ℤ pos s) 20000).1 (omega (arith, sub_nat (pos m) (pos s)))

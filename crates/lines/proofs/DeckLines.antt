@@ -7,7 +7,7 @@ use Prim.Native.Nat.{ℕ, ◌+◌, ◌≤◌}
 use native.Mathlib.Omega.{arith}
 use lib.Dec.{eqb}
 use lib.IntN.{ℤ}
-use lib.ListN.{length, take, length_map}
+use lib.ListN.{length, take, length-map}
 use Rattle.numbers.specs.Lists.{keep}
 use Rattle.numbers.proofs.Members.{keep_length}
 use Rattle.query.specs.Place.{Axis, x_axis, y_axis, coordinate, low_edge, high_edge}
@@ -65,7 +65,7 @@ module _ (deck : Deck) (axis : Axis) where
       rw lines_is (omega (
         arith,
         lines_between_length (low_edge axis deck.area) (high_edge axis deck.area) (map at stops),
-        length_map stops at,
+        length-map stops at,
         keep_length (reach deck deck.area) deck.stops,
       ))
 
@@ -74,7 +74,7 @@ module _ (deck : Deck) (axis : Axis) where
 
   -- an array that holds the flags in front
   pub padded_reached : take (length deck.stops) (padded 512 0 reached) ≡ reached
-  padded_reached = rw (← length_map deck.stops (λ stop. flag (reach deck deck.area stop))) (padded_front 512 0 reached)
+  padded_reached = rw (← length-map deck.stops (λ stop. flag (reach deck deck.area stop))) (padded_front 512 0 reached)
 
 -- those of both axes
 pub deck_lined : (deck : Deck) → length deck.stops ≤ 512 → Lined (lines deck x_axis) (lines deck y_axis)

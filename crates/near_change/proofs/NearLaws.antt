@@ -9,11 +9,11 @@ use native.Mathlib.Omega.{arith}
 use lib.Dec.{ltb}
 use lib.IntN.{ℤ, pos}
 use lib.ListN.{length, get_or, take, set}
-use lib.Seq.{length_take_le}
+use lib.Seq.{length-take-le}
 use lib.Signed.{lt_z}
 use mir.Syntax.{w32}
 use mir.Val.{SFits, to_z, of_z}
-use mir.ValLaws.{to_z_of_z}
+use mir.ValLaws.{to_z-of_z}
 use Rattle.numbers.specs.Integer.{dist}
 use Rattle.numbers.proofs.Distance.{dist_most}
 use Rattle.numbers.proofs.WordTests.{back}
@@ -107,7 +107,7 @@ module _ {qx qy : List ℤ} {k : ℕ} (gx : CoordinatesInRange qx k) (gy : Coord
   pub closest_first : {r : ℤ} → 1 ≤ k → SFits w32 r → r ≡ pos (far p.x p.y (word (get_or qx 0 (pos 0))) (word (get_or qy 0 (pos 0)))) →
       word r ≡ pos (closest plain p (take 1 (places qx qy)))
   closest_first {r} h fits e =
-      to_z_of_z w32 r fits ∙ e ∙ ap pos (far_at 0 (omega arith) ∙ sym (closest_one plain p (place_at qx qy 0))
+      to_z-of_z w32 r fits ∙ e ∙ ap pos (far_at 0 (omega arith) ∙ sym (closest_one plain p (place_at qx qy 0))
       ∙ ap (closest plain p) (sym (posts_more gx gy 0 (omega arith))))
 
   pub closest_next : {r least : ℤ} (j : ℕ) → 1 ≤ j → j < k → least ≡ pos (closest plain p (take j (places qx qy))) → SFits w32 r →
@@ -117,12 +117,12 @@ module _ {qx qy : List ℤ} {k : ℕ} (gx : CoordinatesInRange qx k) (gy : Coord
   closest_next {r} {least} j g h so_far fits e =
       let t = travel plain p (place_at qx qy j) in
       let near = closest plain p (take j (places qx qy)) in
-      to_z_of_z w32 r fits ∙ e ∙ rw (so_far, far_at j h) (picked (ltb t near) t near)
+      to_z-of_z w32 r fits ∙ e ∙ rw (so_far, far_at j h) (picked (ltb t near) t near)
       ∙ ap pos (sym (closest_snoc plain p (take j (places qx qy)) (place_at qx qy j) some)
       ∙ ap (closest plain p) (sym (posts_more gx gy j h)))
     where
       some : 1 ≤ length (take j (places qx qy))
-      some = omega (arith, length_take_le j (places qx qy) (omega (arith, places_length qx qy, gx.count, gy.count)))
+      some = omega (arith, length-take-le j (places qx qy) (omega (arith, places_length qx qy, gx.count, gy.count)))
 
 -- ---- near of one stop with one more post, by the code's test on the travel t
 module _ (axis : AxisCosts) {p p' q q' : Place} (near : ℕ) {t : ℕ} (e : p' ≡ p) (f : q' ≡ q) (found : t ≡ travel axis q' p') where

@@ -7,12 +7,12 @@ use Prim.Native.Nat.{ℕ, ◌^◌, ◌≤◌, ◌<◌}
 use native.Mathlib.Omega.{arith}
 use lib.Dec.{T, eqb, not_T}
 use lib.IntN.{ℤ, pos, nat_abs}
-use lib.ListN.{length, take, replicate, length_replicate}
-use lib.Seq.{paste, length_paste, length_take_le, take_at}
+use lib.ListN.{length, take, replicate, length-replicate}
+use lib.Seq.{paste, length-paste, length-take-le, take_at}
 use lib.Signed.{non_neg}
 use mir.Syntax.{w32, w64}
 use mir.Val.{Fits, SFits, to_z, of_z}
-use mir.ValLaws.{to_z_of_z}
+use mir.ValLaws.{to_z-of_z}
 use Rattle.numbers.specs.Integer.{times}
 use Rattle.numbers.proofs.Truth.{holds, fails}
 use Rattle.numbers.proofs.Words.{natural_cast}
@@ -42,7 +42,7 @@ module _ {axis : AxisCosts} {x y : ℤ} (costs : CostsInRange axis) (p : PlaceIn
 -- ---- a result that is a natural number, cast to one
 module _ {r : ℤ} {n : ℕ} (fits : SFits w32 r) (e : r ≡ pos n) where
   pub word_natural : nat_abs (to_z w32 (of_z w32 r)) ≡ n
-  word_natural = ap nat_abs (to_z_of_z w32 r fits ∙ e)
+  word_natural = ap nat_abs (to_z-of_z w32 r fits ∙ e)
 
   small : n < 2 ^ 31
   small = rw e at fits.sfits
@@ -63,14 +63,14 @@ zip_each h (p ∷ ps) (m ∷ ms) = ap₂ (λ (n : ℕ) (l : List ℕ). n ∷ l) 
 module _ {axis : AxisCosts} {px py : List ℤ} {k : ℕ} (costs : CostsInRange axis) (posts : PlacesInRange 64 px py k) {qx qy : List ℤ}
     (ex : qx ≡ paste (replicate 64 (pos 0)) 0 (map (times axis.a) px) k) (ey : qy ≡ paste (replicate 64 (pos 0)) 0 (map (times axis.b) py) k) where
   front : {us ws : List ℤ} → CoordinatesInRange ws k → us ≡ paste (replicate 64 (pos 0)) 0 ws k → take k us ≡ take k ws
-  front {us} {ws} range e = ap (take k) e ∙ take_at (take k ws) _ k (length_take_le k ws range.count)
+  front {us} {ws} range e = ap (take k) e ∙ take_at (take k ws) _ k (length-take-le k ws range.count)
 
   long : {us ws : List ℤ} → CoordinatesInRange ws k → us ≡ paste (replicate 64 (pos 0)) 0 ws k → k ≤ length us
   long {us} {ws} range e = omega (
     arith,
     posts.few,
-    ap length e ∙ length_paste (replicate 64 (pos 0)) 0 ws k (omega (arith, posts.few, length_replicate 64 (pos 0))) range.count
-        ∙ length_replicate 64 (pos 0),
+    ap length e ∙ length-paste (replicate 64 (pos 0)) 0 ws k (omega (arith, posts.few, length-replicate 64 (pos 0))) range.count
+        ∙ length-replicate 64 (pos 0),
   )
 
   x_range : CoordinatesInRange (map (times axis.a) px) k

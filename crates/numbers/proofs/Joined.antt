@@ -6,8 +6,8 @@ use mathlib.Core.List.{List, [], ◌∷◌, ◌++◌, foldr, foldr-append, appen
 use Prim.Native.Nat.{ℕ, zero, suc, ◌+◌, ◌*◌, ◌≤◌, ◌<◌}
 use native.Mathlib.Numerals.{add-one}
 use native.Mathlib.Omega.{arith}
-use lib.ListN.{length, get_or, drop, length_append}
-use lib.Seq.{drop_cons}
+use lib.ListN.{length, get_or, drop, length-append}
+use lib.Seq.{drop-cons}
 
 module _ {A : Type 0} where
   -- joined, with one more list behind
@@ -44,8 +44,8 @@ pub flat_map_length : {A B : Type 0} (f : A → List B) (k : ℕ) (xs : List A) 
     length (flat_map f xs) ≤ length xs * k
 unfolding flat_map
 flat_map_length f k [] each = omega arith
-flat_map_length f k (x ∷ xs) each = simp length_append (omega (arith, each x (Memᴰ.head refl), flat_map_length f k xs (λ y m. each y (Memᴰ.tail m))))
+flat_map_length f k (x ∷ xs) each = simp length-append (omega (arith, each x (Memᴰ.head refl), flat_map_length f k xs (λ y m. each y (Memᴰ.tail m))))
 
 -- an element and those behind it
 pub drop_next : {A : Type 0} (l : List A) (i : ℕ) {k : ℕ} (z : A) → k ≡ i + 1 → i < length l → drop i l ≡ get_or l i z ∷ drop k l
-drop_next l i z e h = rw (e, add-one i) (drop_cons l i z h)
+drop_next l i z e h = rw (e, add-one i) (drop-cons l i z h)

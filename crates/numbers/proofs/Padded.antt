@@ -1,11 +1,11 @@
 -- A list at the front of an array: how long the array is, one element more, other elements over them, and an element of it.
 -- Assumes nothing.
 use mathlib.Core.Path.{◌≡◌, refl, sym, ap, ◌∙◌}
-use mathlib.Core.List.{List, [], ◌∷◌, map, map_append, ◌++◌, Memᴰ}
+use mathlib.Core.List.{List, [], ◌∷◌, map, map-append, ◌++◌, Memᴰ}
 use Prim.Native.Nat.{ℕ, zero, suc, ◌+◌, ◌-◌, ◌≤◌, ◌<◌}
 use native.Mathlib.Omega.{arith}
-use lib.ListN.{length, get_or, take, drop, set, replicate, length_append, length_map, length_replicate, replicate-append-replicate, get_or_append}
-use lib.Seq.{set_at, take_at, drop_at, drop_append_add, append_snoc}
+use lib.ListN.{length, get_or, take, drop, set, replicate, length-append, length-map, length-replicate, replicate-append-replicate, get_or-append}
+use lib.Seq.{set_at, take_at, drop_at, drop-append-add, append_snoc}
 use Rattle.numbers.specs.Padded.{padded}
 
 module _ {A : Type 0} (size : ℕ) (z : A) where
@@ -18,7 +18,7 @@ module _ {A : Type 0} (size : ℕ) (z : A) where
 
   pub padded_length : (xs : List A) → length xs ≤ size → length (padded size z xs) ≡ size
   unfolding padded
-  padded_length xs h = omega (arith, length_append xs (replicate (size - length xs) z), length_replicate (size - length xs) z)
+  padded_length xs h = omega (arith, length-append xs (replicate (size - length xs) z), length-replicate (size - length xs) z)
 
   pub padded_more : (xs : List A) (i : ℕ) (a : A) → length xs ≡ i → i < size → set (padded size z xs) i a ≡ padded size z (xs ++ a ∷ [])
   unfolding padded
@@ -32,11 +32,11 @@ module _ {A : Type 0} (size : ℕ) (z : A) where
       split = let k : size - length xs ≡ suc (size - suc (length xs)) = omega arith in rw k
 
       joined : length (xs ++ a ∷ []) ≡ suc (length xs)
-      joined = rw (length_append xs (a ∷ [])) (omega arith)
+      joined = rw (length-append xs (a ∷ [])) (omega arith)
 
   pub padded_map : {B : Type 0} (f : B → A) (bs : List B) (b : B) {i : ℕ} {l : List A} → i ≡ length bs → i < size → l ≡ padded size z (map f bs) →
       set l i (f b) ≡ padded size z (map f (bs ++ (b ∷ [])))
-  padded_map f bs b {i} e h l = rw (l, padded_more (map f bs) i (f b) (length_map bs f ∙ sym e) h, map_append)
+  padded_map f bs b {i} e h l = rw (l, padded_more (map f bs) i (f b) (length-map bs f ∙ sym e) h, map-append)
 
   pub padded_front : (xs : List A) → take (length xs) (padded size z xs) ≡ xs
   unfolding padded
@@ -44,7 +44,7 @@ module _ {A : Type 0} (size : ℕ) (z : A) where
 
   pub padded_at : (xs : List A) (i : ℕ) → i < length xs → get_or (padded size z xs) i z ≡ get_or xs i z
   unfolding padded
-  padded_at xs i h = get_or_append xs _ z i h
+  padded_at xs i h = get_or-append xs _ z i h
 
   pub padded_behind : (xs : List A) (i : ℕ) → length xs ≤ i → get_or (padded size z xs) i z ≡ z
   unfolding padded
@@ -64,7 +64,7 @@ module _ {A : Type 0} (size : ℕ) (z : A) where
   drop_replicate m n h =
       let e : n ≡ m + (n - m) = omega arith in
       ap (λ (k : ℕ). drop m (replicate k z)) e ∙ rw (← replicate-append-replicate m (n - m) z)
-      (drop_at (replicate m z) (replicate (n - m) z) m (length_replicate m z))
+      (drop_at (replicate m z) (replicate (n - m) z) m (length-replicate m z))
 
   -- a list that is as long or longer, written over the array from its first element on
   pub padded_over : (xs ys : List A) → length xs ≤ length ys → length ys ≤ size → ys ++ drop (length ys) (padded size z xs) ≡ padded size z ys
@@ -74,7 +74,7 @@ module _ {A : Type 0} (size : ℕ) (z : A) where
       let f : size - length xs - (length ys - length xs) ≡ size - length ys = omega arith in
       ap (λ (l : List A). ys ++ l)
       (ap (λ (m : ℕ). drop m (xs ++ replicate (size - length xs) z)) e
-      ∙ drop_append_add xs (replicate (size - length xs) z) (length ys - length xs)
+      ∙ drop-append-add xs (replicate (size - length xs) z) (length ys - length xs)
       ∙ drop_replicate (length ys - length xs) (size - length xs) (omega arith)
       ∙ ap (λ (m : ℕ). replicate m z) f)
 

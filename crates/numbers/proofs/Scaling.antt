@@ -4,11 +4,11 @@ use mathlib.Core.Path.{◌≡◌, refl, sym, ap, ◌∙◌}
 use mathlib.Core.Bool.{Bool, true, false, not, cond}
 use mathlib.Core.List.{List, map}
 use Prim.Native.Nat.{ℕ, zero, suc, ◌+◌, ◌*◌, ◌≤◌, ◌<◌}
-use native.Mathlib.Nat.{mul_sub, mul-le-mul, mul_le_mul_left, mul-lt-mul_of_pos_left}
+use native.Mathlib.Nat.{mul-sub, mul-le-mul, mul-le-mul_left, mul-lt-mul_of_pos_left}
 use native.Mathlib.Omega.{arith}
 use lib.Dec.{T}
 use lib.IntN.{ℤ, pos, negsuc, neg_ℤ, nat_abs}
-use lib.ListN.{get_or, get_or_map}
+use lib.ListN.{get_or, get_or-map}
 use lib.Signed.{lt_z, ◌≤ℤ◌, ◌<ℤ◌}
 use Rattle.numbers.specs.Integer.{dist, times, clamp}
 use Rattle.numbers.proofs.Truth.{holds, fails}
@@ -29,7 +29,7 @@ scale_zero k = let e : k * 0 ≡ 0 = omega arith in ap pos e
 
 -- a list of scaled numbers
 pub scaled_at : (k : ℕ) (xs : List ℤ) (i : ℕ) → get_or (map (times k) xs) i (pos 0) ≡ times k (get_or xs i (pos 0))
-scaled_at k xs i = ap (get_or (map (times k) xs) i) (sym (scale_zero k)) ∙ get_or_map (times k) xs i (pos 0)
+scaled_at k xs i = ap (get_or (map (times k) xs) i) (sym (scale_zero k)) ∙ get_or-map (times k) xs i (pos 0)
 
 abs_parts : (z : ℤ) → nat_abs z ≡ pp z + nn z
 abs_parts (pos b) = omega arith
@@ -47,13 +47,13 @@ dist_scale k u v = rw (dist_nat u v) (omega (
   dist_nat (times k u) (times k v),
   scale_parts k u,
   scale_parts k v,
-  mul_sub k (pp u + nn v) (pp v + nn u),
-  mul_sub k (pp v + nn u) (pp u + nn v),
+  mul-sub k (pp u + nn v) (pp v + nn u),
+  mul-sub k (pp v + nn u) (pp u + nn v),
 ))
 
 pub scale_le : (k : ℕ) (u v : ℤ) → u ≤ℤ v → times k u ≤ℤ times k v
 scale_le k u v h = let m : pp u + nn v ≤ pp v + nn u = omega (arith, order) in
-    omega (arith, order, scale_parts k u, scale_parts k v, mul_le_mul_left k m)
+    omega (arith, order, scale_parts k u, scale_parts k v, mul-le-mul_left k m)
 
 pub scale_lt : (k : ℕ) (u v : ℤ) → 1 ≤ k → u <ℤ v → times k u <ℤ times k v
 scale_lt k u v l h = let m : pp u + nn v < pp v + nn u = omega (arith, order) in

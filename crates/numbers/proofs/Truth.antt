@@ -68,13 +68,13 @@ pub cond_ind {ℓ} : {A : Type ℓ} (P : A → Type 0) (b : Bool) {x y : A} → 
 cond_ind P true f g = f tt
 cond_ind P false f g = g tt
 
-pub cond_true {ℓ} : {A : Type ℓ} (b : Bool) (x y : A) → T b → cond b x y ≡ x
-cond_true true x y t = refl
-cond_true false x y t = absurd t
+pub cond-true {ℓ} : {A : Type ℓ} (b : Bool) (x y : A) → T b → cond b x y ≡ x
+cond-true true x y t = refl
+cond-true false x y t = absurd t
 
-pub cond_false {ℓ} : {A : Type ℓ} (b : Bool) (x y : A) → T (not b) → cond b x y ≡ y
-cond_false true x y t = absurd t
-cond_false false x y t = refl
+pub cond-false {ℓ} : {A : Type ℓ} (b : Bool) (x y : A) → T (not b) → cond b x y ≡ y
+cond-false true x y t = absurd t
+cond-false false x y t = refl
 
 pub and_fails_left : (a b : Bool) → T (not a) → T (not (a && b))
 and_fails_left true b t = absurd t

@@ -9,7 +9,7 @@ use lib.IntN.{ℤ, pos, negsuc, neg_ℤ, nat_abs, ◌-ℤ◌}
 use lib.Signed.{mag, lt_z, non_neg, quot_z}
 use mir.Syntax.{Width, w64}
 use mir.Val.{hbits, SFits, Fits, to_z, of_z}
-use mir.ValLaws.{to_z_of_z, to_z_pos, half_full}
+use mir.ValLaws.{to_z-of_z, to_z_pos, half_full}
 use Rattle.numbers.specs.Integer.{dist, half_up}
 use Rattle.numbers.proofs.Integer.{order, sub_nat, dist_nat, half_nat}
 
@@ -27,13 +27,13 @@ is_false b e = rw e tt
 -- ---- the distance of two words is the larger less the smaller
 module _ (w : Width) (u v : ℤ) (fu : SFits w u) (fv : SFits w v) where
   pub gap_above : lt_z (to_z w (of_z w u)) (to_z w (of_z w v)) ≡ true → to_z w (of_z w v) -ℤ to_z w (of_z w u) ≡ pos (dist u v)
-  gap_above e = rw (to_z_of_z w u fu, to_z_of_z w v fv) (go (rw (to_z_of_z w u fu, to_z_of_z w v fv) at e))
+  gap_above e = rw (to_z-of_z w u fu, to_z-of_z w v fv) (go (rw (to_z-of_z w u fu, to_z-of_z w v fv) at e))
     where
       go : lt_z u v ≡ true → v -ℤ u ≡ pos (dist u v)
       go h = let t = is_true (lt_z u v) h in omega (arith, order, sub_nat v u, dist_nat u v)
 
   pub gap_below : lt_z (to_z w (of_z w u)) (to_z w (of_z w v)) ≡ false → to_z w (of_z w u) -ℤ to_z w (of_z w v) ≡ pos (dist u v)
-  gap_below e = rw (to_z_of_z w u fu, to_z_of_z w v fv) (go (rw (to_z_of_z w u fu, to_z_of_z w v fv) at e))
+  gap_below e = rw (to_z-of_z w u fu, to_z-of_z w v fv) (go (rw (to_z-of_z w u fu, to_z-of_z w v fv) at e))
     where
       go : lt_z u v ≡ false → u -ℤ v ≡ pos (dist u v)
       go h = let t = is_false (lt_z u v) h in omega (arith, order, sub_nat u v, dist_nat u v)
@@ -75,13 +75,13 @@ half_fits w (negsuc n) f = quot_fits w (negsuc n) f
 -- the same of words
 module _ (w : Width) (t : ℤ) (f : SFits w t) where
   pub word_quot_fits : SFits w (quot_z (to_z w (of_z w t)) (pos 2))
-  word_quot_fits = rw (to_z_of_z w t f) (quot_fits w t f)
+  word_quot_fits = rw (to_z-of_z w t f) (quot_fits w t f)
 
   pub word_half_above : lt_z (pos 0) (to_z w (of_z w t)) ≡ true → to_z w (of_z w t) -ℤ to_z w (of_z w (quot_z (to_z w (of_z w t)) (pos 2))) ≡ half_up t
-  word_half_above e = rw (to_z_of_z w t f, to_z_of_z w (quot_z t (pos 2)) (quot_fits w t f)) (half_above t (is_true (lt_z (pos 0) t) (rw (to_z_of_z w t f) at e)))
+  word_half_above e = rw (to_z-of_z w t f, to_z-of_z w (quot_z t (pos 2)) (quot_fits w t f)) (half_above t (is_true (lt_z (pos 0) t) (rw (to_z-of_z w t f) at e)))
 
   pub word_half_below : lt_z (pos 0) (to_z w (of_z w t)) ≡ false → quot_z (to_z w (of_z w t)) (pos 2) ≡ half_up t
-  word_half_below e = rw (to_z_of_z w t f) (half_below t (is_false (lt_z (pos 0) t) (rw (to_z_of_z w t f) at e)))
+  word_half_below e = rw (to_z-of_z w t f) (half_below t (is_false (lt_z (pos 0) t) (rw (to_z-of_z w t f) at e)))
 
 -- a result y that is z
 module _ (w : Width) (y z : ℤ) (e : y ≡ z) (f : SFits w z) where
@@ -89,7 +89,7 @@ module _ (w : Width) (y z : ℤ) (e : y ≡ z) (f : SFits w z) where
   result_fits = rw e f
 
   pub result_is : to_z w (of_z w y) ≡ z
-  result_is = rw e (to_z_of_z w z f)
+  result_is = rw e (to_z-of_z w z f)
 
 -- ---- a difference of natural numbers
 module _ (m s : ℕ) (g : m < 2 ^ 62) (h : s < 2 ^ 62) where

@@ -5,14 +5,14 @@ use Prim.Native.Nat.{◌≤◌}
 use native.Mathlib.Omega.{arith}
 use lib.IntN.{ℤ, nat_abs}
 use mir.Syntax.{w64}
-use mir.ValLaws.{to_z_of_z}
+use mir.ValLaws.{to_z-of_z}
 use Rattle.numbers.proofs.Words.{word_fits}
 use Rattle.numbers.proofs.WordTests.{back}
 use Rattle.query.specs.Place.{Rect}
 use Rattle.query.specs.Range.{RectInRange}
 
 pub near_back : (z : ℤ) → nat_abs z ≤ 20000 → back z ≡ z
-near_back z h = to_z_of_z w64 z (word_fits w64 z (omega arith))
+near_back z h = to_z-of_z w64 z (word_fits w64 z (omega arith))
 
 pub rect_back : (r : Rect) → RectInRange r →
     record { xlo = back r.xlo; ylo = back r.ylo; xhi = back r.xhi; yhi = back r.yhi } ≡ r

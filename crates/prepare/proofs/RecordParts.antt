@@ -4,7 +4,7 @@ use mathlib.Core.Path.{◌≡◌, sym, ap, ◌∙◌}
 use Prim.Native.Nat.{◌≤◌}
 use native.Mathlib.Omega.{arith}
 use lib.IntN.{pos}
-use lib.ListN.{length, take, length_take}
+use lib.ListN.{length, take, length-take}
 use Rattle.numbers.proofs.Padded.{padded_front}
 use Rattle.query.specs.Place.{x_axis, y_axis}
 use Rattle.query.specs.Deck as Query
@@ -52,7 +52,7 @@ module _ (deck : Query.Deck) (p : Problem) (e : p ≡ problem_record deck) where
   horizontal_taken = horizontal_count ∙ sym (ap length record_horizontal)
 
   pub vertical_within : p.nv ≤ length p.v
-  vertical_within = omega (arith, vertical_taken, length_take p.nv p.v)
+  vertical_within = omega (arith, vertical_taken, length-take p.nv p.v)
 
   pub horizontal_within : p.nh ≤ length p.h
-  horizontal_within = omega (arith, horizontal_taken, length_take p.nh p.h)
+  horizontal_within = omega (arith, horizontal_taken, length-take p.nh p.h)

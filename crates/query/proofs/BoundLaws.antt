@@ -3,7 +3,7 @@
 -- Assumes nothing.
 use mathlib.Core.Path.{◌≡◌, refl}
 use Prim.Native.Nat.{ℕ, ◌+◌, ◌*◌, ◌≤◌, max}
-use native.Mathlib.Nat.{mul_le_mul_left}
+use native.Mathlib.Nat.{mul-le-mul_left}
 use native.Mathlib.Omega.{arith}
 use lib.IntN.{ℤ, pos, ◌-ℤ◌}
 use lib.Signed.{◌≤ℤ◌}
@@ -58,8 +58,8 @@ ways : (axis : AxisCosts) (r r' : Rect) → NonEmpty r' → In r (lf r') → In 
 unfolding travel span
 ways axis r r' n h k = omega (
   arith,
-  mul_le_mul_left axis.a (pieces r.xlo r'.xlo r'.xhi r.xhi h.left n.across k.right),
-  mul_le_mul_left axis.b (pieces r.ylo r'.ylo r'.yhi r.yhi h.front n.deep k.back),
+  mul-le-mul_left axis.a (pieces r.xlo r'.xlo r'.xhi r.xhi h.left n.across k.right),
+  mul-le-mul_left axis.b (pieces r.ylo r'.ylo r'.yhi r.yhi h.front n.deep k.back),
 )
 
 -- one diagonal: outer corners p, q and inner corners p', q'
@@ -70,8 +70,8 @@ diagonal deck r r' p q p' q' h k l w = omega (
   arith,
   lipschitz deck r p p' h,
   lipschitz deck r q q' k,
-  mul_le_mul_left (load deck r) w,
-  mul_le_mul_left (span deck.axis r') l,
+  mul-le-mul_left (load deck r) w,
+  mul-le-mul_left (span deck.axis r') l,
 )
 
 -- Theorem 4 of 000 between rectangles: a part has no smaller bound

@@ -4,7 +4,7 @@ use mathlib.Core.Path.{◌≡◌, refl, ap}
 use mathlib.Core.Logic.{◌⊎◌, inl, inr, ⊎_elim}
 use mathlib.Core.List.{Memᴰ}
 use Prim.Native.Nat.{ℕ, ◌+◌, ◌*◌, ◌≤◌, min}
-use native.Mathlib.Nat.{mul_le_mul_left}
+use native.Mathlib.Nat.{mul-le-mul_left}
 use native.Mathlib.Omega.{arith}
 use lib.Dec.{T, ltb, ltb→lt, nltb→le}
 use lib.IntN.{ℤ}
@@ -71,12 +71,12 @@ min_concave : (α β v n u t w : ℕ) → (n ≤ t) ⊎ (α * u + β * w ≡ (β
 min_concave α β v n u t w h =
     omega (
       arith,
-      mul_le_mul_left v (⊎_elim out (λ e. ⊎_elim (λ b. out (omega (arith, ltb→lt)))
+      mul-le-mul_left v (⊎_elim out (λ e. ⊎_elim (λ b. out (omega (arith, ltb→lt)))
           (λ b. go u w t (omega arith) (omega arith) (omega (arith, nltb→le)) (omega arith)) (test (ltb n t))) h),
     )
   where
     go : (d e m : ℕ) → min n u ≤ d → min n w ≤ e → m ≤ min n t → α * d + β * e ≤ (β + α) * m → α * min n u + β * min n w ≤ (β + α) * min n t
-    go d e m p q r s = omega (arith, mul_le_mul_left α p, mul_le_mul_left β q, mul_le_mul_left (β + α) r)
+    go d e m p q r s = omega (arith, mul-le-mul_left α p, mul-le-mul_left β q, mul-le-mul_left (β + α) r)
 
     out : n ≤ t → α * min n u + β * min n w ≤ (β + α) * min n t
     out k = go n n n (omega arith) (omega arith) (omega arith) (omega arith)

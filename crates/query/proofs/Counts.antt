@@ -6,7 +6,7 @@ use mathlib.Core.List.{List, [], ◌∷◌, map}
 use Prim.Native.Nat.{ℕ, zero, suc, ◌+◌, ◌≤◌}
 use native.Mathlib.Omega.{arith}
 use lib.Dec.{T}
-use lib.ListN.{length, length_append, take}
+use lib.ListN.{length, length-append, take}
 use Rattle.numbers.specs.Lists.{non_empty}
 use Rattle.numbers.proofs.Members.{insert_by_length, keep_length}
 use Rattle.query.specs.Grid.{Grid}
@@ -81,7 +81,7 @@ module _ (P : Problem) where
   pub cuts_made_lem : (n : ℕ) → (run P n).cuts ≡ length (cuts_made P n)
   unfolding run round start cuts_made
   cuts_made_lem zero = refl
-  cuts_made_lem (suc n) = omega (arith, cuts_made_lem n, round_made (run P n) (run P n).live, length_append (cuts_made P n) (map (cell_cut G) (take 1 (run P n).live)))
+  cuts_made_lem (suc n) = omega (arith, cuts_made_lem n, round_made (run P n) (run P n).live, length-append (cuts_made P n) (map (cell_cut G) (take 1 (run P n).live)))
 
   -- at most a cut a round
   round_most : (s : Search) (live : List Cell) → (round_on R s live).cuts ≤ suc s.cuts

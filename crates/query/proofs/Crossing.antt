@@ -6,7 +6,7 @@ use mathlib.Core.Logic.{◌⊎◌, inl, inr, ⊎_elim}
 use mathlib.Core.List.Memᴰ
 use mathlib.Core.List.{List, [], ◌∷◌, Memᴰ}
 use Prim.Native.Nat.{ℕ, ◌+◌, ◌*◌, ◌≤◌, ◌<◌}
-use native.Mathlib.Nat.{mul_le_mul_left}
+use native.Mathlib.Nat.{mul-le-mul_left}
 use native.Mathlib.Omega.{arith}
 use lib.Dec.{T, ltb, ltb→lt, nltb→le}
 use lib.IntN.{ℤ}
@@ -98,8 +98,8 @@ lines_free deck axis lo hi h k none stop m t =
 -- where the chord's lower end is dearer than its middle, the upper end is not, and costs the same only at the middle itself
 upper_end : (α β low mid high : ℕ) → α * low + β * high ≤ (β + α) * mid → mid < low → 0 < β → (high ≤ mid) × (mid ≡ high → α ≡ 0)
 upper_end α β low mid high h k b = (
-  ⊎_elim (λ t. absurd (omega (arith, mul_le_mul_left α k, mul_le_mul_left β (ltb→lt mid high t)))) (λ t. omega (arith, nltb→le)) (test (ltb mid high)),
-  λ e. omega (arith, mul_le_mul_left α k, ap (λ n. β * n) e),
+  ⊎_elim (λ t. absurd (omega (arith, mul-le-mul_left α k, mul-le-mul_left β (ltb→lt mid high t)))) (λ t. omega (arith, nltb→le)) (test (ltb mid high)),
+  λ e. omega (arith, mul-le-mul_left α k, ap (λ n. β * n) e),
 )
 
 module _ (deck : Deck) (axis : Axis) (p : Place) (within : In deck.area p) where

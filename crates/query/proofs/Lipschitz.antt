@@ -2,7 +2,7 @@
 -- Assumes nothing.
 use mathlib.Core.Bool.{Bool, true, false, not, cond}
 use Prim.Native.Nat.{ℕ, ◌+◌, ◌*◌, ◌≤◌, min}
-use native.Mathlib.Nat.{mul_le_mul_left}
+use native.Mathlib.Nat.{mul-le-mul_left}
 use native.Mathlib.Omega.{arith}
 use lib.Dec.{T}
 use Rattle.numbers.proofs.Sums.{sum_of_linear, sum_of_le}
@@ -46,8 +46,8 @@ lipschitz deck r p q h = rw (
 ))
   where
     moved : (v n t u k : ℕ) (b : Bool) → t ≤ u + k → (T (not b) → n ≤ u) → v * min n t ≤ v * min n u + k * cond b v 0
-    moved v n t u k true h far = let e : min n t ≤ min n u + k = omega arith in omega (arith, mul_le_mul_left v e)
-    moved v n t u k false h far = let e : min n t ≤ min n u = omega (arith, far tt) in omega (arith, mul_le_mul_left v e)
+    moved v n t u k true h far = let e : min n t ≤ min n u + k = omega arith in omega (arith, mul-le-mul_left v e)
+    moved v n t u k false h far = let e : min n t ≤ min n u = omega (arith, far tt) in omega (arith, mul-le-mul_left v e)
 
     each : (stop : Stop) → paid deck p stop ≤ paid deck q stop + travel deck.axis q p * borne deck r stop
     each stop = moved stop.visits (near deck stop) _ _ _ (reach deck r stop) (travel_triangle deck.axis stop.at q p)

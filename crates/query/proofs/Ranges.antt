@@ -2,7 +2,7 @@
 -- Assumes nothing.
 use mathlib.Core.List.{Memᴰ}
 use Prim.Native.Nat.{ℕ, ◌*◌, ◌≤◌, min}
-use native.Mathlib.Nat.{mul-le-mul, mul_le_mul_right}
+use native.Mathlib.Nat.{mul-le-mul, mul-le-mul_right}
 use native.Mathlib.Omega.{arith}
 use lib.IntN.{nat_abs}
 use Rattle.numbers.specs.Lists.{sum_of}
@@ -48,7 +48,7 @@ module _ (deck : Deck) (range : InRange deck) where
       sum_of (λ stop. stop.visits * f stop) deck.stops ≤ load_limit * k
   visits_limit_lem f k h = omega (
     arith,
-    mul_le_mul_right (65535 * k) range.most_stops,
+    mul-le-mul_right (65535 * k) range.most_stops,
     sum_of_most (λ (stop : Stop). stop.visits * f stop) (65535 * k) deck.stops (λ stop m. mul-le-mul (range.stops stop m).most_visits (h stop m)),
   )
 

@@ -6,7 +6,7 @@ use mathlib.Core.Logic.{⊎_elim}
 use mathlib.Core.List.Memᴰ
 use mathlib.Core.List.{List, [], ◌∷◌, ◌++◌, map, Memᴰ}
 use mathlib.Core.List.Pairwise
-use mathlib.Core.List.{append_nil, rel_of_Pairwise-cons}
+use mathlib.Core.List.{append-nil, rel_of_Pairwise-cons}
 use Prim.Native.Nat.{ℕ, zero, suc}
 use lib.Dec.{T, T_prop}
 use lib.ListN.{take}
@@ -116,7 +116,7 @@ module _ (P : Problem) where
 
   covers : (n : ℕ) (p : Place) → In P.area p → Within p (partition P n)
   unfolding partition dead run round start
-  covers zero p h = rw (append_nil (not_live G (start_best P) (cell_of R P.area ∷ []))) at (sorted_out (start_best P) (cell_of R P.area ∷ []) [] p
+  covers zero p h = rw (append-nil (not_live G (start_best P) (cell_of R P.area ∷ []))) at (sorted_out (start_best P) (cell_of R P.area ∷ []) [] p
       (cell_of R P.area, Memᴰ.head refl, h))
   covers (suc n) p h = round_covers (run P n) (run P n).live (dead P n) p refl (covers n p h)
 

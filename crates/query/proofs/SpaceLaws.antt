@@ -5,7 +5,7 @@ use mathlib.Core.List.{List, [], ◌∷◌}
 use Prim.Native.Nat.{ℕ, ◌*◌, ◌≤◌}
 use native.Mathlib.Omega.{arith}
 use lib.IntN.{pos}
-use lib.ListN.{length, length_append}
+use lib.ListN.{length, length-append}
 use Rattle.numbers.proofs.Padded.{padded_length}
 use Rattle.query.specs.Deck.{Deck}
 use Rattle.query.specs.Problem.{problem}
@@ -19,7 +19,7 @@ use Rattle.query.proofs.SearchLaws.{run_in_order}
 pub all_numbers_length : (cells : List Cell) → length (all_numbers cells) ≡ 5 * length cells
 unfolding all_numbers
 all_numbers_length [] = refl
-all_numbers_length (c ∷ cells) = omega (arith, length_append (cell_numbers c) (all_numbers cells), all_numbers_length cells)
+all_numbers_length (c ∷ cells) = omega (arith, length-append (cell_numbers c) (all_numbers cells), all_numbers_length cells)
 
 pub space_law : (deck : Deck) (n : ℕ) → SpaceLaw deck n
 unfolding space

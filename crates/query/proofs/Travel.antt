@@ -1,7 +1,7 @@
 -- Travel: triangle, the closest point of a rectangle, and a rectangle's span through one of its points.
 -- Assumes nothing.
 use Prim.Native.Nat.{◌+◌, ◌≤◌}
-use native.Mathlib.Nat.{mul_le_mul_left}
+use native.Mathlib.Nat.{mul-le-mul_left}
 use native.Mathlib.Omega.{arith}
 use Rattle.numbers.proofs.Distance.{dist_triangle, clamp_low, clamp_high, clamp_closest}
 use Rattle.query.specs.Place.{Place, Rect, In, NonEmpty}
@@ -13,8 +13,8 @@ pub travel_triangle : (axis : AxisCosts) (p q s : Place) → travel axis p s ≤
 unfolding travel
 travel_triangle axis p q s = omega (
   arith,
-  mul_le_mul_left axis.a (dist_triangle p.x q.x s.x),
-  mul_le_mul_left axis.b (dist_triangle p.y q.y s.y),
+  mul-le-mul_left axis.a (dist_triangle p.x q.x s.x),
+  mul-le-mul_left axis.b (dist_triangle p.y q.y s.y),
 )
 
 pub closest_point_in : (r : Rect) (p : Place) → NonEmpty r → In r (closest_point r p)
@@ -32,6 +32,6 @@ unfolding travel_to travel closest_point
 travel_to_least deck r stop p h =
     omega (
       arith,
-      mul_le_mul_left deck.axis.a (clamp_closest r.xlo r.xhi stop.at.x p.x h.left h.right),
-      mul_le_mul_left deck.axis.b (clamp_closest r.ylo r.yhi stop.at.y p.y h.front h.back),
+      mul-le-mul_left deck.axis.a (clamp_closest r.xlo r.xhi stop.at.x p.x h.left h.right),
+      mul-le-mul_left deck.axis.b (clamp_closest r.ylo r.yhi stop.at.y p.y h.front h.back),
     )

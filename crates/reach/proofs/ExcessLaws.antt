@@ -10,7 +10,7 @@ use lib.IntN.{ℤ, pos, nat_abs, ◌+ℤ◌, ◌-ℤ◌}
 use lib.Signed.{lt_z, ◌≤ℤ◌}
 use mir.Syntax.{w32}
 use mir.Val.{SFits}
-use mir.ValLaws.{to_z_of_z}
+use mir.ValLaws.{to_z-of_z}
 use Rattle.numbers.specs.Integer.{dist, clamp}
 use Rattle.numbers.proofs.Truth.{test, holds, fails, cond_ind}
 use Rattle.numbers.proofs.Integer.{order, dist_nat}
@@ -102,4 +102,4 @@ module _ (sx sy xlo ylo xhi yhi : ℤ) (at : Near180000 sx sy) (edges : EdgesInR
   pub reach_word : (near : ℤ) (r b : Bool) → SFits w32 near
       → r ≡ ltb (away (word sx) (word sy) (word xlo) (word ylo) (word xhi) (word yhi)) (nat_abs (word near))
       → r ≡ b → ltb (away sx sy xlo ylo xhi yhi) (nat_abs near) ≡ b
-  reach_word near r b f p q = rw (← away_word, ← to_z_of_z w32 near f) (sym p ∙ q)
+  reach_word near r b f p q = rw (← away_word, ← to_z-of_z w32 near f) (sym p ∙ q)

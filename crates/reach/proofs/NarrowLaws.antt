@@ -7,7 +7,7 @@ use lib.IntN.{ℤ, pos, negsuc, nat_abs}
 use lib.Signed.{◌≤ℤ◌}
 use mir.Syntax.{w32}
 use mir.Val.{SFits, to_z, of_z}
-use mir.ValLaws.{to_z_of_z}
+use mir.ValLaws.{to_z-of_z}
 use Rattle.numbers.specs.Integer.{times}
 use Rattle.numbers.proofs.Scaling.{scale_most, scale_le}
 use Rattle.numbers.proofs.Words.{word_fits}
@@ -39,7 +39,7 @@ natural_small (negsuc n) f h = absurd h.le
 
 -- ---- a row
 pub number_word : (z : ℤ) → nat_abs z ≤ 720000 → word z ≡ z
-number_word z h = to_z_of_z w32 z (word_fits w32 z (omega arith))
+number_word z h = to_z-of_z w32 z (word_fits w32 z (omega arith))
 
 module _ {x y visits near : ℤ} (row : ObjectInRange x y visits near) where
   pub visits_word : word visits ≡ visits

@@ -2,7 +2,7 @@
 -- Assumes nothing.
 use mathlib.Core.Path.{◌≡◌, refl, ap, ◌∙◌}
 use mathlib.Core.Bool.{Bool, cond}
-use mathlib.Core.List.{map, map_map}
+use mathlib.Core.List.{map, map-map}
 use Prim.Native.Nat.{ℕ}
 use lib.Dec.{ltb}
 use Rattle.numbers.specs.Padded.{padded}
@@ -47,4 +47,4 @@ module _ (deck : Deck) where
 
   pub flags_law : (r : Rect) → flags_of (pricing_of deck) r ≡ padded 512 0 (map (λ stop. cond (reach deck r stop) 1 0) deck.stops)
   flags_law r = flags_of_map (pricing_of deck) r
-      ∙ rw objects_of_map (rw map_map (ap (padded 512 0) (map_each _ _ deck.stops (λ stop m. ap (λ (b : Bool). cond b 1 0) (reach_law r stop)))))
+      ∙ rw objects_of_map (rw map-map (ap (padded 512 0) (map_each _ _ deck.stops (λ stop m. ap (λ (b : Bool). cond b 1 0) (reach_law r stop)))))

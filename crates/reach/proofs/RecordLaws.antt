@@ -6,7 +6,7 @@ use mathlib.Core.List.{List, map, Memᴰ}
 use Prim.Native.Nat.{ℕ, ◌≤◌}
 use native.Mathlib.Omega.{arith}
 use lib.IntN.{ℤ, pos, nat_abs}
-use lib.ListN.{length, get_or, length_map}
+use lib.ListN.{length, get_or, length-map}
 use lib.Signed.{◌≤ℤ◌}
 use Rattle.numbers.proofs.Integer.{order}
 use Rattle.numbers.proofs.Scaling.{scale_most}
@@ -81,7 +81,7 @@ module _ (deck : Deck) (range : InRange deck) where
           }
 
   objects_count : length (objects_of deck) ≡ length deck.stops
-  objects_count = rw objects_of_map (length_map deck.stops (object_of deck))
+  objects_count = rw objects_of_map (length-map deck.stops (object_of deck))
 
   few : length (objects_of deck) ≤ 512
   few = omega (arith, objects_count, range.most_stops)

@@ -3,7 +3,7 @@
 use mathlib.Core.Path.{refl}
 use Prim.Native.Nat.{◌≤◌}
 use native.Mathlib.Omega.{arith}
-use lib.ListN.{length, length_append}
+use lib.ListN.{length, length-append}
 use Rattle.query.specs.Figures.{Figures}
 use Rattle.text.specs.Ascii.{bytes}
 use Rattle.text.proofs.DigitCounts.{length_spell_nat}
@@ -32,5 +32,5 @@ report_fits = record {
   report_fits = λ f r. omega (arith, longest f r);
   report_longest = longest;
   report_widest = refl;
-  refusal_longest = λ why. rw refusal_parts (simp length_append (omega (arith, length_number why, length_spell_nat (line_of why))));
+  refusal_longest = λ why. rw refusal_parts (simp length-append (omega (arith, length_number why, length_spell_nat (line_of why))));
 }

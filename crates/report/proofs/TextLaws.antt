@@ -3,9 +3,9 @@
 use mathlib.Core.Path.{◌≡◌, refl, sym, ap, ◌∙◌}
 use Prim.Native.Nat.{ℕ, ◌+◌, ◌≤◌, ◌<◌, ◌^◌, zero-le}
 use native.Mathlib.Omega.{arith}
-use mathlib.Core.List.{List, [], ◌∷◌, ◌++◌, flatten, append_assoc, append_nil}
+use mathlib.Core.List.{List, [], ◌∷◌, ◌++◌, flatten, append_assoc, append-nil}
 use mathlib.Core.Option.{Option, none, some}
-use lib.ListN.{length, length_append, get_or, drop}
+use lib.ListN.{length, length-append, get_or, drop}
 use lib.IntN.{ℤ, pos, nat_abs}
 use Rattle.query.specs.Figures.{Figures, State, done, stopped}
 use Rattle.query.specs.Range.{cost_limit}
@@ -38,7 +38,7 @@ join_report :
     (a b c d e f g h i j k l m n o : List ℕ) →
     flatten (a ∷ b ∷ c ∷ d ∷ e ∷ f ∷ g ∷ h ∷ i ∷ j ∷ k ∷ l ∷ m ∷ n ∷ o ∷ []) ≡ (a ++ b) ++ (c ++ d ++ e ++ f) ++ (g ++ h ++ i ++ j ++ k ++ l) ++ (m ++ n) ++ o
 unfolding flatten
-join_report a b c d e f g h i j k l m n o = simp (append_assoc, append_nil)
+join_report a b c d e f g h i j k l m n o = simp (append_assoc, append-nil)
 
 pub report_parts : (f : Figures) → report_text f ≡ state_part f.state ++ place_part f.at.x f.at.y ++ costs_part f.high f.low f.before ++
     rounds_part f.rounds ++ bytes "\n"
@@ -50,7 +50,7 @@ report_parts f =
 
 join_refusal : (a b c d e : List ℕ) → flatten (a ∷ b ∷ c ∷ d ∷ e ∷ []) ≡ (a ++ b) ++ (c ++ d) ++ e
 unfolding flatten
-join_refusal a b c d e = simp (append_assoc, append_nil)
+join_refusal a b c d e = simp (append_assoc, append-nil)
 
 pub refusal_parts : (number line : ℕ) → refusal_text number line ≡ (bytes "refused=" ++ spell_nat number) ++ (bytes "\nline=" ++ spell_nat line) ++ bytes "\n"
 unfolding refusal_text
@@ -83,7 +83,7 @@ refusal_number number line number' line' h h' e = ap nat_abs
 
 -- ---- their lengths
 pub length_five : (a b c d e : List ℕ) → length (a ++ b ++ c ++ d ++ e) ≡ length a + length b + length c + length d + length e
-length_five a b c d e = simp length_append
+length_five a b c d e = simp length-append
 
 pub length_state : (s : State) → length (state_part s) ≤ 13
 unfolding bytes
@@ -92,12 +92,12 @@ length_state stopped = omega arith
 
 pub length_place : (x y : ℤ) → nat_abs x ≤ 20000 → nat_abs y ≤ 20000 → length (place_part x y) ≤ 17
 unfolding bytes
-length_place x y h k = simp length_append (omega (arith, length_spell_int_below 4 x (omega arith), length_spell_int_below 4 y (omega arith)))
+length_place x y h k = simp length-append (omega (arith, length_spell_int_below 4 x (omega arith), length_spell_int_below 4 y (omega arith)))
 
 pub length_costs : (high : ℕ) (low : ℤ) (before : ℕ) → high ≤ cost_limit → nat_abs low ≤ cost_limit → before ≤ cost_limit → length (costs_part high low before) ≤ 62
 unfolding bytes
 length_costs high low before h k l =
-    simp length_append (omega (
+    simp length-append (omega (
       arith,
       length_spell_nat_below 13 high (omega arith),
       length_spell_int_below 13 low (omega arith),
@@ -106,17 +106,17 @@ length_costs high low before h k l =
 
 pub length_rounds : (n : ℕ) → n ≤ 1000 → length (rounds_part n) ≤ 12
 unfolding bytes
-length_rounds n h = simp length_append (omega (arith, length_spell_nat_below 3 n (omega arith)))
+length_rounds n h = simp length-append (omega (arith, length_spell_nat_below 3 n (omega arith)))
 
 pub length_number : (why : Refusal) → length (spell_nat (number_of why)) ≤ 1
 length_number why = length_spell_nat_below 0 (number_of why) (omega (arith, number_most why))
 
 -- a key and any number behind it
 pub length_nat_part : (key : List ℕ) (n : ℕ) → length (key ++ spell_nat n) ≤ length key + 20
-length_nat_part key n = omega (arith, length_append key (spell_nat n), length_spell_nat n)
+length_nat_part key n = omega (arith, length-append key (spell_nat n), length_spell_nat n)
 
 pub length_int_part : (key : List ℕ) (z : ℤ) → length (key ++ spell_int z) ≤ length key + 21
-length_int_part key z = omega (arith, length_append key (spell_int z), length_spell_int z)
+length_int_part key z = omega (arith, length-append key (spell_int z), length_spell_int z)
 
 -- ---- a text written from the start on
 pub report_filled :

@@ -12,7 +12,7 @@ use native.Mathlib.Omega.{arith}
 use lib.Arith.{lt→nleb}
 use lib.Dec.{T, leb, leb→le, le→leb, nleb→lt}
 use lib.IntN.{ℤ, pos}
-use lib.ListN.{length, length_map}
+use lib.ListN.{length, length-map}
 use lib.Signed.{mag, lt_z, ◌≤ℤ◌}
 use Rattle.numbers.specs.Lists.{least_by}
 use Rattle.numbers.proofs.Truth.{and_left, nor_left, fails, holds, test, cond_ind}
@@ -129,7 +129,7 @@ module _ (Q : Problem) (P : Pricing) (n lowest : ℕ) (s : List ℤ) (t : List �
     arith,
     all_numbers_length (run Q n).live,
     ap length (sym cells_are),
-    length_map (entries s t st.head (st.tail - st.head)) entry_cell,
+    length-map (entries s t st.head (st.tail - st.head)) entry_cell,
     entries_length s t st.head (st.tail - st.head),
   )
 

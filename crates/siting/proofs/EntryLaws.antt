@@ -6,7 +6,7 @@ use mathlib.Core.List.{List, []}
 use native.Mathlib.Omega.{arith}
 use mir.Syntax.{w64}
 use mir.Val.{SFits, to_z, of_z}
-use mir.ValLaws.{to_z_of_z, to_z_pos}
+use mir.ValLaws.{to_z-of_z, to_z_pos}
 use lib.IntN.{ℤ, pos, neg_ℤ, ◌-ℤ◌}
 use lib.ListN.{length, replicate}
 use Rattle.numbers.specs.Padded.{padded}
@@ -41,7 +41,7 @@ zero_minus (suc n) = omega (arith, order, sub_nat (pos 0) (pos (suc n)))
 pub minus_number : (why : Refusal) → to_z w64 (of_z w64 (to_z w64 0 -ℤ to_z w64 (number_of why))) ≡ neg_ℤ (pos (number_of why))
 minus_number why =
     let n = number_of why in
-    to_z_of_z w64 (to_z w64 0 -ℤ to_z w64 n) (minus_fits why n refl) ∙ difference 0 n (omega arith) (omega (arith, number_most why)) ∙ zero_minus n
+    to_z-of_z w64 (to_z w64 0 -ℤ to_z w64 n) (minus_fits why n refl) ∙ difference 0 n (omega arith) (omega (arith, number_most why)) ∙ zero_minus n
 
 -- ---- the C entry
 module _ (job out : List ℕ) (cells : List ℤ) (out' : List ℕ) (r : Response) (s : Responded (report_call job own_space out) out cells out' r) where

@@ -5,7 +5,7 @@ use mathlib.Core.Path.{◌≡◌, refl, sym, ap, ap₂, subst, ◌∙◌}
 use mathlib.Core.List.{List, [], ◌∷◌}
 use native.Mathlib.Omega.{arith}
 use mir.Syntax.{w64}
-use mir.ValLaws.{to_z_of_z}
+use mir.ValLaws.{to_z-of_z}
 use lib.IntN.{ℤ, pos}
 use lib.ListN.{length, take}
 use Rattle.numbers.specs.Padded.{padded}
@@ -78,15 +78,15 @@ module _ {columns : List ℤ} {count : ℕ} {v h : List ℤ} {area : Rect} (prep
 
     place_x : back f.x ≡ f.x
     unfolding figures figures_of found_of
-    place_x = to_z_of_z w64 f.x (word_fits w64 f.x (rw found (omega (arith, figures_range.place.x_range))))
+    place_x = to_z-of_z w64 f.x (word_fits w64 f.x (rw found (omega (arith, figures_range.place.x_range))))
 
     place_y : back f.y ≡ f.y
     unfolding figures figures_of found_of
-    place_y = to_z_of_z w64 f.y (word_fits w64 f.y (rw found (omega (arith, figures_range.place.y_range))))
+    place_y = to_z-of_z w64 f.y (word_fits w64 f.y (rw found (omega (arith, figures_range.place.y_range))))
 
     low_word : back f.low ≡ f.low
     unfolding figures figures_of found_of
-    low_word = to_z_of_z w64 f.low (word_fits w64 f.low (rw found (omega (arith, figures_range.low_limit))))
+    low_word = to_z-of_z w64 f.low (word_fits w64 f.low (rw found (omega (arith, figures_range.low_limit))))
 
   pub solved : (cells cells' : List ℤ) (f : Found) (state : State) (b : ℕ) → Searched (problem_of columns count v h area) n cells cells' f →
       state ≡ state_for f.done → Solved (problem_of columns count v h area) b n cells cells' (record {

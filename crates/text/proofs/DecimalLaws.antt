@@ -2,15 +2,15 @@
 -- Assumes nothing.
 use mathlib.Core.Path.{◌≡◌, refl, ap, ◌∙◌}
 use mathlib.Core.Logic.{⊎_elim, ◌≢◌}
-use mathlib.Core.List.{List, [], ◌∷◌, ◌++◌, append_nil, foldl, foldl-append}
+use mathlib.Core.List.{List, [], ◌∷◌, ◌++◌, append-nil, foldl, foldl-append}
 use Prim.Native.Nat.{ℕ, zero, suc, ◌+◌, ◌-◌, ◌*◌, ◌/◌, ◌%◌, ◌^◌, ◌≤◌, ◌<◌}
-use native.Mathlib.Nat.{add-zero, pow-zero, pow-suc, pow-le-pow_right, mul_le_mul_right}
+use native.Mathlib.Nat.{add-zero, pow-zero, pow-suc, pow-le-pow_right, mul-le-mul_right}
 use native.Mathlib.Omega.{arith}
 use lib.Dec.{T, leb, ltb, leb→le, le→leb, lt→ltb, ltb→lt, nltb→le, lit≤}
 use lib.Arith.{le→nltb}
 use lib.Seq.{append_snoc}
-use lib.ListN.{length, length_append, get_or, drop, get_or_append}
-use Rattle.numbers.proofs.Truth.{test, and_left, and_right, and_intro, cond_ind, cond_true, cond_false}
+use lib.ListN.{length, length-append, get_or, drop, get_or-append}
+use Rattle.numbers.proofs.Truth.{test, and_left, and_right, and_intro, cond_ind, cond-true, cond-false}
 use Rattle.text.specs.Ascii.{is_digit}
 use Rattle.text.specs.Numeral.{digits, value_of}
 use Rattle.text.specs.Decimal.{decimal}
@@ -26,7 +26,7 @@ range_digit b h k = and_intro (leb 48 b) (leb b 57) (le→leb 48 b h) (le→leb 
 
 pub digits_cons : (b : ℕ) (bs : List ℕ) → T (is_digit b) → digits (b ∷ bs) ≡ b ∷ digits bs
 unfolding digits
-digits_cons b bs t = cond_true (is_digit b) _ _ t
+digits_cons b bs t = cond-true (is_digit b) _ _ t
 
 -- a text that is all digits
 pub digits_parts : (b : ℕ) (bs : List ℕ) → digits (b ∷ bs) ≡ b ∷ bs → T (is_digit b) × (digits bs ≡ bs)
@@ -47,7 +47,7 @@ digits_first (b ∷ bs) = cond_ind (λ (ds : List ℕ). b ∷ bs ≡ ds ++ drop 
 pub digits_rest : (bs : List ℕ) → digits (drop (length (digits bs)) bs) ≡ []
 unfolding digits
 digits_rest [] = refl
-digits_rest (b ∷ bs) = cond_ind (λ (ds : List ℕ). digits (drop (length ds) (b ∷ bs)) ≡ []) (is_digit b) (λ t. digits_rest bs) (λ t. cond_false (is_digit b) _ _ t)
+digits_rest (b ∷ bs) = cond_ind (λ (ds : List ℕ). digits (drop (length ds) (b ∷ bs)) ≡ []) (is_digit b) (λ t. digits_rest bs) (λ t. cond-false (is_digit b) _ _ t)
 
 pub digits_twice : (bs : List ℕ) → digits (digits bs) ≡ digits bs
 unfolding digits
@@ -58,11 +58,11 @@ digits_twice (b ∷ bs) = cond_ind (λ (ds : List ℕ). digits ds ≡ ds) (is_di
 -- ---- a number's digits
 pub decimal_small : (most n : ℕ) → n < 10 → decimal (suc most) n ≡ (48 + n) ∷ []
 unfolding decimal
-decimal_small most n h = cond_true (ltb n 10) _ _ (lt→ltb n 10 h)
+decimal_small most n h = cond-true (ltb n 10) _ _ (lt→ltb n 10 h)
 
 pub decimal_large : (most n : ℕ) → 10 ≤ n → decimal (suc most) n ≡ decimal most (n / 10) ++ ((48 + n % 10) ∷ [])
 unfolding decimal
-decimal_large most n h = cond_false (ltb n 10) _ _ (le→nltb n 10 h)
+decimal_large most n h = cond-false (ltb n 10) _ _ (le→nltb n 10 h)
 
 -- they are all digits
 pub decimal_all : (most n : ℕ) → digits (decimal most n) ≡ decimal most n
@@ -100,8 +100,8 @@ one_more n ds h s = record {
   all_digits = digits_append ds _ s.all_digits ∙ ap (λ (l : List ℕ). ds ++ l)
       (digits_cons (48 + n % 10) [] (range_digit (48 + n % 10) (omega arith) (omega arith)));
   value = rw foldl-append (omega (arith, s.value));
-  some_digit = simp length_append (omega arith);
-  first_digit = λ k. rw (get_or_append ds _ 0 0 s.some_digit) (s.first_digit (omega arith));
+  some_digit = simp length-append (omega arith);
+  first_digit = λ k. rw (get_or-append ds _ 0 0 s.some_digit) (s.first_digit (omega arith));
 }
 
 pub decimal_digits : (most n : ℕ) → n < 10 ^ suc most → DigitsOf n (decimal (suc most) n)
@@ -113,7 +113,7 @@ decimal_digits (suc most) n h = ⊎_elim (λ t. let k : n < 10 = ltb→lt n 10 t
 -- ---- the number of some digits
 -- the digits of v and, behind them, ds
 decimal_onwards : (ds : List ℕ) (most v : ℕ) → digits ds ≡ ds → 1 ≤ v → decimal (most + length ds) (onwards v ds) ≡ decimal most v ++ ds
-decimal_onwards [] most v e h = simp (add-zero, append_nil)
+decimal_onwards [] most v e h = simp (add-zero, append-nil)
 decimal_onwards (d ∷ ds) most v e h =
     let (t, f) = digits_parts d ds e in
     let (low, high) = digit_range d t in
@@ -152,7 +152,7 @@ value_onwards (d ∷ ds) v e = let (t, f) = digits_parts d ds e in
     (value_onwards ds (v * 10 + (d - 48)) f))
   where
     more : (c p x : ℕ) → c ≤ 9 → x < (v * 10 + c + 1) * p → x < (v + 1) * (p * 10)
-    more c p x h k = let l : v * 10 + c + 1 ≤ (v + 1) * 10 = omega arith in omega (arith, mul_le_mul_right p l)
+    more c p x h k = let l : v * 10 + c + 1 ≤ (v + 1) * 10 = omega arith in omega (arith, mul-le-mul_right p l)
 
 pub value_less : (ds : List ℕ) (k : ℕ) → digits ds ≡ ds → length ds ≤ k → value_of ds < 10 ^ k
 unfolding value_of

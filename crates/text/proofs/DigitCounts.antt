@@ -8,7 +8,7 @@ use native.Mathlib.Omega.{arith}
 use native.Mathlib.Nat.{le_of_lt, lt_of_lt_of_le, one-le-pow, pow-suc, pow-le-pow_right}
 use mathlib.Core.List.{List, [], ◌∷◌, ◌++◌}
 use lib.Dec.{T, lit<, leb, leb→le, nleb→lt, ltb, ltb→lt, nltb→le}
-use lib.ListN.{length, length_append}
+use lib.ListN.{length, length-append}
 use lib.IntN.{ℤ, pos, negsuc, nat_abs}
 use lib.Signed.{lt_z}
 use borrow.Author.Tests.{ltb-true}
@@ -22,11 +22,11 @@ unfolding decimal
 length_decimal zero n = omega arith
 length_decimal (suc most) n =
     cond_ind (λ (l : List ℕ). length l ≤ suc most) (ltb n 10) (λ t. omega arith)
-    (λ t. omega (arith, length_append (decimal most (n / 10)) ((48 + n % 10) ∷ []), length_decimal most (n / 10)))
+    (λ t. omega (arith, length-append (decimal most (n / 10)) ((48 + n % 10) ∷ []), length_decimal most (n / 10)))
 
 pub length_decimal_some : (most n : ℕ) → 1 ≤ length (decimal (suc most) n)
 length_decimal_some most n = ⊎_elim (λ t. rw (decimal_small most n (ltb→lt n 10 t)) (omega arith))
-    (λ t. rw (decimal_large most n (nltb→le n 10 t)) (omega (arith, length_append (decimal most (n / 10)) ((48 + n % 10) ∷ [])))) (test (ltb n 10))
+    (λ t. rw (decimal_large most n (nltb→le n 10 t)) (omega (arith, length-append (decimal most (n / 10)) ((48 + n % 10) ∷ [])))) (test (ltb n 10))
 
 -- a number from 10 ^ k on has more than k digits
 pub length_decimal_from : (k most n : ℕ) → 10 ^ k ≤ n → k < most → suc k ≤ length (decimal most n)
@@ -36,7 +36,7 @@ length_decimal_from (suc k) (suc most) n h m =
     let p : 1 ≤ 10 ^ k = one-le-pow k 10 (lit< tt) in
     let tens : 10 ≤ n = omega (arith, pow-suc 10 k) in
     let ih = length_decimal_from k most (n / 10) (omega (arith, pow-suc 10 k)) (omega arith) in
-    rw (decimal_large most n tens) (omega (arith, ih, length_append (decimal most (n / 10)) ((48 + n % 10) ∷ [])))
+    rw (decimal_large most n tens) (omega (arith, ih, length-append (decimal most (n / 10)) ((48 + n % 10) ∷ [])))
 
 -- a larger number has as many digits or more
 pub length_decimal_grows : (most m n : ℕ) → m ≤ n → length (decimal most m) ≤ length (decimal most n)
@@ -48,7 +48,7 @@ length_decimal_grows (suc most) m n h = ⊎_elim small (λ t. large (nltb→le m
 
     large : 10 ≤ m → length (decimal most (m / 10)) ≤ length (decimal most (n / 10)) → length (decimal (suc most) m) ≤ length (decimal (suc most) n)
     large k ih = rw (decimal_large most m k, decimal_large most n (omega arith))
-        (omega (arith, ih, length_append (decimal most (m / 10)) ((48 + m % 10) ∷ []), length_append (decimal most (n / 10)) ((48 + n % 10) ∷ [])))
+        (omega (arith, ih, length-append (decimal most (m / 10)) ((48 + m % 10) ∷ []), length-append (decimal most (n / 10)) ((48 + n % 10) ∷ [])))
 
 -- digits for more digits than needed are the digits
 pub decimal_enough : (f g n : ℕ) → n < 10 ^ suc f → n < 10 ^ suc g → decimal (suc f) n ≡ decimal (suc g) n
@@ -72,7 +72,7 @@ pub length_one : (n : ℕ) → n < 10 → length (spell_nat n) ≡ 1
 length_one n h = ap length (spell_nat_one n h)
 
 pub length_more : (n : ℕ) → 10 ≤ n → n < 10 ^ 20 → length (spell_nat n) ≡ length (spell_nat (n / 10)) + 1
-length_more n h k = ap length (spell_nat_more n h k) ∙ length_append (spell_nat (n / 10)) ((48 + n % 10) ∷ [])
+length_more n h k = ap length (spell_nat_more n h k) ∙ length-append (spell_nat (n / 10)) ((48 + n % 10) ∷ [])
 
 -- the digits apart from the last five
 pub length_beyond : (n : ℕ) → 100000 ≤ n → n < 10 ^ 20 → length (spell_nat n) ≡ length (spell_nat (n / 100000)) + 5

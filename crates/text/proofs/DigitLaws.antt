@@ -9,12 +9,12 @@ use Prim.Native.Nat.{ℕ, suc, ◌+◌, ◌-◌, ◌*◌, ◌^◌, ◌≤◌, �
 use native.Mathlib.Nat.{add-zero, pow-suc, pow-le-pow_right}
 use native.Mathlib.Numerals.{add-one}
 use native.Mathlib.Omega.{arith}
-use borrow.Author.Tests.{lt-leb, le_leb, eq-eqb, ne_eqb}
+use borrow.Author.Tests.{lt-leb, le-leb, eq-eqb, ne_eqb}
 use lib.Dec.{T, eqb, leb, leb→le, ltb, ltb→lt, nltb→le, lit<}
 use lib.IntN.{pos}
-use lib.ListN.{length, get_or, drop, take, length_drop, get_or-eq_default}
-use lib.Seq.{drop_drop, take_suc, get_or_drop, take_all}
-use Rattle.numbers.proofs.Truth.{test, cond_ind, cond_true, cond_false, and_right}
+use lib.ListN.{length, get_or, drop, take, length-drop, get_or-eq_default}
+use lib.Seq.{drop-drop, take-suc, get_or-drop, take_all}
+use Rattle.numbers.proofs.Truth.{test, cond_ind, cond-true, cond-false, and_right}
 use Rattle.text.specs.Ascii.{is_digit, zero_digit}
 use Rattle.text.specs.Numeral.{digits, value_of, natural}
 use Rattle.text.specs.TextReading.{starts_with, ByteIs, DigitAt, DigitsAt, NaturalAt}
@@ -22,17 +22,17 @@ use Rattle.text.specs.declared.ParsedNatural.TheVariants.{Read}
 
 -- ---- one digit
 first_at : (s : List ℕ) (at : ℕ) → get_or (drop at s) 0 0 ≡ get_or s at 0
-first_at s at = get_or_drop at s 0 0 ∙ ap (λ n. get_or s n 0) (add-zero at)
+first_at s at = get_or-drop at s 0 0 ∙ ap (λ n. get_or s n 0) (add-zero at)
 
 digits_stop : (bs : List ℕ) → T (not (is_digit (get_or bs 0 0))) → digits bs ≡ []
 unfolding digits
 digits_stop [] t = refl
-digits_stop (b ∷ bs) t = cond_false (is_digit b) _ _ t
+digits_stop (b ∷ bs) t = cond-false (is_digit b) _ _ t
 
 digits_more : (bs : List ℕ) → T (is_digit (get_or bs 0 0)) → digits bs ≡ get_or bs 0 0 ∷ digits (drop 1 bs)
 unfolding digits is_digit
 digits_more [] t = absurd t
-digits_more (b ∷ bs) t = cond_true (is_digit b) _ _ t
+digits_more (b ∷ bs) t = cond-true (is_digit b) _ _ t
 
 digit_small : (b : ℕ) → T (is_digit b) → b - 48 < 10
 unfolding is_digit
@@ -54,7 +54,7 @@ module _ {s : List ℕ} {at d : ℕ} (digit : DigitAt s at d) where
       go false e = absurd (omega arith)
 
   digit_value : d ≤ 9 → d ≡ get_or s at 0 - 48
-  digit_value h = digit.is ∙ cond_true (is_digit (get_or s at 0)) (get_or s at 0 - 48) 10 (is_digit_lem h)
+  digit_value h = digit.is ∙ cond-true (is_digit (get_or s at 0)) (get_or s at 0 - 48) 10 (is_digit_lem h)
 
   pub digit_there : d ≤ 9 → at < length s
   unfolding is_digit
@@ -90,7 +90,7 @@ module _ {s : List ℕ} {at : ℕ} where
       stop = m.left ∙ digits_stop (drop (at + count) s) (rw (first_at s (at + count)) (not_digit digit h))
 
       none : length (digits (drop at s)) - count ≡ 0
-      none = sym (length_drop count (digits (drop at s))) ∙ ap length stop
+      none = sym (length-drop count (digits (drop at s))) ∙ ap length stop
 
   pub scanned_ten : {count value : ℕ} → Scanned s at count value → 10 ≤ count → count ≤ 10 → DigitsAt s at count value
   scanned_ten m g h = record { count_is = omega (arith, m.enough); value_is = m.value_is; below = m.below }
@@ -115,19 +115,19 @@ module _ {s : List ℕ} {at : ℕ} where
       more : drop count ds ≡ b ∷ digits (drop (at + (count + 1)) s)
       more = m.left ∙ digits_more (drop (at + count) s) (rw (first_at s (at + count)) (is_digit_lem digit h))
           ∙ ap (λ x. x ∷ digits (drop 1 (drop (at + count) s))) (first_at s (at + count))
-          ∙ ap (λ l. b ∷ digits l) (drop_drop 1 (at + count) s ∙ ap (λ n. drop n s) (next at count))
+          ∙ ap (λ l. b ∷ digits l) (drop-drop 1 (at + count) s ∙ ap (λ n. drop n s) (next at count))
 
       rest : drop (count + 1) ds ≡ digits (drop (at + (count + 1)) s)
-      rest = sym (drop_drop 1 count ds) ∙ ap (drop 1) more
+      rest = sym (drop-drop 1 count ds) ∙ ap (drop 1) more
 
       longer : count < length ds
-      longer = let e : length ds - count ≡ suc (length (digits (drop (at + (count + 1)) s))) = sym (length_drop count ds) ∙ ap length more in omega arith
+      longer = let e : length ds - count ≡ suc (length (digits (drop (at + (count + 1)) s))) = sym (length-drop count ds) ∙ ap length more in omega arith
 
       last : get_or ds count 0 ≡ b
       last = sym (first_at ds count) ∙ ap (λ xs. get_or xs 0 0) more
 
       worth : value * 10 + d ≡ value_of (take (count + 1) ds)
-      worth = rw (add-one, take_suc ds count 0 longer, value_snoc, ← m.value_is, last, ← digit_value digit h)
+      worth = rw (add-one, take-suc ds count 0 longer, value_snoc, ← m.value_is, last, ← digit_value digit h)
 
 -- ---- a number that is not negative
 digits_short : (bs : List ℕ) → length (digits bs) ≤ length bs
@@ -166,7 +166,7 @@ module _ {s : List ℕ} {at count value : ℕ} (run : DigitsAt s at count value)
 
   pub natural_long : 9 < count → none ≡ natural (drop at s)
   unfolding natural
-  natural_long h = rw (le_leb 1 (length (digits (drop at s))) (omega (arith, many h)), lt-leb (length (digits (drop at s))) 9 (many h))
+  natural_long h = rw (le-leb 1 (length (digits (drop at s))) (omega (arith, many h)), lt-leb (length (digits (drop at s))) 9 (many h))
 
   module _ (low : 1 ≤ count) (high : count ≤ 9) where
     all : count ≡ length (digits (drop at s))
@@ -179,8 +179,8 @@ module _ {s : List ℕ} {at count value : ℕ} (run : DigitsAt s at count value)
     unfolding natural
     natural_is =
         rw (
-          le_leb 1 (length (digits (drop at s))) (omega (arith, all)),
-          le_leb (length (digits (drop at s))) 9 (omega (arith, all)),
+          le-leb 1 (length (digits (drop at s))) (omega (arith, all)),
+          le-leb (length (digits (drop at s))) 9 (omega (arith, all)),
           starts_zero (drop at s),
           ← digits_first (drop at s) (omega (arith, all)),
           worth,
@@ -191,13 +191,13 @@ module _ {s : List ℕ} {at count value : ℕ} (run : DigitsAt s at count value)
     natural_zero h byte e = rw (natural_is, ne_eqb count 1 (λ e. omega arith), ← byte.is, e)
 
     pub after_digits : at + count ≤ length s
-    after_digits = omega (arith, digits_short (drop at s), length_drop at s, all)
+    after_digits = omega (arith, digits_short (drop at s), length-drop at s, all)
 
     -- a run of digits with no leading zero save in `0` itself
     natural_some : eqb count 1 || not (starts_with (zero_digit ∷ []) (drop at s)) ≡ true → NaturalAt s at (Read value (at + count))
     natural_some e =
         record {
-          is = rw (natural_is, e, drop_drop count at s);
+          is = rw (natural_is, e, drop-drop count at s);
           within = (omega (arith, run.below, pow-le-pow_right {n = 10} (omega arith) high), after_digits);
         }
 

@@ -8,8 +8,8 @@ use native.Mathlib.Nat.{add-zero}
 use native.Mathlib.Omega.{arith}
 use borrow.Author.Tests.{eqb-true}
 use lib.Dec.{eqb}
-use lib.ListN.{length, get_or, drop, length_drop, drop_of_length-le}
-use lib.Seq.{drop_drop}
+use lib.ListN.{length, get_or, drop, length-drop, drop_of_length-le}
+use lib.Seq.{drop-drop}
 use Rattle.numbers.proofs.Joined.{drop_next}
 use Rattle.text.specs.TextReading.{starts_with, ByteIs}
 
@@ -58,7 +58,7 @@ module _ {s : List ℕ} {at : ℕ} {key : List ℕ} where
     matched_more byte e =
         record {
           left = one ∙ ap (λ t. t && starts_with (drop (i + 1) key) (drop 1 (drop (at + i) s))) (sym byte.is ∙ e)
-              ∙ ap (starts_with (drop (i + 1) key)) (drop_drop 1 (at + i) s ∙ next);
+              ∙ ap (starts_with (drop (i + 1) key)) (drop-drop 1 (at + i) s ∙ next);
         }
       where
         next : drop (at + i + 1) s ≡ drop (at + (i + 1)) s
@@ -68,7 +68,7 @@ module _ {s : List ℕ} {at : ℕ} {key : List ℕ} where
 module _ {s : List ℕ} {at b : ℕ} {r : Bool} (byte : ByteIs s at b r) (yes : r ≡ true) where
   pub byte_there : at < length s
   unfolding starts_with
-  byte_there = go (drop at s) (length_drop at s) (sym byte.is ∙ yes)
+  byte_there = go (drop at s) (length-drop at s) (sym byte.is ∙ yes)
     where
       go : (bs : List ℕ) → length bs ≡ length s - at → starts_with (b ∷ []) bs ≡ true → at < length s
       go [] n e = let z : ◌≡◌ {A = ℕ} 0 1 = cc in omega arith

@@ -3,15 +3,15 @@
 use mathlib.Core.Path.{◌≡◌, refl, ap, subst, ◌∙◌}
 use mathlib.Core.Bool.{Bool, true, false, not, cond, ◌&&◌, ◌||◌}
 use mathlib.Core.Logic.{◌≢◌, ◌↔◌}
-use mathlib.Core.List.{List, [], ◌∷◌, ◌++◌, append_nil}
+use mathlib.Core.List.{List, [], ◌∷◌, ◌++◌, append-nil}
 use mathlib.Core.Option.{Option, none, some, none-ne-some}
 use Prim.Native.Nat.{ℕ, zero, suc, ◌^◌, ◌≤◌, ◌<◌}
 use native.Mathlib.Omega.{arith}
 use lib.Dec.{T, T_not, not_T, leb, eqb, leb→le, le→leb, eqb→eq, eqb-suc-zero}
 use lib.IntN.{ℤ, pos, negsuc, neg_ℤ, nat_abs}
-use lib.ListN.{length, get_or, drop, length_append}
-use lib.Seq.{drop_append_seam}
-use Rattle.numbers.proofs.Truth.{and_left, and_right, and_fails_left, holds, cond_ind, cond_false}
+use lib.ListN.{length, get_or, drop, length-append}
+use lib.Seq.{drop-append_seam}
+use Rattle.numbers.proofs.Truth.{and_left, and_right, and_fails_left, holds, cond_ind, cond-false}
 use Rattle.text.specs.Numeral.{digits, value_of, is_natural, natural, negative, number}
 use Rattle.text.specs.Decimal.{spell_nat, spell_int}
 use Rattle.text.proofs.DecimalLaws.{DigitsOf, decimal_all, decimal_digits, digits_append, digits_first, digits_rest, digits_twice, decimal_value}
@@ -74,8 +74,8 @@ spelled_found : (n : ℕ) (rest : List ℕ) → n < 10 ^ 9 → digits rest ≡ [
 unfolding spell_nat
 spelled_found n rest h e =
     let w : DigitsOf n (spell_nat n) = decimal_digits 19 n (omega arith) in
-    let found : digits (spell_nat n ++ rest) ≡ spell_nat n = digits_append (spell_nat n) rest w.all_digits ∙ rw e (append_nil (spell_nat n)) in
-    record { form = rw found (spelled_form n h w); value = rw found w.value; after = rw found (drop_append_seam (spell_nat n) rest) }
+    let found : digits (spell_nat n ++ rest) ≡ spell_nat n = digits_append (spell_nat n) rest w.all_digits ∙ rw e (append-nil (spell_nat n)) in
+    record { form = rw found (spelled_form n h w); value = rw found w.value; after = rw found (drop-append_seam (spell_nat n) rest) }
 
 minus_starts : (bs : List ℕ) (n : ℕ) (rest : List ℕ) → n ≢ 0 → Starts bs (pos n) rest → Starts (45 ∷ bs) (neg_ℤ (pos n)) rest
 unfolding spell_int
@@ -116,7 +116,7 @@ natural_spelled n rest h e = let f = spelled_found n rest h e in rw (holds (is_n
 number_natural : (bs : List ℕ) → T (is_natural (digits bs)) → number bs ≡ natural bs
 unfolding number is_natural digits
 number_natural [] t = absurd t
-number_natural (b ∷ bs) t = cond_false (eqb b 45) _ _ (not_T (eqb b 45) (λ u. subst (λ (c : ℕ). T (is_natural (digits (c ∷ bs)))) (eqb→eq b 45 u) t))
+number_natural (b ∷ bs) t = cond-false (eqb b 45) _ _ (not_T (eqb b 45) (λ u. subst (λ (c : ℕ). T (is_natural (digits (c ∷ bs)))) (eqb→eq b 45 u) t))
 
 pub number_spelled : (z : ℤ) (rest : List ℕ) → nat_abs z < 10 ^ 9 → digits rest ≡ [] → number (spell_int z ++ rest) ≡ some (z, rest)
 unfolding number spell_int
@@ -132,16 +132,16 @@ number_long : (bs : List ℕ) → 10 ≤ length (digits bs) → number bs ≡ no
 unfolding number natural digits
 number_long [] h = refl
 number_long (b ∷ bs) h =
-    cond_false (eqb b 45) _ _ (not_T (eqb b 45) (λ u. let k = subst (λ (c : ℕ). 10 ≤ length (digits (c ∷ bs))) (eqb→eq b 45 u) h in omega arith))
-    ∙ cond_false (is_natural (digits (b ∷ bs))) _ _ (natural_long (b ∷ bs) h)
+    cond-false (eqb b 45) _ _ (not_T (eqb b 45) (λ u. let k = subst (λ (c : ℕ). 10 ≤ length (digits (c ∷ bs))) (eqb→eq b 45 u) h in omega arith))
+    ∙ cond-false (is_natural (digits (b ∷ bs))) _ _ (natural_long (b ∷ bs) h)
 
 digits_long : (n : ℕ) (rest : List ℕ) → 10 ^ 9 ≤ n → 10 ≤ length (digits (spell_nat n ++ rest))
 unfolding spell_nat
 digits_long n rest h = rw (digits_append (spell_nat n) rest (decimal_all 20 n))
-    (omega (arith, length_append (spell_nat n) (digits rest), length_decimal_from 9 20 n h (omega arith)))
+    (omega (arith, length-append (spell_nat n) (digits rest), length_decimal_from 9 20 n h (omega arith)))
 
 pub number_too_long : (z : ℤ) (rest : List ℕ) → 10 ^ 9 ≤ nat_abs z → number (spell_int z ++ rest) ≡ none
 unfolding number spell_int negative
 number_too_long (pos n) rest h = number_long (spell_nat n ++ rest) (digits_long n rest h)
-number_too_long (negsuc n) rest h = cond_false (is_natural (digits (spell_nat (suc n) ++ rest)) && not (eqb (value_of (digits (spell_nat (suc n) ++ rest))) 0)) _ _
+number_too_long (negsuc n) rest h = cond-false (is_natural (digits (spell_nat (suc n) ++ rest)) && not (eqb (value_of (digits (spell_nat (suc n) ++ rest))) 0)) _ _
     (and_fails_left (is_natural (digits (spell_nat (suc n) ++ rest))) _ (natural_long (spell_nat (suc n) ++ rest) (digits_long (suc n) rest h)))

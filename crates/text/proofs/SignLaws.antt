@@ -13,7 +13,7 @@ use lib.ListN.{length, drop}
 use lib.Signed.{mag}
 use mir.Syntax.{w64}
 use mir.Val.{SFits, of_z, to_z}
-use mir.ValLaws.{to_z_pos, to_z_of_z}
+use mir.ValLaws.{to_z_pos, to_z-of_z}
 use Rattle.text.specs.Ascii.{minus}
 use Rattle.text.specs.Numeral.{digits, value_of, is_natural, natural, negative, number}
 use Rattle.text.specs.TextReading.{starts_with, ByteIs, NaturalAt, NegativeAt, NumberAt}
@@ -46,7 +46,7 @@ module _ (n : ℕ) (h : n < 10 ^ 9) where
   neg_fits = rw neg_value (record { sfits = mag_neg n h })
 
   pub neg_bits : to_z w64 (of_z w64 (pos 0 -ℤ to_z w64 n)) ≡ neg_ℤ (pos n)
-  neg_bits = to_z_of_z w64 _ neg_fits ∙ neg_value
+  neg_bits = to_z-of_z w64 _ neg_fits ∙ neg_value
 
 -- ---- `negative`
 -- what `negative` makes of what `natural` reads

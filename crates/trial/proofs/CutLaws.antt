@@ -11,7 +11,7 @@ use lib.ListN.{length, take, drop}
 use mir.Syntax.{w64}
 use mir.Val.{to_z}
 use mir.ValLaws.{to_z_pos}
-use borrow.Author.Tests.{lt_ltb, le_ltb}
+use borrow.Author.Tests.{lt-ltb, le-ltb}
 use Rattle.query.specs.Place.{Rect, Axis, x_axis, y_axis}
 use Rattle.query.specs.Lines.{lines}
 use Rattle.query.specs.Grid.{grid}
@@ -115,9 +115,9 @@ module _ {bytes : List ℕ} (s : Spelt bytes) (across : Bool) where
     written = on_job_lem (record { result = minus_one; out = out }) (λ job. written_of out (lines job.deck (axis_of across))) s
 
     pub written_none : length out < n → record { result = minus_one; out = out } ≡ lines_written across out (read_job bytes)
-    written_none h = rw (lt_ltb (length out) (length ls) (omega (arith, count))) at written
+    written_none h = rw (lt-ltb (length out) (length ls) (omega (arith, count))) at written
 
     pub written_lines : {after : List ℤ} → n ≤ length out → after ≡ ls ++ drop (length ls) out →
         record { result = to_z w64 n; out = after } ≡ lines_written across out (read_job bytes)
     written_lines h g =
-        rw (g, to_z_pos w64 n (omega (arith, count, few_lines)), count) (rw (le_ltb (length out) (length ls) (omega (arith, count))) at written)
+        rw (g, to_z_pos w64 n (omega (arith, count, few_lines)), count) (rw (le-ltb (length out) (length ls) (omega (arith, count))) at written)

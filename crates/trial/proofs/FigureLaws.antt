@@ -7,8 +7,8 @@ use Prim.Native.Nat.{ℕ, ◌≤◌, ◌<◌}
 use native.Mathlib.Omega.{arith}
 use lib.Dec.{ltb}
 use lib.IntN.{ℤ, pos}
-use lib.ListN.{length, get_or, length_map}
-use borrow.Author.Tests.{lt_ltb, le_ltb}
+use lib.ListN.{length, get_or, length-map}
+use borrow.Author.Tests.{lt-ltb, le-ltb}
 use mir.Syntax.{w64}
 use mir.Val.{to_z}
 use mir.ValLaws.{to_z_pos}
@@ -90,7 +90,7 @@ module _ {bytes : List ℕ} {o : Opened} (e : o ≡ opened_record (read_job byte
   near_at_lem i h =
       ap (λ (d : Deck). get_or d.near i 0) (open_held bytes o e s)
       ∙ padded_at 512 0 (map (near s.job.deck) s.job.deck.stops) i
-      (omega (arith, length_map s.job.deck.stops (near s.job.deck), count_is))
+      (omega (arith, length-map s.job.deck.stops (near s.job.deck), count_is))
 
   pub near_small : (i : ℕ) → i < o.deck.stops → get_or o.deck.near i 0 ≤ 720000
   near_small i h = (sound_nears (open_whole bytes o e s).sound).range i h
@@ -104,9 +104,9 @@ module _ {bytes : List ℕ} {o : Opened} (e : o ≡ opened_record (read_job byte
   near_answer i h =
       let few : i < length s.job.deck.stops = omega (arith, count_is) in
       to_z_pos w64 _ (omega (arith, near_small i h)) ∙ ap pos (near_at_lem i h)
-      ∙ rw (lt_ltb i (length s.job.deck.stops) few) at (near_figure_lem i)
+      ∙ rw (lt-ltb i (length s.job.deck.stops) few) at (near_figure_lem i)
 
   pub near_none : (i : ℕ) → o.deck.stops ≤ i → minus_one ≡ near_figure i (read_job bytes)
   near_none i h =
       let many : length s.job.deck.stops ≤ i = omega (arith, count_is) in
-      rw (le_ltb i (length s.job.deck.stops) many) at (near_figure_lem i)
+      rw (le-ltb i (length s.job.deck.stops) many) at (near_figure_lem i)

@@ -8,7 +8,7 @@ use lib.IntN.{ℤ, pos}
 use lib.ListN.{get_or}
 use mir.Syntax.{w64}
 use mir.Val.{to_z, of_z}
-use mir.ValLaws.{to_z_of_z, to_z_pos}
+use mir.ValLaws.{to_z-of_z, to_z_pos}
 use Rattle.numbers.proofs.Words.{word_fits}
 use Rattle.query.specs.Place.{In}
 use Rattle.query.specs.Order.{Priced}
@@ -117,7 +117,7 @@ module _ (r : Report) (h : FiguresInRange 1000 (report_figures r)) (which : ℕ)
   high_figure e = number_at (report_numbers (report_figures r)) which 3 _ e (to_z_pos w64 r.high (omega (arith, h.high_limit)))
 
   pub low_figure : which ≡ 4 → to_z w64 (of_z w64 r.low) ≡ get_or (report_numbers (report_figures r)) which least
-  low_figure e = number_at (report_numbers (report_figures r)) which 4 _ e (to_z_of_z w64 r.low (word_fits w64 r.low (omega (arith, h.low_limit))))
+  low_figure e = number_at (report_numbers (report_figures r)) which 4 _ e (to_z-of_z w64 r.low (word_fits w64 r.low (omega (arith, h.low_limit))))
 
   pub before_figure_lem : which ≡ 5 → to_z w64 r.before ≡ get_or (report_numbers (report_figures r)) which least
   before_figure_lem e = number_at (report_numbers (report_figures r)) which 5 _ e (to_z_pos w64 r.before (omega (arith, h.before_limit)))

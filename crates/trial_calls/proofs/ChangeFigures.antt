@@ -27,7 +27,7 @@ use Rattle.calls.specs.ChangeCall.{AfterChange, change_call}
 use Rattle.calls.proofs.ChangeLaw.{change_law}
 use Rattle.trial.specs.Trial.{least, refusal_numbers}
 use Rattle.trial.proofs.NumberLaws.{number_at}
-use Rattle.trial_calls.specs.Records.{coordinates_of, naturals_of, is_record, deck_from, changeNumbers, change_figure, NoLine, changeOf}
+use Rattle.trial_calls.specs.Records.{coordinates_of, naturals_of, is_record, deck_from, changeNumbers, changeFigure, NoLine, changeOf}
 use Rattle.trial_calls.specs.Records.{changeInto, trialChange}
 use Rattle.trial_calls.proofs.RecordLaws.{few_coordinates, few_naturals, as_long}
 
@@ -38,16 +38,16 @@ zero_at (suc zero) h = refl
 zero_at (suc (suc k)) h = absurd (omega arith)
 
 module _ {verdict : Verdict} (which : ℕ) where
-  pub no_refusal : verdict ≡ Verdict.Made → which < 2 → pos 0 ≡ change_figure which (changeAnswer verdict)
-  no_refusal e h = zero_at which h ∙ ap (λ (v : Verdict). change_figure which (changeAnswer v)) (sym e)
+  pub no_refusal : verdict ≡ Verdict.Made → which < 2 → pos 0 ≡ changeFigure which (changeAnswer verdict)
+  no_refusal e h = zero_at which h ∙ ap (λ (v : Verdict). changeFigure which (changeAnswer v)) (sym e)
 
-  pub no_figure : verdict ≡ Verdict.Made → 2 ≤ which → least ≡ change_figure which (changeAnswer verdict)
+  pub no_figure : verdict ≡ Verdict.Made → 2 ≤ which → least ≡ changeFigure which (changeAnswer verdict)
   no_figure e h = number_at (changeNumbers (gives tt)) which (suc (suc (which - 2))) least (omega arith) refl
-      ∙ ap (λ (v : Verdict). change_figure which (changeAnswer v)) (sym e)
+      ∙ ap (λ (v : Verdict). changeFigure which (changeAnswer v)) (sym e)
 
   pub its_figure : {why : Refusal} → verdict ≡ Verdict.Refused why → {v : ℤ} → v ≡ get_or (refusal_numbers why) which least →
-      v ≡ change_figure which (changeAnswer verdict)
-  its_figure e f = f ∙ ap (λ (v : Verdict). change_figure which (changeAnswer v)) (sym e)
+      v ≡ changeFigure which (changeAnswer verdict)
+  its_figure e f = f ∙ ap (λ (v : Verdict). changeFigure which (changeAnswer v)) (sym e)
 
 pub no_line : {verdict : Verdict} {why : Refusal} → NoLine verdict → verdict ≡ Verdict.Refused why → line_of why ≤ 16385
 no_line {verdict} {why} h e = go (h.line (number_of why) (line_of why) (ap changeAnswer e))
@@ -110,7 +110,7 @@ module _ (zs : List ℤ) (ns : List ℕ) (kind : ℕ) (x y : ℤ) (visits which 
 
     pub change_is : kind ≤ 3 → {deck after : Deck} (verdict : Verdict) → deck ≡ deck_from zs ns →
         record { answer = changeAnswer verdict; deck = after } ≡ change_call deck (changeOf kind x y visits) → {v : ℤ} {zs' : List ℤ} {ns' : List ℕ} →
-        v ≡ change_figure which (changeAnswer verdict) → zs' ≡ coordinates_of after → ns' ≡ naturals_of after →
+        v ≡ changeFigure which (changeAnswer verdict) → zs' ≡ coordinates_of after → ns' ≡ naturals_of after →
         record { result = v; coordinates = zs'; naturals = ns' } ≡ trialChange zs ns kind x y visits which
     change_is l verdict d e f g j =
         (λ i. record { result = f i; coordinates = g i; naturals = j i })

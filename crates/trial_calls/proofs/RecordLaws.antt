@@ -4,11 +4,11 @@ use Prim.Native.Nat.{ℕ, zero, suc, ◌+◌, ◌-◌, ◌≤◌, ◌<◌}
 use mathlib.Core.Path.{◌≡◌, refl, sym, ap, ◌∙◌}
 use mathlib.Core.Bool.{Bool, true, false, cond}
 use mathlib.Core.Logic.{◌≢◌}
-use mathlib.Core.List.{List, [], ◌∷◌, ◌++◌, append_nil, append_assoc}
+use mathlib.Core.List.{List, [], ◌∷◌, ◌++◌, append-nil, append_assoc}
 use native.Mathlib.Omega.{arith}
 use lib.IntN.{ℤ, pos}
-use lib.ListN.{length, get_or, take, drop, set, replicate, length-set, length_drop, length_replicate, drop_of_length-le}
-use lib.Seq.{paste, take_all, take-suc-set, take-paste, length_paste, length_take_le}
+use lib.ListN.{length, get_or, take, drop, set, replicate, length-set, length-drop, length-replicate, drop_of_length-le}
+use lib.Seq.{paste, take_all, take-suc-set, take-paste, length-paste, length-take-le}
 use mir.Syntax.{w64}
 use mir.Val.{to_z}
 use mir.ValLaws.{to_z_pos}
@@ -37,7 +37,7 @@ use Rattle.trial_calls.specs.Records.{trial_write}
 -- ---- lists
 module _ {A : Type 0} where
   pub rest_long : (start n : ℕ) (l : List A) → start + n ≤ length l → n ≤ length (drop start l)
-  rest_long start n l h = omega (arith, length_drop start l)
+  rest_long start n l h = omega (arith, length-drop start l)
 
   -- numbers stored at the front
   pub four_put : (l : List A) (a b c d : A) → 4 ≤ length l → take 4 (set (set (set (set l 0 a) 1 b) 2 c) 3 d) ≡ a ∷ b ∷ c ∷ d ∷ []
@@ -54,7 +54,7 @@ module _ {A : Type 0} where
   -- a list copied behind what is put: the length stays, and its front has that list too
   module _ (l s : List A) (at n : ℕ) {m : List A} (e : m ≡ paste l at s n) (room : at + n ≤ length l) (whole : length s ≡ n) where
     pub copied_length : length m ≡ length l
-    copied_length = rw e (length_paste l at s n room (omega arith))
+    copied_length = rw e (length-paste l at s n room (omega arith))
 
     pub copied_front : (done : List A) → take at l ≡ done → take (at + n) m ≡ done ++ s
     copied_front done d = rw e (take-paste l at s n (omega arith) (omega arith) ∙ rw (d, take_all n s (omega arith)))
@@ -115,8 +115,8 @@ module _ (deck : Deck) (sized : Sized deck) where
 -- ---- the record that has the numbers of two lists
 copied_into : {A : Type 0} (z : A) (n : ℕ) (s : List A) {m : List A} → m ≡ paste (replicate n z) 0 s n → m ≡ take n s
 copied_into z n s e =
-    let h : length (replicate n z) ≤ 0 + n = omega (arith, length_replicate n z) in
-    e ∙ ap (λ (r : List _). take n s ++ r) (drop_of_length-le (replicate n z) h) ∙ append_nil (take n s)
+    let h : length (replicate n z) ≤ 0 + n = omega (arith, length-replicate n z) in
+    e ∙ ap (λ (r : List _). take n s ++ r) (drop_of_length-le (replicate n z) h) ∙ append-nil (take n s)
 
 pub deck_made : (zs : List ℤ) (ns : List ℕ) {a b c d : ℤ} {k l p s t : ℕ} {px py sx sy : List ℤ} {vs us : List ℕ} → a ≡ get_or zs 0 (pos 0) →
     b ≡ get_or zs 1 (pos 0) → c ≡ get_or zs 2 (pos 0) → d ≡ get_or zs 3 (pos 0) → k ≡ get_or ns 0 0 → l ≡ get_or ns 1 0 → p ≡ get_or ns 2 0 → s ≡ get_or ns 3 0 →
@@ -156,7 +156,7 @@ deck_made zs ns ea eb ec ed ek el ep es epx epy esx esy evs eus et = λ i. recor
 }
 
 part_long : {A : Type 0} (start n : ℕ) (l : List A) → start + n ≤ length l → length (take n (drop start l)) ≡ n
-part_long start n l h = length_take_le n (drop start l) (rest_long start n l h)
+part_long start n l h = length-take-le n (drop start l) (rest_long start n l h)
 
 pub deck_sized : (zs : List ℤ) (ns : List ℕ) → length zs ≡ 1156 → length ns ≡ 1029 → Sized (deck_from zs ns)
 deck_sized zs ns h k = record {

@@ -9,9 +9,9 @@ use native.Mathlib.Numerals.{add-one}
 use native.Mathlib.Omega.{arith}
 use lib.Arith.{le→nltb}
 use lib.Dec.{ltb, ltb→lt, lt→ltb, nltb→le}
-use lib.ListN.{length, take, drop, set, get_or, length_append, length-set, drop_of_length-le}
-use lib.Seq.{take_at, get_or_at, take_suc, drop_cons, take_all, length_take_le}
-use Rattle.numbers.proofs.Truth.{test, cond_true, cond_false}
+use lib.ListN.{length, take, drop, set, get_or, length-append, length-set, drop_of_length-le}
+use lib.Seq.{take_at, get_or_at, take-suc, drop-cons, take_all, length-take-le}
+use Rattle.numbers.proofs.Truth.{test, cond-true, cond-false}
 use Rattle.text.specs.Decimal.{decimal, spell_nat}
 use Rattle.text.proofs.DecimalLaws.{decimal_small, decimal_large}
 use Rattle.text.proofs.DigitCounts.{length_one, length_more}
@@ -22,11 +22,11 @@ use Rattle.write.proofs.WrittenLaws.{written_nil, written_before}
 -- ---- how many there are
 pub below_is : (n least : ℕ) → n < least → at_least n least ≡ 0
 unfolding at_least
-below_is n least h = cond_true (ltb n least) _ _ (lt→ltb n least h)
+below_is n least h = cond-true (ltb n least) _ _ (lt→ltb n least h)
 
 pub from_is : (n least : ℕ) → least ≤ n → at_least n least ≡ 1
 unfolding at_least
-from_is n least h = cond_false (ltb n least) _ _ (le→nltb n least h)
+from_is n least h = cond-false (ltb n least) _ _ (le→nltb n least h)
 
 pub length_few : (n : ℕ) → n < 100000 → 1 + at_least n 10 + at_least n 100 + at_least n 1000 + at_least n 10000 ≡ length (spell_nat n)
 length_few n h = below 10 (λ k. rw (below_is n 10 k, below_is n 100 (omega arith), below_is n 1000 (omega arith), below_is n 10000 (omega arith))
@@ -64,13 +64,13 @@ last_digits (suc k) n = last_digits k (n / 10) ++ ((48 + n % 10) ∷ [])
 last_length : (k n : ℕ) → length (last_digits k n) ≡ k
 unfolding last_digits
 last_length zero n = refl
-last_length (suc k) n = length_append (last_digits k (n / 10)) ((48 + n % 10) ∷ []) ∙ omega (arith, last_length k (n / 10))
+last_length (suc k) n = length-append (last_digits k (n / 10)) ((48 + n % 10) ∷ []) ∙ omega (arith, last_length k (n / 10))
 
 last_more : (n : ℕ) (ds : List ℕ) → ds ≡ last_digits (length ds) (n / 10) →
     ds ++ ((48 + n % 10) ∷ []) ≡ last_digits (length (ds ++ ((48 + n % 10) ∷ []))) n
 unfolding last_digits
 last_more n ds e =
-    let l : length (ds ++ ((48 + n % 10) ∷ [])) ≡ suc (length ds) = omega (arith, length_append ds ((48 + n % 10) ∷ [])) in
+    let l : length (ds ++ ((48 + n % 10) ∷ [])) ≡ suc (length ds) = omega (arith, length-append ds ((48 + n % 10) ∷ [])) in
     ap (λ (front : List ℕ). front ++ ((48 + n % 10) ∷ [])) e ∙ ap (λ (k : ℕ). last_digits k n) (sym l)
 
 last_one : (n : ℕ) → n < 10 → (48 + n) ∷ [] ≡ last_digits 1 n
@@ -90,8 +90,8 @@ spell_last n h = decimal_last 19 n h
 -- the last of some elements, and those before it
 split_last : (ds front : List ℕ) (j b : ℕ) → j < length ds → length front ≡ j → take (suc j) ds ≡ front ++ (b ∷ []) → (take j ds ≡ front) × (get_or ds j 0 ≡ b)
 split_last ds front j b h l e =
-    let both : take j ds ++ (get_or ds j 0 ∷ []) ≡ front ++ (b ∷ []) = sym (take_suc ds j 0 h) ∙ e in
-    let k = length_take_le j ds (omega arith) in (
+    let both : take j ds ++ (get_or ds j 0 ∷ []) ≡ front ++ (b ∷ []) = sym (take-suc ds j 0 h) ∙ e in
+    let k = length-take-le j ds (omega arith) in (
       sym (take_at (take j ds) (get_or ds j 0 ∷ []) j k) ∙ ap (take j) both ∙ take_at front (b ∷ []) j l,
       sym (get_or_at (take j ds) (get_or ds j 0) [] 0 j k) ∙ ap (λ (m : List ℕ). get_or m j 0) both ∙ get_or_at front b [] 0 j l,
     )
@@ -121,7 +121,7 @@ module _ {out₀ : List ℕ} {at : ℕ} where
         let digits : take (suc j) ds ≡ last_digits j (rest / 10) ++ ((48 + rest % 10) ∷ []) = rw (e, add-one) at s.left in
         let (front, here) = split_last ds (last_digits j (rest / 10)) j (48 + rest % 10) (omega arith) (last_length j (rest / 10)) digits in
         let place : at + i ≡ at + j + 1 = omega arith in
-        let next : drop j ds ≡ (48 + rest % 10) ∷ drop i ds = rw (e, add-one, ← here) (drop_cons ds j 0 (omega arith)) in
+        let next : drop j ds ≡ (48 + rest % 10) ∷ drop i ds = rw (e, add-one, ← here) (drop-cons ds j 0 (omega arith)) in
         record {
           within = omega arith;
           long = simp length-set s.long;

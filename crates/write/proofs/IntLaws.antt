@@ -8,17 +8,17 @@ use lib.IntN.{ℤ, pos, nat_abs}
 use lib.Signed.{lt_z}
 use mir.Syntax.{w64}
 use mir.Val.{SFits, to_z, of_z}
-use mir.ValLaws.{to_z_of_z}
+use mir.ValLaws.{to_z-of_z}
 use Rattle.text.specs.Ascii.{minus}
 use Rattle.text.specs.Decimal.{spell_nat, spell_int}
 use Rattle.text.proofs.DigitCounts.{spell_int_non_neg, spell_int_negative}
 
 pub non_negative : (z : ℤ) (n : ℕ) → SFits w64 z → lt_z (to_z w64 (of_z w64 z)) (pos 0) ≡ false → n ≡ nat_abs (to_z w64 (of_z w64 z)) → spell_int z ≡ spell_nat n
 non_negative z n f t e =
-    let m : n ≡ nat_abs z = rw (to_z_of_z w64 z f) at e in
-    rw m (spell_int_non_neg z (rw (to_z_of_z w64 z f) at t))
+    let m : n ≡ nat_abs z = rw (to_z-of_z w64 z f) at e in
+    rw m (spell_int_non_neg z (rw (to_z-of_z w64 z f) at t))
 
 pub negative : (z : ℤ) (n : ℕ) → SFits w64 z → lt_z (to_z w64 (of_z w64 z)) (pos 0) ≡ true → n ≡ nat_abs (to_z w64 (of_z w64 z)) → spell_int z ≡ minus ∷ spell_nat n
 negative z n f t e =
-    let m : n ≡ nat_abs z = rw (to_z_of_z w64 z f) at e in
-    rw m (spell_int_negative z (rw (to_z_of_z w64 z f) at t))
+    let m : n ≡ nat_abs z = rw (to_z-of_z w64 z f) at e in
+    rw m (spell_int_negative z (rw (to_z-of_z w64 z f) at t))

@@ -5,23 +5,23 @@ use Prim.Native.Nat.{ℕ, suc, ◌+◌, ◌≤◌, ◌<◌}
 use native.Mathlib.Nat.{zero-add, add-zero, add_assoc}
 use native.Mathlib.Numerals.{add-one}
 use native.Mathlib.Omega.{arith}
-use mathlib.Core.List.{List, [], ◌∷◌, ◌++◌, append_assoc, append_nil}
-use lib.ListN.{length, take, drop, set, get_or, length_append, length_drop, take-append-drop}
-use lib.Seq.{take_at, drop_at, drop_drop, length_take_le, set_at, set_split, take_suc, take_all}
+use mathlib.Core.List.{List, [], ◌∷◌, ◌++◌, append_assoc, append-nil}
+use lib.ListN.{length, take, drop, set, get_or, length-append, length-drop, take-append-drop}
+use lib.Seq.{take_at, drop_at, drop-drop, length-take-le, set_at, set_split, take-suc, take_all}
 use Rattle.write.specs.Written.{overwritten, written, Overwrote, Wrote}
 
 -- what stands before the end of the new bytes
 length_head : (out : List ℕ) (at : ℕ) (bs : List ℕ) → at ≤ length out → length (take at out ++ bs) ≡ at + length bs
-length_head out at bs h = length_append (take at out) bs ∙ ap (λ (k : ℕ). k + length bs) (length_take_le at out h)
+length_head out at bs h = length-append (take at out) bs ∙ ap (λ (k : ℕ). k + length bs) (length-take-le at out h)
 
 pub length_written : (out : List ℕ) (at : ℕ) (bs : List ℕ) → at + length bs ≤ length out → length (written out at bs) ≡ length out
 unfolding written
 length_written out at bs h =
-    omega (arith, length_append (take at out ++ bs) (drop (at + length bs) out), length_head out at bs (omega arith), length_drop (at + length bs) out)
+    omega (arith, length-append (take at out ++ bs) (drop (at + length bs) out), length_head out at bs (omega arith), length-drop (at + length bs) out)
 
 pub written_nil : (out : List ℕ) (at : ℕ) → written out at [] ≡ out
 unfolding written
-written_nil out at = rw (append_nil, add-zero) (take-append-drop at out)
+written_nil out at = rw (append-nil, add-zero) (take-append-drop at out)
 
 -- one byte is a store
 pub written_one : (out : List ℕ) (at b : ℕ) → at < length out → written out at (b ∷ []) ≡ set out at b
@@ -32,10 +32,10 @@ written_one out at b h = rw (append_assoc, add-one) (sym (set_split out at b h))
 pub written_before : (out : List ℕ) (at b : ℕ) (bs : List ℕ) → at < length out → set (written out (at + 1) bs) at b ≡ written out at (b ∷ bs)
 unfolding written
 written_before out at b bs h =
-    let one : take (at + 1) out ≡ take at out ++ (get_or out at 0 ∷ []) = rw add-one (take_suc out at 0 h) in
+    let one : take (at + 1) out ≡ take at out ++ (get_or out at 0 ∷ []) = rw add-one (take-suc out at 0 h) in
     let same : at + 1 + length bs ≡ at + suc (length bs) = omega arith in
     rw (one, same, append_assoc (take at out) (get_or out at 0 ∷ []) bs, append_assoc (take at out) (get_or out at 0 ∷ bs) (drop (at + suc (length bs)) out))
-    (set_at (take at out) (get_or out at 0) (bs ++ drop (at + suc (length bs)) out) b at (length_take_le at out (omega arith))
+    (set_at (take at out) (get_or out at 0) (bs ++ drop (at + suc (length bs)) out) b at (length-take-le at out (omega arith))
     ∙ sym (append_assoc (take at out) (b ∷ bs) (drop (at + suc (length bs)) out)))
 
 -- bytes, and then bytes from where those end
@@ -44,10 +44,10 @@ unfolding written
 written_append out at a b h =
     rw (
       take_at (take at out ++ a) (drop (at + length a) out) (at + length a) (length_head out at a h),
-      sym (drop_drop (length b) (at + length a) (take at out ++ a ++ drop (at + length a) out)),
+      sym (drop-drop (length b) (at + length a) (take at out ++ a ++ drop (at + length a) out)),
       drop_at (take at out ++ a) (drop (at + length a) out) (at + length a) (length_head out at a h),
-      drop_drop (length b) (at + length a) out,
-      length_append a b,
+      drop-drop (length b) (at + length a) out,
+      length-append a b,
       append_assoc (take at out) a b,
       add_assoc at (length a) (length b),
     )
@@ -67,7 +67,7 @@ wrote_kept {out} {bs} {after} {at} {end} w h = ap length w.text ∙ length_writt
 pub wrote_both : {out a mid b after : List ℕ} {at place end : ℕ} → Wrote out at a mid place → Wrote mid place b after end → at ≤ length out →
     Wrote out at (a ++ b) after end
 wrote_both {out} {a} {mid} {b} {after} {at} {place} {end} v w h = record {
-  next = omega (arith, v.next, w.next, length_append a b);
+  next = omega (arith, v.next, w.next, length-append a b);
   text = w.text ∙ rw (v.text, v.next) (written_append out at a b h);
 }
 
@@ -92,8 +92,8 @@ wrote_byte {out} {a} {mid} {at} {place} b w h l = wrote_both w (wrote_store mid 
 pub wrote_turn : {out mid : List ℕ} (s : List ℕ) (at i : ℕ) → Wrote out at (take i s) mid (at + i) → at + length s ≤ length out → i < length s →
     Wrote out at (take (i + 1) s) (set mid (at + i) (get_or s i 0)) (at + (i + 1))
 wrote_turn s at i w h k =
-    let e : take (i + 1) s ≡ take i s ++ (get_or s i 0 ∷ []) = rw add-one (take_suc s i 0 k) in
-    rw (e, ← add_assoc at i 1) (wrote_byte (get_or s i 0) w (omega arith) (wrote_kept w (omega (arith, length_take_le i s (omega arith)))))
+    let e : take (i + 1) s ≡ take i s ++ (get_or s i 0 ∷ []) = rw add-one (take-suc s i 0 k) in
+    rw (e, ← add_assoc at i 1) (wrote_byte (get_or s i 0) w (omega arith) (wrote_kept w (omega (arith, length-take-le i s (omega arith)))))
 
 -- all of s
 pub wrote_all : {out mid : List ℕ} (s : List ℕ) (at i : ℕ) → Wrote out at (take i s) mid (at + i) → length s ≤ i → Wrote out at s mid (at + i)

@@ -6,7 +6,7 @@ use mathlib.Core.Bool.{not}
 use lib.IntN.{ℤ}
 use mir.Syntax.{w64}
 use mir.Val.{of_z, to_z}
-use mir.ValLaws.{to_z_of_z}
+use mir.ValLaws.{to_z-of_z}
 use Rattle.numbers.specs.Integer.{strictly_between}
 use Rattle.numbers.specs.Lists.{keep}
 use Rattle.numbers.proofs.Integer.{order}
@@ -28,10 +28,10 @@ module _ (c : tie.After-middle-line) where
   a_line = let a = c.before.args in middle_line a.alo a.ahi (keep (strictly_between a.alo a.ahi) a.a.now)
 
   same-alo : to_z w64 (of_z w64 c.before.args.alo) ≡ c.before.args.alo
-  same-alo = to_z_of_z w64 c.before.args.alo c.before.ranges.alo
+  same-alo = to_z-of_z w64 c.before.args.alo c.before.ranges.alo
 
   a-is : c.middle-line.result ≡ a_line
-  a-is = rw (same-alo, to_z_of_z w64 c.before.args.ahi c.before.ranges.ahi) at c.middle-line.ensures
+  a-is = rw (same-alo, to_z-of_z w64 c.before.args.ahi c.before.ranges.ahi) at c.middle-line.ensures
 
   a_read : to_z w64 (of_z w64 c.middle-line.result) ≡ a_line
   a_read = fitting _ c.middle-line.type-inv ∙ a-is
@@ -59,10 +59,10 @@ module _ (c : tie.After-middle-line2) where
   b_line = let a = start.args in middle_line a.blo a.bhi (keep (strictly_between a.blo a.bhi) a.b.now)
 
   same-blo : to_z w64 (of_z w64 start.args.blo) ≡ start.args.blo
-  same-blo = to_z_of_z w64 start.args.blo start.fits.blo
+  same-blo = to_z-of_z w64 start.args.blo start.fits.blo
 
   b-is : c.middle-line2.result ≡ b_line
-  b-is = rw (same-blo, to_z_of_z w64 start.args.bhi start.fits.bhi) at c.middle-line2.ensures
+  b-is = rw (same-blo, to_z-of_z w64 start.args.bhi start.fits.bhi) at c.middle-line2.ensures
 
   b-read : to_z w64 (of_z w64 c.middle-line2.result) ≡ b_line
   b-read = fitting _ c.middle-line2.type-inv ∙ b-is

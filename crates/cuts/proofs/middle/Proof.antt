@@ -6,7 +6,7 @@ use Prim.Native.Nat.{◌≤◌}
 use lib.IntN.{ℤ, pos, nat_abs, ◌+ℤ◌}
 use mir.Syntax.{w64}
 use mir.Val.{of_z, to_z}
-use mir.ValLaws.{to_z_of_z}
+use mir.ValLaws.{to_z-of_z}
 use Rattle.numbers.specs.Integer.{half_up}
 use Rattle.numbers.proofs.Integer.{abs_range, half_nat, sum_abs, half_shift}
 use Rattle.numbers.proofs.Words.{word_fits}
@@ -25,10 +25,10 @@ module _ (c : tie.Start) where
 
   -- the sum, as the machine has it
   sum : to_z w64 (of_z w64 c.args.lo) +ℤ to_z w64 (of_z w64 c.args.hi) ≡ total
-  sum = rw (to_z_of_z w64 c.args.lo c.ranges.lo, to_z_of_z w64 c.args.hi c.ranges.hi)
+  sum = rw (to_z-of_z w64 c.args.lo c.ranges.lo, to_z-of_z w64 c.args.hi c.ranges.hi)
 
   sum-read : to_z w64 (of_z w64 (to_z w64 (of_z w64 c.args.lo) +ℤ to_z w64 (of_z w64 c.args.hi))) ≡ total
-  sum-read = rw sum (to_z_of_z w64 total (word_fits w64 total (omega (arith, small))))
+  sum-read = rw sum (to_z-of_z w64 total (word_fits w64 total (omega (arith, small))))
 
 add-result : tie.Need-overflow-add-result
 add-result c = rw (sum c) (word_fits w64 (total c) (omega (arith, small c)))
@@ -41,7 +41,7 @@ returns c =
     let m = total c +ℤ pos 1 in
     let h = half_up (total c) in
     let h-range : nat_abs h ≤ 100000 = (abs_range h 100000).1 (omega (arith, half_nat (total c), (abs_range (total c) 40000).0 (small c))) in
-    rw (sum-read c, to_z_of_z w64 m (word_fits w64 m (omega (arith, more c))), half_shift (total c)) (to_z_of_z w64 h (word_fits w64 h (omega arith)))
+    rw (sum-read c, to_z-of_z w64 m (word_fits w64 m (omega (arith, more c))), half_shift (total c)) (to_z-of_z w64 h (word_fits w64 h (omega arith)))
 
 pub middle-spec : {M : Type 1} → statement M
 middle-spec = tie.close (tie.spec add-result add-result-2 returns)

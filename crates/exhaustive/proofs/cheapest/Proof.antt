@@ -1,20 +1,20 @@
 -- `exhaustive::cheapest` meets its contract: the lines and objects are the problem's, so that the best over them is the cheapest crossing.
 -- Assumes nothing.
 use Prim.Native.Nat.{ℕ}
-use lib.ListN.{length_replicate}
+use lib.ListN.{length-replicate}
 use Rattle.problem.proofs.DeckProblem.{prepared_priceable}
 use Rattle.exhaustive.proofs.DeckCrossings.{vertical_lines, horizontal_lines, corner_near, answers}
 use Rattle.exhaustive.proofs.cheapest.Statement.{statement}
 use Rattle.exhaustive.proofs.cheapest.Tie as tie
 
 number-lines-requires : tie.Need-number-lines-requires
-number-lines-requires c κs = (horizontal_lines c.before.requires.0, length_replicate {A = ℕ} 40001 0)
+number-lines-requires c κs = (horizontal_lines c.before.requires.0, length-replicate {A = ℕ} 40001 0)
 
 number-objects-requires : tie.Need-number-objects-requires
 number-objects-requires c κs =
     let numbered = c.before.before in
     let pre = numbered.before.before.requires.0 in
-    (prepared_priceable pre, horizontal_lines pre, numbered.number-lines.ensures, length_replicate {A = ℕ} 512 0)
+    (prepared_priceable pre, horizontal_lines pre, numbered.number-lines.ensures, length-replicate {A = ℕ} 512 0)
 
 priced-requires : tie.Need-priced-requires
 priced-requires c κs =

@@ -4,7 +4,7 @@ use Prim.Native.Nat.{ℕ, ◌-◌}
 use mathlib.Core.Path.{◌≡◌, ◌∙◌}
 use native.Mathlib.Omega.{arith}
 use lib.IntN.{pos}
-use lib.ListN.{length, get_or, length_replicate}
+use lib.ListN.{length, get_or, length-replicate}
 use Rattle.deck.specs.ObjectColumns.{pricing_in}
 use Rattle.exhaustive.proofs.ObjectRamps.{small_back}
 use Rattle.exhaustive.proofs.CostsAlong.{costs_length}
@@ -19,7 +19,7 @@ abbrev decreases-loop : tie.decreases-loop
 decreases-loop columns n v h table rows before costs₀ found₀ i₀ costs found i = length v - i
 
 loop-holds : tie.Need-loop-init invariant-loop decreases-loop
-loop-holds c = (length_replicate {A = ℕ} 514 0, compared_none _ _ _ _)
+loop-holds c = (length-replicate {A = ℕ} 514 0, compared_none _ _ _ _)
 
 mul-cheapest-on : tie.Need-overflow-mul-cheapest-on invariant-loop decreases-loop
 mul-cheapest-on c = omega arith

@@ -4,7 +4,7 @@ use mathlib.Core.Path.{◌≡◌, ◌∙◌}
 use Prim.Native.Nat.{◌*◌, ◌-◌, ◌≤◌}
 use native.Mathlib.Omega.{arith}
 use mir.Syntax.{w64}
-use mir.ValLaws.{to_z_of_z}
+use mir.ValLaws.{to_z-of_z}
 use Rattle.exhaustive.specs.Ramps.{height_of}
 use Rattle.exhaustive.proofs.Heights.{height_most}
 use Rattle.exhaustive.proofs.Division.{Upwards, divided_up}
@@ -13,7 +13,7 @@ use Rattle.exhaustive.proofs.line_from.Statement.{statement}
 use Rattle.exhaustive.proofs.line_from.Tie as tie
 
 risen : (c : tie.After-height) → c.height.result ≡ height_of c.before.args.start
-risen c = let s = c.before in c.height.ensures ∙ rw (to_z_of_z w64 s.args.start s.ranges.start)
+risen c = let s = c.before in c.height.ensures ∙ rw (to_z-of_z w64 s.args.start s.ranges.start)
 
 risen-most : (c : tie.After-height) → c.height.result ≤ 1900000
 risen-most c = let s = c.before in omega (arith, risen c, height_most s.args.start 900000 s.requires.3 (omega arith))
@@ -24,7 +24,7 @@ slot_is : (c : tie.After-divided) → let at = c.before.before.before.before in
 slot_is c = let s = c.before.before.before.before.before in divided_up _ _ _ s.requires.2.some c.divided.ensures
 
 height-requires : tie.Need-height-requires
-height-requires c κs = rw (to_z_of_z w64 c.args.start c.ranges.start) c.requires.3
+height-requires c κs = rw (to_z-of_z w64 c.args.start c.ranges.start) c.requires.3
 
 mul-lowest : tie.Need-overflow-mul-lowest
 mul-lowest c = omega (arith, c.before.before.requires.2.most)

@@ -4,14 +4,14 @@ use mathlib.Core.Path.{◌≡◌, refl, ◌∙◌}
 use native.Mathlib.Omega.{arith}
 use borrow.Author.Rules.{rules}
 use mir.Syntax.{w64}
-use mir.ValLaws.{to_z_of_z}
+use mir.ValLaws.{to_z-of_z}
 use Rattle.exhaustive.specs.Ramps.{height_of}
 use Rattle.exhaustive.proofs.RampLaws.{ramp_weight}
 use Rattle.exhaustive.proofs.put_ramp.Statement.{statement}
 use Rattle.exhaustive.proofs.put_ramp.Tie as tie
 
 risen : (c : tie.After-height) → c.height.result ≡ height_of c.before.before.before.args.start
-risen c = let s = c.before.before.before in c.height.ensures ∙ rw (to_z_of_z w64 s.args.start s.ranges.start)
+risen c = let s = c.before.before.before in c.height.ensures ∙ rw (to_z-of_z w64 s.args.start s.ranges.start)
 
 mul-weights : tie.Need-overflow-mul-weights
 mul-weights c = omega (arith, c.requires.2)

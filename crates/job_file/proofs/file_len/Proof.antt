@@ -8,7 +8,7 @@ use lib.ListN.{length}
 use borrow.Author.Rules.{rules}
 use mir.Syntax.{w64}
 use mir.Val.{SFits, to_z, of_z}
-use mir.ValLaws.{to_z_of_z}
+use mir.ValLaws.{to_z-of_z}
 use Rattle.text.specs.Decimal.{spell_int}
 use Rattle.job_file.proofs.FileLaws.{length_file}
 use Rattle.job_file.proofs.file_len.Statement.{statement}
@@ -40,7 +40,7 @@ sizes c =
 -- the length of a place that was read back from its bits
 back : {r : ℕ} (x y : ℤ) → SFits w64 x → SFits w64 y → r ≡ length (spell_int (to_z w64 (of_z w64 x))) + length (spell_int (to_z w64 (of_z w64 y))) + 2 →
     r ≡ length (spell_int x) + length (spell_int y) + 2
-back x y fx fy e = rw (to_z_of_z w64 x fx, to_z_of_z w64 y fy) at e
+back x y fx fy e = rw (to_z-of_z w64 x fx, to_z-of_z w64 y fy) at e
 
 posts-len-requires : tie.Need-posts-len-requires
 posts-len-requires c κs = search rules

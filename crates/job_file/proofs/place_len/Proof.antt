@@ -6,7 +6,7 @@ use lib.ListN.{length}
 use lib.IntN.{ℤ}
 use borrow.Author.Rules.{rules}
 use mir.Syntax.{w64}
-use mir.ValLaws.{to_z_of_z}
+use mir.ValLaws.{to_z-of_z}
 use Rattle.text.specs.Decimal.{spell_int}
 use Rattle.job_file.proofs.place_len.Statement.{statement}
 use Rattle.job_file.proofs.place_len.Tie as tie
@@ -26,8 +26,8 @@ add-result-2 c = omega arith
 returns : tie.Need-returns
 returns c =
     let s = c.before.before in
-    let x = ap (λ (z : ℤ). length (spell_int z)) (to_z_of_z w64 s.args.x s.ranges.x) in
-    let y = ap (λ (z : ℤ). length (spell_int z)) (to_z_of_z w64 s.args.y s.ranges.y) in
+    let x = ap (λ (z : ℤ). length (spell_int z)) (to_z-of_z w64 s.args.x s.ranges.x) in
+    let y = ap (λ (z : ℤ). length (spell_int z)) (to_z-of_z w64 s.args.y s.ranges.y) in
     (omega (arith, x, y), omega arith)
 
 pub place-len-spec : {M : Type 1} → statement M

@@ -5,7 +5,7 @@ use Prim.Native.Nat.{ℕ, ◌*◌, ◌≤◌, ◌-◌}
 use native.Mathlib.Omega.{arith}
 use lib.ListN.{length}
 use mir.Syntax.{w64}
-use mir.ValLaws.{to_z_of_z}
+use mir.ValLaws.{to_z-of_z}
 use Rattle.job_file.specs.Texts.{post_texts}
 use Rattle.job_file.proofs.TextLaws.{texts_none, post_counted}
 use Rattle.deck.specs.DeckOf.{places}
@@ -53,8 +53,8 @@ loop-again : tie.Need-loop-preserved invariant-loop decreases-loop
 loop-again c =
     let s = c.before.before.before.before.before.args in (
       omega arith,
-      post_counted s.xs.now s.ys.now (to_z_of_z w64 _ (record { sfits = c.before.before.place-len-arg.given }))
-          (to_z_of_z w64 _ (record { sfits = c.before.place-len-arg2.given })) (omega arith) (omega arith)
+      post_counted s.xs.now s.ys.now (to_z-of_z w64 _ (record { sfits = c.before.before.place-len-arg.given }))
+          (to_z-of_z w64 _ (record { sfits = c.before.place-len-arg2.given })) (omega arith) (omega arith)
           c.before.before.before.before.loop.invariant.1 c.place-len.ensures.0,
       omega arith,
     )

@@ -2,7 +2,7 @@
 -- Assumes nothing.
 use native.Mathlib.Omega.{arith}
 use lib.IntN.{pos}
-use lib.ListN.{length_append}
+use lib.ListN.{length-append}
 use borrow.Author.Rules.{rules}
 use Rattle.text.specs.Ascii.{newline}
 use Rattle.write.proofs.WrittenLaws.{wrote_both}
@@ -12,7 +12,7 @@ use Rattle.job_file.proofs.put_count.Tie as tie
 
 put-requires : tie.Need-put-requires
 put-requires c κs =
-    let s = c.before.before.before in omega (arith, s.requires, length_append s.args.key.now (number_text (pos s.args.n) newline))
+    let s = c.before.before.before in omega (arith, s.requires, length-append s.args.key.now (number_text (pos s.args.n) newline))
 
 put-nat-end-requires : tie.Need-put-nat-end-requires
 put-nat-end-requires c κs =
@@ -22,7 +22,7 @@ put-nat-end-requires c κs =
       s.requires,
       c.before.before.before.put.ensures.next,
       c.before.before.before.put.auto.0,
-      length_append s.args.key.now (number_text (pos s.args.n) newline),
+      length-append s.args.key.now (number_text (pos s.args.n) newline),
     )
 
 same_length : tie.Need-same-length

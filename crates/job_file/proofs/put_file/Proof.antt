@@ -9,7 +9,7 @@ use lib.ListN.{length}
 use borrow.Author.Rules.{rules}
 use mir.Syntax.{w64}
 use mir.Val.{SFits, to_z, of_z}
-use mir.ValLaws.{to_z_of_z}
+use mir.ValLaws.{to_z-of_z}
 use Rattle.text.specs.Ascii.{bytes, comma, newline}
 use Rattle.write.specs.Written.{Wrote}
 use Rattle.write.proofs.WrittenLaws.{wrote_kept, wrote_both, wrote_front}
@@ -23,7 +23,7 @@ use Rattle.job_file.proofs.put_file.Tie as tie
 -- a place that was read back from its bits
 back : {out after : List ℕ} {at end : ℕ} (x y : ℤ) (last : ℕ) → SFits w64 x → SFits w64 y →
     Wrote out at (place_text (to_z w64 (of_z w64 x)) (to_z w64 (of_z w64 y)) last) after end → Wrote out at (place_text x y last) after end
-back x y last fx fy w = rw (to_z_of_z w64 x fx, to_z_of_z w64 y fy) at w
+back x y last fx fy w = rw (to_z-of_z w64 x fx, to_z-of_z w64 y fy) at w
 
 -- a line with a number
 counted : {out after : List ℕ} {at end m : ℕ} (key : List ℕ) (n : ℕ) → Wrote out at (count_part key m) after end → m ≡ n →
@@ -156,7 +156,7 @@ unfolding bytes
 put-place-requires c κs =
     let w = c.before.before.before.before.before in
     let s = start-put w in
-    rw (to_z_of_z w64 s.args.t1.xlo (search rules), to_z_of_z w64 s.args.t1.ylo (search rules))
+    rw (to_z-of_z w64 s.args.t1.xlo (search rules), to_z-of_z w64 s.args.t1.ylo (search rules))
     (part_room _ (place_text s.args.t1.xlo s.args.t1.ylo comma) (wrote-put w) (rooms s).two)
 
 put-place-requires-2 : tie.Need-put-place-requires-2
@@ -164,7 +164,7 @@ unfolding bytes
 put-place-requires-2 c κs =
     let w = c.before.before.before.before.before in
     let s = start-put-place w in
-    rw (to_z_of_z w64 s.args.t1.xhi (search rules), to_z_of_z w64 s.args.t1.yhi (fits-yhi s))
+    rw (to_z-of_z w64 s.args.t1.xhi (search rules), to_z-of_z w64 s.args.t1.yhi (fits-yhi s))
     (part_room _ (place_text s.args.t1.xhi s.args.t1.yhi newline) (wrote-put-place w) (rooms s).three)
 
 put-axis-requires : tie.Need-put-axis-requires

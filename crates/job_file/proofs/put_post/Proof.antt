@@ -3,7 +3,7 @@
 use native.Mathlib.Omega.{arith}
 use borrow.Author.Rules.{rules}
 use mir.Syntax.{w64}
-use mir.ValLaws.{to_z_of_z}
+use mir.ValLaws.{to_z-of_z}
 use Rattle.text.specs.Ascii.{bytes, newline}
 use Rattle.write.proofs.WrittenLaws.{wrote_both}
 use Rattle.job_file.proofs.TextLaws.{post_text_lem, length_place, length_post}
@@ -19,7 +19,7 @@ put-requires c κs = let s = c.before.before.before in omega (arith, s.requires,
 put-place-requires : tie.Need-put-place-requires
 put-place-requires c κs =
     let s = c.before.before.before.before.before.before.before in
-    rw (to_z_of_z w64 s.args.x s.ranges.x, to_z_of_z w64 s.args.y s.ranges.y) (omega (
+    rw (to_z-of_z w64 s.args.x s.ranges.x, to_z-of_z w64 s.args.y s.ranges.y) (omega (
       arith,
       s.requires,
       c.before.before.before.put.ensures.next,
@@ -35,7 +35,7 @@ returns : tie.Need-returns
 unfolding bytes
 returns c =
     let s = c.before.before.before.before.before.before.before.before.before.before in
-    let w = rw (to_z_of_z w64 s.args.x s.ranges.x, to_z_of_z w64 s.args.y s.ranges.y) at c.before.before.put-place.ensures in
+    let w = rw (to_z-of_z w64 s.args.x s.ranges.x, to_z-of_z w64 s.args.y s.ranges.y) at c.before.before.put-place.ensures in
     rw (post_text_lem s.args.x s.args.y) (wrote_both c.before.before.before.before.before.before.put.ensures w (omega (arith, s.requires)))
 
 pub put-post-spec : {M : Type 1} → statement M

@@ -5,7 +5,7 @@ use Prim.Native.Nat.{◌≤◌, ◌-◌}
 use native.Mathlib.Omega.{arith}
 use lib.ListN.{length}
 use mir.Syntax.{w64}
-use mir.ValLaws.{to_z_of_z}
+use mir.ValLaws.{to_z-of_z}
 use Rattle.write.specs.Written.{Wrote}
 use Rattle.write.proofs.WrittenLaws.{wrote_nothing}
 use Rattle.job_file.specs.Texts.{post_texts}
@@ -43,8 +43,8 @@ put-post-requires c κs =
     let s = c.before.before.before.before.before.before in
     let l = c.before.before.before.before.loop.invariant in
     line_room post_line
-    (post_line_lem s.args.xs.now s.args.ys.now (to_z_of_z w64 _ (record { sfits = c.before.put-post-arg2.given }))
-    (to_z_of_z w64 _ (record { sfits = c.put-post-arg3.given })) (omega arith) (omega arith))
+    (post_line_lem s.args.xs.now s.args.ys.now (to_z-of_z w64 _ (record { sfits = c.before.put-post-arg2.given }))
+    (to_z-of_z w64 _ (record { sfits = c.put-post-arg3.given })) (omega arith) (omega arith))
     {n = s.args.n} l.2 (omega arith) (omega (arith, s.requires, l.1))
 
 add-i : tie.Need-overflow-add-i invariant-loop decreases-loop
@@ -61,8 +61,8 @@ loop-again c =
       c.before.before.Put-post.auto.0 ∙ l.1,
       line_wrote post_line
           (post_line_lem s.args.xs.now s.args.ys.now
-          (to_z_of_z w64 _ (record { sfits = c.before.before.before.before.put-post-arg2.given }))
-          (to_z_of_z w64 _ (record { sfits = c.before.before.before.put-post-arg3.given })) (omega arith) (omega arith))
+          (to_z-of_z w64 _ (record { sfits = c.before.before.before.before.put-post-arg2.given }))
+          (to_z-of_z w64 _ (record { sfits = c.before.before.before.put-post-arg3.given })) (omega arith) (omega arith))
           l.2 c.before.before.Put-post.ensures (omega (arith, s.requires)),
     )
 

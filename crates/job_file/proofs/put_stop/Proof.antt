@@ -5,7 +5,7 @@ use native.Mathlib.Omega.{arith}
 use lib.ListN.{length}
 use borrow.Author.Rules.{rules}
 use mir.Syntax.{w64}
-use mir.ValLaws.{to_z_of_z}
+use mir.ValLaws.{to_z-of_z}
 use Rattle.text.specs.Ascii.{bytes, comma, newline}
 use Rattle.write.proofs.WrittenLaws.{wrote_both}
 use Rattle.job_file.proofs.TextLaws.{stop_text_lem, length_nat, length_place, length_stop}
@@ -21,7 +21,7 @@ put-requires c κs = let s = c.before.before.before in omega (arith, s.requires,
 put-place-requires : tie.Need-put-place-requires
 put-place-requires c κs =
     let s = c.before.before.before.before.before.before.before in
-    rw (to_z_of_z w64 s.args.x s.ranges.x, to_z_of_z w64 s.args.y s.ranges.y) (omega (
+    rw (to_z-of_z w64 s.args.x s.ranges.x, to_z-of_z w64 s.args.y s.ranges.y) (omega (
       arith,
       s.requires,
       c.before.before.before.put.ensures.next,
@@ -33,7 +33,7 @@ put-place-requires c κs =
 put-nat-end-requires : tie.Need-put-nat-end-requires
 put-nat-end-requires c κs =
     let s = c.before.before.before.before.before.before.before.before.before.before.before in
-    let w = rw (to_z_of_z w64 s.args.x s.ranges.x, to_z_of_z w64 s.args.y s.ranges.y) at c.before.before.before.put-place.ensures in
+    let w = rw (to_z-of_z w64 s.args.x s.ranges.x, to_z-of_z w64 s.args.y s.ranges.y) at c.before.before.before.put-place.ensures in
     omega (
       arith,
       s.requires,
@@ -53,7 +53,7 @@ returns : tie.Need-returns
 unfolding bytes
 returns c =
     let s = c.before.before.before.before.before.before.before.before.before.before.before.before.before.before in
-    let w = rw (to_z_of_z w64 s.args.x s.ranges.x, to_z_of_z w64 s.args.y s.ranges.y)
+    let w = rw (to_z-of_z w64 s.args.x s.ranges.x, to_z-of_z w64 s.args.y s.ranges.y)
     at c.before.before.before.before.before.before.put-place.ensures in
     let h : s.args.at ≤ length s.args.out.now = omega (arith, s.requires) in
     rw (stop_text_lem s.args.x s.args.y s.args.visits)

@@ -5,7 +5,7 @@ use Prim.Native.Nat.{◌≤◌, ◌-◌}
 use native.Mathlib.Omega.{arith}
 use lib.ListN.{length}
 use mir.Syntax.{w64}
-use mir.ValLaws.{to_z_of_z}
+use mir.ValLaws.{to_z-of_z}
 use Rattle.write.specs.Written.{Wrote}
 use Rattle.write.proofs.WrittenLaws.{wrote_nothing}
 use Rattle.job_file.specs.Texts.{stop_texts}
@@ -53,8 +53,8 @@ put-stop-requires c κs =
     let s = c.before.before.before.before.before.before.before.before in
     let l = c.before.before.before.before.before.loop.invariant in
     line_room stop_line
-    (stop_line_lem s.args.xs.now s.args.ys.now (to_z_of_z w64 _ (record { sfits = c.before.before.put-stop-arg2.given }))
-    (to_z_of_z w64 _ (record { sfits = c.before.put-stop-arg3.given })) (omega arith) (omega arith) s.args.visits.now (omega arith))
+    (stop_line_lem s.args.xs.now s.args.ys.now (to_z-of_z w64 _ (record { sfits = c.before.before.put-stop-arg2.given }))
+    (to_z-of_z w64 _ (record { sfits = c.before.put-stop-arg3.given })) (omega arith) (omega arith) s.args.visits.now (omega arith))
     {n = s.args.n} l.2 (omega arith) (omega (arith, s.requires, l.1))
 
 add-i : tie.Need-overflow-add-i invariant-loop decreases-loop
@@ -71,8 +71,8 @@ loop-again c =
       c.before.before.put-stop.auto.0 ∙ l.1,
       line_wrote stop_line
           (stop_line_lem s.args.xs.now s.args.ys.now
-          (to_z_of_z w64 _ (record { sfits = c.before.before.before.before.before.put-stop-arg2.given }))
-          (to_z_of_z w64 _ (record { sfits = c.before.before.before.before.put-stop-arg3.given }))
+          (to_z-of_z w64 _ (record { sfits = c.before.before.before.before.before.put-stop-arg2.given }))
+          (to_z-of_z w64 _ (record { sfits = c.before.before.before.before.put-stop-arg3.given }))
           (omega arith) (omega arith) s.args.visits.now (omega arith))
           l.2 c.before.before.put-stop.ensures (omega (arith, s.requires)),
     )

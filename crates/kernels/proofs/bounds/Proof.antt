@@ -3,7 +3,7 @@
 use Prim.Native.Nat.{◌-◌}
 use mathlib.Core.Path.{ap, ◌∙◌}
 use mir.Syntax.{w64}
-use mir.ValLaws.{to_z_of_z}
+use mir.ValLaws.{to_z-of_z}
 use Rattle.deck.specs.ObjectColumns.{pricing_in}
 use Rattle.problem.specs.ObjectProblem.{bound_of}
 use Rattle.kernels.specs.Sums.{rect_at, positive}
@@ -34,7 +34,7 @@ loop-again : tie.Need-loop-preserved invariant-loop decreases-loop
 loop-again c =
     summed_more _ c.before.before.before.before.loop.invariant c.before.before.before.loop-test.true
     (c.positive.ensures.is
-    ∙ ap positive (to_z_of_z w64 _ (record { sfits = c.before.bound-in.type-inv }) ∙ c.before.bound-in.ensures
+    ∙ ap positive (to_z-of_z w64 _ (record { sfits = c.before.bound-in.type-inv }) ∙ c.before.bound-in.ensures
     ∙ ap (bound_of _) c.before.before.rect-of.ensures.is))
     c.positive.ensures.within
 

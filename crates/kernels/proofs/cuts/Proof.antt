@@ -3,7 +3,7 @@
 use Prim.Native.Nat.{◌-◌}
 use mathlib.Core.Path.{ap, ◌∙◌}
 use mir.Syntax.{w64}
-use mir.ValLaws.{to_z_of_z}
+use mir.ValLaws.{to_z-of_z}
 use Rattle.lines.specs.LineRecord.{grid_of}
 use Rattle.cuts.specs.CutRecord.{cut_record}
 use Rattle.cuts.specs.declared.Cut.{Cut}
@@ -36,7 +36,7 @@ loop-again : tie.Need-loop-preserved invariant-loop decreases-loop
 loop-again c =
     summed_more _ c.before.before.before.before.before.loop.invariant c.before.before.before.before.loop-test.true
     (c.positive.ensures.is
-    ∙ ap positive (to_z_of_z w64 _ (search rules)
+    ∙ ap positive (to_z-of_z w64 _ (search rules)
     ∙ ap (λ (k : Cut). k.at) (c.before.before.find-cut.ensures ∙ ap (cut_record _) c.before.before.before.rect-of.ensures.is)))
     c.positive.ensures.within
 

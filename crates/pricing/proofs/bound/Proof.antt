@@ -7,7 +7,7 @@ use native.Mathlib.Nat.{mul-le-mul}
 use native.Mathlib.Omega.{arith}
 use borrow.Author.Rules.{rules}
 use mir.Syntax.{w64}
-use mir.ValLaws.{to_z_of_z}
+use mir.ValLaws.{to_z-of_z}
 use Rattle.numbers.proofs.Words.{difference, difference_fits}
 use Rattle.pricing.proofs.bound.Statement.{statement}
 use Rattle.pricing.proofs.bound.Tie as tie
@@ -45,9 +45,9 @@ half-up-requires c κs = search rules
 returns : tie.Need-returns
 returns c =
     let at = c.before in
-    to_z_of_z w64 _ (record { sfits = c.half_up.type-inv })
+    to_z-of_z w64 _ (record { sfits = c.half_up.type-inv })
     ∙ c.half_up.ensures
-    ∙ rw (to_z_of_z w64 _ (difference_fits _ _ (larger-most at) (product_most at)), difference _ _ (larger-most at) (product_most at), larger-is at)
+    ∙ rw (to_z-of_z w64 _ (difference_fits _ _ (larger-most at) (product_most at)), difference _ _ (larger-most at) (product_most at), larger-is at)
 
 pub bound-spec : {M : Type 1} → statement M
 bound-spec = tie.close (tie.spec add-rising add-falling cast-half-up mul-half-up cast-half-up-2 sub-half-up half-up-requires returns)

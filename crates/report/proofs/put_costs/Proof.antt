@@ -3,7 +3,7 @@
 use native.Mathlib.Omega.{arith}
 use borrow.Author.Rules.{rules}
 use mir.Syntax.{w64}
-use mir.ValLaws.{to_z_of_z}
+use mir.ValLaws.{to_z-of_z}
 use Rattle.text.specs.Ascii.{bytes}
 use Rattle.text.specs.Decimal.{spell_nat, spell_int}
 use Rattle.write.proofs.WrittenLaws.{wrote_pair}
@@ -35,7 +35,7 @@ returns : tie.Need-returns
 unfolding bytes
 returns c =
     let start = c.before.before.before.before.before.before.before.before.before.before.before.before.before.before.before.before in
-    let low = rw (to_z_of_z w64 start.args.low start.ranges.low) at c.before.before.before.before.before.before.before.put-key-int.ensures.0 in
+    let low = rw (to_z-of_z w64 start.args.low start.ranges.low) at c.before.before.before.before.before.before.before.put-key-int.ensures.0 in
     let both = wrote_pair (bytes "\nlow=") (spell_int start.args.low)
     c.before.before.before.before.before.before.before.before.before.before.before.before.put-key-nat.ensures.0 low
     (omega (arith, start.requires)) in

@@ -4,7 +4,7 @@ use native.Mathlib.Omega.{arith}
 use borrow.Author.Rules.{rules}
 use mir.Syntax.{w64}
 use mir.Val.{to_z, of_z}
-use mir.ValLaws.{to_z_of_z}
+use mir.ValLaws.{to_z-of_z}
 use Rattle.text.proofs.DigitCounts.{length_spell_int}
 use Rattle.write.proofs.WrittenLaws.{wrote_both}
 use Rattle.report.proofs.TextLaws.{length_int_part}
@@ -23,7 +23,7 @@ same_length c = search rules
 returns : tie.Need-returns
 returns c =
     let w = wrote_both c.before.before.before.before.before.before.put.ensures
-    (rw (to_z_of_z w64 _ c.before.before.before.before.before.before.before.before.before.before.ranges.z) at
+    (rw (to_z-of_z w64 _ c.before.before.before.before.before.before.before.before.before.before.ranges.z) at
     c.before.before.put-int.ensures) (omega arith) in (
       w,
       omega (

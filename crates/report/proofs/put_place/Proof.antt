@@ -4,7 +4,7 @@ use native.Mathlib.Omega.{arith}
 use mathlib.Core.List.{[], ◌∷◌}
 use borrow.Author.Rules.{rules}
 use mir.Syntax.{w64}
-use mir.ValLaws.{to_z_of_z}
+use mir.ValLaws.{to_z-of_z}
 use Rattle.text.specs.Ascii.{bytes, comma}
 use Rattle.text.specs.Decimal.{spell_int}
 use Rattle.write.proofs.WrittenLaws.{wrote_pair}
@@ -30,8 +30,8 @@ returns : tie.Need-returns
 unfolding bytes
 returns c =
     let start = c.before.before.before.before.before.before.before.before.before.before.before in
-    let first = rw (to_z_of_z w64 start.args.x start.ranges.x) at c.before.before.before.before.before.before.before.put-key-int.ensures.0 in
-    let second = rw (to_z_of_z w64 start.args.y start.ranges.y) at c.before.before.put-key-int2.ensures.0 in
+    let first = rw (to_z-of_z w64 start.args.x start.ranges.x) at c.before.before.before.before.before.before.before.put-key-int.ensures.0 in
+    let second = rw (to_z-of_z w64 start.args.y start.ranges.y) at c.before.before.put-key-int2.ensures.0 in
     wrote_pair (comma ∷ []) (spell_int start.args.y) first second (omega (arith, start.requires))
 
 pub put-place-spec : {M : Type 1} → statement M

@@ -9,7 +9,7 @@ use borrow.Author.Rules.{rules}
 use lib.IntN.{ℤ, pos, negsuc, nat_abs}
 use mir.Syntax.{w64}
 use mir.Val.{to_z, of_z}
-use mir.ValLaws.{to_z_of_z}
+use mir.ValLaws.{to_z-of_z}
 use Rattle.text.specs.Ascii.{bytes}
 use Rattle.write.specs.Written.{Wrote}
 use Rattle.report.specs.declared.Report.{Report}
@@ -21,8 +21,8 @@ use Rattle.report.proofs.write_report.Tie as tie
 
 -- a number in range, as it is read back from its bits
 back : (z : ℤ) → nat_abs z < 2 ^ 63 → to_z w64 (of_z w64 z) ≡ z
-back (pos n) h = to_z_of_z w64 (pos n) (record { sfits = h })
-back (negsuc n) h = to_z_of_z w64 (negsuc n) (record { sfits = omega arith })
+back (pos n) h = to_z-of_z w64 (pos n) (record { sfits = h })
+back (negsuc n) h = to_z-of_z w64 (negsuc n) (record { sfits = omega arith })
 
 place-wrote : {m m' : List ℕ} {e e' : ℕ} (r : Report) → FiguresInRange 1000 (report_figures r) →
     Wrote m e (place_part (to_z w64 (of_z w64 r.x)) (to_z w64 (of_z w64 r.y))) m' e' → Wrote m e (place_part r.x r.y) m' e'

@@ -4,7 +4,7 @@ use mathlib.Core.Path.{◌≡◌, sym, ◌∙◌}
 use mathlib.Core.Bool.{true}
 use borrow.Author.Tests.{not-true, not-false}
 use mir.Syntax.{w64}
-use mir.ValLaws.{to_z_of_z}
+use mir.ValLaws.{to_z-of_z}
 use Rattle.numbers.proofs.Words.{is_true}
 use Rattle.job.specs.Format.{read_job}
 use Rattle.deck.specs.Rectangle.{rect_of}
@@ -51,7 +51,7 @@ bound-in-requires c κs =
 returns-3 : tie.Need-returns-3
 returns-3 c =
     let d = c.before.before.before.before in
-    to_z_of_z w64 _ (record { sfits = c.bound-in.type-inv })
+    to_z-of_z w64 _ (record { sfits = c.bound-in.type-inv })
     ∙ bound_answer d.before.before.before.before.open-job.ensures (spelt d.before.before) _ (on d) c.bound-in.ensures
 
 pub bound-spec : {M : Type 1} → statement M

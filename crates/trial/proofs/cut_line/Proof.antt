@@ -4,7 +4,7 @@ use mathlib.Core.Path.{◌≡◌, sym, ◌∙◌}
 use mathlib.Core.Bool.{true}
 use borrow.Author.Tests.{not-true, not-false}
 use mir.Syntax.{w64}
-use mir.ValLaws.{to_z_of_z}
+use mir.ValLaws.{to_z-of_z}
 use Rattle.numbers.proofs.Words.{is_true}
 use Rattle.job.specs.Format.{read_job}
 use Rattle.deck.specs.Rectangle.{rect_of}
@@ -55,7 +55,7 @@ returns-3 c =
 returns-4 : tie.Need-returns-4
 returns-4 c =
     let d = c.before.before.before.before in
-    to_z_of_z w64 _ (search rules)
+    to_z-of_z w64 _ (search rules)
     ∙ line_answer d.before.before.before.before.open-job.ensures (spelt d.before.before) _ (on d)
     c.before.before.before.cut_of.ensures (not-false _ c.before.if3.false)
 

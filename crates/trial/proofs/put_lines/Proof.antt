@@ -7,7 +7,7 @@ use lib.IntN.{pos}
 use lib.ListN.{length, get_or, length-set}
 use lib.Seq.{take_all}
 use mir.Syntax.{w64}
-use mir.ValLaws.{to_z_of_z}
+use mir.ValLaws.{to_z-of_z}
 use Rattle.lines.proofs.Shifted.{over, over_set}
 use Rattle.trial.proofs.put_lines.Statement.{statement}
 use Rattle.trial.proofs.put_lines.Tie as tie
@@ -43,7 +43,7 @@ loop-again : tie.Need-loop-preserved invariant-loop decreases-loop
 loop-again c =
     let l = c.before.before in
     let s = l.before in
-    let read = to_z_of_z w64 (get_or s.args.ls.now l.loop.i (pos 0)) (record { sfits = c.out.given }) in
+    let read = to_z-of_z w64 (get_or s.args.ls.now l.loop.i (pos 0)) (record { sfits = c.out.given }) in
     rw read (
       omega arith,
       length-set l.loop.out l.loop.i (get_or s.args.ls.now l.loop.i (pos 0)) ∙ l.loop.invariant.1,

@@ -6,7 +6,7 @@ use lib.IntN.{ℤ}
 use Prim.Native.Nat.{◌≤◌}
 use mathlib.Core.List.{List}
 use mir.Syntax.{w64}
-use mir.ValLaws.{to_z_of_z}
+use mir.ValLaws.{to_z-of_z}
 use Rattle.numbers.proofs.WordTests.{back}
 use Rattle.query.specs.Place.{Place, Rect}
 use Rattle.job.specs.Format.{Result, read_job}
@@ -35,7 +35,7 @@ before-requires c κs = search rules
 returns : tie.Need-returns
 returns c =
     number_at (figures c.before.before.before) _ 0 _ c.before.if1.true
-    (to_z_of_z w64 _ (record { sfits = c.before2.type-inv }) ∙ c.before2.ensures)
+    (to_z-of_z w64 _ (record { sfits = c.before2.type-inv }) ∙ c.before2.ensures)
 
 returns-2 : tie.Need-returns-2
 returns-2 c =
@@ -53,7 +53,7 @@ returns-3 : tie.Need-returns-3
 returns-3 c =
     let s = c.before.before.before.before.before in
     number_at (figures s) _ 1 _ c.before.before.if2.true
-    (to_z_of_z w64 _ (record { sfits = c.near.type-inv }) ∙ c.near.ensures ∙ near_natural s.ranges.xlo (result s) c.before.if3.false)
+    (to_z-of_z w64 _ (record { sfits = c.near.type-inv }) ∙ c.near.ensures ∙ near_natural s.ranges.xlo (result s) c.before.if3.false)
 
 cost-requires : tie.Need-cost-requires
 cost-requires c κs = search rules
@@ -62,7 +62,7 @@ returns-4 : tie.Need-returns-4
 returns-4 c =
     let s = c.before.before.before.before.before in
     number_at (figures s) _ 2 _ c.before.if4.true
-    (to_z_of_z w64 _ (record { sfits = c.cost.type-inv }) ∙ c.cost.ensures ∙ ap (λ (p : Place). cost_figure p (result s)) (place_held s.ranges.xlo s.ranges.ylo))
+    (to_z-of_z w64 _ (record { sfits = c.cost.type-inv }) ∙ c.cost.ensures ∙ ap (λ (p : Place). cost_figure p (result s)) (place_held s.ranges.xlo s.ranges.ylo))
 
 load-requires : tie.Need-load-requires
 load-requires c κs = search rules
@@ -71,7 +71,7 @@ returns-5 : tie.Need-returns-5
 returns-5 c =
     let s = c.before.before.before.before.before.before in
     number_at (figures s) _ 3 _ c.before.if5.true
-    (to_z_of_z w64 _ (record { sfits = c.load.type-inv }) ∙ c.load.ensures ∙ ap (λ (r : Rect). load_figure r (result s)) (held s))
+    (to_z-of_z w64 _ (record { sfits = c.load.type-inv }) ∙ c.load.ensures ∙ ap (λ (r : Rect). load_figure r (result s)) (held s))
 
 bound-requires : tie.Need-bound-requires
 bound-requires c κs = search rules
@@ -80,7 +80,7 @@ returns-6 : tie.Need-returns-6
 returns-6 c =
     let s = c.before.before.before.before.before.before.before in
     number_at (figures s) _ 4 _ c.before.if6.true
-    (to_z_of_z w64 _ (record { sfits = c.bound.type-inv }) ∙ c.bound.ensures ∙ ap (λ (r : Rect). bound_figure r (result s)) (held s))
+    (to_z-of_z w64 _ (record { sfits = c.bound.type-inv }) ∙ c.bound.ensures ∙ ap (λ (r : Rect). bound_figure r (result s)) (held s))
 
 cut-axis-requires : tie.Need-cut-axis-requires
 cut-axis-requires c κs = search rules
@@ -89,7 +89,7 @@ returns-7 : tie.Need-returns-7
 returns-7 c =
     let s = c.before.before.before.before.before.before.before.before in
     number_at (figures s) _ 5 _ c.before.if7.true
-    (to_z_of_z w64 _ (record { sfits = c.cut-axis.type-inv }) ∙ c.cut-axis.ensures ∙ ap (λ (r : Rect). cut_axis_figure r (result s)) (held s))
+    (to_z-of_z w64 _ (record { sfits = c.cut-axis.type-inv }) ∙ c.cut-axis.ensures ∙ ap (λ (r : Rect). cut_axis_figure r (result s)) (held s))
 
 cut-line-requires : tie.Need-cut-line-requires
 cut-line-requires c κs = search rules
@@ -98,7 +98,7 @@ returns-8 : tie.Need-returns-8
 returns-8 c =
     let s = c.before.before.before.before.before.before.before.before.before in
     number_at (figures s) _ 6 _ c.before.if8.true
-    (to_z_of_z w64 _ (record { sfits = c.cut_line.type-inv }) ∙ c.cut_line.ensures ∙ ap (λ (r : Rect). cut_line_figure r (result s)) (held s))
+    (to_z-of_z w64 _ (record { sfits = c.cut_line.type-inv }) ∙ c.cut_line.ensures ∙ ap (λ (r : Rect). cut_line_figure r (result s)) (held s))
 
 returns-9 : tie.Need-returns-9
 returns-9 c =

@@ -6,7 +6,7 @@ use mathlib.Core.List.{List, ◌++◌}
 use Prim.Native.Nat.{◌≤◌}
 use lib.IntN.{ℤ}
 use lib.ListN.{length, drop}
-use lib.Seq.{length_take_le}
+use lib.Seq.{length-take-le}
 use borrow.Author.Tests.{not-true, not-false}
 use Rattle.query.specs.Lines.{lines}
 use Rattle.job.proofs.ReadDeck.{Spelt}
@@ -71,7 +71,7 @@ returns-2 c =
 slice-aggregate-put-lines : tie.Need-slice-aggregate-put-lines
 slice-aggregate-put-lines c =
     let j = c.before.before.before.before.before.before.before in
-    sym (length_take_le j.if2.n j.before.before.before.before.open-job.result.problem.v (omega (arith, few j)))
+    sym (length-take-le j.if2.n j.before.before.before.before.open-job.result.problem.v (omega (arith, few j)))
 
 put-lines-requires : tie.Need-put-lines-requires
 put-lines-requires c κs = omega (arith, slice-aggregate-put-lines c, c.before.before.before.before.before.before.if3.false)
@@ -79,7 +79,7 @@ put-lines-requires c κs = omega (arith, slice-aggregate-put-lines c, c.before.b
 slice-aggregate-put-lines-2 : tie.Need-slice-aggregate-put-lines-2
 slice-aggregate-put-lines-2 c =
     let j = c.before.before.before.before.before.before.before in
-    sym (length_take_le j.if2.n j.before.before.before.before.open-job.result.problem.h (omega (arith, few j)))
+    sym (length-take-le j.if2.n j.before.before.before.before.open-job.result.problem.h (omega (arith, few j)))
 
 put-lines-requires-2 : tie.Need-put-lines-requires-2
 put-lines-requires-2 c κs = omega (arith, slice-aggregate-put-lines-2 c, c.before.before.before.before.before.before.if3.false)

@@ -4,7 +4,7 @@ use mathlib.Core.Path.{◌≡◌, ap, ◌∙◌}
 use native.Mathlib.Omega.{arith}
 use lib.IntN.{pos}
 use mir.Syntax.{w64}
-use mir.ValLaws.{to_z_of_z, to_z_pos}
+use mir.ValLaws.{to_z-of_z, to_z_pos}
 use Rattle.job.specs.Format.{refused, read_job}
 use Rattle.job.proofs.RefusalLaws.{line_most}
 use Rattle.job.proofs.ReadDeck.{Spelt, read_accepted, read_refused}
@@ -51,7 +51,7 @@ returns-4 c = let d = c.before.before in no_reading_number (spelt d).read d.befo
     (omega (arith, c.before.if1.false, c.if2.false))
 
 returns-5 : tie.Need-returns-5
-returns-5 c = to_z_of_z w64 _ (record { sfits = c.refusal-figure.type-inv }) ∙ c.refusal-figure.ensures
+returns-5 c = to_z-of_z w64 _ (record { sfits = c.refusal-figure.type-inv }) ∙ c.refusal-figure.ensures
     ∙ refusal_number (refusal c.before.before) _ c.before.if3.false
 
 pub trial-reading-spec : {M : Type 1} → statement M

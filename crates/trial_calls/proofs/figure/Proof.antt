@@ -4,7 +4,7 @@ use Prim.Native.Nat.{◌≤◌}
 use mathlib.Core.Path.{◌∙◌}
 use native.Mathlib.Omega.{arith}
 use mir.Syntax.{w64}
-use mir.ValLaws.{to_z_of_z}
+use mir.ValLaws.{to_z-of_z}
 use Rattle.report.specs.Report.{report_figures}
 use Rattle.trial.proofs.NumberLaws.{number_at}
 use Rattle.trial_calls.specs.Calls.{report_numbers}
@@ -18,7 +18,7 @@ state-number-requires c κs = search rules
 
 returns : tie.Need-returns
 returns c = number_at (report_numbers (report_figures c.before.before.args.r)) _ 0 _ c.before.if1.true
-    (to_z_of_z w64 _ (record { sfits = c.state-number.type-inv }) ∙ c.state-number.ensures)
+    (to_z-of_z w64 _ (record { sfits = c.state-number.type-inv }) ∙ c.state-number.ensures)
 
 returns-2 : tie.Need-returns-2
 returns-2 c = let s = c.before.before.before in x_figure s.args.r s.requires _ c.before.if2.true

@@ -2,7 +2,7 @@
 -- signed number.
 -- Assumes nothing.
 use mir.Syntax.{w64}
-use mir.ValLaws.{to_z_of_z}
+use mir.ValLaws.{to_z-of_z}
 use mathlib.Core.Path.{sym, ap, ◌∙◌}
 use Rattle.calls.specs.declared.Answer.{Answer}
 use Rattle.calls.specs.Answers.{report_answer}
@@ -48,7 +48,7 @@ same-length-4 c = search rules
 
 returns-2 : tie.Need-returns-2
 returns-2 c = called_is _ _ _ c.before.before.before.before.before.before.before.report.result _ _
-    c.before.before.before.before.before.before.before.report.ensures (figure_for _) _ (to_z_of_z w64 _ (record { sfits = c.figure.type-inv })
+    c.before.before.before.before.before.before.before.report.ensures (figure_for _) _ (to_z-of_z w64 _ (record { sfits = c.figure.type-inv })
     ∙ c.figure.ensures ∙ sym (ap (λ (a : Answer). figure_for
     c.before.before.before.before.before.before.before.before.before.before.before.before.args.which (report_answer a))
     c.before.before.answer.given.1))
@@ -62,7 +62,7 @@ same-length-6 c = search rules
 returns-3 : tie.Need-returns-3
 returns-3 c = called_is _ _ _ c.before.before.before.before.before.before.before.before.report.result _ _
     c.before.before.before.before.before.before.before.before.report.ensures (figure_for _) _
-    (to_z_of_z w64 _ (record { sfits = c.refusal-figure.type-inv }) ∙ c.refusal-figure.ensures
+    (to_z-of_z w64 _ (record { sfits = c.refusal-figure.type-inv }) ∙ c.refusal-figure.ensures
     ∙ refusal_answer _ c.before.before.before.answer2.given.1
     c.before.before.before.before.before.before.before.before.before.before.before.before.before.args.which c.before.if1.false)
 

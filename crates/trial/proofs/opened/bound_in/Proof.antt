@@ -3,7 +3,7 @@
 use mathlib.Core.Path.{◌∙◌}
 use borrow.Author.Rules.{rules}
 use mir.Syntax.{w64}
-use mir.ValLaws.{to_z_of_z}
+use mir.ValLaws.{to_z-of_z}
 use Rattle.prepare.proofs.Coordinates.{near_back}
 use Rattle.problem.proofs.DeckProblem.{bound_of_is}
 use Rattle.trial.proofs.opened.bound_in.Statement.{statement}
@@ -45,7 +45,7 @@ returns c =
     let s = c00.before.before.before in
     let r = s.args.rect in
     let h = s.requires.1.range in
-    to_z_of_z w64 _ (record { sfits = c.bound.type-inv }) ∙ c.bound.ensures
+    to_z-of_z w64 _ (record { sfits = c.bound.type-inv }) ∙ c.bound.ensures
     ∙ rw (
       c00.cost.ensures.is,
       c01.cost2.ensures.is,

@@ -2,7 +2,7 @@
 -- number.
 -- Assumes nothing.
 use mir.Syntax.{w64}
-use mir.ValLaws.{to_z_of_z}
+use mir.ValLaws.{to_z-of_z}
 use mathlib.Core.Path.{sym, ap, ◌∙◌}
 use Rattle.calls.specs.declared.Estimated.{Estimated}
 use Rattle.calls.specs.Answers.{estimated_answer}
@@ -33,12 +33,12 @@ refusal-figure-requires : tie.Need-refusal-figure-requires
 refusal-figure-requires c κs = estimate_line _ _ c.before.before.before.before.estimate.ensures _ c.before.before.answer2.given.1
 
 returns-2 : tie.Need-returns-2
-returns-2 c = to_z_of_z w64 _ (record { sfits = c.needs-figure.type-inv }) ∙ c.needs-figure.ensures
+returns-2 c = to_z-of_z w64 _ (record { sfits = c.needs-figure.type-inv }) ∙ c.needs-figure.ensures
     ∙ sym (ap (λ (a : Estimated). estimate_figure c.before.before.before.before.before.before.args.which (estimated_answer a))
     c.before.before.answer.given.1) ∙ ap (estimate_figure _) c.before.before.before.before.estimate.ensures
 
 returns-3 : tie.Need-returns-3
-returns-3 c = to_z_of_z w64 _ (record { sfits = c.refusal-figure.type-inv }) ∙ c.refusal-figure.ensures
+returns-3 c = to_z-of_z w64 _ (record { sfits = c.refusal-figure.type-inv }) ∙ c.refusal-figure.ensures
     ∙ refusal_estimate _ c.before.before.before.answer2.given.1 c.before.before.before.before.before.before.before.args.which
     c.before.if1.false ∙ ap (estimate_figure _) c.before.before.before.before.before.estimate.ensures
 

@@ -5,7 +5,7 @@ use Prim.Native.Nat.{◌-◌}
 use native.Mathlib.Omega.{arith}
 use lib.IntN.{pos}
 use lib.ListN.{drop}
-use lib.Seq.{get_or_drop}
+use lib.Seq.{get_or-drop}
 use Rattle.numbers.proofs.WordTests.{fitting}
 use Rattle.deck.proofs.CopyLaws.{Copied, copied_none, copied_more, copied_all}
 use Rattle.trial_calls.proofs.RecordLaws.{rest_long}
@@ -49,7 +49,7 @@ loop-again : tie.Need-loop-preserved invariant-loop decreases-loop
 loop-again c =
     let s = c.before.before.before in
     copied_more _ _ _ _ _ _ s.requires.1 (rest_long s.args.start s.args.n s.args.from.now s.requires.0) c.before.before.loop.invariant
-    c.before.loop-test.true (fitting _ c.to.given ∙ sym (get_or_drop s.args.start s.args.from.now c.before.before.loop.i (pos 0)))
+    c.before.loop-test.true (fitting _ c.to.given ∙ sym (get_or-drop s.args.start s.args.from.now c.before.before.loop.i (pos 0)))
 
 same_length : tie.Need-same-length invariant-loop decreases-loop
 same_length c = c.before.loop.invariant.long

@@ -4,7 +4,7 @@ use mathlib.Core.Path.{sym}
 use Prim.Native.Nat.{◌-◌}
 use native.Mathlib.Omega.{arith}
 use lib.ListN.{drop}
-use lib.Seq.{get_or_drop}
+use lib.Seq.{get_or-drop}
 use Rattle.deck.proofs.CopyLaws.{Copied, copied_none, copied_more, copied_all}
 use Rattle.trial_calls.proofs.RecordLaws.{rest_long}
 use Rattle.trial_calls.proofs.records.copy_naturals.Statement.{statement}
@@ -47,7 +47,7 @@ loop-again : tie.Need-loop-preserved invariant-loop decreases-loop
 loop-again c =
     let s = c.before.before.before in
     copied_more _ _ _ _ _ _ s.requires.1 (rest_long s.args.start s.args.n s.args.from.now s.requires.0) c.before.before.loop.invariant
-    c.before.loop-test.true (sym (get_or_drop s.args.start s.args.from.now c.before.before.loop.i 0))
+    c.before.loop-test.true (sym (get_or-drop s.args.start s.args.from.now c.before.before.loop.i 0))
 
 same_length : tie.Need-same-length invariant-loop decreases-loop
 same_length c = c.before.loop.invariant.long

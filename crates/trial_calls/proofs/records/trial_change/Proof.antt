@@ -3,7 +3,7 @@
 use borrow.Author.Rules.{rules}
 use mathlib.Core.Path.{◌≡◌, ap₂, ◌∙◌}
 use mir.Syntax.{w64}
-use mir.ValLaws.{to_z_of_z}
+use mir.ValLaws.{to_z-of_z}
 use Rattle.numbers.proofs.WordTests.{back, back_is}
 use Rattle.deck.specs.declared.Deck.{Deck}
 use Rattle.calls.specs.ChangeCall.{AfterChange, change_call}
@@ -69,7 +69,7 @@ returns-4 c =
     change_is s.args.coordinates.now s.args.naturals.now s.args.kind s.args.x s.args.y s.args.visits s.args.which
     begun.before.before.if1.false begun.before.if2.false begun.if3.false call.change.result.verdict call.before.deck-from.ensures
     (heard s _ call.change.ensures)
-    (to_z_of_z w64 _ (record { sfits = c.change-figure.type-inv }) ∙ c.change-figure.ensures)
+    (to_z-of_z w64 _ (record { sfits = c.change-figure.type-inv }) ∙ c.change-figure.ensures)
     coordinates.put-coordinates.ensures naturals.put-naturals.ensures
 
 pub trial-change-spec : {M : Type 1} → statement M

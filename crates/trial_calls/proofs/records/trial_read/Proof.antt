@@ -3,7 +3,7 @@
 -- Assumes nothing.
 use mathlib.Core.Path.{sym, ap, ◌∙◌}
 use mir.Syntax.{w64}
-use mir.ValLaws.{to_z_of_z}
+use mir.ValLaws.{to_z-of_z}
 use borrow.Author.Rules.{rules}
 use Rattle.job.specs.declared.Outcome.{Outcome}
 use Rattle.calls.specs.Answers.{read_answer}
@@ -82,7 +82,7 @@ returns-4 c =
     let s = read.before.before.before.before.before in
     read_is _ read.read.result.outcome _ read.read.ensures s.args.coordinates.now s.args.naturals.now s.args.which
     read.before.before.if1.false read.before.if2.false
-    (to_z_of_z w64 _ (record { sfits = c.count-figure.type-inv }) ∙ c.count-figure.ensures
+    (to_z-of_z w64 _ (record { sfits = c.count-figure.type-inv }) ∙ c.count-figure.ensures
     ∙ sym (ap (λ (o : Outcome). count_figure s.args.which (read_answer o)) c.before.before.outcome.given.1))
     coordinates.put-coordinates.ensures naturals.put-naturals.ensures
 
@@ -101,7 +101,7 @@ returns-5 c =
     let s = read.before.before.before.before.before in
     read_is _ read.read.result.outcome _ read.read.ensures s.args.coordinates.now s.args.naturals.now s.args.which
     read.before.before.if1.false read.before.if2.false
-    (to_z_of_z w64 _ (record { sfits = c.refusal-figure.type-inv }) ∙ c.refusal-figure.ensures
+    (to_z-of_z w64 _ (record { sfits = c.refusal-figure.type-inv }) ∙ c.refusal-figure.ensures
     ∙ refusal_count refused.given.0.0 (ap read_answer refused.given.1) s.args.which c.before.if3.false)
     coordinates.put-coordinates.ensures naturals.put-naturals.ensures
 

@@ -3,7 +3,7 @@
 -- Assumes nothing.
 use mathlib.Core.Path.{sym, ap, ◌∙◌}
 use mir.Syntax.{w64}
-use mir.ValLaws.{to_z_of_z}
+use mir.ValLaws.{to_z-of_z}
 use borrow.Author.Rules.{rules}
 use Rattle.calls.specs.declared.Written.{Written}
 use Rattle.calls.specs.Answers.{written_answer}
@@ -78,7 +78,7 @@ returns-4 c =
     let s = made.before.before.before.before.before in
     write_is s.args.coordinates.now s.args.naturals.now s.args.rounds _ _ made.deck-from.ensures write.write.result _
     write.write.ensures made.before.before.if1.false made.before.if2.false s.args.which
-    (to_z_of_z w64 _ (record { sfits = c.count-figure.type-inv }) ∙ c.count-figure.ensures
+    (to_z-of_z w64 _ (record { sfits = c.count-figure.type-inv }) ∙ c.count-figure.ensures
     ∙ sym (ap (λ (w : Written). count_figure s.args.which (written_answer w)) c.before.before.answer.given.1))
 
 same-length-3 : tie.Need-same-length-3
@@ -92,7 +92,7 @@ returns-5 c =
     let s = made.before.before.before.before.before in
     write_is s.args.coordinates.now s.args.naturals.now s.args.rounds _ _ made.deck-from.ensures write.write.result _
     write.write.ensures made.before.before.if1.false made.before.if2.false s.args.which
-    (to_z_of_z w64 _ (record { sfits = c.refusal-figure.type-inv }) ∙ c.refusal-figure.ensures
+    (to_z-of_z w64 _ (record { sfits = c.refusal-figure.type-inv }) ∙ c.refusal-figure.ensures
     ∙ refusal_count refused.given.0.0 (ap written_answer refused.given.1) s.args.which c.before.if3.false)
 
 pub trial-write-spec : {M : Type 1} → statement M

@@ -1,0 +1,12 @@
+-- The loops of `deck::start_nears`.
+use mathlib.Core.List.{[]}
+use Prim.Native.Nat.{◌-◌}
+use Rattle.deck.proofs.CopyLaws.{Copied}
+use Rattle.deck.proofs.SoFarLaws.{figures}
+use Rattle.deck.proofs.start_nears.Given as goal
+
+abbrev pub invariant-loop-i : goal.invariant-loop-i
+invariant-loop-i l = Copied l.initial.columns 1536 (figures l.initial.columns []) l.n l.columns l.i
+
+abbrev pub decreases-loop-i : goal.decreases-loop-i
+decreases-loop-i l = l.n - l.i
