@@ -142,6 +142,7 @@ module _ (P : Problem) (lawful : Lawful P) (cut_law : (r : Rect) → CutLaw P.ru
       subst (Corner P.area) (sym e) (for_both (OnEdge P.area (record { x = P.area.xhi; y = P.area.ylo })) (inr refl) (inl refl))
   other_corner p (Memᴰ.tail (Memᴰ.tail (Memᴰ.head e))) =
       subst (Corner P.area) (sym e) (for_both (OnEdge P.area (record { x = P.area.xhi; y = P.area.yhi })) (inr refl) (inr refl))
+  other_corner p (Memᴰ.tail (Memᴰ.tail (Memᴰ.tail x12))) = elim x12 [ ]
 
   every_corner : (p : Place) → Corner P.area p → (p ≡ corner P.area) ⊎ Memᴰ p (other_corners P.area)
   unfolding other_corners
@@ -189,6 +190,7 @@ module _ (P : Problem) (lawful : Lawful P) (cut_law : (r : Rect) → CutLaw P.ru
     where
       only : (c : Cell) → Memᴰ c (cell_of R P.area ∷ []) → CellOk P (start_best P) c
       only c (Memᴰ.head e) = subst (CellOk P (start_best P)) (sym e) area_cell_ok
+      only c (Memᴰ.tail x4) = elim x4 [ ]
 
   -- ---- a round
   module _ (best : Priced) (c : Cell) (others : List Cell) (ok : Ok P best (c ∷ others)) where

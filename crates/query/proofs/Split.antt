@@ -209,6 +209,7 @@ new_corner_on cut v r p m = go (new_corners_lem cut v r)
     one : (a b : Place) → OnCut cut v r a → OnCut cut v r b → Memᴰ p (a ∷ b ∷ []) → OnCut cut v r p
     one a b h k (Memᴰ.head e) = at a e h
     one a b h k (Memᴰ.tail (Memᴰ.head e)) = at b e k
+    one a b h k (Memᴰ.tail (Memᴰ.tail x8)) = elim x8 [ ]
 
     go : NewCorners cut v r → OnCut cut v r p
     go n = one n.low n.high (record { on_line = n.low_on; on_edge = inl n.low_at }) (record { on_line = n.high_on; on_edge = inr n.high_at })

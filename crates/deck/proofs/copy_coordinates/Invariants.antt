@@ -2,14 +2,12 @@
 use Prim.Native.Nat.{◌-◌}
 use mathlib.Core.List.{map}
 use lib.IntN.{nat_abs}
-use mir.Syntax.{w32}
-use mir.Val.{to_z}
 use Rattle.numbers.specs.Integer.{times}
 use Rattle.deck.proofs.CopyLaws.{Copied}
 use Rattle.deck.proofs.copy_coordinates.Given as goal
 
 abbrev pub invariant-loop-i : goal.invariant-loop-i
-invariant-loop-i l = Copied l.initial.to l.at (map (times (nat_abs (to_z w32 l.k))) l.from) l.n l.to l.i
+invariant-loop-i l = Copied l.initial.to l.at (map (times (nat_abs l.k)) l.from) l.n l.to l.i
 
 abbrev pub decreases-loop-i : goal.decreases-loop-i
 decreases-loop-i l = l.n - l.i
