@@ -1,0 +1,62 @@
+-- What `job_line::axis_line` owes.
+use mathlib.Core.Path.{sym, ◌∙◌}
+use native.Mathlib.Omega.{arith}
+use Rattle.text.specs.Ascii.{bytes}
+use Rattle.job_line.proofs.LineLaws.{after_key, no_number, number_then_none, number_then, last_number, no_key, key_then, malformed, out_of_range}
+use Rattle.job_line.proofs.LineLaws.{line_read, field_inside, field_natural, both_natural}
+use Rattle.job_line.proofs.RangeTests.{first_below, second_below}
+use Rattle.job_line.proofs.axis_line.Goals as goal
+
+pub returns-then-not-starts : goal.returns-then-not-starts
+unfolding bytes
+returns-then-not-starts c = malformed (no_key c.starts.ensures c.if-not-starts.true)
+
+pub overflow_add-at : goal.overflow_add-at
+overflow_add-at c = omega (arith, after_key c.starts.ensures c.if-not-starts.false)
+
+pub returns-in_default : goal.returns-in_default
+unfolding bytes
+returns-in_default c =
+    malformed (key_then c.starts.ensures c.if-not-starts.false
+    (no_number c.field.ensures c.in_default.is))
+
+pub returns-in_default-field : goal.returns-in_default-field
+unfolding bytes
+returns-in_default-field c =
+    malformed (key_then c.starts.ensures c.if-not-starts.false
+    (number_then_none c.field.ensures c.in-Read.is
+    (no_number c.field-2.ensures c.in_default-field.is)))
+
+pub returns-then-x_cost-lt0 : goal.returns-then-x_cost-lt0
+unfolding bytes
+returns-then-x_cost-lt0 c =
+    out_of_range (key_then c.starts.ensures c.if-not-starts.false
+    (number_then c.field.ensures c.in-Read.is
+    (last_number c.field-2.ensures c.in-Read-field.is)))
+    (first_below _ _ c.if-x_cost-lt0.true)
+
+pub returns-then-y_cost-lt0 : goal.returns-then-y_cost-lt0
+unfolding bytes
+returns-then-y_cost-lt0 c =
+    out_of_range (key_then c.starts.ensures c.if-not-starts.false
+    (number_then c.field.ensures c.in-Read.is
+    (last_number c.field-2.ensures c.in-Read-field.is)))
+    (second_below _ _ c.if-y_cost-lt0.true)
+
+pub returns-then-not-axis_in_range : goal.returns-then-not-axis_in_range
+unfolding bytes
+returns-then-not-axis_in_range c =
+    out_of_range (both_natural _ _ (field_natural c.field.ensures c.in-Read.is c.if-x_cost-lt0.false)
+    (field_natural c.field-2.ensures c.in-Read-field.is c.if-y_cost-lt0.false)
+    (key_then c.starts.ensures c.if-not-starts.false
+    (number_then c.field.ensures c.in-Read.is (last_number c.field-2.ensures c.in-Read-field.is))))
+    (sym c.axis_in_range.ensures ∙ c.if-not-axis_in_range.true)
+
+pub returns : goal.returns
+unfolding bytes
+returns c =
+    line_read (both_natural _ _ (field_natural c.field.ensures c.in-Read.is c.if-x_cost-lt0.false)
+    (field_natural c.field-2.ensures c.in-Read-field.is c.if-y_cost-lt0.false)
+    (key_then c.starts.ensures c.if-not-starts.false
+    (number_then c.field.ensures c.in-Read.is (last_number c.field-2.ensures c.in-Read-field.is))))
+    (sym c.axis_in_range.ensures ∙ c.if-not-axis_in_range.false) (field_inside c.field-2.ensures c.in-Read-field.is)
