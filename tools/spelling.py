@@ -82,6 +82,11 @@ def table():
 def turned(path, text, names):
     walk = path.suffix == ".antt" and "proofs" in path.parts and path.parent.name != "proofs"
     here = dict(names)
+    # What is imported from outside the repository keeps its name.
+    for module, imported in re.findall(r"^(?:ghost )?use (\S+?)\.\{(.*)\}", text, re.M):
+        if not (ROOT / module.split(".")[min(1, module.count("."))]).is_dir():
+            for name in imported.split(", "):
+                here.pop(name, None)
     for name, (to, files) in IN_FILES.items():
         if str(path.relative_to(ROOT)) in files:
             here[name] = to

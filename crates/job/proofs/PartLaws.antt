@@ -5,7 +5,7 @@ use mathlib.Core.Path.{◌≡◌, refl, sym, ap, subst, ◌∙◌}
 use mathlib.Core.Bool.{Bool, true, false}
 use mathlib.Core.List.{List, [], ◌∷◌, ◌++◌}
 use Prim.Native.Nat.{ℕ, suc, ◌+◌, ◌-◌, ◌≤◌, ◌<◌}
-use native.Mathlib.Nat.{add-zero, sub_zero}
+use native.Mathlib.Nat.{add-zero, sub-zero}
 use native.Mathlib.Omega.{arith}
 use lib.ListN.{length, drop, set, replicate, length-append, drop_of_length-le}
 use lib.IntN.{ℤ, pos}
@@ -66,7 +66,7 @@ pub record Filled (kind : Kind) (Hold : List (List ℤ) → Type 0) (s : List �
 
 module _ {kind : Kind} {Hold : List (List ℤ) → Type 0} {s : List ℕ} {start count first : ℕ} where
   pub filled_none : Hold [] → Filled kind Hold s start count first start 0
-  filled_none h = record { lines = []; hold = h; left = rw (sub_zero, add-zero) refl }
+  filled_none h = record { lines = []; hold = h; left = rw (sub-zero, add-zero) refl }
 
   module _ {at i : ℕ} (f : Filled kind Hold s start count first at i) where
     pub filled_all : {most : ℕ} → i ≤ count → count ≤ i → count ≤ most → LinesAt Hold most s first (many_lines kind count first (drop start s)) i (At at)

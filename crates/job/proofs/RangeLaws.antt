@@ -208,6 +208,7 @@ area_back_lem ns t = go ns (each_in (row area).ranges ns t)
     go (a ∷ b ∷ c ∷ []) e = absurd e.1.1.1
     go (a ∷ b ∷ c ∷ d ∷ []) e = refl
     go (a ∷ b ∷ c ∷ d ∷ other ∷ others) e = absurd e.1.1.1.1
+    go [] e = elim e [ ]
 
 pub axis_back_lem : (ns : List ℤ) → T (in_ranges (row axis).ranges ns) → axis_numbers (axis_costs_of ns) ≡ ns
 axis_back_lem ns t = go ns (each_in (row axis).ranges ns t)
@@ -216,6 +217,7 @@ axis_back_lem ns t = go ns (each_in (row axis).ranges ns t)
     go (a ∷ []) e = absurd e.1
     go (a ∷ b ∷ []) e = cc ((natural_range 1 9 a e.0).0, (natural_range 1 9 b e.1.0).0)
     go (a ∷ b ∷ other ∷ others) e = absurd e.1.1
+    go [] e = elim e [ ]
 
 pub count_back_lem : (most : ℕ) (ns : List ℤ) → T (in_ranges (up_to most ∷ []) ns) → pos (count_of ns) ∷ [] ≡ ns
 count_back_lem most ns t = go ns (each_in (up_to most ∷ []) ns t)
@@ -223,6 +225,7 @@ count_back_lem most ns t = go ns (each_in (up_to most ∷ []) ns t)
     go : (ns : List ℤ) → EachIn (up_to most ∷ []) ns → pos (count_of ns) ∷ [] ≡ ns
     go (n ∷ other ∷ others) e = absurd e.1
     go (n ∷ []) e = ap (λ (z : ℤ). z ∷ []) (sym (natural_range 0 most n e.0).0)
+    go [] e = elim e [ ]
 
 pub count_limit : (most : ℕ) (ns : List ℤ) → T (in_ranges (up_to most ∷ []) ns) → count_of ns ≤ most
 count_limit most ns t = (count_range most (count_of ns)).0 (subst (λ (l : List ℤ). T (in_ranges (up_to most ∷ []) l)) (sym (count_back_lem most ns t)) t)
@@ -234,6 +237,7 @@ post_back_lem ns t = go ns (each_in (row post).ranges ns t)
     go (x ∷ []) e = absurd e.1
     go (x ∷ y ∷ []) e = refl
     go (x ∷ y ∷ other ∷ others) e = absurd e.1.1
+    go [] e = elim e [ ]
 
 pub stop_back_lem : (ns : List ℤ) → T (in_ranges (row stop).ranges ns) → (stop_line (stop_of ns)).numbers ≡ ns
 stop_back_lem ns t = go ns (each_in (row stop).ranges ns t)
@@ -243,3 +247,4 @@ stop_back_lem ns t = go ns (each_in (row stop).ranges ns t)
     go (x ∷ y ∷ []) e = absurd e.1.1
     go (x ∷ y ∷ v ∷ other ∷ others) e = absurd e.1.1.1
     go (x ∷ y ∷ v ∷ []) e = ap (λ (z : ℤ). x ∷ y ∷ z ∷ []) (sym (natural_range 1 65535 v e.1.1.0).0)
+    go [] e = elim e [ ]
