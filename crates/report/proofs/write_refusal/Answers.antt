@@ -5,5 +5,5 @@ use Rattle.report.proofs.write_refusal.Goals as goal
 
 pub returns : goal.returns
 unfolding bytes
-returns c = refusal_filled _ _ c.number_of_lem.ensures c.Line-of.ensures c.put_key_nat-next.ensures.wrote
+returns c = refusal_filled _ _ c.number_of-number.ensures c.line_of-line.ensures c.put_key_nat-next.ensures.wrote
     c.put_key_nat-next-2.ensures.wrote c.put.ensures
