@@ -21,12 +21,12 @@ paid-sum-requires c =
       place_near pre.0.costs.x_cost pre.0.costs.y_cost pre.1 c.scaled-px.ensures c.scaled-py.ensures,
     )
 
-pub overflow_add-sum : goal.overflow_add-sum
-overflow_add-sum c = let next = loop-again c in omega arith
-
 pub loop-i-preserved : goal.loop-i-preserved
 loop-i-preserved c =
     cost_more c.requires.0 c.loop-i-test.true _ _ c.loop-i.invariant c.paid-sum.ensures
+
+pub overflow_add-sum : goal.overflow_add-sum
+overflow_add-sum c = let next = loop-i-preserved c in omega arith
 
 pub returns : goal.returns
 returns c =

@@ -1,6 +1,5 @@
 -- What `pricing::paid` owes.
 use mathlib.Core.Path.{◌≡◌, ap, ◌∙◌}
-use mathlib.Core.Logic.{⊎_elim}
 use Prim.Native.Nat.{ℕ, ◌≤◌, min}
 use native.Mathlib.Omega.{arith}
 use lib.IntN.{pos, nat_abs}
@@ -10,7 +9,7 @@ use mir.ValLaws.{to_z_pos}
 use Rattle.deck.proofs.WordLaws.{smaller_first, smaller_second}
 use Rattle.deck.proofs.TravelLaws.{far, far_small, far_word}
 use Rattle.reach.proofs.NarrowLaws.{natural_word, visits_word}
-use Rattle.pricing.proofs.paid.Goals.{After-travelled-t, Joined-t-near, Start}
+use Rattle.pricing.proofs.paid.Goals.{After-travelled-t, Joined-t-near, Start, then-t-near, else-t-near}
 use Rattle.pricing.proofs.paid.Goals as goal
 
 abbrev travel : Start → ℕ
@@ -27,9 +26,10 @@ smaller c =
     let start = c.before.before in
     let small = far_small _ _ _ _ c.requires.0.place c.requires.1 in
     rw (← near_is start)
-    (⊎_elim (λ w. smaller_first _ _ _ (total c.before) small (omega (arith, near_is start, c.requires.0.near_range)) _ w.0.taken w.1)
-    (λ w. smaller_second _ _ _ (total c.before) small (omega (arith, near_is start, c.requires.0.near_range)) _ w.0.left w.1)
-    c.if-t-near.branch)
+    (elim c.if-t-near.branch [
+      | then-t-near w ↦ smaller_first _ _ _ (total c.before) small (omega (arith, near_is start, c.requires.0.near_range)) _ w.if-t-near.true w.m-is-bits
+      | else-t-near w ↦ smaller_second _ _ _ (total c.before) small (omega (arith, near_is start, c.requires.0.near_range)) _ w.if-t-near.false w.m-is-bits
+    ])
 
 most : (c : Joined-t-near) → c.if-t-near.m-bits ≤ 720000
 most c = omega (arith, smaller c, c.requires.0.near_range)
