@@ -7,7 +7,7 @@ use Rattle.items.proofs.FirstPlace.{Passed}
 use Rattle.items.proofs.find_post.Given as goal
 
 abbrev pub invariant-loop-post : goal.invariant-loop-post
-invariant-loop-post l = Passed (is_same_place (record { l.x = l.x; l.y = l.y })) (take l.n (places l.px l.py)) l.post
+invariant-loop-post l = Passed (is_same_place (record { x = l.x; y = l.y })) (take l.n (places l.px l.py)) l.post
 
 abbrev pub decreases-loop-post : goal.decreases-loop-post
 decreases-loop-post l = l.n - l.post

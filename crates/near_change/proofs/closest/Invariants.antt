@@ -9,7 +9,7 @@ use Rattle.deck.specs.DeckOf.{places}
 use Rattle.near_change.proofs.closest.Given as goal
 
 abbrev pub invariant-loop-j : goal.invariant-loop-j
-invariant-loop-j l = (1 ≤ l.j) × (l.j ≤ l.k) × (l.least ≡ pos (closest plain (record { l.x = l.x; l.y = l.y }) (take l.j (places l.qx l.qy))))
+invariant-loop-j l = (1 ≤ l.j) × (l.j ≤ l.k) × (l.least ≡ pos (closest plain (record { x = l.x; y = l.y }) (take l.j (places l.qx l.qy))))
 
 abbrev pub decreases-loop-j : goal.decreases-loop-j
 decreases-loop-j l = l.k - l.j
