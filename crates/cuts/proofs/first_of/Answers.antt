@@ -40,10 +40,10 @@ module _ (c : After-middle_line-w) where
   b_line = let a = start.args in middle_line a.blo a.bhi (keep (strictly_between a.blo a.bhi) a.b.now)
 
   same-blo : to_z w64 (of_z w64 start.args.blo) ≡ start.args.blo
-  same-blo = to_z-of_z w64 start.args.blo start.fits.blo
+  same-blo = to_z-of_z w64 start.args.blo start.ranges.blo
 
   b-is : c.middle_line-w.result ≡ b_line
-  b-is = rw (same-blo, to_z-of_z w64 start.args.bhi start.fits.bhi) at c.middle_line-w.ensures
+  b-is = rw (same-blo, to_z-of_z w64 start.args.bhi start.ranges.bhi) at c.middle_line-w.ensures
 
   b-read : to_z w64 (of_z w64 c.middle_line-w.result) ≡ b_line
   b-read = fitting _ c.middle_line-w.type_inv ∙ b-is

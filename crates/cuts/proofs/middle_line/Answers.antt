@@ -25,32 +25,32 @@ module _ (c : After-line_from-above) where
   start = c.before.before.before.before
 
   abbrev below : ℤ
-  below = c.line_Before.result
+  below = c.line_before-below.result
 
   abbrev above : ℤ
   above = c.line_from-above.result
 
   same-lo : to_z w64 (of_z w64 start.args.lo) ≡ start.args.lo
-  same-lo = to_z-of_z w64 start.args.lo start.fits.lo
+  same-lo = to_z-of_z w64 start.args.lo start.ranges.lo
 
   same-hi : to_z w64 (of_z w64 start.args.hi) ≡ start.args.hi
-  same-hi = to_z-of_z w64 start.args.hi start.fits.hi
+  same-hi = to_z-of_z w64 start.args.hi start.ranges.hi
 
   same-middle : to_z w64 (of_z w64 c.middle.result) ≡ half_up (start.args.lo +ℤ start.args.hi)
   same-middle = fitting _ c.middle.type_inv ∙ c.middle.ensures ∙ rw (same-lo, same-hi)
 
   next : NextToMiddle start.args.ls.now start.args.lo start.args.hi below above
   next =
-      next_to_middle start.args.ls.now _ start.args.lo start.args.hi below above start.pre.0
+      next_to_middle start.args.ls.now _ start.args.lo start.args.hi below above start.requires.0
       (rw same-middle at c.first_at_least-at.ensures)
-      (rw same-lo at c.line_Before.ensures)
+      (rw same-lo at c.line_before-below.ensures)
       (rw same-hi at c.line_from-above.ensures)
 
   range : (nat_abs below ≤ 20000) × (nat_abs above ≤ 20000)
-  range = next_range _ start.args.lo start.args.hi below above next 20000 start.pre.1.lo_range start.pre.1.hi_range
+  range = next_range _ start.args.lo start.args.hi below above next 20000 start.requires.1.lo_range start.requires.1.hi_range
 
   same-below : to_z w64 (of_z w64 below) ≡ below
-  same-below = fitting below c.line_Before.type-inv
+  same-below = fitting below c.line_before-below.type_inv
 
   same_above : to_z w64 (of_z w64 above) ≡ above
   same_above = fitting above c.line_from-above.type_inv
@@ -63,7 +63,7 @@ module _ (c : After-line_from-above) where
   pair = rw (same-below, same_above)
 
   edges_fit : SFits w64 (start.args.lo +ℤ start.args.hi)
-  edges_fit = let h = sum_abs start.args.lo start.args.hi 20000 20000 start.pre.1.lo_range start.pre.1.hi_range in
+  edges_fit = let h = sum_abs start.args.lo start.args.hi 20000 20000 start.requires.1.lo_range start.requires.1.hi_range in
       word_fits w64 (start.args.lo +ℤ start.args.hi) (omega (arith, h))
 
   pair-fit : SFits w64 (below +ℤ above)
