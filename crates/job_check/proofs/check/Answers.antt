@@ -1,0 +1,113 @@
+-- What `job_check::check` owes.
+use mathlib.Core.Path.{◌≡◌, ap}
+use mathlib.Core.Option.{Option, none}
+use Prim.Native.Nat.{ℕ, ◌+◌, ◌≤◌}
+use native.Mathlib.Omega.{arith}
+use borrow.Author.Rules.{rules}
+use Rattle.deck.specs.DeckOf.{Sized, held_axis}
+use Rattle.deck.specs.declared.Deck.{Deck}
+use Rattle.job_line.specs.Kinds.{area, axis, row}
+use Rattle.job_line.specs.Reading.{cost_numbers}
+use Rattle.job.specs.File.{writes_axis}
+use Rattle.refusal.specs.declared.Refusal.{Refusal}
+use Rattle.job_check.specs.LineFaults.{first_fault, numbers_fault, or_else, checked_as}
+use Rattle.job_check.proofs.AxisLaws.{third_line}
+use Rattle.job_check.proofs.FileFaults.{file_fault}
+use Rattle.job_check.proofs.CheckLaws.{AreaFits, back_numbers, behind_area, behind_axis, behind_posts, behind_stops, posts_most, stops_most}
+use Rattle.job_check.proofs.CheckLaws.{Left, part_fine, part_refused, all_left, post_part, posts_at, posts_behind, stop_part, stops_behind, rounds_behind, parts_answer}
+use Rattle.job_check.proofs.check.Goals as goal
+
+-- ---- what is left of the refusal, part after part
+module _ {deck : Deck} {n : ℕ} (sized : Sized deck) (fits : AreaFits deck) where
+  left : Left deck n (or_else (numbers_fault (row area).ranges 1 (back_numbers deck)) (behind_area deck n))
+  left = all_left _ _ fits (file_fault _ _ sized)
+
+  -- behind the area
+  module _ {a : Option Refusal} (a_is : a ≡ numbers_fault (row area).ranges 1 (back_numbers deck)) (a_fine : a ≡ none) where
+    left-area : Left deck n (behind_area deck n)
+    left-area = part_fine _ left a_is a_fine
+
+    -- behind the axis costs, where the line of the posts' count is known
+    module _ {x : Option Refusal} (x_is : x ≡ numbers_fault (row axis).ranges 2 (cost_numbers deck.axis)) (x_fine : x ≡ none)
+        {first : ℕ} (first_is : first ≡ posts_at deck) where
+      left-axis : Left deck n (behind_axis deck n first)
+      left-axis = posts_behind first_is (part_fine _ left-area x_is x_fine)
+
+      -- behind the posts
+      module _ {p : Option Refusal} (p_is : p ≡ first_fault first (post_part deck)) (p_fine : p ≡ none) where
+        left-posts : Left deck n (behind_posts deck n (first + 1 + deck.posts))
+        left-posts = stops_behind sized _ (posts_most deck _ p_is p_fine) (part_fine _ left-axis p_is p_fine)
+
+        -- behind the stops
+        module _ {s : Option Refusal} (s_is : s ≡ first_fault (first + 1 + deck.posts) (stop_part deck)) (s_fine : s ≡ none) where
+          left-stops : Left deck n (behind_stops deck n (first + 1 + deck.posts + 1 + deck.stops))
+          left-stops = rounds_behind sized _ (stops_most deck _ s_is s_fine) (part_fine _ left-posts s_is s_fine)
+
+-- where the lines are
+first_few : (deck : Deck) {first : ℕ} → first ≡ posts_at deck → first ≤ 3
+first_few deck e = omega (arith, e, third_line (writes_axis (held_axis deck.axis)))
+
+line_few : (deck : Deck) {first : ℕ} → first ≡ posts_at deck → deck.posts ≤ 64 → first + 1 + deck.posts ≤ 68
+line_few deck e few = omega (arith, first_few deck e)
+
+pub returns-in-Refused : goal.returns-in-Refused
+returns-in-Refused c =
+    let s : Sized c.args.deck = record { post_x = search rules; post_y = search rules; stop_x = search rules; stop_y = search rules; visits = search rules } in
+    let f : AreaFits c.args.deck = record { xlo = search rules; ylo = search rules; xhi = search rules; yhi = search rules } in
+    part_refused _ (left s f) c.area_line.ensures (ap checked_as c.in-Refused.is)
+
+pub returns-in-Refused-axis_line : goal.returns-in-Refused-axis_line
+returns-in-Refused-axis_line c =
+    let s : Sized c.args.deck = record { post_x = search rules; post_y = search rules; stop_x = search rules; stop_y = search rules; visits = search rules } in
+    let f : AreaFits c.args.deck = record { xlo = search rules; ylo = search rules; xhi = search rules; yhi = search rules } in
+    part_refused _ (left-area s f c.area_line.ensures (ap checked_as c.in-Fine.is)) c.axis_line.ensures (ap checked_as c.in-Refused-axis_line.is)
+
+pub returns-in-Refused-all_posts : goal.returns-in-Refused-all_posts
+returns-in-Refused-all_posts c =
+    let s : Sized c.args.deck = record { post_x = search rules; post_y = search rules; stop_x = search rules; stop_y = search rules; visits = search rules } in
+    let f : AreaFits c.args.deck = record { xlo = search rules; ylo = search rules; xhi = search rules; yhi = search rules } in
+    part_refused _ (left-axis s f c.area_line.ensures (ap checked_as c.in-Fine.is) c.axis_line.ensures (ap checked_as c.in-Fine-axis_line.is) c.posts_at-first.ensures) c.all_posts.ensures (ap checked_as c.in-Refused-all_posts.is)
+
+pub overflow_add-line-2 : goal.overflow_add-line-2
+overflow_add-line-2 c =
+    let few : c.args.deck.posts ≤ 64 = posts_most c.args.deck _ c.all_posts.ensures (ap checked_as c.in-Fine-all_posts.is) in
+    omega (arith, line_few c.args.deck c.posts_at-first.ensures few)
+
+pub all_stops-requires : goal.all_stops-requires
+all_stops-requires c =
+    let s : Sized c.args.deck = record { post_x = search rules; post_y = search rules; stop_x = search rules; stop_y = search rules; visits = search rules } in
+    let few : c.args.deck.posts ≤ 64 = posts_most c.args.deck _ c.all_posts.ensures (ap checked_as c.in-Fine-all_posts.is) in
+    (omega (arith, s.stop_x), omega (arith, s.stop_y), omega (arith, s.visits), omega (arith, line_few c.args.deck c.posts_at-first.ensures few))
+
+pub returns-in-Refused-all_stops : goal.returns-in-Refused-all_stops
+returns-in-Refused-all_stops c =
+    let s : Sized c.args.deck = record { post_x = search rules; post_y = search rules; stop_x = search rules; stop_y = search rules; visits = search rules } in
+    let f : AreaFits c.args.deck = record { xlo = search rules; ylo = search rules; xhi = search rules; yhi = search rules } in
+    part_refused _ (left-posts s f c.area_line.ensures (ap checked_as c.in-Fine.is) c.axis_line.ensures (ap checked_as c.in-Fine-axis_line.is) c.posts_at-first.ensures
+    c.all_posts.ensures (ap checked_as c.in-Fine-all_posts.is)) c.all_stops.ensures (ap checked_as c.in-Refused-all_stops.is)
+
+pub overflow_add-line-3 : goal.overflow_add-line-3
+overflow_add-line-3 c =
+    let few : c.args.deck.posts ≤ 64 = posts_most c.args.deck _ c.all_posts.ensures (ap checked_as c.in-Fine-all_posts.is) in
+    omega (arith, line_few c.args.deck c.posts_at-first.ensures few)
+
+pub overflow_add-line-4 : goal.overflow_add-line-4
+overflow_add-line-4 c =
+    let few : c.args.deck.posts ≤ 64 = posts_most c.args.deck _ c.all_posts.ensures (ap checked_as c.in-Fine-all_posts.is) in
+    let many : c.args.deck.stops ≤ 512 = stops_most c.args.deck _ c.all_stops.ensures (ap checked_as c.in-Fine-all_stops.is) in
+    omega (arith, line_few c.args.deck c.posts_at-first.ensures few, many)
+
+pub returns-in-Refused-count_line : goal.returns-in-Refused-count_line
+returns-in-Refused-count_line c =
+    let s : Sized c.args.deck = record { post_x = search rules; post_y = search rules; stop_x = search rules; stop_y = search rules; visits = search rules } in
+    let f : AreaFits c.args.deck = record { xlo = search rules; ylo = search rules; xhi = search rules; yhi = search rules } in
+    part_refused _ (left-stops s f c.area_line.ensures (ap checked_as c.in-Fine.is) c.axis_line.ensures (ap checked_as c.in-Fine-axis_line.is) c.posts_at-first.ensures
+    c.all_posts.ensures (ap checked_as c.in-Fine-all_posts.is) c.all_stops.ensures (ap checked_as c.in-Fine-all_stops.is)) c.count_line.ensures (ap checked_as c.in-Refused-count_line.is)
+
+pub returns : goal.returns
+returns c =
+    let s : Sized c.args.deck = record { post_x = search rules; post_y = search rules; stop_x = search rules; stop_y = search rules; visits = search rules } in
+    let f : AreaFits c.args.deck = record { xlo = search rules; ylo = search rules; xhi = search rules; yhi = search rules } in
+    parts_answer f (part_fine _ (left-stops s f c.area_line.ensures (ap checked_as c.in-Fine.is) c.axis_line.ensures (ap checked_as c.in-Fine-axis_line.is) c.posts_at-first.ensures
+    c.all_posts.ensures (ap checked_as c.in-Fine-all_posts.is) c.all_stops.ensures (ap checked_as c.in-Fine-all_stops.is)) c.count_line.ensures (ap checked_as c.in-Fine-count_line.is))
+    c.missing_part.ensures
