@@ -1,7 +1,5 @@
 -- What `job_file::put_file` owes.
-use mathlib.Core.Path.{◌≡◌}
 use Prim.Native.Nat.{ℕ, zero-le}
-use native.Mathlib.Omega.{arith}
 use mathlib.Core.List.{List}
 use lib.IntN.{ℤ}
 use lib.ListN.{length}
@@ -12,11 +10,11 @@ use mir.ValLaws.{to_z-of_z}
 use Rattle.text.specs.Ascii.{bytes, comma, newline}
 use Rattle.write.specs.Written.{Wrote}
 use Rattle.write.proofs.WrittenLaws.{wrote_both, wrote_front}
+use Rattle.deck.specs.declared.Deck.{Deck}
 use Rattle.deck.specs.DeckOf.{held_axis}
 use Rattle.job.specs.File.{file_text}
 use Rattle.job_file.specs.Texts.{place_text, axis_text, post_texts, stop_texts}
 use Rattle.job_file.proofs.FileLaws.{count_part, front₁, front₂, front₃, front₄, front₅, front₆, front₇, front₈, file_parts, Fronts, fronts, part_room}
-use Rattle.job_file.proofs.put_file.Goals.{After-put-next, After-put_axis-next, After-put_count, After-put_count-next, After-put_count-next-2, After-put_place-next, After-put_place-next-2, After-put_posts-next, After-put_stops-next, Start}
 use Rattle.job_file.proofs.put_file.Goals as goal
 
 -- a place that was read back from its bits
@@ -24,192 +22,113 @@ back : {out after : List ℕ} {at end : ℕ} (x y : ℤ) (last : ℕ) → SFits 
     Wrote out at (place_text (to_z w64 (of_z w64 x)) (to_z w64 (of_z w64 y)) last) after end → Wrote out at (place_text x y last) after end
 back x y last fx fy w = rw (to_z-of_z w64 x fx, to_z-of_z w64 y fy) at w
 
--- a line with a number
-counted : {out after : List ℕ} {at end m : ℕ} (key : List ℕ) (n : ℕ) → Wrote out at (count_part key m) after end → m ≡ n →
-    Wrote out at (count_part key n) after end
-counted key n w e = rw e at w
+-- the area's numbers as the code holds them
+record Corners (deck : Deck) : Type 0 where
+  xlo : SFits w64 deck.xlo
+  ylo : SFits w64 deck.ylo
+  xhi : SFits w64 deck.xhi
+  yhi : SFits w64 deck.yhi
 
--- a corner fits: of the start alone, since a search from the call meets too many records
-fits-yhi : (s : Start) → SFits w64 s.args.t1.yhi
-fits-yhi s = search rules
+-- ---- what is written behind each call
+module _ {deck : Deck} (n : ℕ) (f : Corners deck) {out m₁ : List ℕ} {e₁ : ℕ} (w₁ : Wrote out 0 front₁ m₁ e₁) where
+  module _ {m₂ : List ℕ} {e₂ : ℕ} (w₂ : Wrote m₁ e₁ (place_text (to_z w64 (of_z w64 deck.xlo)) (to_z w64 (of_z w64 deck.ylo)) comma) m₂ e₂) where
+    wrote₂ : Wrote out 0 (front₂ deck) m₂ e₂
+    wrote₂ = wrote_both w₁ (back deck.xlo deck.ylo comma f.xlo f.ylo w₂) zero-le
 
--- the calls that a call stands behind
-abbrev before-put-place : After-put_place-next → After-put-next
-before-put-place c = c.before.before.before.before.before.before
+    module _ {m₃ : List ℕ} {e₃ : ℕ} (w₃ : Wrote m₂ e₂ (place_text (to_z w64 (of_z w64 deck.xhi)) (to_z w64 (of_z w64 deck.yhi)) newline) m₃ e₃) where
+      wrote₃ : Wrote out 0 (front₃ deck) m₃ e₃
+      wrote₃ = wrote_both wrote₂ (back deck.xhi deck.yhi newline f.xhi f.yhi w₃) zero-le
 
-abbrev before-put-place2 : After-put_place-next-2 → After-put_place-next
-before-put-place2 c = c.before.before.before.before.before.before
+      module _ {m₄ : List ℕ} {e₄ : ℕ} (w₄ : Wrote m₃ e₃ (axis_text (held_axis deck.axis)) m₄ e₄) where
+        wrote₄ : Wrote out 0 (front₄ deck) m₄ e₄
+        wrote₄ = wrote_both wrote₃ w₄ zero-le
 
-abbrev before-put-axis : After-put_axis-next → After-put_place-next-2
-before-put-axis c = c.before.before.before.before.before
+        module _ {m₅ : List ℕ} {e₅ : ℕ} (w₅ : Wrote m₄ e₄ (count_part (bytes "posts=") deck.posts) m₅ e₅) where
+          wrote₅ : Wrote out 0 (front₅ deck) m₅ e₅
+          wrote₅ = wrote_both wrote₄ w₅ zero-le
 
-abbrev before-put-count : After-put_count-next → After-put_axis-next
-before-put-count c = c.before.before.before.before.before
+          module _ {m₆ : List ℕ} {e₆ : ℕ} (w₆ : Wrote m₅ e₅ (post_texts deck.post_x deck.post_y deck.posts) m₆ e₆) where
+            wrote₆ : Wrote out 0 (front₆ deck) m₆ e₆
+            wrote₆ = wrote_both wrote₅ w₆ zero-le
 
-abbrev before-put-posts : After-put_posts-next → After-put_count-next
-before-put-posts c = c.before.before.before.before.before.before.before.before.before
+            module _ {m₇ : List ℕ} {e₇ : ℕ} (w₇ : Wrote m₆ e₆ (count_part (bytes "stops=") deck.stops) m₇ e₇) where
+              wrote₇ : Wrote out 0 (front₇ deck) m₇ e₇
+              wrote₇ = wrote_both wrote₆ w₇ zero-le
 
-abbrev before-put-count2 : After-put_count-next-2 → After-put_posts-next
-before-put-count2 c = c.before.before.before.before.before
+              module _ {m₈ : List ℕ} {e₈ : ℕ} (w₈ : Wrote m₇ e₇ (stop_texts deck.stop_x deck.stop_y deck.visits deck.stops) m₈ e₈) where
+                wrote₈ : Wrote out 0 (front₈ deck) m₈ e₈
+                wrote₈ = wrote_both wrote₇ w₈ zero-le
 
-abbrev before-put-stops : After-put_stops-next → After-put_count-next-2
-before-put-stops c = c.before.before.before.before.before.before.before.before.before.before.before
+                module _ {m₉ : List ℕ} {e₉ : ℕ} (w₉ : Wrote m₈ e₈ (count_part (bytes "rounds=") n) m₉ e₉) where
+                  wrote₉ : Wrote out 0 (file_text deck n) m₉ e₉
+                  wrote₉ = rw file_parts (wrote_both wrote₈ w₉ zero-le)
 
--- the start, behind each call
-abbrev start-put : After-put-next → Start
-start-put c = c.before.before.before.before
-
-abbrev start-put-place : After-put_place-next → Start
-start-put-place c = start-put (before-put-place c)
-
-abbrev start-put-place2 : After-put_place-next-2 → Start
-start-put-place2 c = start-put-place (before-put-place2 c)
-
-abbrev start-put-axis : After-put_axis-next → Start
-start-put-axis c = start-put-place2 (before-put-axis c)
-
-abbrev start-put-count : After-put_count-next → Start
-start-put-count c = start-put-axis (before-put-count c)
-
-abbrev start-put-posts : After-put_posts-next → Start
-start-put-posts c = start-put-count (before-put-posts c)
-
-abbrev start-put-count2 : After-put_count-next-2 → Start
-start-put-count2 c = start-put-posts (before-put-count2 c)
-
-abbrev start-put-stops : After-put_stops-next → Start
-start-put-stops c = start-put-count2 (before-put-stops c)
-
--- what is written behind each call
-wrote-put : (c : After-put-next) → let s = start-put c in
-    Wrote s.args.out.now 0 front₁ c.put-next.new.out c.put-next.result
-unfolding bytes
-wrote-put c = c.put-next.ensures
-
-wrote-put-place : (c : After-put_place-next) → let s = start-put-place c in
-    Wrote s.args.out.now 0 (front₂ s.args.t1) c.put_place-next.new.out c.put_place-next.result
-unfolding bytes
-wrote-put-place c =
-    let s = start-put-place c in
-    wrote_both (wrote-put (before-put-place c))
-    (back s.args.t1.xlo s.args.t1.ylo comma (search rules) (search rules) c.put_place-next.ensures) zero-le
-
-wrote-put-place2 : (c : After-put_place-next-2) → let s = start-put-place2 c in
-    Wrote s.args.out.now 0 (front₃ s.args.t1) c.put_place-next-2.new.out c.put_place-next-2.result
-unfolding bytes
-wrote-put-place2 c =
-    let s = start-put-place2 c in
-    wrote_both (wrote-put-place (before-put-place2 c))
-    (back s.args.t1.xhi s.args.t1.yhi newline (search rules) (search rules) c.put_place-next-2.ensures) zero-le
-
-wrote-put-axis : (c : After-put_axis-next) → let s = start-put-axis c in
-    Wrote s.args.out.now 0 (front₄ s.args.t1) c.put_axis-next.new.out c.put_axis-next.result
-unfolding bytes
-wrote-put-axis c = wrote_both (wrote-put-place2 (before-put-axis c)) c.put_axis-next.ensures zero-le
-
-wrote-put-count : (c : After-put_count-next) → let s = start-put-count c in
-    Wrote s.args.out.now 0 (front₅ s.args.t1) c.put_count-next.new.out c.put_count-next.result
-unfolding bytes
-wrote-put-count c =
-    let s = start-put-count c in
-    wrote_both (wrote-put-axis (before-put-count c)) (counted (bytes "posts=") s.args.t1.posts c.put_count-next.ensures (omega arith)) zero-le
-
-wrote-put-posts : (c : After-put_posts-next) → let s = start-put-posts c in
-    Wrote s.args.out.now 0 (front₆ s.args.t1) c.put_posts-next.new.out c.put_posts-next.result
-unfolding bytes
-wrote-put-posts c = wrote_both (wrote-put-count (before-put-posts c)) c.put_posts-next.ensures zero-le
-
-wrote-put-count2 : (c : After-put_count-next-2) → let s = start-put-count2 c in
-    Wrote s.args.out.now 0 (front₇ s.args.t1) c.put_count-next-2.new.out c.put_count-next-2.result
-unfolding bytes
-wrote-put-count2 c =
-    let s = start-put-count2 c in
-    wrote_both (wrote-put-posts (before-put-count2 c)) (counted (bytes "stops=") s.args.t1.stops c.put_count-next-2.ensures (omega arith)) zero-le
-
-wrote-put-stops : (c : After-put_stops-next) → let s = start-put-stops c in
-    Wrote s.args.out.now 0 (front₈ s.args.t1) c.put_stops-next.new.out c.put_stops-next.result
-unfolding bytes
-wrote-put-stops c = wrote_both (wrote-put-count2 (before-put-stops c)) c.put_stops-next.ensures zero-le
-
-wrote-file : (c : After-put_count) → let s = start-put-stops c.before.before.before.before.before in
-    Wrote s.args.out.now 0 (file_text s.args.t1 s.args.rounds) c.put_count.new.out c.put_count.result
-unfolding bytes
-wrote-file c =
-    let before = c.before.before.before.before.before in
-    let s = start-put-stops before in
-    rw file_parts (wrote_both (wrote-put-stops before) (counted (bytes "rounds=") s.args.rounds c.put_count.ensures (omega arith)) zero-le)
-
--- the room for each part
-rooms : (s : Start) → Fronts s.args.t1 (length s.args.out.now)
-rooms s = fronts s.args.t1 s.args.rounds s.requires.2
-
+-- ---- the room for each part
 pub put-next-requires : goal.put-next-requires
 unfolding bytes
-put-next-requires c = (rooms c.before.before.before).one
+put-next-requires c =
+    let r : Fronts c.args.deck (length c.args.out.now) = fronts c.args.deck c.args.rounds c.requires.2 in
+    r.one
 
 pub put_place-next-requires : goal.put_place-next-requires
 unfolding bytes
 put_place-next-requires c =
-    let w = c.before.before.before.before.before in
-    let s = start-put w in
-    rw (to_z-of_z w64 s.args.t1.xlo (search rules), to_z-of_z w64 s.args.t1.ylo (search rules))
-    (part_room _ (place_text s.args.t1.xlo s.args.t1.ylo comma) (wrote-put w) (rooms s).two)
+    let f : Corners c.args.deck = record { xlo = search rules; ylo = search rules; xhi = search rules; yhi = search rules } in
+    let r : Fronts c.args.deck (length c.args.out.now) = fronts c.args.deck c.args.rounds c.requires.2 in
+    rw (to_z-of_z w64 c.args.deck.xlo f.xlo, to_z-of_z w64 c.args.deck.ylo f.ylo)
+    (part_room _ (place_text c.args.deck.xlo c.args.deck.ylo comma) c.put-next.ensures r.two)
 
 pub put_place-next-requires-2 : goal.put_place-next-requires-2
 unfolding bytes
 put_place-next-requires-2 c =
-    let w = c.before.before.before.before.before in
-    let s = start-put-place w in
-    rw (to_z-of_z w64 s.args.t1.xhi (search rules), to_z-of_z w64 s.args.t1.yhi (fits-yhi s))
-    (part_room _ (place_text s.args.t1.xhi s.args.t1.yhi newline) (wrote-put-place w) (rooms s).three)
+    let f : Corners c.args.deck = record { xlo = search rules; ylo = search rules; xhi = search rules; yhi = search rules } in
+    let r : Fronts c.args.deck (length c.args.out.now) = fronts c.args.deck c.args.rounds c.requires.2 in
+    rw (to_z-of_z w64 c.args.deck.xhi f.xhi, to_z-of_z w64 c.args.deck.yhi f.yhi)
+    (part_room _ (place_text c.args.deck.xhi c.args.deck.yhi newline) (wrote₂ c.args.rounds f c.put-next.ensures c.put_place-next.ensures) r.three)
 
 pub put_axis-next-requires : goal.put_axis-next-requires
 unfolding bytes
 put_axis-next-requires c =
-    let w = c.before.before.before.before in
-    let s = start-put-place2 w in
-    part_room _ (axis_text (held_axis s.args.t1.axis)) (wrote-put-place2 w) (rooms s).four
+    let f : Corners c.args.deck = record { xlo = search rules; ylo = search rules; xhi = search rules; yhi = search rules } in
+    let r : Fronts c.args.deck (length c.args.out.now) = fronts c.args.deck c.args.rounds c.requires.2 in
+    part_room _ (axis_text (held_axis c.args.deck.axis)) (wrote₃ c.args.rounds f c.put-next.ensures c.put_place-next.ensures c.put_place-next-2.ensures) r.four
 
 pub put_count-next-requires : goal.put_count-next-requires
 unfolding bytes
 put_count-next-requires c =
-    let w = c.before.before.before.before in
-    let s = start-put-axis w in
-    part_room _ (count_part (bytes "posts=") s.args.t1.posts) (wrote-put-axis w) (rooms s).five
+    let f : Corners c.args.deck = record { xlo = search rules; ylo = search rules; xhi = search rules; yhi = search rules } in
+    let r : Fronts c.args.deck (length c.args.out.now) = fronts c.args.deck c.args.rounds c.requires.2 in
+    part_room _ (count_part (bytes "posts=") c.args.deck.posts) (wrote₄ c.args.rounds f c.put-next.ensures c.put_place-next.ensures c.put_place-next-2.ensures c.put_axis-next.ensures) r.five
 
 pub put_posts-next-requires : goal.put_posts-next-requires
 unfolding bytes
 put_posts-next-requires c =
-    let w = c.before.before.before.before.before.before.before.before in
-    let s = start-put-count w in
-    let deck = s.args.t1 in
-    (search rules, search rules, part_room _ (post_texts deck.post_x deck.post_y deck.posts) (wrote-put-count w) (rooms s).six)
+    let f : Corners c.args.deck = record { xlo = search rules; ylo = search rules; xhi = search rules; yhi = search rules } in
+    let r : Fronts c.args.deck (length c.args.out.now) = fronts c.args.deck c.args.rounds c.requires.2 in
+    (search rules, search rules, part_room _ (post_texts c.args.deck.post_x c.args.deck.post_y c.args.deck.posts) (wrote₅ c.args.rounds f c.put-next.ensures c.put_place-next.ensures c.put_place-next-2.ensures c.put_axis-next.ensures c.put_count-next.ensures) r.six)
 
 pub put_count-next-requires-2 : goal.put_count-next-requires-2
 unfolding bytes
 put_count-next-requires-2 c =
-    let w = c.before.before.before.before in
-    let s = start-put-posts w in
-    part_room _ (count_part (bytes "stops=") s.args.t1.stops) (wrote-put-posts w) (rooms s).seven
+    let f : Corners c.args.deck = record { xlo = search rules; ylo = search rules; xhi = search rules; yhi = search rules } in
+    let r : Fronts c.args.deck (length c.args.out.now) = fronts c.args.deck c.args.rounds c.requires.2 in
+    part_room _ (count_part (bytes "stops=") c.args.deck.stops) (wrote₆ c.args.rounds f c.put-next.ensures c.put_place-next.ensures c.put_place-next-2.ensures c.put_axis-next.ensures c.put_count-next.ensures c.put_posts-next.ensures) r.seven
 
 pub put_stops-next-requires : goal.put_stops-next-requires
 unfolding bytes
 put_stops-next-requires c =
-    let w = c.before.before.before.before.before.before.before.before.before.before in
-    let s = start-put-count2 w in
-    let deck = s.args.t1 in (
-      search rules,
-      search rules,
-      search rules,
-      part_room _ (stop_texts deck.stop_x deck.stop_y deck.visits deck.stops) (wrote-put-count2 w) (rooms s).eight,
-    )
+    let f : Corners c.args.deck = record { xlo = search rules; ylo = search rules; xhi = search rules; yhi = search rules } in
+    let r : Fronts c.args.deck (length c.args.out.now) = fronts c.args.deck c.args.rounds c.requires.2 in
+    (search rules, search rules, search rules, part_room _ (stop_texts c.args.deck.stop_x c.args.deck.stop_y c.args.deck.visits c.args.deck.stops) (wrote₇ c.args.rounds f c.put-next.ensures c.put_place-next.ensures c.put_place-next-2.ensures c.put_axis-next.ensures c.put_count-next.ensures c.put_posts-next.ensures c.put_count-next-2.ensures) r.eight)
 
 pub put_count-requires : goal.put_count-requires
 unfolding bytes
 put_count-requires c =
-    let w = c.before.before.before.before in
-    let s = start-put-stops w in
-    part_room _ (count_part (bytes "rounds=") s.args.rounds) (wrote-put-stops w) (rw file_parts at s.pre.2)
+    let f : Corners c.args.deck = record { xlo = search rules; ylo = search rules; xhi = search rules; yhi = search rules } in
+    part_room _ (count_part (bytes "rounds=") c.args.rounds) (wrote₈ c.args.rounds f c.put-next.ensures c.put_place-next.ensures c.put_place-next-2.ensures c.put_axis-next.ensures c.put_count-next.ensures c.put_posts-next.ensures c.put_count-next-2.ensures c.put_stops-next.ensures) (rw file_parts at c.requires.2)
 
 pub returns : goal.returns
-returns c = wrote_front _ (wrote-file c.before.before)
+unfolding bytes
+returns c =
+    let f : Corners c.args.deck = record { xlo = search rules; ylo = search rules; xhi = search rules; yhi = search rules } in
+    wrote_front _ (wrote₉ c.args.rounds f c.put-next.ensures c.put_place-next.ensures c.put_place-next-2.ensures c.put_axis-next.ensures c.put_count-next.ensures c.put_posts-next.ensures c.put_count-next-2.ensures c.put_stops-next.ensures c.put_count.ensures)
