@@ -13,7 +13,7 @@ use lib.ListN.{length}
 use lib.Signed.{◌≤ℤ◌}
 use Rattle.numbers.proofs.Truth.{test, cond-true, cond-false}
 use Rattle.query.specs.Figures.{Figures}
-use Rattle.query.specs.Space.{space, space_needed}
+use Rattle.query.specs.Space.{space_needed}
 use Rattle.query.specs.Demand3.{Demand3}
 use Rattle.query.proofs.Demand3 as Query
 use Rattle.query.specs.Range.{FiguresInRange}

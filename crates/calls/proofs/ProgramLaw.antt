@@ -15,7 +15,7 @@ use Rattle.job.proofs.Meaning.{refused_job}
 use Rattle.job.proofs.RefusalLaws.{condition_number}
 use Rattle.report.specs.Text.{report_text, refusal_text}
 use Rattle.report.proofs.TextLaws.{report_no_refusal, refusal_number}
-use Rattle.calls.specs.Answers.{gives, refuses, refusal}
+use Rattle.calls.specs.Answers.{gives, refuses}
 use Rattle.calls.specs.Call.{Left, job_figures, report_call, own_space}
 use Rattle.calls.specs.Program.{text_of, answer_text}
 use Rattle.calls.specs.Demands.{in_reading}

@@ -1,15 +1,13 @@
 -- The law of records: reading leaves a sound record where it accepts, and every sound record is read from its saved spelling.
 -- Assumes nothing.
-use mathlib.Core.Path.{◌≡◌, refl, sym, ap, subst, ◌∙◌}
+use mathlib.Core.Path.{◌≡◌, sym, ap, subst, ◌∙◌}
 use mathlib.Core.List.{List, map}
 use Prim.Native.Nat.{ℕ, ◌≤◌, ◌<◌}
 use native.Mathlib.Omega.{arith}
-use lib.ListN.{length, get_or, length-map}
+use lib.ListN.{get_or, length-map}
 use lib.Seq.{get_or-take}
-use Rattle.numbers.specs.Padded.{padded}
 use Rattle.numbers.proofs.Joined.{map_at}
 use Rattle.numbers.proofs.Padded.{padded_at, padded_behind}
-use Rattle.query.specs.Deck as Query
 use Rattle.query.specs.Travel.{near}
 use Rattle.query.specs.Range.{InRange}
 use Rattle.deck.specs.DeckOf.{deck_of, deck_record, empty_deck}
@@ -17,14 +15,11 @@ use Rattle.deck.specs.Sound.{Sound}
 use Rattle.deck.specs.declared.Deck.{Deck}
 use Rattle.deck.proofs.DeckLaws.{all_stops, stops_at, held_deck}
 use Rattle.deck.proofs.SoundLaws.{record_sound, sound_columns, sound_near, sound_stops, sound_before}
-use Rattle.job.specs.Format.{Job, accepted, read_job}
-use Rattle.job.specs.Spelling.{Allowed}
 use Rattle.job.specs.File.{held_job, saved_spelling}
 use Rattle.job.proofs.Meaning.{allowed_in_range}
 use Rattle.job.proofs.AllowedLaws.{in_range_allowed}
 use Rattle.job_check.proofs.AxisLaws.{saved_spells}
-use Rattle.calls.specs.Answers.{gives}
-use Rattle.calls.specs.ReadCall.{Read, read_call}
+use Rattle.calls.specs.ReadCall.{Read}
 use Rattle.calls.specs.RecordLaw.{Made, by_reading, stop_in, RecordLaw, RefusedRecordLaw}
 use Rattle.calls.proofs.Demands.{read_exactly}
 use Rattle.calls.proofs.SavingLaw.{read_given, read_accepted, refused_zeros}

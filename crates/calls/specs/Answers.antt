@@ -11,15 +11,11 @@ use Rattle.problem.specs.ObjectProblem.{priced_of}
 use Rattle.calls.specs.declared.Answer.{Answer}
 use Rattle.calls.specs.declared.Answer.TheVariants as Answered
 use Rattle.calls.specs.declared.Cheapest.{Cheapest}
-use Rattle.calls.specs.declared.Cheapest.TheVariants as Cheapest
 use Rattle.calls.specs.declared.Estimate.{Estimate}
 use Rattle.calls.specs.declared.Estimated.{Estimated}
-use Rattle.calls.specs.declared.Estimated.TheVariants as Estimated
 use Rattle.calls.specs.declared.Written.{Written}
-use Rattle.calls.specs.declared.Written.TheVariants as Written
 use Rattle.job.specs.Format.{Job, Result, refused, accepted}
 use Rattle.job.specs.declared.Outcome.{Outcome}
-use Rattle.job.specs.declared.Outcome.TheVariants as Outcome
 
 -- what is asked for, or a refusal by its number and its line
 pub data AnswerOf (A : Type 0) : Type 0 where
