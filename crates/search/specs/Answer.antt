@@ -8,7 +8,6 @@ use Rattle.query.specs.Search.{Search, run}
 use Rattle.query.specs.Figures as Figures
 use Rattle.query.specs.Space.{all_numbers}
 use Rattle.query.specs.Range.{cost_limit, rounds_limit}
-use Rattle.slots.specs.declared.Cell.{Cell}
 use Rattle.search.specs.declared.run.Running.{Running}
 use Rattle.search.specs.declared.run.Found.{Found}
 use Rattle.cells.specs.Entries.{entries}

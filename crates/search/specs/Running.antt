@@ -9,7 +9,6 @@ use Rattle.query.specs.Order as Query
 use Rattle.query.specs.Search.{Search, run}
 use Rattle.query.specs.Range.{cost_limit, rounds_limit}
 use Rattle.deck.specs.Objects.{Pricing}
-use Rattle.slots.specs.declared.Cell.{Cell}
 use Rattle.reach.specs.Columns.{Ranged}
 use Rattle.problem.specs.ObjectProblem.{priced_of, rect_in}
 use Rattle.search.specs.declared.run.Running.{Running}
