@@ -1,0 +1,23 @@
+-- What `trial::opened::cut_of` owes.
+use mathlib.Core.Path.{ap, ◌∙◌}
+use Rattle.query.specs.Grid.{Grid}
+use Rattle.deck.specs.Rectangle.{rect_of}
+use Rattle.cuts.specs.CutRecord.{cut_record}
+use Rattle.prepare.proofs.RecordParts.{vertical_taken, horizontal_taken}
+use Rattle.problem.proofs.DeckProblem.{prepared_lined, prepared_grid}
+use Rattle.trial.proofs.OpenLaws.{prepared}
+use Rattle.trial.proofs.opened.cut_of.Goals as goal
+
+pub slice_bounds-find_cut-end : goal.slice_bounds-find_cut-end
+slice_bounds-find_cut-end c = vertical_taken _ _ c.requires.0.problem_is
+
+pub slice_bounds-find_cut-end-2 : goal.slice_bounds-find_cut-end-2
+slice_bounds-find_cut-end-2 c = horizontal_taken _ _ c.requires.0.problem_is
+
+pub find_cut-requires : goal.find_cut-requires
+find_cut-requires c =
+    (prepared_lined (prepared c.requires.0), c.requires.1.range)
+
+pub returns : goal.returns
+returns c =
+    c.find_cut.ensures ∙ ap (λ (G : Grid). cut_record G (rect_of c.args.rect)) (prepared_grid (prepared c.requires.0))
