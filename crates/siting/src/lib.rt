@@ -126,9 +126,8 @@ pub fn report(job: &[u8], cells: &mut [i64], out: &mut [u8]) -> Answer
 }
 
 // The entry for C, with a cell space of its own: the bytes written, or minus the number of the refusal.
-#[unsafe(no_mangle)]
-pub extern "C" fn siting_report(job: &[u8], out: &mut [u8]) -> i64
-    ensures* { λ r. ⌜ record { result = r; out = out.new } ≡ entry job.now out.old ⌝ }
+pub fn siting_report(job: &[u8], out: &mut [u8]) -> i64
+    ensures { record { result = result; out = out.new } ≡ entry job.now out.old }
 {
     let mut cells = [0i64; SPACE];
     let given = respond(job, &mut cells, out);

@@ -45,8 +45,7 @@ pub fn refusal_figure(why: Refusal, which: u64) -> i64
 
 // Of what reading a job gives: the number of the refusal and its line, both 0 for an accepted job; the rounds, -1 for a refused job.
 // The least number behind them.
-#[unsafe(no_mangle)]
-pub extern "C" fn trial_reading(job: &[u8], which: u64) -> i64
+pub fn trial_reading(job: &[u8], which: u64) -> i64
     ensures { result ≡ get_or (reading_numbers (read_job job.now)) which least }
 {
     let j = job::read(job);
@@ -181,15 +180,7 @@ fn cut_line(job: &[u8], rect: Rect) -> i64
 
 // A figure of the job's deck: before, the near of stop `xlo`, the cost of (`xlo`, `ylo`); of the rectangle the load, the bound, the axis
 // and the line of the cut. The least number behind them.
-#[unsafe(no_mangle)]
-pub extern "C" fn trial_figure(
-    job: &[u8],
-    which: u64,
-    xlo: i64,
-    ylo: i64,
-    xhi: i64,
-    yhi: i64,
-) -> i64
+pub fn trial_figure(job: &[u8], which: u64, xlo: i64, ylo: i64, xhi: i64, yhi: i64) -> i64
     ensures { result
         ≡ get_or (deck_figures (record { xlo = xlo; ylo = ylo; xhi = xhi; yhi = yhi }) (read_job job.now)) which least }
 {
@@ -234,9 +225,8 @@ fn put_lines(out: &mut [i64], ls: &[i64])
 }
 
 // Puts the lines along an axis in front of `out`: how many there are, or -1 where the job is refused or `out` is too short.
-#[unsafe(no_mangle)]
-pub extern "C" fn trial_lines(job: &[u8], across: bool, out: &mut [i64]) -> i64
-    ensures* { λ r. ⌜ record { result = r; out = out.new } ≡ lines_written across out.old (read_job job.now) ⌝ }
+pub fn trial_lines(job: &[u8], across: bool, out: &mut [i64]) -> i64
+    ensures { record { result = result; out = out.new } ≡ lines_written across out.old (read_job job.now) }
 {
     let o = opened::open_job(job);
     if !o.accepted {

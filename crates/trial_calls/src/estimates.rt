@@ -32,8 +32,7 @@ fn needs_figure(e: Estimate, which: u64) -> i64
 
 // Of the estimate call's answer: gaps across, gaps deep, cut limit, cells, the number of the refusal and its line (0 for none). The least
 // number where there is no such figure.
-#[unsafe(no_mangle)]
-pub extern "C" fn trial_estimate(job: &[u8], which: u64) -> i64
+pub fn trial_estimate(job: &[u8], which: u64) -> i64
     ensures { result ≡ estimate_figure which (estimate_call job.now) }
 {
     let answer = siting::estimate(job);

@@ -63,10 +63,9 @@ fn figure(r: Report, which: u64) -> i64
 
 // Of the report call's answer: state, x, y, high, low, before, rounds, the number of the refusal and its line (0 for a report). The least
 // number where there is no such figure.
-#[unsafe(no_mangle)]
-pub extern "C" fn trial_report(job: &[u8], cells: &mut [i64], out: &mut [u8], which: u64) -> i64
-    ensures* { λ r. ⌜ record { result = r; cells = cells.new; out = out.new }
-        ≡ called (figure_for which) (report_call job.now cells.old out.old) ⌝ }
+pub fn trial_report(job: &[u8], cells: &mut [i64], out: &mut [u8], which: u64) -> i64
+    ensures { record { result = result; cells = cells.new; out = out.new }
+        ≡ called (figure_for which) (report_call job.now cells.old out.old) }
 {
     let answer = siting::report(job, cells, out);
     match answer {
@@ -102,8 +101,7 @@ fn spot_figure(s: Spot, which: u64) -> i64
 
 // Of the exhaustive call's answer: x, y, the cost, the number of the refusal and its line (0 for none). The least number where there is no
 // such figure.
-#[unsafe(no_mangle)]
-pub extern "C" fn trial_exhaustive(job: &[u8], which: u64) -> i64
+pub fn trial_exhaustive(job: &[u8], which: u64) -> i64
     ensures { result ≡ cheapest_figure which (exhaustive_call job.now) }
 {
     let answer = siting::exhaustive(job);

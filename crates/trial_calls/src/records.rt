@@ -120,15 +120,9 @@ fn count_figure(n: u64, which: u64) -> i64
 
 // Of the reading call's answer: the rounds, the number of the refusal and its line (0 for none); the least number where there is no such
 // figure. The record's numbers are put into the two lists. The least number, and nothing put, where they are not as long as a record's.
-#[unsafe(no_mangle)]
-pub extern "C" fn trial_read(
-    job: &[u8],
-    coordinates: &mut [i64],
-    naturals: &mut [u64],
-    which: u64,
-) -> i64
-    ensures* { λ r. ⌜ record { result = r; coordinates = coordinates.new; naturals = naturals.new }
-        ≡ trial_read job.now coordinates.old naturals.old which ⌝ }
+pub fn trial_read(job: &[u8], coordinates: &mut [i64], naturals: &mut [u64], which: u64) -> i64
+    ensures { record { result = result; coordinates = coordinates.new; naturals = naturals.new }
+        ≡ trial_read job.now coordinates.old naturals.old which }
 {
     if coordinates.len() != 1156 {
         return -9223372036854775808;
@@ -154,16 +148,15 @@ pub extern "C" fn trial_read(
 
 // Of the writing call's answer for the record that has these numbers: the bytes written, the number of the refusal and its line (0 for
 // none); the least number where there is no such figure, or where the lists are not as long as a record's.
-#[unsafe(no_mangle)]
-pub extern "C" fn trial_write(
+pub fn trial_write(
     coordinates: &[i64],
     naturals: &[u64],
     rounds: u64,
     out: &mut [u8],
     which: u64,
 ) -> i64
-    ensures* { λ r. ⌜ record { result = r; out = out.new }
-        ≡ trial_write coordinates.now naturals.now rounds out.old which ⌝ }
+    ensures { record { result = result; out = out.new }
+        ≡ trial_write coordinates.now naturals.now rounds out.old which }
 {
     if coordinates.len() != 1156 {
         return -9223372036854775808;
