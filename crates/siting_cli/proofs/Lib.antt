@@ -1,0 +1,2 @@
+mod LongJob
+mod OutputLaws

@@ -1,0 +1,13 @@
+-- What the program leaves behind what its output held, where the bytes that its input has left are known.
+-- Assumes nothing.
+use Rattle.std.specs.Prelude.{ℕ, List, take, Option, IfSome}
+use Rattle.std.specs.Io.KnownBytes.{Appends}
+use Rattle.calls.specs.Program.{answer_text}
+
+-- the text for all bytes of the input
+abbrev pub AnswersAll : Option (List ℕ) → Option (List ℕ) → Option (List ℕ) → Type 0
+AnswersAll input old new = IfSome input (λ job. Appends old new (answer_text job))
+
+-- the text for the first bytes of the input, those before a read failed
+abbrev pub AnswersPart : Option (List ℕ) → Option (List ℕ) → Option (List ℕ) → Type 0
+AnswersPart input old new = IfSome input (λ job. (n : ℕ) × Appends old new (answer_text (take n job)))
