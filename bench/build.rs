@@ -1,4 +1,4 @@
-//! The proved code: the static libraries that `rt staticlib` writes.
+//! The proved code: the static libraries that scripts/libraries makes.
 fn main() {
     let folder = std::path::Path::new(env!("CARGO_MANIFEST_DIR")).join("../target/staticlib");
     println!("cargo:rustc-link-search=native={}", folder.display());

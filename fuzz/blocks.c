@@ -1,5 +1,5 @@
 /*
- * Coverage of the proved code itself. `rt staticlib` leaves nothing that a compiler could instrument, so a breakpoint stands at the
+ * Coverage of the proved code itself. A static library has nothing that a compiler could instrument, so a breakpoint stands at the
  * start of each basic block of it. The first call that comes there has the byte put back and the block's counter set; libFuzzer reads
  * the counters after each input. The blocks are in the file that FUZZ_BLOCKS names, which scripts/fuzz makes: on each line the
  * distance from siting_report, ascending, and a name.

@@ -1,7 +1,7 @@
 /*
  * Siting: where one more wash post saves the most travel. The entry for C.
  *
- * Link target/staticlib/libsiting.a, which `rt staticlib siting` writes, on Linux on x86-64.
+ * Link target/staticlib/libsiting.a, which `scripts/libraries siting` makes, on Linux on x86-64.
  */
 #ifndef SITING_H
 #define SITING_H

@@ -1,11 +1,11 @@
-//! The program target/bin/siting_cli, which `rt check siting_cli` builds.
+//! The program crates/siting_cli/out/siting_cli, which rt ci and scripts/run build.
 
 use std::path::{Path, PathBuf};
 use std::process::{Child, Command, Stdio};
 
 pub fn path() -> PathBuf {
-    let path = Path::new(env!("CARGO_MANIFEST_DIR")).join("../target/bin/siting_cli");
-    assert!(path.is_file(), "{} is missing: rt check siting_cli builds it", path.display());
+    let path = Path::new(env!("CARGO_MANIFEST_DIR")).join("../crates/siting_cli/out/siting_cli");
+    assert!(path.is_file(), "{} is missing: scripts/run builds it", path.display());
     path
 }
 
