@@ -1,5 +1,6 @@
 -- From what was read and what was written to what the program leaves.
-use Rattle.std.proofs.Common.{◌≡◌, inl, inr, ℕ, ◌-◌, ◌<◌, ◌≤◌, List, ◌++◌, Option, None, Some, Result, Ok, Err, OnOk, is_ok, IsTrue, arith, sym, ap, ◌∙◌, subst, length, take, replicate, append-nil, length-append}
+use Rattle.std.proofs.Common.{◌≡◌, inl, inr, ℕ, ◌-◌, ◌<◌, ◌≤◌, List, ◌++◌, Option, None, Some, Result, Ok, Err, OnOk, is_ok, IsTrue, arith}
+use Rattle.std.proofs.Common.{sym, ap, ◌∙◌, subst, length, take, replicate, append-nil, length-append}
 use Rattle.std.proofs.lemmas.Bool.{cases_lt, false≢true}
 use Rattle.std.proofs.Math.Seq.{take-append_seam}
 use Rattle.std.specs.Io.KnownBytes.{Consumes, IsAtEnd, Appends}
@@ -21,7 +22,8 @@ text_bytes t text e = ap (λ (x : Text). take x.length x.bytes) e ∙ take-appen
 first : (job bytes rest : List ℕ) → job ≡ bytes ++ rest → take (length bytes) job ≡ bytes
 first job bytes rest e = ap (take (length bytes)) e ∙ take-append_seam bytes rest
 
-pub part_lem : (input left old new : Option (List ℕ)) (bytes : List ℕ) → Consumes input left bytes → Appends old new (answer_text bytes) → AnswersPart input old new
+pub part_lem : (input left old new : Option (List ℕ)) (bytes : List ℕ) → Consumes input left bytes → Appends old new (answer_text bytes)
+    → AnswersPart input old new
 part_lem None left old new bytes c a = tt
 part_lem (Some job) None old new bytes c a = absurd c
 part_lem (Some job) (Some rest) old new bytes c a = (length bytes, subst (λ l. Appends old new (answer_text l)) (sym (first job bytes rest c)) a)
@@ -31,7 +33,8 @@ pub all_lem : (input left old new : Option (List ℕ)) (bytes : List ℕ) → (l
     → Consumes input left bytes → Appends old new (answer_text bytes) → AnswersAll input old new
 all_lem None left old new bytes end c a = tt
 all_lem (Some job) None old new bytes end c a = absurd c
-all_lem (Some job) (Some rest) old new bytes end c a = subst (λ l. Appends old new l) (elim (cases_lt 16384 (length bytes)) [ inl h ↦ long h | inr h ↦ short h ]) a
+all_lem (Some job) (Some rest) old new bytes end c a = subst (λ l. Appends old new l)
+    (elim (cases_lt 16384 (length bytes)) [ inl h ↦ long h | inr h ↦ short h ]) a
   where
     long : 16384 < length bytes → answer_text bytes ≡ answer_text job
     long h = ap answer_text (sym (first job bytes rest c)) ∙ first_bytes job (length bytes) h (omega (arith, ap length c, length-append bytes rest))
