@@ -40,7 +40,8 @@ module _ (job : List ℕ) where
   text_of_lem = refl
 
   reported_text : (j : Job) → read_job job ≡ accepted j → answer_text job ≡ report_text (job_figures j)
-  reported_text j e = text_of_lem ∙ ap text_of (reports job own_space output j (own_accepted job output j e (omega (arith, length-replicate {A = ℕ} 128 0)))).answer
+  reported_text j e = text_of_lem
+      ∙ ap text_of (reports job own_space output j (own_accepted job output j e (omega (arith, length-replicate {A = ℕ} 128 0)))).answer
       ∙ given_text (job_figures j)
 
   refusal_text_lem : (why : Refusal) → Condition job why → answer_text job ≡ refusal_text (number_of why) (line_of why)

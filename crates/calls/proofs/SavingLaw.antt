@@ -103,7 +103,8 @@ module _ (deck : Deck) (rounds : ℕ) (out : List ℕ) where
   module _ (job : Job) (e : read_text (file_text deck rounds) ≡ accepted job) where
     pub file_short : length out < length (file_text deck rounds) → write_call deck rounds out ≡ not_saved ShortOutput out
     unfolding write_call saved_as
-    file_short h = ap (λ (r : Result). saved_as r (file_text deck rounds) out) e ∙ cond-true (ltb (length out) (length (file_text deck rounds))) _ _ (lt→ltb _ _ h)
+    file_short h = ap (λ (r : Result). saved_as r (file_text deck rounds) out) e
+        ∙ cond-true (ltb (length out) (length (file_text deck rounds))) _ _ (lt→ltb _ _ h)
 
     pub file_written : length (file_text deck rounds) ≤ length out →
         write_call deck rounds out ≡ record { answer = gives (length (file_text deck rounds)); out = overwritten (file_text deck rounds) out }
@@ -115,7 +116,8 @@ module _ (deck : Deck) (rounds : ℕ) (out : List ℕ) where
 module _ (deck : Deck) (rounds : ℕ) (out : List ℕ) (sized : Sized deck) where
   data Ends : Type 0 where
     refuses_file : (why : Refusal) → read_text (file_text deck rounds) ≡ refused why → write_call deck rounds out ≡ not_saved why out → Ends
-    too_short : Saveable deck rounds → length out < length (saved_spelling (held_job deck rounds)) → write_call deck rounds out ≡ not_saved ShortOutput out → Ends
+    too_short : Saveable deck rounds → length out < length (saved_spelling (held_job deck rounds)) → write_call deck rounds out ≡ not_saved ShortOutput out
+        → Ends
     writes : Saveable deck rounds → length (saved_spelling (held_job deck rounds)) ≤ length out → write_call deck rounds out
         ≡ record { answer = gives (length (saved_spelling (held_job deck rounds))); out = overwritten (saved_spelling (held_job deck rounds)) out } → Ends
 

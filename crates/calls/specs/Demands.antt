@@ -41,7 +41,8 @@ pub record Demand1 (job : List ℕ) (cells : List ℤ) (out : List ℕ) : Type 0
   pub refused_exactly : (why : Refusal) → ((report_call job cells out).answer ≡ refusal why) ↔ Applies job cells out why
   pub refused_listed : (number line : ℕ) → (report_call job cells out).answer ≡ refuses number line → (why : Refusal)
       × (number ≡ number_of why) × (line ≡ line_of why)
-  pub refused_cells : (number line : ℕ) → (report_call job cells out).answer ≡ refuses number line → (report_call job cells out).cells ≡ cells
+  pub refused_cells : (number line : ℕ) → (report_call job cells out).answer ≡ refuses number line
+      → (report_call job cells out).cells ≡ cells
   pub refused_out : (number line : ℕ) → (report_call job cells out).answer ≡ refuses number line → (report_call job cells out).out ≡ out
 
 -- ---- demand 2

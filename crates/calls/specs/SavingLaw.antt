@@ -31,7 +31,8 @@ pub record ReadLaw (job : List ℕ) : Type 0 where
       × (number ≡ number_of why) × (line ≡ line_of why)
   pub refused_deck : (number line : ℕ) → (read_call job).answer ≡ refuses number line → (read_call job).deck ≡ deck_record empty_deck
   -- an accepted job, and no other, is read as the record of its deck, which holds that deck
-  pub given_exactly : (rounds : ℕ) → ((read_call job).answer ≡ gives rounds) ↔ ((j : Job) × (read_job job ≡ accepted j) × (rounds ≡ j.rounds))
+  pub given_exactly : (rounds : ℕ)
+      → ((read_call job).answer ≡ gives rounds) ↔ ((j : Job) × (read_job job ≡ accepted j) × (rounds ≡ j.rounds))
   pub given : (j : Job) → read_job job ≡ accepted j → read_call job ≡ record { answer = gives j.rounds; deck = deck_record j.deck }
   pub held : (j : Job) → read_job job ≡ accepted j → deck_of (read_call job).deck ≡ j.deck
   pub sized : Sized (read_call job).deck
@@ -54,7 +55,8 @@ pub record Saveable (deck : Deck) (rounds : ℕ) : Type 0 where
 -- 02 "gets the number and line that its file would get, 1 aside ..": 2 to 6 as in reading the file, then 8
 pub data WriteApplies (deck : Deck) (rounds : ℕ) (out : List ℕ) : Refusal → Type 0 where
   in_file : {why : Refusal} → TextCondition (file_text deck rounds) why → WriteApplies deck rounds out why
-  short_output : Saveable deck rounds → length out < length (saved_spelling (held_job deck rounds)) → WriteApplies deck rounds out ShortOutput
+  short_output : Saveable deck rounds → length out < length (saved_spelling (held_job deck rounds))
+      → WriteApplies deck rounds out ShortOutput
 
 -- what holds of n bytes that were written
 pub record WrittenLaw (deck : Deck) (rounds : ℕ) (out : List ℕ) (n : ℕ) : Type 0 where

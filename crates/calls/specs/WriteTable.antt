@@ -137,7 +137,8 @@ pub record WriteTable : Type 0 where
   pub rounds_beyond : map (λ n. gets_with n (counting 64 (pos 0, pos 0) 512 (pos 0, pos 0, 1)))
       (1000 ∷ 1001 ∷ nine_digits ∷ ten_digits ∷ most_natural ∷ []) ≡ (0, 0) ∷ (3, 580) ∷ (3, 580) ∷ (2, 580) ∷ (2, 580) ∷ []
   -- 4, 5 and 6 once every line is right, and 8 after all others
-  pub empty_area_law : map (λ area. gets (with_area area)) ((pos 8 ∷ pos 2 ∷ pos 2 ∷ pos 8 ∷ []) ∷ (pos 2 ∷ pos 8 ∷ pos 8 ∷ pos 2 ∷ []) ∷ [])
+  pub empty_area_law : map (λ area. gets (with_area area))
+      ((pos 8 ∷ pos 2 ∷ pos 2 ∷ pos 8 ∷ []) ∷ (pos 2 ∷ pos 8 ∷ pos 8 ∷ pos 2 ∷ []) ∷ [])
       ≡ replicate 2 (4, 0)
   pub no_posts : gets (counting 0 (pos 0, pos 0) 0 (pos 0, pos 0, 0)) ≡ (5, 0)
   pub no_stops : gets (counting 1 (pos 0, pos 0) 0 (pos 0, pos 0, 0)) ≡ (6, 0)

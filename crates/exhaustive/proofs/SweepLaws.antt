@@ -111,7 +111,8 @@ module _ (ls : List ℤ) (cost : ℕ) (up us down ds : List ℕ) (before : ℕ) 
       }
 
       module _ (price : ℕ) (q : price + ((c + get_or down j 0) * t + (b + get_or us j 0)) ≡ before + ((a + get_or up j 0) * t + (d + get_or ds j 0))) where
-        balance : price + (prefix_sum down (j + 1) * height_of z + prefix_sum us (j + 1)) ≡ before + (prefix_sum up (j + 1) * height_of z + prefix_sum ds (j + 1))
+        balance : price + (prefix_sum down (j + 1) * height_of z + prefix_sum us (j + 1))
+            ≡ before + (prefix_sum up (j + 1) * height_of z + prefix_sum ds (j + 1))
         balance = rw (t-is, ups_next, up_starts_next, downs_next, down_starts_next) at q
 
         price_is : (P : Pricing) (m : ℕ) (v : ℤ) → P.axis.b ≡ cost → ObjectsAdded P m ls v up us down ds → before ≡ before_of P →
@@ -119,7 +120,8 @@ module _ (ls : List ℤ) (cost : ℕ) (up us down ds : List ℕ) (before : ℕ) 
         price_is P m v r added f = omega (arith, balance, at_line P.axis.b _ _ r (added.cost j h), f)
 
         pub sweep_more : length old ≡ 514 → (new : ℕ) → new ≡ price
-            → Sweeping ls cost up us down ds before old (set costs j new) (a + get_or up j 0) (b + get_or us j 0) (c + get_or down j 0) (d + get_or ds j 0) (j + 1)
+            → Sweeping ls cost up us down ds before old (set costs j new) (a + get_or up j 0) (b + get_or us j 0) (c + get_or down j 0) (d + get_or ds j 0)
+            (j + 1)
         sweep_more l new i = record {
           count = omega arith;
           long = simp length-set s.long;

@@ -164,7 +164,8 @@ first_fault_lem {lines} bytes good number split (more_text {n} {b} {bs}) =
     malformed (too_much lines (b ∷ bs) good split number (λ e. absurd (let z : ◌≡◌ {A = ℕ} 0 1 = cc in omega arith)))
 first_fault_lem {lines} bytes good number split (further {k} {due} {n} {bs} {why} ns rest e t f) =
     let text = ((form_spells (row k)).reads bs ns rest e).0 in
-    first_fault_lem {lines = lines ++ (text_of (row k) ns ∷ [])} bytes (one_more (text_of (row k) ns) ns (subst (λ (l : List ℕ). Good lines l (k ∷ due)) text good)
+    first_fault_lem {lines = lines ++ (text_of (row k) ns ∷ [])} bytes
+    (one_more (text_of (row k) ns) ns (subst (λ (l : List ℕ). Good lines l (k ∷ due)) text good)
     (form_whole (row k) ns (range_fits k ns t)) t)
     (omega (arith, length-append lines (text_of (row k) ns ∷ [])))
     (split ∙ ap (λ (l : List ℕ). flatten lines ++ l) text ∙ sym (flatten_snoc lines (text_of (row k) ns) rest)) f

@@ -113,7 +113,8 @@ module _ (carried : Bool) (a c n : List ℤ) (ps : List (List ℤ)) (m : List �
       map-map post_line post_of ps ∙ map_each (λ ns. post_line (post_of ns)) (line_of post) ps (λ ns j. ap (line_of post) (post_back_lem ns (i.post_in ns j))),
       length-map ss stop_of ∙ i.all_stops_lem,
       count_back_lem 512 m i.stops_in,
-      map-map stop_line stop_of ss ∙ map_each (λ ns. stop_line (stop_of ns)) (line_of stop) ss (λ ns j. ap (line_of stop) (stop_back_lem ns (i.stop_in_lem ns j))),
+      map-map stop_line stop_of ss
+          ∙ map_each (λ ns. stop_line (stop_of ns)) (line_of stop) ss (λ ns j. ap (line_of stop) (stop_back_lem ns (i.stop_in_lem ns j))),
       count_back_lem 1000 k i.rounds_in_lem,
     )
 

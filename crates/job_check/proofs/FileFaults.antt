@@ -23,7 +23,8 @@ use Rattle.deck.specs.declared.Deck.{Deck}
 use Rattle.deck.proofs.DeckLaws.{posts_counted, stops_counted}
 use Rattle.job_line.specs.Kinds.{Kind, area, posts, post, stops, stop, rounds, row, in_ranges}
 use Rattle.job.specs.Format.{Job, Result, refused, accepted, empty_area, checked, missing_axis, read_text}
-use Rattle.job.specs.Spelling.{JobLine, area_line, axis_line, count_line, post_line, stop_line, later_lines, lines_counting, lines_of, spell_line, spell, Writable}
+use Rattle.job.specs.Spelling.{JobLine, area_line, axis_line, count_line, post_line, stop_line, later_lines, lines_counting, lines_of, spell_line, spell}
+use Rattle.job.specs.Spelling.{Writable}
 use Rattle.job.specs.Spelling.{Allowed}
 use Rattle.job.specs.Meaning.{due_after}
 use Rattle.job.specs.File.{held_job, writes_axis, saved_spelling, file_lines, file_text}

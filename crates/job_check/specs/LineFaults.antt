@@ -41,7 +41,8 @@ first_fault n (l ∷ ls) = or_else (line_fault n l) (first_fault (n + 1) ls)
 -- refusals 4, 5 and 6 of an area and of so many posts and stops, in this order
 unfoldable pub parts_fault : Rect → ℕ → ℕ → Option Refusal
 unfolding empty_area
-parts_fault r posts stops = cond (empty_area r) (some EmptyArea) (cond (eqb posts 0) (some NoPosts) (cond (eqb stops 0) (some NoStops) none))
+parts_fault r posts stops =
+    cond (empty_area r) (some EmptyArea) (cond (eqb posts 0) (some NoPosts) (cond (eqb stops 0) (some NoStops) none))
 
 -- the refusal of a reading
 abbrev pub refusal_in : Result → Option Refusal

@@ -78,7 +78,8 @@ module _ (w : Width) (t : ℤ) (f : SFits w t) where
   word_quot_fits = rw (to_z-of_z w t f) (quot_fits w t f)
 
   pub word_half_above : lt_z (pos 0) (to_z w (of_z w t)) ≡ true → to_z w (of_z w t) -ℤ to_z w (of_z w (quot_z (to_z w (of_z w t)) (pos 2))) ≡ half_up t
-  word_half_above e = rw (to_z-of_z w t f, to_z-of_z w (quot_z t (pos 2)) (quot_fits w t f)) (half_above t (is_true (lt_z (pos 0) t) (rw (to_z-of_z w t f) at e)))
+  word_half_above e =
+      rw (to_z-of_z w t f, to_z-of_z w (quot_z t (pos 2)) (quot_fits w t f)) (half_above t (is_true (lt_z (pos 0) t) (rw (to_z-of_z w t f) at e)))
 
   pub word_half_below : lt_z (pos 0) (to_z w (of_z w t)) ≡ false → quot_z (to_z w (of_z w t)) (pos 2) ≡ half_up t
   word_half_below e = rw (to_z-of_z w t f) (half_below t (is_false (lt_z (pos 0) t) (rw (to_z-of_z w t f) at e)))

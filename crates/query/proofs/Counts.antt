@@ -81,7 +81,8 @@ module _ (P : Problem) where
   pub cuts_made_lem : (n : ℕ) → (run P n).cuts ≡ length (cuts_made P n)
   unfolding run round start cuts_made
   cuts_made_lem zero = refl
-  cuts_made_lem (suc n) = omega (arith, cuts_made_lem n, round_made (run P n) (run P n).live, length-append (cuts_made P n) (map (cell_cut G) (take 1 (run P n).live)))
+  cuts_made_lem (suc n) =
+      omega (arith, cuts_made_lem n, round_made (run P n) (run P n).live, length-append (cuts_made P n) (map (cell_cut G) (take 1 (run P n).live)))
 
   -- at most a cut a round
   round_most : (s : Search) (live : List Cell) → (round_on R s live).cuts ≤ suc s.cuts

@@ -37,7 +37,8 @@ lawful deck full = record {
   increasing = λ axis. rw (lines_along_lem deck axis) (lines_law deck axis).increasing;
   below = BoundLaws.below deck;
   part = BoundLaws.part deck;
-  crossing = λ p h. let (q, good) = Crossing.crossing deck p h in (q, good.in_area, λ axis. rw (lines_along_lem deck axis) (good.on_lines axis), good.not_worse);
+  crossing = λ p h. let (q, good) = Crossing.crossing deck p h in
+      (q, good.in_area, λ axis. rw (lines_along_lem deck axis) (good.on_lines axis), good.not_worse);
 }
 
 module _ (deck : Deck) (full : NonEmpty deck.area) where

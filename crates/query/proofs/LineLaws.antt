@@ -73,7 +73,8 @@ lines_law deck axis = record {
     others = foldr insert_once [] (stop_coordinates deck axis)
 
     from : (v : ℤ) → Memᴰ v (insert_once lo (insert_once hi others)) → Named deck axis v
-    from v m = ⊎_elim edge_low (λ n. ⊎_elim edge_high (λ k. stop_named deck axis (inserted_from (stop_coordinates deck axis) k)) (insert_once_cases hi others n))
+    from v m = ⊎_elim edge_low (λ n. ⊎_elim edge_high (λ k. stop_named deck axis (inserted_from (stop_coordinates deck axis) k))
+        (insert_once_cases hi others n))
         (insert_once_cases lo (insert_once hi others) m)
 
     all : (v : ℤ) → Named deck axis v → Memᴰ v (insert_once lo (insert_once hi others))

@@ -50,7 +50,8 @@ clamp_excess lo hi v h =
     ⊎_elim (λ t. rw (holds (lt_z v lo) t, excess_yes lo v (holds (lt_z v lo) t), excess_no v hi (fails (lt_z hi v) (omega (arith, order)))) (omega arith))
     (λ t. ⊎_elim (λ u. rw (fails (lt_z v lo) t, holds (lt_z hi v) u, excess_no lo v (fails (lt_z v lo) t), excess_yes v hi (holds (lt_z hi v) u))
     (omega (arith, dist_sym hi v)))
-    (λ u. rw (fails (lt_z v lo) t, fails (lt_z hi v) u, excess_no lo v (fails (lt_z v lo) t), excess_no v hi (fails (lt_z hi v) u)) (omega (arith, dist_nat v v)))
+    (λ u. rw (fails (lt_z v lo) t, fails (lt_z hi v) u, excess_no lo v (fails (lt_z v lo) t), excess_no v hi (fails (lt_z hi v) u))
+    (omega (arith, dist_nat v v)))
     (test (lt_z hi v)))
     (test (lt_z v lo))
 
@@ -59,7 +60,8 @@ module _ (v lo hi : ℤ) (g : nat_abs v ≤ 180000) (edges : Near180000 lo hi) (
   pub outside_most : dist v (clamp lo hi v) ≤ 720000
   outside_most = omega (arith, clamp_excess lo hi v h, excess_most lo v edges.x_range g, excess_most v hi g edges.y_range)
 
-  pub outside_sum : (a b : ℤ) → a ≡ pos (excess_of (word lo) (word v)) → b ≡ pos (excess_of (word v) (word hi)) → word a +ℤ word b ≡ pos (dist v (clamp lo hi v))
+  pub outside_sum : (a b : ℤ) → a ≡ pos (excess_of (word lo) (word v)) → b ≡ pos (excess_of (word v) (word hi))
+      → word a +ℤ word b ≡ pos (dist v (clamp lo hi v))
   outside_sum a b p q =
       sum_is a b _ _ (p ∙ rw (coordinate lo edges.x_range, coordinate v g)) (q ∙ rw (coordinate v g, coordinate hi edges.y_range))
       (small lo v edges.x_range g) (small v hi g edges.y_range)

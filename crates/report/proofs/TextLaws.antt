@@ -94,7 +94,8 @@ pub length_place : (x y : ℤ) → nat_abs x ≤ 20000 → nat_abs y ≤ 20000 �
 unfolding bytes
 length_place x y h k = simp length-append (omega (arith, length_spell_int_below 4 x (omega arith), length_spell_int_below 4 y (omega arith)))
 
-pub length_costs : (high : ℕ) (low : ℤ) (before : ℕ) → high ≤ cost_limit → nat_abs low ≤ cost_limit → before ≤ cost_limit → length (costs_part high low before) ≤ 62
+pub length_costs : (high : ℕ) (low : ℤ) (before : ℕ) → high ≤ cost_limit → nat_abs low ≤ cost_limit → before ≤ cost_limit
+    → length (costs_part high low before) ≤ 62
 unfolding bytes
 length_costs high low before h k l =
     simp length-append (omega (

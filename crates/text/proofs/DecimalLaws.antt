@@ -47,7 +47,8 @@ digits_first (b ∷ bs) = cond_ind (λ (ds : List ℕ). b ∷ bs ≡ ds ++ drop 
 pub digits_rest : (bs : List ℕ) → digits (drop (length (digits bs)) bs) ≡ []
 unfolding digits
 digits_rest [] = refl
-digits_rest (b ∷ bs) = cond_ind (λ (ds : List ℕ). digits (drop (length ds) (b ∷ bs)) ≡ []) (is_digit b) (λ t. digits_rest bs) (λ t. cond-false (is_digit b) _ _ t)
+digits_rest (b ∷ bs) =
+    cond_ind (λ (ds : List ℕ). digits (drop (length ds) (b ∷ bs)) ≡ []) (is_digit b) (λ t. digits_rest bs) (λ t. cond-false (is_digit b) _ _ t)
 
 pub digits_twice : (bs : List ℕ) → digits (digits bs) ≡ digits bs
 unfolding digits

@@ -143,5 +143,6 @@ digits_long n rest h = rw (digits_append (spell_nat n) rest (decimal_all 20 n))
 pub number_too_long : (z : ℤ) (rest : List ℕ) → 10 ^ 9 ≤ nat_abs z → number (spell_int z ++ rest) ≡ none
 unfolding number spell_int negative
 number_too_long (pos n) rest h = number_long (spell_nat n ++ rest) (digits_long n rest h)
-number_too_long (negsuc n) rest h = cond-false (is_natural (digits (spell_nat (suc n) ++ rest)) && not (eqb (value_of (digits (spell_nat (suc n) ++ rest))) 0)) _ _
+number_too_long (negsuc n) rest h =
+    cond-false (is_natural (digits (spell_nat (suc n) ++ rest)) && not (eqb (value_of (digits (spell_nat (suc n) ++ rest))) 0)) _ _
     (and_fails_left (is_natural (digits (spell_nat (suc n) ++ rest))) _ (natural_long (spell_nat (suc n) ++ rest) (digits_long (suc n) rest h)))

@@ -1,6 +1,7 @@
 -- What the functions of this crate answer, as the definitions of `Numeral` have it: of the public ones `ByteIs`, `Starts` and `NumberAt`.
 -- Assumes nothing.
-use Rattle.std.specs.Prelude.{ℕ, ◌-◌, ◌≤◌, ◌<◌, ◌^◌, min, ◌≡◌, Bool, true, false, cond, ◌&&◌, List, [], ◌∷◌, eqb, ℤ, pos, nat_abs, length, get_or, drop, take}
+use Rattle.std.specs.Prelude.{ℕ, ◌-◌, ◌≤◌, ◌<◌, ◌^◌, min, ◌≡◌, Bool, true, false, cond, ◌&&◌, List, [], ◌∷◌, eqb, ℤ, pos, nat_abs, length}
+use Rattle.std.specs.Prelude.{get_or, drop, take}
 use Rattle.std.proofs.Math.Option.{Option, none, some}
 use Rattle.text.specs.Ascii.{is_digit}
 use Rattle.text.specs.Numeral.{digits, value_of, natural, negative, number}

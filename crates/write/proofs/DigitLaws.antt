@@ -105,13 +105,14 @@ pub record Stored (out₀ : List ℕ) (at : ℕ) (ds out : List ℕ) (rest i : �
 
 module _ {out₀ : List ℕ} {at : ℕ} where
   pub stored_none : (n : ℕ) → n < 10 ^ 20 → Stored out₀ at (spell_nat n) out₀ n (length (spell_nat n))
-  stored_none n h = let none : drop (length (spell_nat n)) (spell_nat n) ≡ [] = drop_of_length-le (spell_nat n) {i = length (spell_nat n)} (omega arith) in record {
-    within = omega arith;
-    long = refl;
-    text = sym (ap (written out₀ (at + length (spell_nat n))) none
-        ∙ written_nil out₀ (at + length (spell_nat n)));
-    left = take_all (length (spell_nat n)) (spell_nat n) (omega arith) ∙ spell_last n h;
-  }
+  stored_none n h = let none : drop (length (spell_nat n)) (spell_nat n) ≡ [] =
+      drop_of_length-le (spell_nat n) {i = length (spell_nat n)} (omega arith) in record {
+        within = omega arith;
+        long = refl;
+        text = sym (ap (written out₀ (at + length (spell_nat n))) none
+            ∙ written_nil out₀ (at + length (spell_nat n)));
+        left = take_all (length (spell_nat n)) (spell_nat n) (omega arith) ∙ spell_last n h;
+      }
 
   module _ {ds out : List ℕ} {rest i : ℕ} (s : Stored out₀ at ds out rest i) (room : at + length ds ≤ length out₀) where
     pub stored_more : (j : ℕ) → i ≡ j + 1 → Stored out₀ at ds (set out (at + j) (48 + rest % 10)) (rest / 10) j

@@ -13,12 +13,14 @@ use Rattle.text.specs.Ascii.{minus}
 use Rattle.text.specs.Decimal.{spell_nat, spell_int}
 use Rattle.text.proofs.DigitCounts.{spell_int_non_neg, spell_int_negative}
 
-pub non_negative : (z : ℤ) (n : ℕ) → SFits w64 z → lt_z (to_z w64 (of_z w64 z)) (pos 0) ≡ false → n ≡ nat_abs (to_z w64 (of_z w64 z)) → spell_int z ≡ spell_nat n
+pub non_negative : (z : ℤ) (n : ℕ) → SFits w64 z → lt_z (to_z w64 (of_z w64 z)) (pos 0) ≡ false → n ≡ nat_abs (to_z w64 (of_z w64 z))
+    → spell_int z ≡ spell_nat n
 non_negative z n f t e =
     let m : n ≡ nat_abs z = rw (to_z-of_z w64 z f) at e in
     rw m (spell_int_non_neg z (rw (to_z-of_z w64 z f) at t))
 
-pub negative : (z : ℤ) (n : ℕ) → SFits w64 z → lt_z (to_z w64 (of_z w64 z)) (pos 0) ≡ true → n ≡ nat_abs (to_z w64 (of_z w64 z)) → spell_int z ≡ minus ∷ spell_nat n
+pub negative : (z : ℤ) (n : ℕ) → SFits w64 z → lt_z (to_z w64 (of_z w64 z)) (pos 0) ≡ true → n ≡ nat_abs (to_z w64 (of_z w64 z))
+    → spell_int z ≡ minus ∷ spell_nat n
 negative z n f t e =
     let m : n ≡ nat_abs z = rw (to_z-of_z w64 z f) at e in
     rw m (spell_int_negative z (rw (to_z-of_z w64 z f) at t))

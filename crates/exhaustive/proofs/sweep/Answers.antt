@@ -31,7 +31,11 @@ overflow_add-ups c =
 
 pub overflow_add-up_from : goal.overflow_add-up_from
 overflow_add-up_from c =
-    omega (arith, up_starts_cap _ _ _ _ _ _ _ _ (most c.requires.3) c.requires.0 (ok c.args.h.now c.requires.3 c.requires.1) c.loop-k.invariant c.loop-k-test.true)
+    omega (
+      arith,
+      up_starts_cap _ _ _ _ _ _ _ _ (most c.requires.3) c.requires.0 (ok c.args.h.now c.requires.3 c.requires.1) c.loop-k.invariant
+          c.loop-k-test.true,
+    )
 
 pub overflow_add-downs : goal.overflow_add-downs
 overflow_add-downs c =
@@ -39,25 +43,30 @@ overflow_add-downs c =
 
 pub overflow_add-down_from : goal.overflow_add-down_from
 overflow_add-down_from c =
-    omega (arith, down_starts_cap _ _ _ _ _ _ _ _ (most c.requires.3) c.requires.0 (ok c.args.h.now c.requires.3 c.requires.1) c.loop-k.invariant c.loop-k-test.true)
+    omega (
+      arith,
+      down_starts_cap _ _ _ _ _ _ _ _ (most c.requires.3) c.requires.0 (ok c.args.h.now c.requires.3 c.requires.1) c.loop-k.invariant
+          c.loop-k-test.true,
+    )
 
 pub cost_at-cost-requires : goal.cost_at-cost-requires
 cost_at-cost-requires c =
     let risen : c.height.result ≡ height_of (times (nat_abs (word c.args.b)) (get_or c.args.h.now c.loop-k.k (pos 0))) =
-        c.height.ensures ∙ rw (
-          scaled_wide (get_or c.args.h.now c.loop-k.k (pos 0)) c.requires.3 (c.requires.0.range c.loop-k.k c.loop-k-test.true) c.scaled-y.ensures,
-          cost_back c.requires.3,
-        ) in
+    c.height.ensures ∙ rw (
+      scaled_wide (get_or c.args.h.now c.loop-k.k (pos 0)) c.requires.3 (c.requires.0.range c.loop-k.k c.loop-k-test.true) c.scaled-y.ensures,
+      cost_back c.requires.3,
+    ) in
     payable _ _ _ _ _ _ _ _ (most c.requires.3) c.requires.0 (ok c.args.h.now c.requires.3 c.requires.1) c.loop-k.invariant c.loop-k-test.true _ risen
 
 pub loop-k-preserved : goal.loop-k-preserved
 loop-k-preserved c =
     let risen : c.height.result ≡ height_of (times (nat_abs (word c.args.b)) (get_or c.args.h.now c.loop-k.k (pos 0))) =
-        c.height.ensures ∙ rw (
-          scaled_wide (get_or c.args.h.now c.loop-k.k (pos 0)) c.requires.3 (c.requires.0.range c.loop-k.k c.loop-k-test.true) c.scaled-y.ensures,
-          cost_back c.requires.3,
-        ) in
-    sweep_more _ _ _ _ _ _ _ _ (most c.requires.3) c.requires.0 (ok c.args.h.now c.requires.3 c.requires.1) c.loop-k.invariant c.loop-k-test.true _ risen _ c.cost_at-cost.ensures
+    c.height.ensures ∙ rw (
+      scaled_wide (get_or c.args.h.now c.loop-k.k (pos 0)) c.requires.3 (c.requires.0.range c.loop-k.k c.loop-k-test.true) c.scaled-y.ensures,
+      cost_back c.requires.3,
+    ) in
+    sweep_more _ _ _ _ _ _ _ _ (most c.requires.3) c.requires.0 (ok c.args.h.now c.requires.3 c.requires.1) c.loop-k.invariant c.loop-k-test.true _ risen _
+    c.cost_at-cost.ensures
     c.requires.2 _ (omega arith)
 
 pub returns : goal.returns

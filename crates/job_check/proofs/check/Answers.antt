@@ -14,7 +14,8 @@ use Rattle.job_check.specs.LineFaults.{first_fault, numbers_fault, or_else, chec
 use Rattle.job_check.proofs.AxisLaws.{third_line}
 use Rattle.job_check.proofs.FileFaults.{file_fault}
 use Rattle.job_check.proofs.CheckLaws.{AreaFits, back_numbers, behind_area, behind_axis, behind_posts, behind_stops, posts_most, stops_most}
-use Rattle.job_check.proofs.CheckLaws.{Left, part_fine, part_refused, all_left, post_part, posts_at, posts_behind, stop_part, stops_behind, rounds_behind, parts_answer}
+use Rattle.job_check.proofs.CheckLaws.{Left, part_fine, part_refused, all_left, post_part, posts_at, posts_behind, stop_part, stops_behind, rounds_behind}
+use Rattle.job_check.proofs.CheckLaws.{parts_answer}
 use Rattle.job_check.proofs.check.Goals as goal
 
 -- ---- what is left of the refusal, part after part
@@ -66,7 +67,8 @@ pub returns-in-Refused-all_posts : goal.returns-in-Refused-all_posts
 returns-in-Refused-all_posts c =
     let s : Sized c.args.deck = record { post_x = search rules; post_y = search rules; stop_x = search rules; stop_y = search rules; visits = search rules } in
     let f : AreaFits c.args.deck = record { xlo = search rules; ylo = search rules; xhi = search rules; yhi = search rules } in
-    part_refused _ (left-axis s f c.area_line.ensures (ap checked_as c.in-Fine.is) c.axis_line.ensures (ap checked_as c.in-Fine-axis_line.is) c.posts_at-first.ensures) c.all_posts.ensures (ap checked_as c.in-Refused-all_posts.is)
+    part_refused _ (left-axis s f c.area_line.ensures (ap checked_as c.in-Fine.is) c.axis_line.ensures (ap checked_as c.in-Fine-axis_line.is)
+    c.posts_at-first.ensures) c.all_posts.ensures (ap checked_as c.in-Refused-all_posts.is)
 
 pub overflow_add-line-2 : goal.overflow_add-line-2
 overflow_add-line-2 c =
@@ -83,7 +85,8 @@ pub returns-in-Refused-all_stops : goal.returns-in-Refused-all_stops
 returns-in-Refused-all_stops c =
     let s : Sized c.args.deck = record { post_x = search rules; post_y = search rules; stop_x = search rules; stop_y = search rules; visits = search rules } in
     let f : AreaFits c.args.deck = record { xlo = search rules; ylo = search rules; xhi = search rules; yhi = search rules } in
-    part_refused _ (left-posts s f c.area_line.ensures (ap checked_as c.in-Fine.is) c.axis_line.ensures (ap checked_as c.in-Fine-axis_line.is) c.posts_at-first.ensures
+    part_refused _ (left-posts s f c.area_line.ensures (ap checked_as c.in-Fine.is) c.axis_line.ensures (ap checked_as c.in-Fine-axis_line.is)
+    c.posts_at-first.ensures
     c.all_posts.ensures (ap checked_as c.in-Fine-all_posts.is)) c.all_stops.ensures (ap checked_as c.in-Refused-all_stops.is)
 
 pub overflow_add-line-3 : goal.overflow_add-line-3
@@ -101,13 +104,17 @@ pub returns-in-Refused-count_line : goal.returns-in-Refused-count_line
 returns-in-Refused-count_line c =
     let s : Sized c.args.deck = record { post_x = search rules; post_y = search rules; stop_x = search rules; stop_y = search rules; visits = search rules } in
     let f : AreaFits c.args.deck = record { xlo = search rules; ylo = search rules; xhi = search rules; yhi = search rules } in
-    part_refused _ (left-stops s f c.area_line.ensures (ap checked_as c.in-Fine.is) c.axis_line.ensures (ap checked_as c.in-Fine-axis_line.is) c.posts_at-first.ensures
-    c.all_posts.ensures (ap checked_as c.in-Fine-all_posts.is) c.all_stops.ensures (ap checked_as c.in-Fine-all_stops.is)) c.count_line.ensures (ap checked_as c.in-Refused-count_line.is)
+    part_refused _ (left-stops s f c.area_line.ensures (ap checked_as c.in-Fine.is) c.axis_line.ensures (ap checked_as c.in-Fine-axis_line.is)
+    c.posts_at-first.ensures
+    c.all_posts.ensures (ap checked_as c.in-Fine-all_posts.is) c.all_stops.ensures (ap checked_as c.in-Fine-all_stops.is)) c.count_line.ensures
+    (ap checked_as c.in-Refused-count_line.is)
 
 pub returns : goal.returns
 returns c =
     let s : Sized c.args.deck = record { post_x = search rules; post_y = search rules; stop_x = search rules; stop_y = search rules; visits = search rules } in
     let f : AreaFits c.args.deck = record { xlo = search rules; ylo = search rules; xhi = search rules; yhi = search rules } in
-    parts_answer f (part_fine _ (left-stops s f c.area_line.ensures (ap checked_as c.in-Fine.is) c.axis_line.ensures (ap checked_as c.in-Fine-axis_line.is) c.posts_at-first.ensures
-    c.all_posts.ensures (ap checked_as c.in-Fine-all_posts.is) c.all_stops.ensures (ap checked_as c.in-Fine-all_stops.is)) c.count_line.ensures (ap checked_as c.in-Fine-count_line.is))
+    parts_answer f (part_fine _ (left-stops s f c.area_line.ensures (ap checked_as c.in-Fine.is) c.axis_line.ensures (ap checked_as c.in-Fine-axis_line.is)
+    c.posts_at-first.ensures
+    c.all_posts.ensures (ap checked_as c.in-Fine-all_posts.is) c.all_stops.ensures (ap checked_as c.in-Fine-all_stops.is)) c.count_line.ensures
+    (ap checked_as c.in-Fine-count_line.is))
     c.missing_part.ensures

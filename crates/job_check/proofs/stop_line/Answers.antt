@@ -7,7 +7,8 @@ pub returns-then-not-short_place : goal.returns-then-not-short_place
 returns-then-not-short_place c = malformed _ _ _ (stop_long _ _ _ c.short_place.ensures c.if-not-short_place.true)
 
 pub returns-then-visits-gt999999999 : goal.returns-then-visits-gt999999999
-returns-then-visits-gt999999999 c = malformed _ _ _ (visits_long _ _ _ c.short_place.ensures c.if-not-short_place.false (omega (arith, c.if-visits-gt999999999.true)))
+returns-then-visits-gt999999999 c =
+    malformed _ _ _ (visits_long _ _ _ c.short_place.ensures c.if-not-short_place.false (omega (arith, c.if-visits-gt999999999.true)))
 
 pub returns-then-not-stop_in_range : goal.returns-then-not-stop_in_range
 returns-then-not-stop_in_range c =

@@ -20,7 +20,14 @@ put-next-requires c =
 
 pub put_nat_end-next-requires : goal.put_nat_end-next-requires
 put_nat_end-next-requires c =
-    rw length_nat (omega (arith, c.requires, c.put-next.ensures.next, c.put-next.auto.out, length_axis (held_axis c.args.c) (written c.writes_axis-has_line.ensures c.if-has_line.true)))
+    rw length_nat (omega (
+      arith,
+      c.requires,
+      c.put-next.ensures.next,
+      c.put-next.auto.out,
+      length_axis (held_axis c.args.c)
+          (written c.writes_axis-has_line.ensures c.if-has_line.true),
+    ))
 
 pub put_nat_end-requires : goal.put_nat_end-requires
 put_nat_end-requires c =

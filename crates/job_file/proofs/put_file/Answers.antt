@@ -98,37 +98,53 @@ unfolding bytes
 put_count-next-requires c =
     let f : Corners c.args.deck = record { xlo = search rules; ylo = search rules; xhi = search rules; yhi = search rules } in
     let r : Fronts c.args.deck (length c.args.out.now) = fronts c.args.deck c.args.rounds c.requires.2 in
-    part_room _ (count_part (bytes "posts=") c.args.deck.posts) (wrote₄ c.args.rounds f c.put-next.ensures c.put_place-next.ensures c.put_place-next-2.ensures c.put_axis-next.ensures) r.five
+    part_room _ (count_part (bytes "posts=") c.args.deck.posts)
+    (wrote₄ c.args.rounds f c.put-next.ensures c.put_place-next.ensures c.put_place-next-2.ensures c.put_axis-next.ensures) r.five
 
 pub put_posts-next-requires : goal.put_posts-next-requires
 unfolding bytes
 put_posts-next-requires c =
     let f : Corners c.args.deck = record { xlo = search rules; ylo = search rules; xhi = search rules; yhi = search rules } in
-    let r : Fronts c.args.deck (length c.args.out.now) = fronts c.args.deck c.args.rounds c.requires.2 in
-    (search rules, search rules, part_room _ (post_texts c.args.deck.post_x c.args.deck.post_y c.args.deck.posts) (wrote₅ c.args.rounds f c.put-next.ensures c.put_place-next.ensures c.put_place-next-2.ensures c.put_axis-next.ensures c.put_count-next.ensures) r.six)
+    let r : Fronts c.args.deck (length c.args.out.now) = fronts c.args.deck c.args.rounds c.requires.2 in (
+      search rules,
+      search rules,
+      part_room _ (post_texts c.args.deck.post_x c.args.deck.post_y c.args.deck.posts)
+          (wrote₅ c.args.rounds f c.put-next.ensures c.put_place-next.ensures c.put_place-next-2.ensures c.put_axis-next.ensures c.put_count-next.ensures) r.six,
+    )
 
 pub put_count-next-requires-2 : goal.put_count-next-requires-2
 unfolding bytes
 put_count-next-requires-2 c =
     let f : Corners c.args.deck = record { xlo = search rules; ylo = search rules; xhi = search rules; yhi = search rules } in
     let r : Fronts c.args.deck (length c.args.out.now) = fronts c.args.deck c.args.rounds c.requires.2 in
-    part_room _ (count_part (bytes "stops=") c.args.deck.stops) (wrote₆ c.args.rounds f c.put-next.ensures c.put_place-next.ensures c.put_place-next-2.ensures c.put_axis-next.ensures c.put_count-next.ensures c.put_posts-next.ensures) r.seven
+    part_room _ (count_part (bytes "stops=") c.args.deck.stops)
+    (wrote₆ c.args.rounds f c.put-next.ensures c.put_place-next.ensures c.put_place-next-2.ensures c.put_axis-next.ensures c.put_count-next.ensures
+    c.put_posts-next.ensures) r.seven
 
 pub put_stops-next-requires : goal.put_stops-next-requires
 unfolding bytes
 put_stops-next-requires c =
     let f : Corners c.args.deck = record { xlo = search rules; ylo = search rules; xhi = search rules; yhi = search rules } in
-    let r : Fronts c.args.deck (length c.args.out.now) = fronts c.args.deck c.args.rounds c.requires.2 in
-    (search rules, search rules, search rules, part_room _ (stop_texts c.args.deck.stop_x c.args.deck.stop_y c.args.deck.visits c.args.deck.stops) (wrote₇ c.args.rounds f c.put-next.ensures c.put_place-next.ensures c.put_place-next-2.ensures c.put_axis-next.ensures c.put_count-next.ensures c.put_posts-next.ensures c.put_count-next-2.ensures) r.eight)
+    let r : Fronts c.args.deck (length c.args.out.now) = fronts c.args.deck c.args.rounds c.requires.2 in (
+      search rules,
+      search rules,
+      search rules,
+      part_room _ (stop_texts c.args.deck.stop_x c.args.deck.stop_y c.args.deck.visits c.args.deck.stops)
+          (wrote₇ c.args.rounds f c.put-next.ensures c.put_place-next.ensures c.put_place-next-2.ensures c.put_axis-next.ensures c.put_count-next.ensures
+          c.put_posts-next.ensures c.put_count-next-2.ensures) r.eight,
+    )
 
 pub put_count-requires : goal.put_count-requires
 unfolding bytes
 put_count-requires c =
     let f : Corners c.args.deck = record { xlo = search rules; ylo = search rules; xhi = search rules; yhi = search rules } in
-    part_room _ (count_part (bytes "rounds=") c.args.rounds) (wrote₈ c.args.rounds f c.put-next.ensures c.put_place-next.ensures c.put_place-next-2.ensures c.put_axis-next.ensures c.put_count-next.ensures c.put_posts-next.ensures c.put_count-next-2.ensures c.put_stops-next.ensures) (rw file_parts at c.requires.2)
+    part_room _ (count_part (bytes "rounds=") c.args.rounds)
+    (wrote₈ c.args.rounds f c.put-next.ensures c.put_place-next.ensures c.put_place-next-2.ensures c.put_axis-next.ensures c.put_count-next.ensures
+    c.put_posts-next.ensures c.put_count-next-2.ensures c.put_stops-next.ensures) (rw file_parts at c.requires.2)
 
 pub returns : goal.returns
 unfolding bytes
 returns c =
     let f : Corners c.args.deck = record { xlo = search rules; ylo = search rules; xhi = search rules; yhi = search rules } in
-    wrote_front _ (wrote₉ c.args.rounds f c.put-next.ensures c.put_place-next.ensures c.put_place-next-2.ensures c.put_axis-next.ensures c.put_count-next.ensures c.put_posts-next.ensures c.put_count-next-2.ensures c.put_stops-next.ensures c.put_count.ensures)
+    wrote_front _ (wrote₉ c.args.rounds f c.put-next.ensures c.put_place-next.ensures c.put_place-next-2.ensures c.put_axis-next.ensures
+    c.put_count-next.ensures c.put_posts-next.ensures c.put_count-next-2.ensures c.put_stops-next.ensures c.put_count.ensures)

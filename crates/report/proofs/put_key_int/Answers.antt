@@ -15,9 +15,12 @@ pub returns : goal.returns
 returns c =
     let w = wrote_both c.put-next.ensures
     (rw (to_z-of_z w64 _ c.ranges.z) at
-    c.put_int.ensures) (omega arith) in record { wrote = w; upper_bound = omega (
+    c.put_int.ensures) (omega arith) in record {
+      wrote = w;
+      upper_bound = omega (
         arith,
         w.next,
         length_int_part c.args.key.now
             c.args.z,
-      ) }
+      );
+    }

@@ -10,9 +10,12 @@ put_nat-requires c = omega (arith, length_spell_nat c.args.n)
 
 pub returns : goal.returns
 returns c =
-    let w = wrote_both c.put-next.ensures c.put_nat.ensures (omega arith) in record { wrote = w; upper_bound = omega (
+    let w = wrote_both c.put-next.ensures c.put_nat.ensures (omega arith) in record {
+      wrote = w;
+      upper_bound = omega (
         arith,
         w.next,
         length_nat_part c.args.key.now
             c.args.n,
-      ) }
+      );
+    }

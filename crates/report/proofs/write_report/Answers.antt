@@ -32,36 +32,61 @@ costs-wrote r h w = rw (back r.low (omega (arith, h.low_limit))) at w
 pub put_place-end-requires : goal.put_place-end-requires
 unfolding bytes
 put_place-end-requires c = omega (
-    arith, c.requires.in_bounds, c.put_state-end.ensures.next, length_state (report_state c.args.r.state), c.put_state-end.auto.out,
+  arith,
+  c.requires.in_bounds,
+  c.put_state-end.ensures.next,
+  length_state (report_state c.args.r.state),
+  c.put_state-end.auto.out,
 )
 
 pub put_costs-end-requires : goal.put_costs-end-requires
 unfolding bytes
 put_costs-end-requires c = omega (
-    arith, c.requires.in_bounds, c.put_state-end.ensures.next, length_state (report_state c.args.r.state), c.put_state-end.auto.out,
-    (place-wrote c.args.r c.requires.figures_in_range c.put_place-end.ensures).next,
-    length_place c.args.r.x c.args.r.y c.requires.figures_in_range.place.x_range c.requires.figures_in_range.place.y_range, c.put_place-end.auto.out,
+  arith,
+  c.requires.in_bounds,
+  c.put_state-end.ensures.next,
+  length_state (report_state c.args.r.state),
+  c.put_state-end.auto.out,
+  (place-wrote c.args.r c.requires.figures_in_range c.put_place-end.ensures).next,
+  length_place c.args.r.x c.args.r.y c.requires.figures_in_range.place.x_range c.requires.figures_in_range.place.y_range,
+  c.put_place-end.auto.out,
 )
 
 pub put_key_nat-end-requires : goal.put_key_nat-end-requires
 unfolding bytes
 put_key_nat-end-requires c = omega (
-    arith, c.requires.in_bounds, c.put_state-end.ensures.next, length_state (report_state c.args.r.state), c.put_state-end.auto.out,
-    (place-wrote c.args.r c.requires.figures_in_range c.put_place-end.ensures).next,
-    length_place c.args.r.x c.args.r.y c.requires.figures_in_range.place.x_range c.requires.figures_in_range.place.y_range, c.put_place-end.auto.out,
-    (costs-wrote c.args.r c.requires.figures_in_range c.put_costs-end.ensures).next,
-    length_costs c.args.r.high c.args.r.low c.args.r.before c.requires.figures_in_range.high_limit c.requires.figures_in_range.low_limit c.requires.figures_in_range.before_limit, c.put_costs-end.auto.out,
+  arith,
+  c.requires.in_bounds,
+  c.put_state-end.ensures.next,
+  length_state (report_state c.args.r.state),
+  c.put_state-end.auto.out,
+  (place-wrote c.args.r c.requires.figures_in_range c.put_place-end.ensures).next,
+  length_place c.args.r.x c.args.r.y c.requires.figures_in_range.place.x_range c.requires.figures_in_range.place.y_range,
+  c.put_place-end.auto.out,
+  (costs-wrote c.args.r c.requires.figures_in_range c.put_costs-end.ensures).next,
+  length_costs c.args.r.high c.args.r.low c.args.r.before c.requires.figures_in_range.high_limit c.requires.figures_in_range.low_limit
+      c.requires.figures_in_range.before_limit,
+  c.put_costs-end.auto.out,
 )
 
 pub put-requires : goal.put-requires
 unfolding bytes
 put-requires c = omega (
-    arith, c.requires.in_bounds, c.put_state-end.ensures.next, length_state (report_state c.args.r.state), c.put_state-end.auto.out,
-    (place-wrote c.args.r c.requires.figures_in_range c.put_place-end.ensures).next,
-    length_place c.args.r.x c.args.r.y c.requires.figures_in_range.place.x_range c.requires.figures_in_range.place.y_range, c.put_place-end.auto.out,
-    (costs-wrote c.args.r c.requires.figures_in_range c.put_costs-end.ensures).next,
-    length_costs c.args.r.high c.args.r.low c.args.r.before c.requires.figures_in_range.high_limit c.requires.figures_in_range.low_limit c.requires.figures_in_range.before_limit, c.put_costs-end.auto.out,
-    c.put_key_nat-end.ensures.wrote.next, length_rounds c.args.r.rounds c.requires.figures_in_range.rounds_limit_lem, c.put_key_nat-end.auto.out,
+  arith,
+  c.requires.in_bounds,
+  c.put_state-end.ensures.next,
+  length_state (report_state c.args.r.state),
+  c.put_state-end.auto.out,
+  (place-wrote c.args.r c.requires.figures_in_range c.put_place-end.ensures).next,
+  length_place c.args.r.x c.args.r.y c.requires.figures_in_range.place.x_range c.requires.figures_in_range.place.y_range,
+  c.put_place-end.auto.out,
+  (costs-wrote c.args.r c.requires.figures_in_range c.put_costs-end.ensures).next,
+  length_costs c.args.r.high c.args.r.low c.args.r.before c.requires.figures_in_range.high_limit c.requires.figures_in_range.low_limit
+      c.requires.figures_in_range.before_limit,
+  c.put_costs-end.auto.out,
+  c.put_key_nat-end.ensures.wrote.next,
+  length_rounds c.args.r.rounds c.requires.figures_in_range.rounds_limit_lem,
+  c.put_key_nat-end.auto.out,
 )
 
 pub returns : goal.returns

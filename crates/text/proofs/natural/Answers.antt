@@ -26,6 +26,6 @@ pub returns : goal.returns
 returns c =
     let run = c.digits-run.ensures in
     elim c.if-count-gt1.branch [
-      then-count-gt1+else-byte_is w ↦ natural_more run c.if-count-lt1.false c.if-count-gt9.false w.byte_is.ensures w.if-byte_is.false |
-      else-count-gt1 w ↦ natural_one run c.if-count-lt1.false c.if-count-gt9.false w.if-count-gt1.false
+      | then-count-gt1+else-byte_is w ↦ natural_more run c.if-count-lt1.false c.if-count-gt9.false w.byte_is.ensures w.if-byte_is.false
+      | else-count-gt1 w ↦ natural_one run c.if-count-lt1.false c.if-count-gt9.false w.if-count-gt1.false
     ]

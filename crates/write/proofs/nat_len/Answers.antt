@@ -7,14 +7,17 @@ use Rattle.write.proofs.nat_len.Goals as goal
 pub returns-then-n-lt100000 : goal.returns-then-n-lt100000
 returns-then-n-lt100000 c =
     let n = c.args.n in
-    let few = length_few n c.if-n-lt100000.true in record { value = omega (
+    let few = length_few n c.if-n-lt100000.true in record {
+      value = omega (
         arith,
         few,
         c.at_least.ensures.value,
         c.at_least-then-n-lt100000.ensures.value,
         c.at_least-then-n-lt100000-2.ensures.value,
         c.at_least-then-n-lt100000-3.ensures.value,
-      ); upper_bound = omega arith }
+      );
+      upper_bound = omega arith;
+    }
 
 pub loop-rest-init : goal.loop-rest-init
 loop-rest-init c = (omega arith, omega (arith, length_beyond c.args.n c.if-n-lt100000.false (omega arith)))
