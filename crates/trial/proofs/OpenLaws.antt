@@ -34,7 +34,8 @@ rounds_read bytes j e rounds f =
     (omega (arith, g, most_rounds s.allowed.writable), g)
 
 -- a job that was read, and what preparing it gives
-opened_is : (r : Result) → record { accepted = is_accepted (given_for r).outcome; deck = (job_record r).deck; problem = (given_for r).problem } ≡ opened_record r
+opened_is : (r : Result) →
+    record { accepted = is_accepted (given_for r).outcome; deck = (job_record r).deck; problem = (given_for r).problem } ≡ opened_record r
 unfolding opened_record opened_deck given_for job_record
 opened_is (refused why) = refl
 opened_is (accepted job) = refl
@@ -43,7 +44,8 @@ pub opened : (bytes : List ℕ) (j : Held.Job) → j ≡ job_record (read_job by
     given_by p columns v h ≡ given_for (read_job bytes) → {k : Outcome} → p.outcome ≡ k →
     record { accepted = is_accepted k; deck = j.deck; problem = (given_by p columns v h).problem } ≡ opened_record (read_job bytes)
 opened bytes j e p f g =
-    (λ i. record { accepted = is_accepted ((sym g ∙ ap (λ (x : Given). x.outcome) f) i); deck = (e i).deck; problem = (f i).problem }) ∙ opened_is (read_job bytes)
+    (λ i. record { accepted = is_accepted ((sym g ∙ ap (λ (x : Given). x.outcome) f) i); deck = (e i).deck; problem = (f i).problem })
+    ∙ opened_is (read_job bytes)
 
 -- ---- a deck in range with its problem: it is prepared, and its deck is the one held
 abbrev pub prepared : {o : Opened} → Whole o →

@@ -4,18 +4,17 @@ use Rattle.job.proofs.ReadDeck.{Spelt}
 use Rattle.trial.proofs.OpenLaws.{open_accepted, open_refused}
 use Rattle.trial.proofs.FigureLaws.{before_small, before_answer}
 use native.Mathlib.Omega.{arith}
-use Rattle.trial.proofs.before.Goals.{Else-not-o}
 use Rattle.trial.proofs.before.Goals as goal
-
--- the job is accepted
-spelt : (c : Else-not-o) → Spelt c.args.job.now
-spelt c = open_accepted _ _ c.open_job-o.ensures (not-false _ c.if-not-o.false)
 
 pub returns-then-not-o : goal.returns-then-not-o
 returns-then-not-o c = open_refused _ _ c.open_job-o.ensures _ _ (not-true _ c.if-not-o.true)
 
 pub overflow_cast-result : goal.overflow_cast-result
-overflow_cast-result c = let d = c.before.before in omega (arith, before_small c.open_job-o.ensures (spelt d))
+overflow_cast-result c =
+    let s : Spelt c.args.job.now = open_accepted _ _ c.open_job-o.ensures (not-false _ c.if-not-o.false) in
+    omega (arith, before_small c.open_job-o.ensures s)
 
 pub returns : goal.returns
-returns c = let d = c.before.before in before_answer c.open_job-o.ensures (spelt d)
+returns c =
+    let s : Spelt c.args.job.now = open_accepted _ _ c.open_job-o.ensures (not-false _ c.if-not-o.false) in
+    before_answer c.open_job-o.ensures s

@@ -6,42 +6,32 @@ use mir.Syntax.{w64}
 use mir.ValLaws.{to_z-of_z}
 use Rattle.numbers.proofs.Words.{is_true}
 use Rattle.deck.specs.Rectangle.{rect_of}
-use Rattle.reach.specs.Columns.{Ranged}
 use Rattle.trial.specs.Opened.{rect_allowed}
 use Rattle.job.proofs.ReadDeck.{Spelt}
 use Rattle.trial.proofs.OpenLaws.{open_accepted, open_whole, open_refused}
 use Rattle.trial.proofs.RectLaws.{rect_range}
 use Rattle.trial.proofs.CutLaws.{line_none, line_answer}
 use borrow.Author.Rules.{rules}
-use Rattle.trial.proofs.cut_line.Goals.{Else-not-o, Else-not-rect_allowed}
 use Rattle.trial.proofs.cut_line.Goals as goal
-
--- the job is accepted
-spelt : (c : Else-not-o) → Spelt c.args.job.now
-spelt c = open_accepted _ _ c.open_job-o.ensures (not-false _ c.if-not-o.false)
-
--- the rectangle is allowed
-on : (c : Else-not-rect_allowed) → rect_allowed (rect_of c.args.rect) ≡ true
-on c = sym c.rect_allowed.ensures ∙ not-false _ c.if-not-rect_allowed.false-raw
-
-ranged : (c : Else-not-rect_allowed) → Ranged (rect_of c.args.rect)
-ranged c = (rect_range _).0 (is_true _ (on c))
 
 pub returns-then-not-o : goal.returns-then-not-o
 returns-then-not-o c = open_refused _ _ c.open_job-o.ensures _ _ (not-true _ c.if-not-o.true)
 
 pub cut_of-cut-requires : goal.cut_of-cut-requires
-cut_of-cut-requires c = (open_whole _ _ c.open_job-o.ensures (spelt c.before.before.before), ranged c)
+cut_of-cut-requires c =
+    let s : Spelt c.args.job.now = open_accepted _ _ c.open_job-o.ensures (not-false _ c.if-not-o.false) in
+    let on : rect_allowed (rect_of c.args.rect) ≡ true = sym c.rect_allowed.ensures ∙ c.if-not-rect_allowed.false in
+    (open_whole _ _ c.open_job-o.ensures s, (rect_range _).0 (is_true _ on))
 
 pub returns-then-not-cut : goal.returns-then-not-cut
 returns-then-not-cut c =
-    let d = c.before.before.before.before in
-    line_none c.open_job-o.ensures (spelt c.before.before.before.before.before.before) _ (on d) c.cut_of-cut.ensures
-    (not-true _ c.if-not-cut.true)
+    let s : Spelt c.args.job.now = open_accepted _ _ c.open_job-o.ensures (not-false _ c.if-not-o.false) in
+    let on : rect_allowed (rect_of c.args.rect) ≡ true = sym c.rect_allowed.ensures ∙ c.if-not-rect_allowed.false in
+    line_none c.open_job-o.ensures s _ on c.cut_of-cut.ensures (not-true _ c.if-not-cut.true)
 
 pub returns : goal.returns
 returns c =
-    let d = c.before.before.before.before.before in
+    let s : Spelt c.args.job.now = open_accepted _ _ c.open_job-o.ensures (not-false _ c.if-not-o.false) in
+    let on : rect_allowed (rect_of c.args.rect) ≡ true = sym c.rect_allowed.ensures ∙ c.if-not-rect_allowed.false in
     to_z-of_z w64 _ (search rules)
-    ∙ line_answer c.open_job-o.ensures (spelt c.before.before.before.before.before.before.before) _ (on d)
-    c.cut_of-cut.ensures (not-false _ c.if-not-cut.false)
+    ∙ line_answer c.open_job-o.ensures s _ on c.cut_of-cut.ensures (not-false _ c.if-not-cut.false)

@@ -8,10 +8,6 @@ use Rattle.trial.proofs.opened.bound_in.Goals as goal
 
 pub returns : goal.returns
 returns c =
-    let c11 = c.before.before.before in
-    let c10 = c.before.before.before.before.before.before in
-    let c01 = c.before.before.before.before.before.before.before.before.before in
-    let c00 = c.before.before.before.before.before.before.before.before.before.before.before.before in
     let r = c.args.rect in
     let h = c.requires.1.range in
     to_z-of_z w64 _ (record { sfits = c.bound.type_inv }) ∙ c.bound.ensures
@@ -22,9 +18,9 @@ returns c =
       c.cost-c11.ensures.is,
       c.load-load.ensures.is,
       c.span.ensures.is,
-      near_back r.xlo h.low_corner.x_range,
-      near_back r.ylo h.low_corner.y_range,
-      near_back r.xhi h.high_corner.x_range,
-      near_back r.yhi h.high_corner.y_range,
+      near_back r.xlo h.low_corner_law.x_range,
+      near_back r.ylo h.low_corner_law.y_range,
+      near_back r.xhi h.high_corner_law.x_range,
+      near_back r.yhi h.high_corner_law.y_range,
       bound_of_is,
     )

@@ -7,10 +7,12 @@ use Rattle.trial.proofs.opened.coordinate_in_range.Goals as goal
 
 pub returns-then-v-ge-LEAST_COORDINATE : goal.returns-then-v-ge-LEAST_COORDINATE
 unfolding in_range
-returns-then-v-ge-LEAST_COORDINATE c = between_on {lo = negsuc 19999} {hi = pos 20000} (record { sfits = omega arith }) (record { sfits = omega arith }) c.ranges.v
+returns-then-v-ge-LEAST_COORDINATE c =
+    between_on {lo = negsuc 19999} {hi = pos 20000} (record { sfits = omega arith }) (record { sfits = omega arith }) c.ranges.v
     c.if-v-ge-LEAST_COORDINATE.true
 
 pub returns-else-v-ge-LEAST_COORDINATE : goal.returns-else-v-ge-LEAST_COORDINATE
 unfolding in_range
-returns-else-v-ge-LEAST_COORDINATE c = between_off {lo = negsuc 19999} {hi = pos 20000} (record { sfits = omega arith }) (record { sfits = omega arith }) c.ranges.v
+returns-else-v-ge-LEAST_COORDINATE c =
+    between_off {lo = negsuc 19999} {hi = pos 20000} (record { sfits = omega arith }) (record { sfits = omega arith }) c.ranges.v
     c.if-v-ge-LEAST_COORDINATE.false
