@@ -79,7 +79,8 @@ summed_more {f} {limit} {k} {sum} {t} v s h e l = record {
   most = omega (arith, s.most);
 }
 
-pub summed_all : {f : ℕ → ℕ} {limit k sum t : ℕ} → Summed f limit k sum t → k ≤ t → k ≤ 100000 → limit ≤ cost_limit → Figure (sum_to f k) (100000 * cost_limit) sum
+pub summed_all : {f : ℕ → ℕ} {limit k sum t : ℕ} → Summed f limit k sum t → k ≤ t → k ≤ 100000 → limit ≤ cost_limit →
+    Figure (sum_to f k) (100000 * cost_limit) sum
 summed_all {f} {limit} {k} {sum} {t} s h few small =
     let e : t ≡ k = omega arith in
     let few : t ≤ 100000 = omega arith in

@@ -39,7 +39,8 @@ abbrev pub place_at : ℕ → Place
 place_at t = record { x = sample t 7919 10000; y = sample t 6007 10000 }
 
 abbrev pub rect_at : ℕ → Rect
-rect_at t = record { xlo = sample t 7919 coordinate_limit; ylo = sample t 6007 coordinate_limit; xhi = sample t 4409 0; yhi = sample t 3001 0 }
+rect_at t =
+    record { xlo = sample t 7919 coordinate_limit; ylo = sample t 6007 coordinate_limit; xhi = sample t 4409 0; yhi = sample t 3001 0 }
 
 -- a record of the code that holds it
 pub record TurnRect (t : ℕ) (r : Deck.Rect) : Type 0 where

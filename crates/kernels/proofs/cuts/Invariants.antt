@@ -7,7 +7,7 @@ use Rattle.kernels.proofs.SumLaws.{Summed}
 use Rattle.kernels.proofs.cuts.Given as goal
 
 abbrev pub invariant-loop-t : goal.invariant-loop-t
-invariant-loop-t l = Summed (λ l.t. positive (cut_record (grid_of l.v l.h) (rect_at l.t)).at) 1 l.k l.sum l.t
+invariant-loop-t l = Summed (λ t. positive (cut_record (grid_of l.v l.h) (rect_at t)).at) 1 l.k l.sum l.t
 
 abbrev pub decreases-loop-t : goal.decreases-loop-t
 decreases-loop-t l = l.k - l.t
