@@ -2,10 +2,10 @@
 -- Assumes nothing.
 use mathlib.Core.Path.{◌≡◌, refl, ap, ◌∙◌}
 use mathlib.Core.List.{List, ◌++◌, map}
-use Prim.Native.Nat.{ℕ, ◌≤◌, min}
+use Prim.Native.Nat.{ℕ}
 use native.Mathlib.Omega.{arith}
 use lib.IntN.{ℤ, pos}
-use lib.ListN.{length, take, length-take, length-map}
+use lib.ListN.{length, take, length-map}
 use lib.Seq.{take_all, length-take-le}
 use Rattle.numbers.specs.Integer.{times}
 use Rattle.numbers.specs.Padded.{padded}

@@ -40,7 +40,6 @@ use Rattle.job.specs.declared.Listed.{Listed}
 use Rattle.job.specs.declared.Lists.{Lists}
 use Rattle.job.specs.declared.Job.{Job}
 use Rattle.job.specs.declared.Outcome.{Outcome}
-use Rattle.job.specs.declared.Outcome.TheVariants as Outcome
 use Rattle.refusal.specs.declared.Refusal.{Refusal}
 use Rattle.refusal.specs.declared.Refusal.TheVariants.{TooLong, EmptyArea, NoPosts, NoStops}
 use Rattle.numbers.proofs.WordTests.{back, back_is}

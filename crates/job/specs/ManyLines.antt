@@ -20,7 +20,6 @@ use Rattle.job.specs.declared.Next.TheVariants.{At, Refused}
 use Rattle.job.specs.declared.Listed.{Listed}
 use Rattle.job.specs.declared.Lists.{Lists}
 use Rattle.job.specs.declared.Outcome.{Outcome}
-use Rattle.job.specs.declared.Outcome.TheVariants as Outcome
 use Rattle.refusal.specs.declared.Refusal.{Refusal}
 use Rattle.query.specs.Range.{posts_limit, stops_limit}
 

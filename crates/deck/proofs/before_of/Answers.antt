@@ -1,5 +1,4 @@
 -- What `deck::before_of` owes.
-use Prim.Native.Nat.{◌-◌}
 use native.Mathlib.Omega.{arith}
 use Rattle.deck.proofs.PaidLaws.{paid_none, term_most, paid_more}
 use Rattle.deck.proofs.before_of.Goals as goal

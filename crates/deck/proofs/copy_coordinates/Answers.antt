@@ -1,7 +1,6 @@
 -- What `deck::copy_coordinates` owes.
 use native.Mathlib.Omega.{arith}
 use mathlib.Core.Path.{sym, ◌∙◌}
-use Prim.Native.Nat.{◌-◌}
 use lib.IntN.{nat_abs}
 use lib.ListN.{length-map}
 use mir.Syntax.{w32}

@@ -1,5 +1,4 @@
 -- What `deck::improve_nears` owes.
-use Prim.Native.Nat.{◌-◌}
 use Rattle.deck.proofs.WordLaws.{coordinate}
 use Rattle.deck.proofs.TravelLaws.{place_word}
 use Rattle.deck.proofs.CopyLaws.{copied_none}

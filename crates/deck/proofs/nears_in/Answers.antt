@@ -1,6 +1,5 @@
 -- What `deck::nears_in` owes.
 use mathlib.Core.Path.{sym}
-use Prim.Native.Nat.{◌-◌}
 use native.Mathlib.Omega.{arith}
 use Rattle.numbers.proofs.Padded.{padded_none}
 use Rattle.deck.proofs.MadeNears.{row_natural, row_more}

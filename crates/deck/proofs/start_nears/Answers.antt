@@ -1,5 +1,4 @@
 -- What `deck::start_nears` owes.
-use Prim.Native.Nat.{◌-◌}
 use Rattle.deck.specs.ClosestSoFar.{columns_so_far}
 use Rattle.deck.proofs.CopyLaws.{copied_none, copied_all}
 use Rattle.deck.proofs.SoFarLaws.{none_more}

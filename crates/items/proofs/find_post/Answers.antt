@@ -1,5 +1,4 @@
 -- What `items::find_post` owes.
-use Prim.Native.Nat.{◌-◌}
 use Rattle.items.specs.Items.{is_same_place}
 use Rattle.items.proofs.ItemLaws.{turn_found, turn_next, turns_end, posts_length, post_at, place_back}
 use Rattle.items.proofs.find_post.Goals as goal

@@ -1,6 +1,5 @@
 -- What `items::find_stop` owes.
 use mathlib.Core.Path.{◌≡◌}
-use Prim.Native.Nat.{◌-◌}
 use lib.ListN.{length, take}
 use Rattle.deck.specs.DeckOf.{places, stops_of}
 use Rattle.items.specs.Items.{is_same_stop}

@@ -1,5 +1,4 @@
 -- What `items::take_out` owes.
-use Prim.Native.Nat.{◌-◌}
 use lib.IntN.{pos}
 use Rattle.numbers.proofs.WordTests.{fitting}
 use Rattle.items.proofs.Removal.{moved_more, moved_all}

@@ -1,6 +1,5 @@
 -- What `items::take_out_natural` owes.
 use mathlib.Core.Path.{refl}
-use Prim.Native.Nat.{◌-◌}
 use Rattle.items.proofs.Removal.{moved_more, moved_all}
 use Rattle.items.proofs.take_out_natural.Goals as goal
 

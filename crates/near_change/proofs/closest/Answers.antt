@@ -1,5 +1,4 @@
 -- What `near_change::closest` owes.
-use Prim.Native.Nat.{◌-◌}
 use native.Mathlib.Omega.{arith}
 use Rattle.near_change.proofs.NearLaws.{closest_first, closest_next}
 use Rattle.near_change.proofs.closest.Goals as goal

@@ -1,5 +1,4 @@
 -- What `near_change::improve` owes.
-use Prim.Native.Nat.{◌-◌}
 use Rattle.near_change.specs.NearChange.{near_with}
 use Rattle.near_change.proofs.NearLaws.{renew_more, stop_in_range, place_held}
 use Rattle.near_change.proofs.improve.Goals as goal

@@ -1,6 +1,5 @@
 -- What `reach::reach_flags` owes.
 use mathlib.Core.Path.{sym, ◌∙◌}
-use Prim.Native.Nat.{◌-◌}
 use Rattle.deck.specs.ObjectColumns.{pricing_in}
 use Rattle.reach.proofs.NarrowLaws.{edges_are, edges_words, row_word}
 use Rattle.reach.proofs.ReachLaws.{flags_of_map}

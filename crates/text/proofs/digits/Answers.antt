@@ -1,5 +1,4 @@
 -- What `text::digits` owes.
-use Prim.Native.Nat.{◌-◌}
 use Rattle.text.proofs.DigitLaws.{scanned_none, scanned_stop, scanned_more, digit_there}
 use native.Mathlib.Omega.{arith}
 use Rattle.text.proofs.digits.Goals as goal

@@ -1,5 +1,4 @@
 -- What `text::starts` owes.
-use Prim.Native.Nat.{◌-◌}
 use mathlib.Core.Path.{sym}
 use native.Mathlib.Omega.{arith}
 use Rattle.text.proofs.KeyLaws.{matched_not, matched_more, matched_all, byte_there}

@@ -1,5 +1,5 @@
 -- What `write::put` owes.
-use Prim.Native.Nat.{◌+◌, ◌-◌}
+use Prim.Native.Nat.{◌+◌}
 use native.Mathlib.Omega.{arith}
 use lib.ListN.{length-set}
 use Rattle.write.proofs.WrittenLaws.{wrote_nothing, wrote_turn}
