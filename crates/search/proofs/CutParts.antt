@@ -34,12 +34,14 @@ axis_is x_axis = refl
 axis_is y_axis = refl
 
 first_costs_are : (P : Pricing) (b : Bool) (v : ℤ) (r : Rect)
-    → first_costs_of b (corner_costs P r) (cost_of P (low_corner (axis_of b) v r)) (cost_of P (high_corner (axis_of b) v r)) ≡ corner_costs P (cut_before (axis_of b) v r)
+    → first_costs_of b (corner_costs P r) (cost_of P (low_corner (axis_of b) v r)) (cost_of P (high_corner (axis_of b) v r))
+    ≡ corner_costs P (cut_before (axis_of b) v r)
 first_costs_are P true v r = refl
 first_costs_are P false v r = refl
 
 second_costs_are : (P : Pricing) (b : Bool) (v : ℤ) (r : Rect)
-    → second_costs_of b (corner_costs P r) (cost_of P (low_corner (axis_of b) v r)) (cost_of P (high_corner (axis_of b) v r)) ≡ corner_costs P (cut_after (axis_of b) v r)
+    → second_costs_of b (corner_costs P r) (cost_of P (low_corner (axis_of b) v r)) (cost_of P (high_corner (axis_of b) v r))
+    ≡ corner_costs P (cut_after (axis_of b) v r)
 second_costs_are P true v r = refl
 second_costs_are P false v r = refl
 

@@ -85,7 +85,8 @@ module _ (G : Grid) (best : Priced) where
 
   pub keep_two : (x y : Query.Cell) (cs : List Query.Cell) → Ordered cs
       → keep (is_live G best) (insert_by cell_before x (insert_by cell_before y cs)) ≡ with_cell G best x (with_cell G best y (keep (is_live G best) cs))
-  keep_two x y cs s = keep_one x (insert_by cell_before y cs) (insert_by_sorted cell_before cell_before_strict y cs s) ∙ ap (with_cell G best x) (keep_one y cs s)
+  keep_two x y cs s = keep_one x (insert_by cell_before y cs) (insert_by_sorted cell_before cell_before_strict y cs s)
+      ∙ ap (with_cell G best x) (keep_one y cs s)
 
   pub map_with : (e : Entry) (es : List Entry) → map entry_cell (with_live G best e es) ≡ with_cell G best (entry_cell e) (map entry_cell es)
   unfolding with_live with_cell

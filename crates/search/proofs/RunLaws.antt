@@ -67,7 +67,8 @@ holds_as : {P : Pricing} {x y : Search} {low lowest : ℕ} {s : List ℤ} {t : L
 holds_as h e k = record { is = h.is ∙ e; costed = h.costed; low_head = omega (arith, h.low_head); in_turn = h.in_turn; ends = h.ends }
 
 module _ (P : Pricing) (R : Rules) where
-  pub holds_first : (x : Search) (s : List ℤ) (t : List ℕ) (st : Running) → Holds P x 1000 s t st → Holds P (rounds_from R 0 (search_of s t st)) (1000 - 0) s t st
+  pub holds_first : (x : Search) (s : List ℤ) (t : List ℕ) (st : Running) → Holds P x 1000 s t st
+      → Holds P (rounds_from R 0 (search_of s t st)) (1000 - 0) s t st
   holds_first x s t st h = holds_as h (sym h.is ∙ sym (rounds_none R (search_of s t st))) (omega arith)
 
   pub holds_more : (k : ℕ) (x : Search) (s s' : List ℤ) (t t' : List ℕ) (st st' : Running) → Holds P (rounds_from R k x) (1000 - k) s t st

@@ -57,7 +57,8 @@ module _ (job out : List ℕ) (cells : List ℤ) (out' : List ℕ) (r : Response
   pub entry_refused : (why : Refusal) → r.answer ≡ Answered.Refused why → (n : ℕ) → n ≡ number_of why →
       record { result = to_z w64 (of_z w64 (to_z w64 0 -ℤ to_z w64 n)); out = out' } ≡ entry job out
   unfolding result_of
-  entry_refused why e n f = ap (λ (z : ℤ). record { result = z; out = out' }) (rw f (minus_number why) ∙ ap (λ (a : Answer). result_of (report_answer a)) (sym e))
+  entry_refused why e n f =
+      ap (λ (z : ℤ). record { result = z; out = out' }) (rw f (minus_number why) ∙ ap (λ (a : Answer). result_of (report_answer a)) (sym e))
       ∙ entry_is
 
 -- ---- the program's text

@@ -119,7 +119,8 @@ copied_into z n s e =
     e ∙ ap (λ (r : List _). take n s ++ r) (drop_of_length-le (replicate n z) h) ∙ append-nil (take n s)
 
 pub deck_made : (zs : List ℤ) (ns : List ℕ) {a b c d : ℤ} {k l p s t : ℕ} {px py sx sy : List ℤ} {vs us : List ℕ} → a ≡ get_or zs 0 (pos 0) →
-    b ≡ get_or zs 1 (pos 0) → c ≡ get_or zs 2 (pos 0) → d ≡ get_or zs 3 (pos 0) → k ≡ get_or ns 0 0 → l ≡ get_or ns 1 0 → p ≡ get_or ns 2 0 → s ≡ get_or ns 3 0 →
+    b ≡ get_or zs 1 (pos 0) → c ≡ get_or zs 2 (pos 0) → d ≡ get_or zs 3 (pos 0) → k ≡ get_or ns 0 0 → l ≡ get_or ns 1 0 → p ≡ get_or ns 2 0
+    → s ≡ get_or ns 3 0 →
     px ≡ paste (replicate 64 (pos 0)) 0 (drop 4 zs) 64 → py ≡ paste (replicate 64 (pos 0)) 0 (drop 68 zs) 64 →
     sx ≡ paste (replicate 512 (pos 0)) 0 (drop 132 zs) 512 → sy ≡ paste (replicate 512 (pos 0)) 0 (drop 644 zs) 512 →
     vs ≡ paste (replicate 512 0) 0 (drop 4 ns) 512 → us ≡ paste (replicate 512 0) 0 (drop 516 ns) 512 → t ≡ get_or ns 1028 0 → ◌≡◌ {A = Deck} (record {

@@ -109,7 +109,8 @@ put_posts-next-requires c =
       search rules,
       search rules,
       part_room _ (post_texts c.args.deck.post_x c.args.deck.post_y c.args.deck.posts)
-          (wrote₅ c.args.rounds f c.put-next.ensures c.put_place-next.ensures c.put_place-next-2.ensures c.put_axis-next.ensures c.put_count-next.ensures) r.six,
+          (wrote₅ c.args.rounds f c.put-next.ensures c.put_place-next.ensures c.put_place-next-2.ensures c.put_axis-next.ensures c.put_count-next.ensures)
+          r.six,
     )
 
 pub put_count-next-requires-2 : goal.put_count-next-requires-2

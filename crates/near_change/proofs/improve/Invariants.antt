@@ -7,7 +7,8 @@ use Rattle.near_change.specs.NearChange.{near_with}
 use Rattle.near_change.proofs.improve.Given as goal
 
 abbrev pub invariant-loop-i : goal.invariant-loop-i
-invariant-loop-i l = Copied l.initial.near 0 (zip_with (near_with (held_axis l.axis) (record { x = l.x; y = l.y })) (places l.sx l.sy) l.initial.near) l.n l.near l.i
+invariant-loop-i l =
+    Copied l.initial.near 0 (zip_with (near_with (held_axis l.axis) (record { x = l.x; y = l.y })) (places l.sx l.sy) l.initial.near) l.n l.near l.i
 
 abbrev pub decreases-loop-i : goal.decreases-loop-i
 decreases-loop-i l = l.n - l.i
