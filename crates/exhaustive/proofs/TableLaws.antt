@@ -134,8 +134,8 @@ module _ (b : ℕ) (some : 1 ≤ b) (ls : List ℤ) (lines : LinesInRange ls) (s
     from_below h = record {
       within = omega arith;
       before = λ k l. absurd (omega arith);
-      after = λ k l m. let in_List : k < length ls = omega (arith, length-map ls (times b)) in
-          is_not_below k in_List (omega (arith, e, mul-le-mul_left b (slot_least ls lines k in_List)));
+      after = λ k l m. let in_list : k < length ls = omega (arith, length-map ls (times b)) in
+          is_not_below k in_list (omega (arith, e, mul-le-mul_left b (slot_least ls lines k in_list)));
     }
 
     module _ (low : 1000000 - 20000 * b ≤ t) (s : ℕ) (up : Upwards (t - (1000000 - 20000 * b)) b s) where
@@ -143,8 +143,8 @@ module _ (b : ℕ) (some : 1 ≤ b) (ls : List ℤ) (lines : LinesInRange ls) (s
       from_slot p = record {
         within = omega (arith, p.within, length-map ls (times b));
         before = λ k l. is_below k (omega (arith, p.within)) (omega (arith, e, up.least, mul-le-mul_left b (p.before k l)));
-        after = λ k l m. let in_List : k < length ls = omega (arith, length-map ls (times b)) in
-            is_not_below k in_List (omega (arith, e, up.enough, mul-le-mul_left b (p.after k l in_List)));
+        after = λ k l m. let in_list : k < length ls = omega (arith, length-map ls (times b)) in
+            is_not_below k in_list (omega (arith, e, up.enough, mul-le-mul_left b (p.after k l in_list)));
       }
 
       pub from_above : 40000 < s → FirstAtLeast (scaled_lines b ls) start (length ls)

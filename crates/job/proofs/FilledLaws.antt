@@ -106,9 +106,9 @@ stop_in_lem ns t = stop_range (stop_of ns) (subst (Ranged stop) (sym (stop_back_
 
 -- all that was read
 pub lists_held : {s : List ℕ} {n₁ n₂ : ℕ} (m₁ : ℕ) (b₁ : List ℕ) (m₂ : ℕ) (b₂ : List ℕ) {px py sx sy : List ℤ} {visits : List ℕ}
-    {postsRead stopsRead : Listed} {to₁ to₂ : ℕ} (posts-at : PostsAt s n₁ (all_posts m₁ b₁) px py postsRead) → postsRead.next ≡ At to₁ →
-    (stops_at : StopsAt s n₂ (all_stops m₂ b₂) sx sy visits stopsRead) → stopsRead.next ≡ At to₂ → 1 ≤ postsRead.count →
-    ListsHeld postsRead.count px py stopsRead.count sx sy visits posts-at.lines stops_at.lines
+    {posts_read stops_read : Listed} {to₁ to₂ : ℕ} (posts-at : PostsAt s n₁ (all_posts m₁ b₁) px py posts_read) → posts_read.next ≡ At to₁ →
+    (stops_at : StopsAt s n₂ (all_stops m₂ b₂) sx sy visits stops_read) → stops_read.next ≡ At to₂ → 1 ≤ posts_read.count →
+    ListsHeld posts_read.count px py stops_read.count sx sy visits posts-at.lines stops_at.lines
 lists_held m₁ b₁ m₂ b₂ posts-at e₁ stops_at e₂ some = record {
   posts_held = posts-at.hold;
   posts_range = places_ranged posts-at.hold posts-at.few (λ ns m. post_in ns (lines_ranged posts post m₁ b₁ posts-at e₁ ns m));

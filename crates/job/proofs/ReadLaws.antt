@@ -180,30 +180,30 @@ module _ {s : List ℕ} {at first : ℕ} {a : Rect} where
   lists_refused rest {px} {py} {sx} {sy} {visits} e = subst (ListsAt s at first a px py sx sy visits) (sym e)
       (record { post_lines_law = []; stop_lines_law = []; is = λ c. ap reading_result (rest c).is; held = not_accepted })
 
-  module _ {px py : List ℤ} {postsRead : Listed} (posts-at : PostsAt s (first + 1) (all_posts first (drop at s)) px py postsRead) where
-    from_posts : (c : List ℤ) → RestIs s at first a c (and_then (next_in s posts-at.lines (first + 1 + postsRead.count) postsRead.next)
+  module _ {px py : List ℤ} {posts_read : Listed} (posts-at : PostsAt s (first + 1) (all_posts first (drop at s)) px py posts_read) where
+    from_posts : (c : List ℤ) → RestIs s at first a c (and_then (next_in s posts-at.lines (first + 1 + posts_read.count) posts_read.next)
         (after_posts (area_numbers a) c))
     from_posts c = record { is = rw (rest_is (area_numbers a) c first (drop at s), posts-at.is) }
 
-    pub lists_posts : {why : Refusal} → postsRead.next ≡ Refused why → {sx sy : List ℤ} {visits : List ℕ} {r : Lists} → r ≡ no_lists why →
+    pub lists_posts : {why : Refusal} → posts_read.next ≡ Refused why → {sx sy : List ℤ} {visits : List ℕ} {r : Lists} → r ≡ no_lists why →
         ListsAt s at first a px py sx sy visits r
     lists_posts e = lists_refused (λ c. record { is = rw ((from_posts c).is, e) })
 
-    module _ {at₂ : ℕ} (posts-is : postsRead.next ≡ At at₂) {sx sy : List ℤ} {visits : List ℕ} {stopsRead : Listed}
-        (stops_at : StopsAt s (first + 1 + postsRead.count + 1) (all_stops (first + 1 + postsRead.count) (drop at₂ s)) sx sy visits stopsRead) where
+    module _ {at₂ : ℕ} (posts-is : posts_read.next ≡ At at₂) {sx sy : List ℤ} {visits : List ℕ} {stops_read : Listed}
+        (stops_at : StopsAt s (first + 1 + posts_read.count + 1) (all_stops (first + 1 + posts_read.count) (drop at₂ s)) sx sy visits stops_read) where
       from_stops : (c : List ℤ) →
-          RestIs s at first a c (and_then (next_in s stops_at.lines (first + 1 + postsRead.count + 1 + stopsRead.count) stopsRead.next)
+          RestIs s at first a c (and_then (next_in s stops_at.lines (first + 1 + posts_read.count + 1 + stops_read.count) stops_read.next)
           (after_stops (area_numbers a) c posts-at.lines))
       unfolding after_posts
       from_stops c = record { is = rw ((from_posts c).is, posts-is, stops_at.is) }
 
-      pub lists_stops : {why : Refusal} → stopsRead.next ≡ Refused why → {r : Lists} → r ≡ no_lists why → ListsAt s at first a px py sx sy visits r
+      pub lists_stops : {why : Refusal} → stops_read.next ≡ Refused why → {r : Lists} → r ≡ no_lists why → ListsAt s at first a px py sx sy visits r
       lists_stops e = lists_refused (λ c. record { is = rw ((from_stops c).is, e) })
 
-      module _ {at₃ : ℕ} (stops-is : stopsRead.next ≡ At at₃) {last : CountLine}
-          (last-at : LastAt s at₃ (first + 1 + postsRead.count + 1 + stopsRead.count) last) where
+      module _ {at₃ : ℕ} (stops-is : stops_read.next ≡ At at₃) {last : CountLine}
+          (last-at : LastAt s at₃ (first + 1 + posts_read.count + 1 + stops_read.count) last) where
         from_last : (c : List ℤ) →
-            RestIs s at first a c (and_then (answer_in s (first + 1 + postsRead.count + 1 + stopsRead.count) (count_answer last))
+            RestIs s at first a c (and_then (answer_in s (first + 1 + posts_read.count + 1 + stops_read.count) (count_answer last))
             (λ k n bs. got (job_of (area_numbers a) c posts-at.lines stops_at.lines k) n bs))
         unfolding after_stops
         from_last c = record { is = rw ((from_stops c).is, stops-is, last-at.is) }
@@ -211,8 +211,8 @@ module _ {s : List ℕ} {at first : ℕ} {a : Rect} where
         pub lists_last : {why : Refusal} → last ≡ C.Refused why → {r : Lists} → r ≡ no_lists why → ListsAt s at first a px py sx sy visits r
         lists_last e = lists_refused (λ c. record { is = rw ((from_last c).is, e) })
 
-        pub lists_all : {n next : ℕ} → last ≡ C.Read n next → {o : Outcome} → CheckedAt a postsRead.count stopsRead.count n o
-            → ListsAt s at first a px py sx sy visits (record { outcome = o; posts = postsRead.count; stops = stopsRead.count })
+        pub lists_all : {n next : ℕ} → last ≡ C.Read n next → {o : Outcome} → CheckedAt a posts_read.count stops_read.count n o
+            → ListsAt s at first a px py sx sy visits (record { outcome = o; posts = posts_read.count; stops = stops_read.count })
         lists_all e checked-at = record {
           post_lines_law = posts-at.lines;
           stop_lines_law = stops_at.lines;
@@ -318,15 +318,15 @@ module _ (missing : AxisCosts) {s : List ℕ} (short : length s ≤ 16384) {area
   pub read_area : {why : Refusal} → area-answer ≡ A.Refused why → refused why ≡ read_with (held_axis missing) s
   read_area e = rw (read_short (held_axis missing) s short, from_area e)
 
-  module _ {a : Rect} {at : ℕ} (area_is : area-answer ≡ A.Read a at) {axisRead : AxisRead} (axis-at : AxisAt s at missing axisRead) where
+  module _ {a : Rect} {at : ℕ} (area_is : area-answer ≡ A.Read a at) {axis_read : AxisRead} (axis-at : AxisAt s at missing axis_read) where
     from_axis : job_lines (held_axis missing) 1 s
-        ≡ and_then (next_in s (cost_numbers axisRead.costs) axisRead.line axisRead.next) (rest_lines (area_numbers a))
+        ≡ and_then (next_in s (cost_numbers axis_read.costs) axis_read.line axis_read.next) (rest_lines (area_numbers a))
     from_axis = rw (from_area area_is, axis-at.is)
 
-    pub read_axis : {why : Refusal} → axisRead.next ≡ Refused why → refused why ≡ read_with (held_axis missing) s
+    pub read_axis : {why : Refusal} → axis_read.next ≡ Refused why → refused why ≡ read_with (held_axis missing) s
     read_axis e = rw (read_short (held_axis missing) s short, from_axis, e)
 
-    pub read_rest : {at₂ : ℕ} → axisRead.next ≡ At at₂ → {r : Job} → RestAt s at₂ axisRead.line a axisRead.costs r →
+    pub read_rest : {at₂ : ℕ} → axis_read.next ≡ At at₂ → {r : Job} → RestAt s at₂ axis_read.line a axis_read.costs r →
         r ≡ job_record (read_with (held_axis missing) s)
     read_rest e rest_at = rw (read_short (held_axis missing) s short, from_axis, e) rest_at.is
 

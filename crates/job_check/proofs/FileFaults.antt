@@ -140,17 +140,17 @@ lines_fine (l ∷ ls) n e = each_cons InRanges (go (line_is n l)) (lines_fine ls
     rest (fine p w t) = sym (ap (λ (o : Option Refusal). or_else o (first_fault (n + 1) ls)) p) ∙ e
 
 -- so many lines of a kind that makes no others due
-many_follow : {A : Type 0} (k : Kind) (numbersOf : A → List ℤ) → ((a : A) → length (numbersOf a) ≡ length (row k).ranges)
+many_follow : {A : Type 0} (k : Kind) (numbers_of : A → List ℤ) → ((a : A) → length (numbers_of a) ≡ length (row k).ranges)
     → ((ns : List ℤ) (rest : List ℕ) → due_after k ns rest ≡ []) → (xs : List A) (count : ℕ) → length xs ≡ count → (due : List Kind) (ls : List JobLine)
-    → Follows due ls → Follows (replicate count k ++ due) (map (λ a. record { kind = k; numbers = numbersOf a }) xs ++ ls)
+    → Follows due ls → Follows (replicate count k ++ due) (map (λ a. record { kind = k; numbers = numbers_of a }) xs ++ ls)
 unfolding Follows
-many_follow k numbersOf as_many alone [] zero e due ls f = f
-many_follow k numbersOf as_many alone [] (suc count) e due ls f = absurd (omega arith)
-many_follow k numbersOf as_many alone (x ∷ xs) zero e due ls f = absurd (omega arith)
-many_follow k numbersOf as_many alone (x ∷ xs) (suc count) e due ls f = (
+many_follow k numbers_of as_many alone [] zero e due ls f = f
+many_follow k numbers_of as_many alone [] (suc count) e due ls f = absurd (omega arith)
+many_follow k numbers_of as_many alone (x ∷ xs) zero e due ls f = absurd (omega arith)
+many_follow k numbers_of as_many alone (x ∷ xs) (suc count) e due ls f = (
   refl,
   as_many x,
-  λ t. rw (alone (numbersOf x) _) (many_follow k numbersOf as_many alone xs count (omega arith) due ls f),
+  λ t. rw (alone (numbers_of x) _) (many_follow k numbers_of as_many alone xs count (omega arith) due ls f),
 )
 
 -- the lines behind that of the area: the axis line is due where the text goes on with its key, and `posts=` does not

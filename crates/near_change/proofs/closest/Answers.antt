@@ -4,8 +4,11 @@ use Rattle.near_change.proofs.NearLaws.{closest_first, closest_next}
 use Rattle.near_change.proofs.closest.Goals as goal
 
 pub loop-j-init : goal.loop-j-init
-loop-j-init c =
-    (omega arith, omega (arith, c.requires.3), closest_first c.requires.1 c.requires.2 _ c.requires.3 (record { sfits = c.travelled-least.type_inv }) c.travelled-least.ensures)
+loop-j-init c = (
+  omega arith,
+  omega (arith, c.requires.3),
+  closest_first c.requires.1 c.requires.2 _ c.requires.3 (record { sfits = c.travelled-least.type_inv }) c.travelled-least.ensures,
+)
 
 pub loop-j-preserved : goal.loop-j-preserved
 loop-j-preserved c =

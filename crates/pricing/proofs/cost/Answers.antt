@@ -1,6 +1,5 @@
 -- What `pricing::cost` owes.
 use mathlib.Core.Path.{sym, ◌∙◌}
-use Prim.Native.Nat.{◌-◌}
 use native.Mathlib.Omega.{arith}
 use Rattle.deck.specs.ObjectColumns.{pricing_in}
 use Rattle.reach.proofs.NarrowLaws.{row_word}

@@ -1,6 +1,5 @@
 -- What `pricing::load` owes.
 use mathlib.Core.Path.{sym, ◌∙◌}
-use Prim.Native.Nat.{◌-◌}
 use native.Mathlib.Omega.{arith}
 use Rattle.deck.specs.ObjectColumns.{pricing_in}
 use Rattle.reach.proofs.NarrowLaws.{edges_are, edges_words, row_word}
