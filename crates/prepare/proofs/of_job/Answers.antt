@@ -13,7 +13,6 @@ use Rattle.prepare.proofs.JobProblem.{prepared_refused, prepared_accepted}
 use Rattle.prepare.proofs.MadeProblem.{columns_priceable, lines_found, x_coordinates, y_coordinates, edges, area_back_lem, area_ranged, made_problem}
 use Rattle.prepare.proofs.of_job.Goals as goal
 
-
 pub returns-in-Refused : goal.returns-in-Refused
 returns-in-Refused c = prepared_refused _ _ c.read-j.ensures _ c.in-Refused.is _ c.refuse.ensures c.requires
 

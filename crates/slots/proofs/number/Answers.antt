@@ -1,5 +1,4 @@
 -- What `slots::number` owes.
-use Prim.Native.Nat.{◌-◌}
 use native.Mathlib.Omega.{arith}
 use Rattle.slots.proofs.NumberingLaws.{numbers_all}
 use Rattle.slots.proofs.number.Goals as goal
