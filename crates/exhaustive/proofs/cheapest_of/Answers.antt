@@ -1,5 +1,4 @@
 -- What `exhaustive::cheapest_of` owes.
-use Prim.Native.Nat.{◌-◌}
 use mathlib.Core.Path.{◌∙◌}
 use native.Mathlib.Omega.{arith}
 use Rattle.exhaustive.proofs.CostsAlong.{costs_length}

@@ -1,5 +1,4 @@
 -- What `exhaustive::choose` owes.
-use Prim.Native.Nat.{◌-◌}
 use Rattle.numbers.proofs.WordTests.{back_is}
 use Rattle.exhaustive.proofs.ChooseLaws.{choose_more, choose_all}
 use Rattle.exhaustive.proofs.choose.Goals as goal

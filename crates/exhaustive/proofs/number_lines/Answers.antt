@@ -1,5 +1,4 @@
 -- What `exhaustive::number_lines` owes.
-use Prim.Native.Nat.{◌-◌}
 use native.Mathlib.Omega.{arith}
 use Rattle.exhaustive.proofs.TableLaws.{numbering_more, slot_is, slot_low, slot_within}
 use Rattle.exhaustive.proofs.number_lines.Goals as goal

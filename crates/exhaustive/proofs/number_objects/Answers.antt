@@ -1,5 +1,4 @@
 -- What `exhaustive::number_objects` owes.
-use Prim.Native.Nat.{◌-◌}
 use native.Mathlib.Omega.{arith}
 use Rattle.exhaustive.proofs.AllObjects.{lines_more}
 use Rattle.exhaustive.proofs.number_objects.Goals as goal
