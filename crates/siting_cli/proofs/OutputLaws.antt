@@ -5,7 +5,8 @@ use Rattle.std.proofs.lemmas.Bool.{cases_lt, false≢true}
 use Rattle.std.proofs.Math.Seq.{take-append_seam}
 use Rattle.std.specs.Io.KnownBytes.{Consumes, IsAtEnd, Appends}
 use Rattle.calls.specs.declared.Text.{Text}
-use Rattle.calls.specs.Program.{answer_text, text_record, padded}
+use Rattle.numbers.specs.Padded.{padded}
+use Rattle.calls.specs.Program.{answer_text, text_record}
 use Rattle.siting_cli.specs.Output.{AnswersAll, AnswersPart}
 use Rattle.siting_cli.proofs.LongJob.{first_bytes}
 
