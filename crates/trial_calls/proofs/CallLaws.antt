@@ -31,7 +31,6 @@ use Rattle.problem.specs.declared.Spot.{Spot}
 use Rattle.calls.specs.declared.Answer.{Answer}
 use Rattle.calls.specs.declared.Answer.TheVariants as Answered
 use Rattle.calls.specs.declared.Cheapest.{Cheapest}
-use Rattle.calls.specs.declared.Cheapest.TheVariants as Cheapest
 use Rattle.calls.specs.Answers.{AnswerOf, gives, refusal, report_answer, cheapest_answer}
 use Rattle.calls.specs.Call.{Left, report_call}
 use Rattle.calls.specs.CheapestCall.{exhaustive_call}

@@ -15,7 +15,6 @@ use Rattle.refusal.specs.declared.Refusal.{Refusal}
 use Rattle.job.proofs.RefusalLaws.{condition_line}
 use Rattle.calls.specs.declared.Estimate as Held
 use Rattle.calls.specs.declared.Estimated.{Estimated}
-use Rattle.calls.specs.declared.Estimated.TheVariants as Estimated
 use Rattle.calls.specs.Answers.{refusal, estimate_numbers, estimated_answer}
 use Rattle.calls.specs.EstimateCall.{estimate_call}
 use Rattle.calls.proofs.EstimateCall.{estimate_call_law}

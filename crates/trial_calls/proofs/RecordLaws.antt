@@ -18,11 +18,9 @@ use Rattle.deck.specs.declared.Deck.{Deck}
 use Rattle.refusal.specs.Refusal.{number_of, line_of}
 use Rattle.refusal.specs.declared.Refusal.{Refusal}
 use Rattle.job.specs.declared.Outcome.{Outcome}
-use Rattle.job.specs.declared.Outcome.TheVariants as Outcome
 use Rattle.job.proofs.JobLaws.{most_rounds}
 use Rattle.job.proofs.RefusalLaws.{condition_line}
 use Rattle.calls.specs.declared.Written.{Written}
-use Rattle.calls.specs.declared.Written.TheVariants as Written
 use Rattle.calls.specs.Answers.{AnswerOf, gives, refusal, read_answer, written_answer}
 use Rattle.calls.specs.ReadCall.{Read, read_call}
 use Rattle.calls.specs.WriteCall.{Saved, write_call}

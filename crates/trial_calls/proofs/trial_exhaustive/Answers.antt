@@ -1,0 +1,9 @@
+-- What `trial_calls::trial_exhaustive` owes.
+use Rattle.trial_calls.proofs.CallLaws.{spot_limits, exhaustive_line}
+use Rattle.trial_calls.proofs.trial_exhaustive.Goals as goal
+
+pub spot_figure-requires : goal.spot_figure-requires
+spot_figure-requires c = spot_limits _ _ c.exhaustive-answer.ensures _ c.in-At.is
+
+pub refusal_figure-requires : goal.refusal_figure-requires
+refusal_figure-requires c = exhaustive_line _ _ c.exhaustive-answer.ensures _ c.in-Refused.is
