@@ -20,6 +20,20 @@ ghost use Rattle.deck.specs.StopFigures.{Nears, paid};
 
 use limits::{COLUMNS, NEAR_COLUMN, POSTS, STOPS, VISITS_COLUMN, X_COST, Y_COLUMN, Y_COST};
 
+// A place.
+#[derive(Clone, Copy)]
+pub struct Place {
+    pub x: i64,
+    pub y: i64,
+}
+
+// A stop as a job lists it.
+#[derive(Clone, Copy)]
+pub struct Stop {
+    pub at: Place,
+    pub visits: u64,
+}
+
 // A rectangle, its edges included.
 #[derive(Clone, Copy)]
 pub struct Rect {
