@@ -24,7 +24,7 @@ use Rattle.deck.specs.ClosestSoFar.{closest_so_far, columns_so_far, improved, co
 use Rattle.deck.specs.Ranges.{CoordinatesInRange, Near180000}
 use Rattle.deck.proofs.WordLaws.{coordinate}
 use Rattle.deck.proofs.TravelLaws.{far, travel_plain, place_word}
-use Rattle.deck.proofs.ClosestLaws.{zip_length, zip_at, place_at, places_length, places_at, closest_one, closest_snoc}
+use Rattle.deck.proofs.ClosestLaws.{zip_length, zip_at, place_at, places_length, places_at, closest_one, closest_snoc, near_by, some_posts, posts_more, post_range}
 use Rattle.deck.proofs.CopyLaws.{Copied, copied_more, copied_all, copied_before, copied_next, copied_within, copied_again}
 
 -- ---- one stop
@@ -32,6 +32,10 @@ so_far_some : (p : Place) (posts : List Place) → 1 ≤ length posts → closes
 unfolding closest_so_far
 so_far_some p [] h = absurd (omega arith)
 so_far_some p (post ∷ posts) h = refl
+
+so_far_first : (post p : Place) → closest_so_far (post ∷ []) p ≡ far p.x p.y post.x post.y
+unfolding closest_so_far
+so_far_first post p = closest_one plain p post ∙ travel_plain p post
 
 so_far_more : (post p : Place) (posts : List Place) → Near180000 p.x p.y → Near180000 post.x post.y →
     closest_so_far (posts ++ post ∷ []) p ≡ cond (ltb (travel plain p post) (closest_so_far posts p)) (travel plain p post) (closest_so_far posts p)
@@ -67,6 +71,10 @@ pub record StopsInRange (columns : List ℤ) (n : ℕ) : Type 0 where
   pub fit : ColumnsFit columns n
   pub x : CoordinatesInRange columns n
   pub y : CoordinatesInRange (drop 512 columns) n
+
+pub stops_in : {columns : List ℤ} {n : ℕ} → CoordinatesInRange columns n → CoordinatesInRange (drop 512 columns) n → n ≤ 512 → length columns ≡ 2050 →
+    StopsInRange columns n
+stops_in x y few long = record { fit = record { few = few; long = long }; x = x; y = y }
 
 abbrev stop : List ℤ → ℕ → Place
 stop columns i = place_at columns (drop 512 columns) i
@@ -130,13 +138,6 @@ module _ {columns : List ℤ} {n : ℕ} (fit : ColumnsFit columns n) where
     stop_kept : (j : ℕ) → j < n → stop to j ≡ stop columns j
     stop_kept j h = rw (get_or-drop 512 to j (pos 0), x_kept j h, y_kept j h)
 
-  -- before the first post, stop by stop
-  pub none_more : {to : List ℤ} {i : ℕ} → Copied columns 1536 (figures columns []) n to i → i < n →
-      Copied columns 1536 (figures columns []) n (set to (1536 + i) (pos 720001)) (i + 1)
-  unfolding closest_so_far
-  none_more {to} {i} so_far h = copied_more columns 1536 (figures columns []) n (pos 720001) (pos 720001) room (figures_count []) so_far h
-      (sym (figures_at [] (stop columns 0) i h))
-
   -- all figures are put
   put : (posts : List Place) → Copied columns 1536 (figures columns posts) n (columns_so_far columns n posts) n
   unfolding columns_so_far
@@ -171,6 +172,25 @@ module _ {columns : List ℤ} {n : ℕ} (fit : ColumnsFit columns n) where
           let l : i < n = omega (arith, few) in
           get_or-take n s i z l ∙ rows d i l ∙ sym (get_or-take n (figures columns new) i z l ∙ figures_at new d i l)
 
+-- ---- the first post, stop by stop
+module _ {columns : List ℤ} {n : ℕ} (stops : StopsInRange columns n) (post : Place) {to : List ℤ} {i : ℕ}
+    (so_far : Copied columns 1536 (figures columns (post ∷ [])) n to i) where
+  pub first_row : i < n → Near180000 (to_z w32 (of_z w32 (get_or to i (pos 0)))) (to_z w32 (of_z w32 (get_or to (512 + i) (pos 0))))
+  first_row h = rw (x_kept stops.fit so_far i h, y_kept stops.fit so_far i h) (place_word (stop_range stops i h))
+
+  pub first_more : (r : ℤ) → i < n → SFits w32 r →
+      r ≡ pos (far (to_z w32 (of_z w32 (get_or to i (pos 0)))) (to_z w32 (of_z w32 (get_or to (512 + i) (pos 0)))) post.x post.y) →
+      Copied columns 1536 (figures columns (post ∷ [])) n (set to (1536 + i) (to_z w32 (of_z w32 r))) (i + 1)
+  first_more r h fits e =
+      copied_more columns 1536 (figures columns (post ∷ [])) n (to_z w32 (of_z w32 r)) (pos (closest_so_far (post ∷ []) (stop columns 0)))
+      (room stops.fit) (figures_count stops.fit (post ∷ [])) so_far h
+      (to_z-of_z w32 r fits ∙ e ∙ rw (
+        x_kept stops.fit so_far i h,
+        y_kept stops.fit so_far i h,
+        coordinate (get_or columns i (pos 0)) (stops.x.range i h),
+        coordinate (get_or (drop 512 columns) i (pos 0)) (stops.y.range i h),
+      ) (sym (figures_at stops.fit (post ∷ []) (stop columns 0) i h ∙ ap pos (so_far_first post (stop columns i)))))
+
 -- ---- one more post, stop by stop
 module _ {columns : List ℤ} {n : ℕ} (stops : StopsInRange columns n) (post : Place) {to : List ℤ} {i : ℕ}
     (so_far : Copied columns 1536 (better columns post) n to i) where
@@ -196,6 +216,13 @@ module _ {columns : List ℤ} {n : ℕ} (stops : StopsInRange columns n) (post :
   pub better_all : n ≤ i → to ≡ columns_improved columns n post
   unfolding columns_improved
   better_all h = copied_all columns 1536 (better columns post) n so_far h
+
+-- the words of a post in columns
+abbrev pub word_at : List ℤ → List ℤ → ℕ → Place
+word_at px py j = record { x = to_z w32 (of_z w32 (get_or px j (pos 0))); y = to_z w32 (of_z w32 (get_or py j (pos 0))) }
+
+word_is : {px py : List ℤ} {k : ℕ} → CoordinatesInRange px k → CoordinatesInRange py k → (j : ℕ) → j < k → word_at px py j ≡ place_at px py j
+word_is {px} {py} gx gy j h = rw (coordinate (get_or px j (pos 0)) (gx.range j h), coordinate (get_or py j (pos 0)) (gy.range j h))
 
 -- ---- all stops, post by post
 module _ {columns : List ℤ} {n : ℕ} (stops : StopsInRange columns n) (posts : List Place) where
@@ -242,3 +269,27 @@ unfolding columns_so_far
 columns_all columns n posts h = rw (map_each
     (λ p. pos (closest_so_far posts p)) (λ p. pos (closest plain p posts)) (places columns (drop 512 columns))
     (λ p m. ap pos (so_far_some p posts h)))
+
+-- ---- posts in columns: after the first, after each further one, and after the last
+module _ {columns px py : List ℤ} {n k : ℕ} (stops : StopsInRange columns n) (some : 1 ≤ k) (gx : CoordinatesInRange px k) (gy : CoordinatesInRange py k)
+    {first : List ℤ} (e : first ≡ columns_so_far columns n (word_at px py 0 ∷ [])) where
+  first_is : first ≡ columns_so_far columns n (take 1 (places px py))
+  first_is = e ∙ rw (word_is gx gy 0 some, posts_more gx gy 0 some)
+
+  first_ranged : StopsInRange first n
+  first_ranged = rw first_is (so_far_ranged stops _)
+
+  pub posts_first : first ≡ columns_so_far first n (take 1 (places px py))
+  posts_first = first_is ∙ rw first_is (sym (so_far_again stops _ _))
+
+  module _ {now : List ℤ} (j : ℕ) (so_far : now ≡ columns_so_far first n (take j (places px py))) where
+    pub posts_ranged : StopsInRange now n
+    posts_ranged = rw so_far (so_far_ranged first_ranged _)
+
+    pub posts_next : {next : List ℤ} → j < k → next ≡ columns_improved now n (word_at px py j) → next ≡ columns_so_far first n (take (j + 1) (places px py))
+    posts_next h is = is ∙ rw (word_is gx gy j h, so_far, posts_more gx gy j h) (columns_more first_ranged _ _ (post_range gx gy j h))
+
+    pub posts_all : j ≤ k → k ≤ j → now ≡ paste columns 1536 (map (near_by px py k) (places columns (drop 512 columns))) n
+    posts_all g h =
+        let last : j ≡ k = omega arith in
+        so_far ∙ rw (first_is, last) (so_far_again stops _ _ ∙ columns_all columns n _ (some_posts gx gy some))

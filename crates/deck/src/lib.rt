@@ -1,7 +1,7 @@
 // The deck as a record, and its objects: its stops in columns, each with its near.
 #![tactic(auto)]
 
-ghost use Rattle.std.specs.Prelude.{◌≡◌, cond, [], map, ◌+◌, ◌≤◌, pos, nat_abs, length, take, drop, replicate};
+ghost use Rattle.std.specs.Prelude.{◌≡◌, cond, [], ◌∷◌, map, ◌+◌, ◌≤◌, pos, nat_abs, length, take, drop, replicate};
 ghost use Rattle.std.specs.Int.Signed.{lt_z};
 ghost use Rattle.std.proofs.Math.Seq.{paste};
 ghost use Rattle.numbers.specs.Integer.{dist, times};
@@ -21,21 +21,21 @@ ghost use Rattle.deck.specs.StopFigures.{Nears, paid};
 use limits::{COLUMNS, NEAR_COLUMN, POSTS, STOPS, VISITS_COLUMN, X_COST, Y_COLUMN, Y_COST};
 
 // A place.
-#[derive(Clone, Copy)]
+#[derive(Clone, Copy, PartialEq, Eq)]
 pub struct Place {
     pub x: i64,
     pub y: i64,
 }
 
 // A stop as a job lists it.
-#[derive(Clone, Copy)]
+#[derive(Clone, Copy, PartialEq, Eq)]
 pub struct Stop {
     pub at: Place,
     pub visits: u64,
 }
 
 // A rectangle, its edges included.
-#[derive(Clone, Copy)]
+#[derive(Clone, Copy, PartialEq, Eq)]
 pub struct Rect {
     pub xlo: i64,
     pub ylo: i64,
@@ -44,7 +44,7 @@ pub struct Rect {
 }
 
 // What a tenth costs in x and in y.
-#[derive(Clone, Copy)]
+#[derive(Clone, Copy, PartialEq, Eq)]
 pub struct AxisCosts {
     pub a: u64,
     pub b: u64,
@@ -70,15 +70,12 @@ pub struct Deck {
     pub before: u64,
 }
 
-// A stop's figure before the first post: one more than any travel.
-const NO_POST: i32 = 720001;
-
 // |u − v|
 fn apart(u: i32, v: i32) -> i32
     requires { Near180000 u v }
     ensures { result ≡ pos (dist u v) }
 {
-    if u < v { v - u } else { u - v }
+    u.abs_diff(v) as i32
 }
 
 // The travel between two places.
@@ -103,10 +100,8 @@ pub fn copy_coordinates(from: &[i64], k: i32, to: &mut [i32], at: usize, n: usiz
     requires { CoordinatesUpTo 20000 from.now n × AxisCostInRange k × (at + n ≤ length to.old) }
     ensures { to.new ≡ paste to.old at (map (times (nat_abs k)) from.now) n }
 {
-    let mut i: usize = 0;
-    while i < n {
+    for i in 0..n {
         to[at + i] = scaled(k, from[i]);
-        i = i + 1;
     }
 }
 
@@ -115,10 +110,8 @@ fn copy_naturals(from: &[u64], to: &mut [i32], at: usize, n: usize)
     requires { NaturalsUpTo travel_limit from.now n × (at + n ≤ length to.old) }
     ensures { to.new ≡ paste to.old at (map pos from.now) n }
 {
-    let mut i: usize = 0;
-    while i < n {
+    for i in 0..n {
         to[at + i] = from[i] as i32;
-        i = i + 1;
     }
 }
 
@@ -127,19 +120,17 @@ pub fn closer(least: i32, x: i32, y: i32, px: i32, py: i32) -> i32
     requires { Near180000 x y × Near180000 px py }
     ensures { result ≡ cond (lt_z (pos (dist x px + dist y py)) least) (pos (dist x px + dist y py)) least }
 {
-    let t = travelled(x, y, px, py);
-    if t < least { t } else { least }
+    least.min(travelled(x, y, px, py))
 }
 
-// Before the first post: a figure above every travel for the first n stops, in the last column.
-fn start_nears(columns: &mut [i32], n: usize)
-    requires { (n ≤ 512) × (length columns.old ≡ 2050) }
-    ensures { columns.new ≡ columns_so_far columns.old n [] }
+// The first post: the travel to it is the figure of each of the first n stops, in the last column.
+fn start_nears(columns: &mut [i32], n: usize, px: i32, py: i32)
+    requires { CoordinatesInRange columns.old n × CoordinatesInRange (drop 512 columns.old) n × Near180000 px py × (n ≤ 512)
+        × (length columns.old ≡ 2050) }
+    ensures { columns.new ≡ columns_so_far columns.old n (record { x = px; y = py } ∷ []) }
 {
-    let mut i: usize = 0;
-    while i < n {
-        columns[NEAR_COLUMN + i] = NO_POST;
-        i = i + 1;
+    for i in 0..n {
+        columns[NEAR_COLUMN + i] = travelled(columns[i], columns[Y_COLUMN + i], px, py);
     }
 }
 
@@ -149,8 +140,7 @@ fn improve_nears(columns: &mut [i32], n: usize, px: i32, py: i32)
         × (length columns.old ≡ 2050) }
     ensures { columns.new ≡ columns_improved columns.old n (record { x = px; y = py }) }
 {
-    let mut stop: usize = 0;
-    while stop < n {
+    for stop in 0..n {
         columns[NEAR_COLUMN + stop] = closer(
             columns[NEAR_COLUMN + stop],
             columns[stop],
@@ -158,7 +148,6 @@ fn improve_nears(columns: &mut [i32], n: usize, px: i32, py: i32)
             px,
             py,
         );
-        stop = stop + 1;
     }
 }
 
@@ -172,11 +161,9 @@ fn put_nears<'a>(columns: &mut [i32], n: usize, px: &'a [i32], py: &'a [i32], k:
         (map (λ p. pos (closest plain p (take k (places px.now py.now))))
         (places columns.old (drop 512 columns.old))) n }
 {
-    start_nears(columns, n);
-    let mut j: usize = 0;
-    while j < k {
+    start_nears(columns, n, px[0], py[0]);
+    for j in 1..k {
         improve_nears(columns, n, px[j], py[j]);
-        j = j + 1;
     }
 }
 
@@ -186,10 +173,8 @@ fn nears_in(columns: &[i32], n: usize) -> [u64; STOPS]
     ensures { result ≡ padded 512 0 (take n (map nat_abs (drop 1536 columns.now))) }
 {
     let mut near = [0u64; STOPS];
-    let mut row: usize = 0;
-    while row < n {
+    for row in 0..n {
         near[row] = (columns[NEAR_COLUMN + row] as u32) as u64;
-        row = row + 1;
     }
     near
 }
@@ -227,11 +212,9 @@ pub fn before_of<'a>(visits: &'a [u64], near: &'a [u64], n: usize) -> u64
     requires { VisitsInRange visits.now n × NearsInRange near.now n × (n ≤ 512) }
     ensures { result ≡ paid visits.now near.now n }
 {
-    let mut sum: u64 = 0;
-    let mut term: usize = 0;
-    while term < n {
-        sum = sum + visits[term] * near[term];
-        term = term + 1;
+    let mut sum = 0;
+    for (visits, near) in visits[..n].iter().zip(&near[..n]) {
+        sum += *visits * *near;
     }
     sum
 }

@@ -1,18 +1,17 @@
 -- What `deck::apart` owes.
-use Prim.Native.Nat.{◌^◌, ◌<◌}
+use mathlib.Core.Path.{◌≡◌, ap, ◌∙◌}
 use native.Mathlib.Omega.{arith}
+use lib.IntN.{pos}
 use mir.Syntax.{w32}
+use mir.ValLaws.{to_z_pos}
 use Rattle.numbers.specs.Integer.{dist}
 use Rattle.numbers.proofs.Distance.{dist_most}
-use Rattle.numbers.proofs.Words.{gap_above, gap_below, result_is}
-use Rattle.deck.proofs.apart.Goals.{Start}
+use Rattle.deck.proofs.WordLaws.{coordinate}
 use Rattle.deck.proofs.apart.Goals as goal
 
-within : (c : Start) → dist c.args.u c.args.v < 2 ^ 31
-within c = omega (arith, dist_most 180000 c.args.u c.args.v c.requires.x_range c.requires.y_range)
-
-pub returns-then-u-v : goal.returns-then-u-v
-returns-then-u-v c = result_is w32 _ _ (gap_above w32 _ _ c.ranges.u c.ranges.v c.if-u-v.true) (record { sfits = within c.before })
-
-pub returns-else-u-v : goal.returns-else-u-v
-returns-else-u-v c = result_is w32 _ _ (gap_below w32 _ _ c.ranges.u c.ranges.v c.if-u-v.false) (record { sfits = within c.before })
+pub returns : goal.returns
+unfolding dist
+returns c =
+    let e : c.abs_diff.result ≡ dist c.args.u c.args.v =
+    c.abs_diff.ensures ∙ rw (coordinate c.args.u c.requires.x_range, coordinate c.args.v c.requires.y_range) in
+    to_z_pos w32 c.abs_diff.result (omega (arith, e, dist_most 180000 c.args.u c.args.v c.requires.x_range c.requires.y_range)) ∙ ap pos e

@@ -1,15 +1,29 @@
 -- What `deck::before_of` owes.
 use native.Mathlib.Omega.{arith}
-use Rattle.deck.proofs.PaidLaws.{paid_none, term_most, paid_more}
+use lib.ListN.{take, length-append}
+use mathlib.Core.List.{[], ◌∷◌}
+use Rattle.std.proofs.lemmas.Slice.Zip.{zip_turn}
+use Rattle.deck.proofs.PaidLaws.{paid_none, term_fits, sum_fits, paid_turn}
 use Rattle.deck.proofs.before_of.Goals as goal
 
-pub loop-term-init : goal.loop-term-init
-loop-term-init c = paid_none _ _ _
+pub loop-visits-init : goal.loop-visits-init
+loop-visits-init c = paid_none _ _ _
+
+pub overflow_mul-sum : goal.overflow_mul-sum
+overflow_mul-sum c =
+    let t = zip_turn (take c.args.n c.args.visits.now) (take c.args.n c.args.near.now) c.loop-visits.yielded _ _ c.next.new.self _ (cc) (cc) c.loop-visits.yielded_by _
+    c.in-Some.is c.next.ensures.steps in
+    omega (arith, term_fits c.requires.0 c.requires.1 c.loop-visits.invariant t.0 (t.2 0) (t.3 0))
 
 pub overflow_add-sum : goal.overflow_add-sum
 overflow_add-sum c =
-    omega (arith, term_most c.requires.0 c.requires.1 _ c.loop-term-test.true, c.loop-term.invariant.most, c.requires.2)
+    let t = zip_turn (take c.args.n c.args.visits.now) (take c.args.n c.args.near.now) c.loop-visits.yielded _ _ c.next.new.self _ (cc) (cc) c.loop-visits.yielded_by _
+    c.in-Some.is c.next.ensures.steps in
+    omega (arith, sum_fits c.requires.0 c.requires.1 c.loop-visits.invariant t.0 (t.2 0) (t.3 0) c.requires.2)
 
-pub loop-term-preserved : goal.loop-term-preserved
-loop-term-preserved c =
-    paid_more c.requires.0 c.requires.1 c.loop-term.invariant c.loop-term-test.true
+pub loop-visits-preserved : goal.loop-visits-preserved
+loop-visits-preserved c =
+    let t = zip_turn (take c.args.n c.args.visits.now) (take c.args.n c.args.near.now) c.loop-visits.yielded _ _ c.next.new.self _ (cc) (cc) c.loop-visits.yielded_by _
+    c.in-Some.is c.next.ensures.steps in
+    rw (length-append c.loop-visits.yielded ((c.in-Some.visits, c.in-Some.near) ∷ []))
+    (paid_turn c.requires.0 c.requires.1 c.loop-visits.invariant t.0 (t.2 0) (t.3 0))

@@ -1,10 +1,7 @@
--- The loops of `deck::before_of`.
-use Prim.Native.Nat.{◌-◌}
+-- The loop of `deck::before_of`.
+use lib.ListN.{length}
 use Rattle.deck.proofs.PaidLaws.{Paid}
 use Rattle.deck.proofs.before_of.Given as goal
 
-abbrev pub invariant-loop-term : goal.invariant-loop-term
-invariant-loop-term l = Paid l.visits l.near l.n l.sum l.term
-
-abbrev pub decreases-loop-term : goal.decreases-loop-term
-decreases-loop-term l = l.n - l.term
+abbrev pub invariant-loop-visits : goal.invariant-loop-visits
+invariant-loop-visits l = Paid l.fn.visits l.fn.near l.n l.sum (length l.yielded)

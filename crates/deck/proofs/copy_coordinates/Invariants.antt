@@ -1,5 +1,4 @@
 -- The loops of `deck::copy_coordinates`.
-use Prim.Native.Nat.{◌-◌}
 use mathlib.Core.List.{map}
 use lib.IntN.{nat_abs}
 use Rattle.numbers.specs.Integer.{times}
@@ -8,6 +7,3 @@ use Rattle.deck.proofs.copy_coordinates.Given as goal
 
 abbrev pub invariant-loop-i : goal.invariant-loop-i
 invariant-loop-i l = Copied l.initial.to l.at (map (times (nat_abs l.k)) l.from) l.n l.to l.i
-
-abbrev pub decreases-loop-i : goal.decreases-loop-i
-decreases-loop-i l = l.n - l.i

@@ -1,11 +1,7 @@
 -- The loops of `deck::improve_nears`.
-use Prim.Native.Nat.{◌-◌}
 use Rattle.deck.proofs.CopyLaws.{Copied}
 use Rattle.deck.proofs.SoFarLaws.{better}
 use Rattle.deck.proofs.improve_nears.Given as goal
 
 abbrev pub invariant-loop-stop : goal.invariant-loop-stop
 invariant-loop-stop l = Copied l.initial.columns 1536 (better l.initial.columns (record { x = l.px; y = l.py })) l.n l.columns l.stop
-
-abbrev pub decreases-loop-stop : goal.decreases-loop-stop
-decreases-loop-stop l = l.n - l.stop

@@ -1,7 +1,7 @@
 -- The loops of `deck::nears_in`.
 use mathlib.Core.Path.{◌≡◌}
 use mathlib.Core.List.{map}
-use Prim.Native.Nat.{◌-◌, ◌≤◌}
+use Prim.Native.Nat.{◌≤◌}
 use lib.IntN.{nat_abs}
 use lib.ListN.{take, drop}
 use Rattle.numbers.specs.Padded.{padded}
@@ -9,6 +9,3 @@ use Rattle.deck.proofs.nears_in.Given as goal
 
 abbrev pub invariant-loop-row : goal.invariant-loop-row
 invariant-loop-row l = (l.row ≤ l.n) × (l.near ≡ padded 512 0 (take l.row (map nat_abs (drop 1536 l.columns))))
-
-abbrev pub decreases-loop-row : goal.decreases-loop-row
-decreases-loop-row l = l.n - l.row

@@ -1,6 +1,6 @@
 -- The loops of `deck::put_nears`.
 use mathlib.Core.Path.{◌≡◌}
-use Prim.Native.Nat.{◌-◌, ◌≤◌}
+use Prim.Native.Nat.{◌≤◌}
 use lib.ListN.{take}
 use Rattle.deck.specs.DeckOf.{places}
 use Rattle.deck.specs.ClosestSoFar.{columns_so_far}
@@ -8,6 +8,3 @@ use Rattle.deck.proofs.put_nears.Given as goal
 
 abbrev pub invariant-loop-j : goal.invariant-loop-j
 invariant-loop-j l = (l.j ≤ l.k) × (l.columns ≡ columns_so_far l.initial.columns l.n (take l.j (places l.px l.py)))
-
-abbrev pub decreases-loop-j : goal.decreases-loop-j
-decreases-loop-j l = l.k - l.j

@@ -1,12 +1,8 @@
--- The loops of `deck::start_nears`.
-use mathlib.Core.List.{[]}
-use Prim.Native.Nat.{◌-◌}
+-- The loop of `deck::start_nears`.
+use mathlib.Core.List.{[], ◌∷◌}
 use Rattle.deck.proofs.CopyLaws.{Copied}
 use Rattle.deck.proofs.SoFarLaws.{figures}
 use Rattle.deck.proofs.start_nears.Given as goal
 
 abbrev pub invariant-loop-i : goal.invariant-loop-i
-invariant-loop-i l = Copied l.initial.columns 1536 (figures l.initial.columns []) l.n l.columns l.i
-
-abbrev pub decreases-loop-i : goal.decreases-loop-i
-decreases-loop-i l = l.n - l.i
+invariant-loop-i l = Copied l.initial.columns 1536 (figures l.initial.columns (record { x = l.px; y = l.py } ∷ [])) l.n l.columns l.i
