@@ -8,9 +8,11 @@ use native.Mathlib.Nat.{add-zero, pow-suc}
 use native.Mathlib.Numerals.{add-one}
 use native.Mathlib.Omega.{arith}
 use lib.Arith.{le→nltb}
-use lib.Dec.{ltb, ltb→lt, lt→ltb, nltb→le}
+use lib.Dec.{leb, ltb, ltb→lt, lt→ltb, nltb→le}
 use lib.ListN.{length, take, drop, set, get_or, length-append, length-set, drop_of_length-le}
 use lib.Seq.{take_at, get_or_at, take-suc, drop-cons, take_all, length-take-le}
+use mir.Val.{bool_byte}
+use Rattle.std.proofs.lemmas.Bool.Decides.{nat_tests}
 use Rattle.numbers.proofs.Truth.{test, cond-true, cond-false}
 use Rattle.text.specs.Decimal.{decimal, spell_nat}
 use Rattle.text.proofs.DecimalLaws.{decimal_small, decimal_large}
@@ -27,6 +29,10 @@ below_is n least h = cond-true (ltb n least) _ _ (lt→ltb n least h)
 pub from_is : (n least : ℕ) → least ≤ n → at_least n least ≡ 1
 unfolding at_least
 from_is n least h = cond-false (ltb n least) _ _ (le→nltb n least h)
+
+pub test_is : (n least : ℕ) → bool_byte (leb least n) ≡ at_least n least
+unfolding at_least
+test_is n least = grind (arith, nat_tests)
 
 pub length_few : (n : ℕ) → n < 100000 → 1 + at_least n 10 + at_least n 100 + at_least n 1000 + at_least n 10000 ≡ length (spell_nat n)
 length_few n h = below 10 (λ k. rw (below_is n 10 k, below_is n 100 (omega arith), below_is n 1000 (omega arith), below_is n 10000 (omega arith))

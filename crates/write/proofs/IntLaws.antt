@@ -1,13 +1,15 @@
 -- How a signed number z is spelled, by what the code has of it: z as it is read back from its bits, the outcome of the test z < 0, and the absolute value n.
 -- Assumes nothing.
-use mathlib.Core.Path.{◌≡◌}
-use mathlib.Core.Bool.{true, false}
-use Prim.Native.Nat.{ℕ}
+use mathlib.Core.Path.{◌≡◌, refl}
+use mathlib.Core.Bool.{Bool, true, false}
+use native.Mathlib.Omega.{arith}
+use lib.ListN.{length}
+use Prim.Native.Nat.{ℕ, ◌+◌}
 use mathlib.Core.List.{◌∷◌}
 use lib.IntN.{ℤ, pos, nat_abs}
 use lib.Signed.{lt_z}
 use mir.Syntax.{w64}
-use mir.Val.{SFits, to_z, of_z}
+use mir.Val.{SFits, to_z, of_z, bool_byte}
 use mir.ValLaws.{to_z-of_z}
 use Rattle.text.specs.Ascii.{minus}
 use Rattle.text.specs.Decimal.{spell_nat, spell_int}
@@ -24,3 +26,12 @@ pub negative : (z : ℤ) (n : ℕ) → SFits w64 z → lt_z (to_z w64 (of_z w64 
 negative z n f t e =
     let m : n ≡ nat_abs z = rw (to_z-of_z w64 z f) at e in
     rw m (spell_int_negative z (rw (to_z-of_z w64 z f) at t))
+
+-- the digits, and the sign of a negative number
+pub int_length : (z : ℤ) (n : ℕ) → SFits w64 z → n ≡ nat_abs (to_z w64 (of_z w64 z))
+    → length (spell_nat n) + bool_byte (lt_z (to_z w64 (of_z w64 z)) (pos 0)) ≡ length (spell_int z)
+int_length z n f e = go (lt_z (to_z w64 (of_z w64 z)) (pos 0)) refl
+  where
+    go : (b : Bool) → lt_z (to_z w64 (of_z w64 z)) (pos 0) ≡ b → length (spell_nat n) + bool_byte b ≡ length (spell_int z)
+    go true t = rw (negative z n f t e) (omega arith)
+    go false t = rw (non_negative z n f t e) (omega arith)

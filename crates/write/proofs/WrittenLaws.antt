@@ -1,12 +1,14 @@
 -- Bytes put over a part of a buffer: the length stays, and one part after another is their join.
 -- Assumes nothing.
 use mathlib.Core.Path.{◌≡◌, refl, sym, ap, ◌∙◌}
-use Prim.Native.Nat.{ℕ, suc, ◌+◌, ◌≤◌, ◌<◌}
+use Prim.Native.Nat.{ℕ, suc, ◌+◌, ◌-◌, ◌≤◌, ◌<◌}
 use native.Mathlib.Nat.{zero-add, add-zero, add_assoc}
 use native.Mathlib.Numerals.{add-one}
 use native.Mathlib.Omega.{arith}
 use mathlib.Core.List.{List, [], ◌∷◌, ◌++◌, append_assoc, append-nil}
 use lib.ListN.{length, take, drop, set, get_or, length-append, length-drop, take-append-drop}
+use borrow.Rule.Slice.PartMut.{put_mid}
+use Rattle.std.proofs.lemmas.Slice.{put_mid-paste}
 use lib.Seq.{take_at, drop_at, drop-drop, length-take-le, set_at, set_split, take-suc, take_all}
 use Rattle.write.specs.Written.{overwritten, written, Overwrote, Wrote}
 
@@ -98,3 +100,12 @@ wrote_turn s at i w h k =
 -- all of s
 pub wrote_all : {out mid : List ℕ} (s : List ℕ) (at i : ℕ) → Wrote out at (take i s) mid (at + i) → length s ≤ i → Wrote out at s mid (at + i)
 wrote_all s at i w h = rw (take_all i s h) at w
+
+-- a part of the buffer that holds s now
+pub wrote_part : {s part : List ℕ} (out : List ℕ) (at : ℕ) → part ≡ s → Wrote out at s (put_mid at (at + length s - at) out part) (at + length s)
+unfolding written
+wrote_part {s} {part} out at e = record {
+  next = refl;
+  text = put_mid-paste at (at + length s - at) out part s (length s) e (omega arith) refl
+      ∙ ap (λ (l : List ℕ). take at out ++ l ++ drop (at + length s) out) (take_all (length s) s (omega arith));
+}

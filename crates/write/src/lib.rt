@@ -2,7 +2,7 @@
 // after what it wrote. `nat_len` and `int_len`: how many bytes a number takes.
 #![tactic(auto)]
 
-ghost use Rattle.std.specs.Prelude.{◌+◌, ◌≤◌, ◌≡◌, length, nat_abs};
+ghost use Rattle.std.specs.Prelude.{◌+◌, ◌≤◌, ◌≡◌, length};
 ghost use Rattle.text.specs.Decimal.{spell_nat, spell_int};
 ghost use Rattle.write.specs.Digits.{at_least};
 ghost use Rattle.write.specs.Written.{Wrote};
@@ -11,12 +11,9 @@ pub fn put(out: &mut [u8], at: usize, s: &[u8]) -> usize
     requires { at + length s.now ≤ length out.old }
     ensures { Wrote out.old at s.now out.new result }
 {
-    let mut i = 0;
-    while i < s.len() {
-        out[at + i] = s[i];
-        i += 1;
-    }
-    at + i
+    let end = at + s.len();
+    out[at..end].copy_from_slice(s);
+    end
 }
 
 // 1 where `n` is `least` or more, 0 below.
@@ -24,7 +21,7 @@ fn at_least(n: u64, least: u64) -> usize
     ensures value { result ≡ at_least n least }
     ensures upper_bound { result ≤ 1 }
 {
-    if n < least { 0 } else { 1 }
+    usize::from(least <= n)
 }
 
 // How many decimal digits `n` has. Up to five are counted without a branch.
@@ -35,10 +32,11 @@ pub fn nat_len(n: u64) -> usize
     if n < 100000 {
         return 1 + at_least(n, 10) + at_least(n, 100) + at_least(n, 1000) + at_least(n, 10000);
     }
+    // kept: a `for` has no range here: how many turns there are is what the loop finds out.
     let mut rest = n / 100000;
     let mut len = 6;
     while 10 <= rest {
-        rest = rest / 10;
+        rest /= 10;
         len += 1;
     }
     len
@@ -51,31 +49,23 @@ pub fn put_nat(out: &mut [u8], at: usize, n: u64) -> usize
 {
     let len = nat_len(n);
     let mut rest = n;
-    let mut i = len;
-    while 0 < i {
-        i -= 1;
+    for i in (0..len).rev() {
         out[at + i] = b'0' + (rest % 10) as u8;
-        rest = rest / 10;
+        rest /= 10;
     }
     at + len
-}
-
-// The absolute value, that of i64::MIN too.
-fn magnitude(z: i64) -> u64
-    ensures { result ≡ nat_abs z }
-{
-    if z < 0 { (-1 - z) as u64 + 1 } else { z as u64 }
 }
 
 pub fn put_int(out: &mut [u8], at: usize, z: i64) -> usize
     requires { at + length (spell_int z) ≤ length out.old }
     ensures { Wrote out.old at (spell_int z) out.new result }
 {
+    let size = z.unsigned_abs();
     if z < 0 {
         out[at] = b'-';
-        put_nat(out, at + 1, magnitude(z))
+        put_nat(out, at + 1, size)
     } else {
-        put_nat(out, at, magnitude(z))
+        put_nat(out, at, size)
     }
 }
 
@@ -84,6 +74,5 @@ pub fn int_len(z: i64) -> usize
     ensures value { result ≡ length (spell_int z) }
     ensures upper_bound { result ≤ 21 }
 {
-    let digits = nat_len(magnitude(z));
-    if z < 0 { digits + 1 } else { digits }
+    nat_len(z.unsigned_abs()) + usize::from(z < 0)
 }

@@ -24,22 +24,22 @@ bounds-out-at c = omega (arith, ap length (negative _ _ c.ranges.z c.if-z-lt0.tr
 pub put_nat-requires : goal.put_nat-requires
 put_nat-requires c = simp length-set (omega (
   arith,
-  ap length (negative _ _ c.ranges.z c.if-z-lt0.true c.magnitude.ensures),
+  ap length (negative _ _ c.ranges.z c.if-z-lt0.true c.unsigned_abs-size.ensures.value),
 ))
 
 pub put_nat-requires-else-z-lt0 : goal.put_nat-requires-else-z-lt0
 put_nat-requires-else-z-lt0 c = omega (
   arith,
   ap length (non_negative _ _ c.ranges.z c.if-z-lt0.false
-      c.magnitude-else-z-lt0.ensures),
+      c.unsigned_abs-size.ensures.value),
 )
 
 pub returns-then-z-lt0 : goal.returns-then-z-lt0
 returns-then-z-lt0 c =
     let e = negative _ _ c.ranges.z c.if-z-lt0.true
-    c.magnitude.ensures in
+    c.unsigned_abs-size.ensures.value in
     behind _ _ e (omega (arith, ap length e)) c.put_nat.ensures
 
 pub returns-else-z-lt0 : goal.returns-else-z-lt0
 returns-else-z-lt0 c = rw (non_negative _ _ c.ranges.z c.if-z-lt0.false
-    c.magnitude-else-z-lt0.ensures) c.put_nat-else-z-lt0.ensures
+    c.unsigned_abs-size.ensures.value) c.put_nat-else-z-lt0.ensures

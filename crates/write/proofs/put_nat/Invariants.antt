@@ -5,6 +5,3 @@ use Rattle.write.proofs.put_nat.Given as goal
 
 abbrev pub invariant-loop-i : goal.invariant-loop-i
 invariant-loop-i l = Stored l.initial.out l.at (spell_nat l.n) l.out l.rest l.i
-
-abbrev pub decreases-loop-i : goal.decreases-loop-i
-decreases-loop-i l = l.i
