@@ -5,7 +5,7 @@ ghost use Rattle.std.specs.Prelude.{◌≡◌};
 ghost use Rattle.refusal.specs.Refusal.{number_of, line_of};
 
 // Why a call is refused.
-#[derive(Clone, Copy)]
+#[derive(Clone, Copy, PartialEq, Eq)]
 pub enum Refusal {
     TooLong,
     Malformed(u64),
@@ -37,13 +37,7 @@ pub fn line_of(why: Refusal) -> u64
     ensures { result ≡ line_of why }
 {
     match why {
-        Refusal::TooLong => 0,
-        Refusal::Malformed(line) => line,
-        Refusal::OutOfRange(line) => line,
-        Refusal::EmptyArea => 0,
-        Refusal::NoPosts => 0,
-        Refusal::NoStops => 0,
-        Refusal::SmallSpace => 0,
-        Refusal::ShortOutput => 0,
+        Refusal::Malformed(line) | Refusal::OutOfRange(line) => line,
+        _ => 0,
     }
 }

@@ -14,7 +14,7 @@ use Rattle.text.specs.Decimal.{spell_nat, spell_int}
 use Rattle.text.specs.Numeral.{digits, natural}
 use Rattle.write.specs.Written.{Overwrote, Wrote}
 use Rattle.text.proofs.NumeralLaws.{natural_spelled}
-use Rattle.text.proofs.DigitCounts.{length_spell_nat, length_spell_nat_below, length_spell_int, length_spell_int_below}
+use Rattle.text.proofs.DigitCounts.{length_spell_nat_below, length_spell_int_below}
 use Rattle.write.proofs.WrittenLaws.{wrote_both, wrote_front}
 use Rattle.refusal.specs.Refusal.{number_of}
 use Rattle.refusal.specs.declared.Refusal.{Refusal}
@@ -111,13 +111,6 @@ length_rounds n h = simp length-append (omega (arith, length_spell_nat_below 3 n
 
 pub length_number : (why : Refusal) → length (spell_nat (number_of why)) ≤ 1
 length_number why = length_spell_nat_below 0 (number_of why) (omega (arith, number_most why))
-
--- a key and any number behind it
-pub length_nat_part : (key : List ℕ) (n : ℕ) → length (key ++ spell_nat n) ≤ length key + 20
-length_nat_part key n = omega (arith, length-append key (spell_nat n), length_spell_nat n)
-
-pub length_int_part : (key : List ℕ) (z : ℤ) → length (key ++ spell_int z) ≤ length key + 21
-length_int_part key z = omega (arith, length-append key (spell_int z), length_spell_int z)
 
 -- ---- a text written from the start on
 pub report_filled :

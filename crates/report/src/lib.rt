@@ -11,15 +11,16 @@ ghost use Rattle.report.specs.Text.{state_text, report_text, refusal_text};
 ghost use Rattle.query.specs.Range.{FiguresInRange};
 
 use refusal::Refusal;
+use write::Decimal;
 
-#[derive(Clone, Copy)]
+#[derive(Clone, Copy, PartialEq, Eq)]
 pub enum State {
     Done,
     Stopped,
 }
 
 // What a report carries.
-#[derive(Clone, Copy)]
+#[derive(Clone, Copy, PartialEq, Eq)]
 pub struct Report {
     pub state: State,
     pub x: i64,
@@ -31,22 +32,12 @@ pub struct Report {
 }
 
 // A key and a number behind it.
-fn put_key_nat(out: &mut [u8], at: usize, key: &[u8], n: u64) -> usize
-    requires { at + length key.now + 20 ≤ length out.old }
-    ensures wrote { Wrote out.old at (key.now ++ spell_nat n) out.new result }
-    ensures upper_bound { result ≤ at + length key.now + 20 }
+fn put_key<T: Decimal>(out: &mut [u8], at: usize, key: &[u8], number: T) -> usize
+    requires { at + length key.now + length (T.spelling number) ≤ length out.old }
+    ensures { Wrote out.old at (key.now ++ T.spelling number) out.new result }
 {
     let next = write::put(out, at, key);
-    write::put_nat(out, next, n)
-}
-
-fn put_key_int(out: &mut [u8], at: usize, key: &[u8], z: i64) -> usize
-    requires { at + length key.now + 21 ≤ length out.old }
-    ensures wrote { Wrote out.old at (key.now ++ spell_int z) out.new result }
-    ensures upper_bound { result ≤ at + length key.now + 21 }
-{
-    let next = write::put(out, at, key);
-    write::put_int(out, next, z)
+    number.put_decimal(out, next)
 }
 
 // The lines of a report, each but for its byte 10, which stands before the next one's key.
@@ -65,8 +56,8 @@ fn put_place(out: &mut [u8], at: usize, x: i64, y: i64) -> usize
     requires { at + 47 ≤ length out.old }
     ensures { Wrote out.old at (bytes "\nat=" ++ spell_int x ++ (comma ∷ []) ++ spell_int y) out.new result }
 {
-    let next = put_key_int(out, at, b"\nat=", x);
-    put_key_int(out, next, b",", y)
+    let next = put_key(out, at, b"\nat=", x);
+    put_key(out, next, b",", y)
 }
 
 fn put_costs(out: &mut [u8], at: usize, high: u64, low: i64, before: u64) -> usize
@@ -74,9 +65,9 @@ fn put_costs(out: &mut [u8], at: usize, high: u64, low: i64, before: u64) -> usi
     ensures { Wrote out.old at (bytes "\nhigh=" ++ spell_nat high ++ bytes "\nlow=" ++ spell_int low ++ bytes "\nbefore="
         ++ spell_nat before) out.new result }
 {
-    let next = put_key_nat(out, at, b"\nhigh=", high);
-    let next = put_key_int(out, next, b"\nlow=", low);
-    put_key_nat(out, next, b"\nbefore=", before)
+    let next = put_key(out, at, b"\nhigh=", high);
+    let next = put_key(out, next, b"\nlow=", low);
+    put_key(out, next, b"\nbefore=", before)
 }
 
 // The report at the start of `out`, and its length.
@@ -89,7 +80,7 @@ pub fn write_report(out: &mut [u8], r: Report) -> usize
     let end = put_state(out, 0, state);
     let end = put_place(out, end, r.x, r.y);
     let end = put_costs(out, end, r.high, r.low, r.before);
-    let end = put_key_nat(out, end, b"\nrounds=", r.rounds);
+    let end = put_key(out, end, b"\nrounds=", r.rounds);
     write::put(out, end, b"\n")
 }
 
@@ -100,7 +91,7 @@ pub fn write_refusal(out: &mut [u8], why: Refusal) -> usize
 {
     let number = refusal::number_of(why);
     let line = refusal::line_of(why);
-    let next = put_key_nat(out, 0, b"refused=", number);
-    let next = put_key_nat(out, next, b"\nline=", line);
+    let next = put_key(out, 0, b"refused=", number);
+    let next = put_key(out, next, b"\nline=", line);
     write::put(out, next, b"\n")
 }

@@ -2,7 +2,7 @@
 // after what it wrote. `nat_len` and `int_len`: how many bytes a number takes.
 #![tactic(auto)]
 
-ghost use Rattle.std.specs.Prelude.{◌+◌, ◌≤◌, ◌≡◌, length};
+ghost use Rattle.std.specs.Prelude.{ℕ, List, ◌+◌, ◌≤◌, ◌≡◌, length};
 ghost use Rattle.text.specs.Decimal.{spell_nat, spell_int};
 ghost use Rattle.write.specs.Digits.{at_least};
 ghost use Rattle.write.specs.Written.{Wrote};
@@ -75,4 +75,29 @@ pub fn int_len(z: i64) -> usize
     ensures upper_bound { result ≤ 21 }
 {
     nat_len(z.unsigned_abs()) + usize::from(z < 0)
+}
+
+// A whole number, and its decimal text.
+pub trait Decimal: Copy {
+    ghost spelling: { Self → List ℕ };
+
+    fn put_decimal(self, out: &mut [u8], at: usize) -> usize
+        requires { at + length (spelling self) ≤ length out.old }
+        ensures { Wrote out.old at (spelling self) out.new result };
+}
+
+impl Decimal for u64 {
+    ghost spelling = { spell_nat };
+
+    fn put_decimal(self, out: &mut [u8], at: usize) -> usize {
+        put_nat(out, at, self)
+    }
+}
+
+impl Decimal for i64 {
+    ghost spelling = { spell_int };
+
+    fn put_decimal(self, out: &mut [u8], at: usize) -> usize {
+        put_int(out, at, self)
+    }
 }

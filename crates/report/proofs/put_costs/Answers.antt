@@ -1,17 +1,45 @@
 -- What `report::put_costs` owes.
 use native.Mathlib.Omega.{arith}
 use mir.Syntax.{w64}
+use mir.Val.{to_z, of_z}
 use mir.ValLaws.{to_z-of_z}
 use Rattle.text.specs.Ascii.{bytes}
 use Rattle.text.specs.Decimal.{spell_nat, spell_int}
+use Rattle.text.proofs.DigitCounts.{length_spell_nat, length_spell_int}
 use Rattle.write.proofs.WrittenLaws.{wrote_pair}
 use Rattle.report.proofs.put_costs.Goals as goal
+
+pub put_key-next-requires : goal.put_key-next-requires
+put_key-next-requires c = omega (arith, c.requires, length_spell_nat c.args.high)
+
+pub put_key-next-requires-2 : goal.put_key-next-requires-2
+put_key-next-requires-2 c = omega (
+  arith,
+  c.requires,
+  c.put_key-next.ensures.next,
+  c.put_key-next.auto.out,
+  length_spell_nat c.args.high,
+  length_spell_int (to_z w64 (of_z w64 c.args.low)),
+)
+
+pub put_key-requires : goal.put_key-requires
+put_key-requires c = omega (
+  arith,
+  c.requires,
+  c.put_key-next.ensures.next,
+  c.put_key-next.auto.out,
+  c.put_key-next-2.ensures.next,
+  c.put_key-next-2.auto.out,
+  length_spell_nat c.args.high,
+  length_spell_int (to_z w64 (of_z w64 c.args.low)),
+  length_spell_nat c.args.before,
+)
 
 pub returns : goal.returns
 unfolding bytes
 returns c =
-    let low = rw (to_z-of_z w64 c.args.low c.ranges.low) at c.put_key_int-next.ensures.wrote in
+    let low = rw (to_z-of_z w64 c.args.low c.ranges.low) at c.put_key-next-2.ensures in
     let both = wrote_pair (bytes "\nlow=") (spell_int c.args.low)
-    c.put_key_nat-next.ensures.wrote low
+    c.put_key-next.ensures low
     (omega (arith, c.requires)) in
-    wrote_pair (bytes "\nbefore=") (spell_nat c.args.before) both c.put_key_nat.ensures.wrote (omega (arith, c.requires))
+    wrote_pair (bytes "\nbefore=") (spell_nat c.args.before) both c.put_key.ensures (omega (arith, c.requires))

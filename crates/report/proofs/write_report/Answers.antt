@@ -51,9 +51,9 @@ put_costs-end-requires c = omega (
   c.put_place-end.auto.out,
 )
 
-pub put_key_nat-end-requires : goal.put_key_nat-end-requires
+pub put_key-end-requires : goal.put_key-end-requires
 unfolding bytes
-put_key_nat-end-requires c = omega (
+put_key-end-requires c = omega (
   arith,
   c.requires.in_bounds,
   c.put_state-end.ensures.next,
@@ -66,6 +66,7 @@ put_key_nat-end-requires c = omega (
   length_costs c.args.r.high c.args.r.low c.args.r.before c.requires.figures_in_range.high_limit c.requires.figures_in_range.low_limit
       c.requires.figures_in_range.before_limit,
   c.put_costs-end.auto.out,
+  length_rounds c.args.r.rounds c.requires.figures_in_range.rounds_limit_lem,
 )
 
 pub put-requires : goal.put-requires
@@ -83,13 +84,13 @@ put-requires c = omega (
   length_costs c.args.r.high c.args.r.low c.args.r.before c.requires.figures_in_range.high_limit c.requires.figures_in_range.low_limit
       c.requires.figures_in_range.before_limit,
   c.put_costs-end.auto.out,
-  c.put_key_nat-end.ensures.wrote.next,
+  c.put_key-end.ensures.next,
   length_rounds c.args.r.rounds c.requires.figures_in_range.rounds_limit_lem,
-  c.put_key_nat-end.auto.out,
+  c.put_key-end.auto.out,
 )
 
 pub returns : goal.returns
 unfolding bytes
 returns c =
     report_filled (report_figures c.args.r) c.put_state-end.ensures (place-wrote c.args.r c.requires.figures_in_range c.put_place-end.ensures)
-    (costs-wrote c.args.r c.requires.figures_in_range c.put_costs-end.ensures) c.put_key_nat-end.ensures.wrote c.put.ensures
+    (costs-wrote c.args.r c.requires.figures_in_range c.put_costs-end.ensures) c.put_key-end.ensures c.put.ensures
