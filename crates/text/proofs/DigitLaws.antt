@@ -5,6 +5,7 @@ use mathlib.Core.Bool.{Bool, true, false, not, cond, ◌&&◌, ◌||◌}
 use mathlib.Core.Logic.{◌⊎◌, inl, inr}
 use mathlib.Core.List.{List, [], ◌∷◌, ◌++◌, foldl-append}
 use mathlib.Core.Option.{none, some}
+use Rattle.std.proofs.Common.{Some, None}
 use Prim.Native.Nat.{ℕ, suc, ◌+◌, ◌-◌, ◌*◌, ◌^◌, ◌≤◌, ◌<◌}
 use native.Mathlib.Nat.{add-zero, pow-suc, pow-le-pow_right}
 use native.Mathlib.Numerals.{add-one}
@@ -18,7 +19,6 @@ use Rattle.numbers.proofs.Truth.{test, cond_ind, cond-true, cond-false, and_righ
 use Rattle.text.specs.Ascii.{is_digit, zero_digit}
 use Rattle.text.specs.Numeral.{digits, value_of, natural}
 use Rattle.text.specs.TextReading.{starts_with, ByteIs, DigitAt, DigitsAt, NaturalAt}
-use Rattle.text.specs.declared.ParsedNatural.TheVariants.{Read}
 
 -- ---- one digit
 first_at : (s : List ℕ) (at : ℕ) → get_or (drop at s) 0 0 ≡ get_or s at 0
@@ -38,27 +38,30 @@ digit_small : (b : ℕ) → T (is_digit b) → b - 48 < 10
 unfolding is_digit
 digit_small b t = omega (arith, leb→le b 57 (and_right (leb 48 b) (leb b 57) t))
 
-module _ {s : List ℕ} {at d : ℕ} (digit : DigitAt s at d) where
-  not_digit : 9 < d → T (not (is_digit (get_or s at 0)))
-  not_digit h = go (is_digit (get_or s at 0)) digit.is (digit_small (get_or s at 0))
-    where
-      go : (t : Bool) → d ≡ cond t (get_or s at 0 - 48) 10 → (T t → get_or s at 0 - 48 < 10) → T (not t)
-      go true e small = absurd (omega (arith, small tt))
-      go false e small = tt
+not_digit : {s : List ℕ} {at : ℕ} → DigitAt s at None → T (not (is_digit (get_or s at 0)))
+not_digit {s} {at} digit = go (is_digit (get_or s at 0)) digit.is
+  where
+    go : (t : Bool) → None ≡ cond t (Some (get_or s at 0 - 48)) None → T (not t)
+    go true e = absurd (let z : ◌≡◌ {A = ℕ} 0 1 = cc in omega arith)
+    go false e = tt
 
-  is_digit_lem : d ≤ 9 → T (is_digit (get_or s at 0))
-  is_digit_lem h = go (is_digit (get_or s at 0)) digit.is
+module _ {s : List ℕ} {at d : ℕ} (digit : DigitAt s at (Some d)) where
+  is_digit_lem : T (is_digit (get_or s at 0))
+  is_digit_lem = go (is_digit (get_or s at 0)) digit.is
     where
-      go : (t : Bool) → d ≡ cond t (get_or s at 0 - 48) 10 → T t
+      go : (t : Bool) → Some d ≡ cond t (Some (get_or s at 0 - 48)) None → T t
       go true e = tt
-      go false e = absurd (omega arith)
+      go false e = absurd (let z : ◌≡◌ {A = ℕ} 0 1 = cc in omega arith)
 
-  digit_value : d ≤ 9 → d ≡ get_or s at 0 - 48
-  digit_value h = digit.is ∙ cond-true (is_digit (get_or s at 0)) (get_or s at 0 - 48) 10 (is_digit_lem h)
+  digit_value : d ≡ get_or s at 0 - 48
+  digit_value = let e : Some d ≡ Some (get_or s at 0 - 48) = digit.is ∙ cond-true (is_digit (get_or s at 0)) _ None is_digit_lem in cc
 
-  pub digit_there : d ≤ 9 → at < length s
+  pub digit_below : d ≤ 9
+  digit_below = omega (arith, digit_value, digit_small (get_or s at 0) is_digit_lem)
+
+  pub digit_there : at < length s
   unfolding is_digit
-  digit_there h = go (is_digit_lem h) (test (ltb at (length s)))
+  digit_there = go is_digit_lem (test (ltb at (length s)))
     where
       go : T (is_digit (get_or s at 0)) → T (ltb at (length s)) ⊎ T (not (ltb at (length s))) → at < length s
       go t (inl l) = ltb→lt _ _ l
@@ -83,11 +86,11 @@ module _ {s : List ℕ} {at : ℕ} where
   unfolding value_of
   scanned_none = record { left = rw (add-zero at) refl; enough = omega arith; value_is = refl; below = lit< tt }
 
-  pub scanned_stop : {count value d : ℕ} → Scanned s at count value → DigitAt s (at + count) d → 9 < d → count ≤ 10 → DigitsAt s at count value
-  scanned_stop {count} m digit h most = record { count_is = omega (arith, none); value_is = m.value_is; below = m.below }
+  pub scanned_stop : {count value : ℕ} → Scanned s at count value → DigitAt s (at + count) None → count ≤ 10 → DigitsAt s at count value
+  scanned_stop {count} m digit most = record { count_is = omega (arith, none); value_is = m.value_is; below = m.below }
     where
       stop : drop count (digits (drop at s)) ≡ []
-      stop = m.left ∙ digits_stop (drop (at + count) s) (rw (first_at s (at + count)) (not_digit digit h))
+      stop = m.left ∙ digits_stop (drop (at + count) s) (rw (first_at s (at + count)) (not_digit digit))
 
       none : length (digits (drop at s)) - count ≡ 0
       none = sym (length-drop count (digits (drop at s))) ∙ ap length stop
@@ -98,12 +101,12 @@ module _ {s : List ℕ} {at : ℕ} where
   pub scanned_small : {count value : ℕ} → Scanned s at count value → count ≤ 10 → value < 10 ^ 10
   scanned_small m h = omega (arith, m.below, pow-le-pow_right {n = 10} (omega arith) h)
 
-  pub scanned_more : {count value d : ℕ} → Scanned s at count value → DigitAt s (at + count) d → d ≤ 9 → Scanned s at (count + 1) (value * 10 + d)
-  scanned_more {count} {value} {d} m digit h = record {
+  pub scanned_more : {count value d : ℕ} → Scanned s at count value → DigitAt s (at + count) (Some d) → Scanned s at (count + 1) (value * 10 + d)
+  scanned_more {count} {value} {d} m digit = record {
     left = rest;
     enough = omega (arith, longer);
     value_is = worth;
-    below = rw (add-one, pow-suc) (omega (arith, m.below));
+    below = rw (add-one, pow-suc) (omega (arith, m.below, digit_below digit));
   }
     where
       b : ℕ
@@ -113,7 +116,7 @@ module _ {s : List ℕ} {at : ℕ} where
       ds = digits (drop at s)
 
       more : drop count ds ≡ b ∷ digits (drop (at + (count + 1)) s)
-      more = m.left ∙ digits_more (drop (at + count) s) (rw (first_at s (at + count)) (is_digit_lem digit h))
+      more = m.left ∙ digits_more (drop (at + count) s) (rw (first_at s (at + count)) (is_digit_lem digit))
           ∙ ap (λ x. x ∷ digits (drop 1 (drop (at + count) s))) (first_at s (at + count))
           ∙ ap (λ l. b ∷ digits l) (drop-drop 1 (at + count) s ∙ ap (λ n. drop n s) (next at count))
 
@@ -127,7 +130,7 @@ module _ {s : List ℕ} {at : ℕ} where
       last = sym (first_at ds count) ∙ ap (λ xs. get_or xs 0 0) more
 
       worth : value * 10 + d ≡ value_of (take (count + 1) ds)
-      worth = rw (add-one, take-suc ds count 0 longer, value_snoc, ← m.value_is, last, ← digit_value digit h)
+      worth = rw (add-one, take-suc ds count 0 longer, value_snoc, ← m.value_is, last, ← digit_value digit)
 
 -- ---- a number that is not negative
 digits_short : (bs : List ℕ) → length (digits bs) ≤ length bs
@@ -194,17 +197,17 @@ module _ {s : List ℕ} {at count value : ℕ} (run : DigitsAt s at count value)
     after_digits = omega (arith, digits_short (drop at s), length-drop at s, all)
 
     -- a run of digits with no leading zero save in `0` itself
-    natural_some : eqb count 1 || not (starts_with (zero_digit ∷ []) (drop at s)) ≡ true → NaturalAt s at (Read value (at + count))
+    natural_some : eqb count 1 || not (starts_with (zero_digit ∷ []) (drop at s)) ≡ true → NaturalAt s at (Some (value, at + count))
     natural_some e =
         record {
           is = rw (natural_is, e, drop-drop count at s);
           within = (omega (arith, run.below, pow-le-pow_right {n = 10} (omega arith) high), after_digits);
         }
 
-    pub natural_one : count ≤ 1 → NaturalAt s at (Read value (at + count))
+    pub natural_one : count ≤ 1 → NaturalAt s at (Some (value, at + count))
     natural_one h = natural_some (rw (eq-eqb count 1 (omega arith)))
 
-    pub natural_more : {r : Bool} → ByteIs s at zero_digit r → r ≡ false → NaturalAt s at (Read value (at + count))
+    pub natural_more : {r : Bool} → ByteIs s at zero_digit r → r ≡ false → NaturalAt s at (Some (value, at + count))
     natural_more byte e = natural_some (rw (← byte.is, e) (go (eqb count 1)))
       where
         go : (t : Bool) → t || true ≡ true

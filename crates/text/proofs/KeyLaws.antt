@@ -4,12 +4,12 @@ use mathlib.Core.Path.{◌≡◌, refl, sym, ap, ◌∙◌}
 use mathlib.Core.Bool.{Bool, true, false, ◌&&◌}
 use mathlib.Core.List.{List, [], ◌∷◌}
 use Prim.Native.Nat.{ℕ, ◌+◌, ◌-◌, ◌≤◌, ◌<◌}
-use native.Mathlib.Nat.{add-zero}
 use native.Mathlib.Omega.{arith}
 use borrow.Author.Tests.{eqb-true}
-use lib.Dec.{eqb}
-use lib.ListN.{length, get_or, drop, length-drop, drop_of_length-le}
-use lib.Seq.{drop-drop}
+use lib.Dec.{eqb, eqb-suc-zero}
+use lib.ListN.{length, get_or, drop, take, length-drop, drop_of_length-le}
+use lib.Seq.{take_all}
+use lib.Pointwise.{pointwise}
 use Rattle.numbers.proofs.Joined.{drop_next}
 use Rattle.text.specs.TextReading.{starts_with, ByteIs}
 
@@ -25,44 +25,25 @@ starts_byte s at b h = rw (drop_next s at 0 refl h) (go (eqb (get_or s at 0) b))
     go true = refl
     go false = refl
 
--- the first byte of a key, and the others behind it
-starts_first : (k : ℕ) (ks bs : List ℕ) → starts_with (k ∷ ks) bs ≡ starts_with (k ∷ []) bs && starts_with ks (drop 1 bs)
+-- the library's word for it, which compares the other way round
+eqb_either : (a b : ℕ) → eqb a b ≡ eqb b a
+eqb_either a b = grind arith
+
+pub starts_prefix : (key bs : List ℕ) → pointwise eqb key (take (length key) bs) ≡ starts_with key bs
 unfolding starts_with
-starts_first k ks [] = refl
-starts_first k ks (b ∷ bs) = go (eqb b k)
-  where
-    go : (t : Bool) → t && starts_with ks bs ≡ (t && true) && starts_with ks bs
-    go true = refl
-    go false = refl
+starts_prefix [] bs = refl
+starts_prefix (k ∷ ks) [] = refl
+starts_prefix (k ∷ ks) (b ∷ bs) = rw (eqb_either k b, starts_prefix ks bs) refl
 
--- the key is there exactly if what is left of it after i bytes stands behind those
-pub record Matched (s : List ℕ) (at : ℕ) (key : List ℕ) (i : ℕ) : Type 0 where
-  pub left : starts_with key (drop at s) ≡ starts_with (drop i key) (drop (at + i) s)
+pub starts_rest : (key s rest : List ℕ) (at : ℕ) → rest ≡ take (length s - at) (drop at s) →
+    pointwise eqb key (take (length key) rest) ≡ starts_with key (drop at s)
+starts_rest key s rest at e =
+    starts_prefix key rest ∙ ap (starts_with key) (e ∙ take_all (length s - at) (drop at s) (omega (arith, length-drop at s)))
 
-module _ {s : List ℕ} {at : ℕ} {key : List ℕ} where
-  pub matched_none : Matched s at key 0
-  matched_none = record { left = rw (add-zero at) refl }
-
-  pub matched_all : {i : ℕ} → Matched s at key i → length key ≤ i → starts_with key (drop at s) ≡ true
-  unfolding starts_with
-  matched_all {i} m h = m.left ∙ ap (λ ks. starts_with ks (drop (at + i) s)) (drop_of_length-le key h)
-
-  module _ {i : ℕ} (m : Matched s at key i) (h : i < length key) where
-    one : starts_with key (drop at s) ≡ starts_with (get_or key i 0 ∷ []) (drop (at + i) s) && starts_with (drop (i + 1) key) (drop 1 (drop (at + i) s))
-    one = m.left ∙ ap (λ ks. starts_with ks (drop (at + i) s)) (drop_next key i 0 refl h) ∙ starts_first _ _ _
-
-    pub matched_not : {r : Bool} → ByteIs s (at + i) (get_or key i 0) r → r ≡ false → false ≡ starts_with key (drop at s)
-    matched_not byte e = ap (λ t. t && starts_with (drop (i + 1) key) (drop 1 (drop (at + i) s))) (sym e ∙ byte.is) ∙ sym one
-
-    pub matched_more : {r : Bool} → ByteIs s (at + i) (get_or key i 0) r → r ≡ true → Matched s at key (i + 1)
-    matched_more byte e =
-        record {
-          left = one ∙ ap (λ t. t && starts_with (drop (i + 1) key) (drop 1 (drop (at + i) s))) (sym byte.is ∙ e)
-              ∙ ap (starts_with (drop (i + 1) key)) (drop-drop 1 (at + i) s ∙ next);
-        }
-      where
-        next : drop (at + i + 1) s ≡ drop (at + (i + 1)) s
-        next = let e : at + i + 1 ≡ at + (i + 1) = omega arith in ap (λ n. drop n s) e
+pub starts_behind : (key s : List ℕ) (at : ℕ) → length s ≤ at → eqb (length key) 0 ≡ starts_with key (drop at s)
+unfolding starts_with
+starts_behind [] s at h = refl
+starts_behind (k ∷ ks) s at h = eqb-suc-zero (length ks) ∙ sym (starts_past k ks s at h)
 
 -- a byte that is there
 module _ {s : List ℕ} {at b : ℕ} {r : Bool} (byte : ByteIs s at b r) (yes : r ≡ true) where

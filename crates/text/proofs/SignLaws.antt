@@ -1,9 +1,11 @@
 -- A number with its sign: from the digits to the value that 64 bits hold, and to the definitions `negative` and `number`.
 -- Assumes nothing.
-use mathlib.Core.Path.{◌≡◌, refl, sym, ap, subst, ◌∙◌}
+use mathlib.Core.Path.{◌≡◌, refl, sym, ap, ◌∙◌}
 use mathlib.Core.Bool.{Bool, true, false, not, cond, ◌&&◌}
 use mathlib.Core.List.{List, [], ◌∷◌}
 use mathlib.Core.Option.{Option, none, some}
+use Rattle.std.specs.Prelude as Std
+use Rattle.std.specs.Prelude.{Some, None}
 use Prim.Native.Nat.{ℕ, zero, suc, ◌+◌, ◌<◌, ◌^◌}
 use native.Mathlib.Omega.{arith}
 use borrow.Author.Tests.{eq-eqb, ne_eqb}
@@ -17,10 +19,6 @@ use mir.ValLaws.{to_z_pos, to_z-of_z}
 use Rattle.text.specs.Ascii.{minus}
 use Rattle.text.specs.Numeral.{digits, value_of, is_natural, natural, negative, number}
 use Rattle.text.specs.TextReading.{starts_with, ByteIs, NaturalAt, NegativeAt, NumberAt}
-use Rattle.text.specs.declared.ParsedNatural.{ParsedNatural}
-use Rattle.text.specs.declared.ParsedNatural.TheVariants as N
-use Rattle.text.specs.declared.ParsedNumber.{ParsedNumber}
-use Rattle.text.specs.declared.ParsedNumber.TheVariants.{Read, Fault}
 use Rattle.text.proofs.KeyLaws.{byte_drop}
 
 -- ---- a number of at most nine digits in 64 bits
@@ -63,48 +61,41 @@ negative_is bs = go (is_natural (digits bs))
     go true = refl
     go false = refl
 
-module _ {s : List ℕ} {at : ℕ} {r : ParsedNatural} (natural-at : NaturalAt s at r) where
-  read : {n next : ℕ} → r ≡ N.Read n next → NaturalAt s at (N.Read n next)
-  read e = subst (NaturalAt s at) e natural-at
+pub negative_none : {s : List ℕ} {at : ℕ} → NaturalAt s at None → NegativeAt s at None
+unfolding negated
+negative_none {s} {at} natural_at = record { is = ap negated natural_at.is ∙ sym (negative_is (drop at s)); within = tt }
 
-  fault : r ≡ N.Fault → NaturalAt s at N.Fault
-  fault e = subst (NaturalAt s at) e natural-at
+module _ {s : List ℕ} {at n next : ℕ} (natural_at : NaturalAt s at (Some (n, next))) where
+  pub natural_small : n < 10 ^ 9
+  natural_small = natural_at.within.0
 
-  pub read_small : {n next : ℕ} → r ≡ N.Read n next → n < 10 ^ 9
-  read_small e = (read e).within.0
-
-  pub negative_fault : r ≡ N.Fault → NegativeAt s at Fault
+  pub negative_zero : n ≡ 0 → NegativeAt s at None
   unfolding negated
-  negative_fault e = record { is = ap negated (fault e).is ∙ sym (negative_is (drop at s)); within = tt }
+  negative_zero z = record {
+    is = sym (ap (λ t. cond (not t) (some (neg_ℤ (pos n), drop next s)) none) (eq-eqb n 0 z)) ∙ ap negated natural_at.is
+        ∙ sym (negative_is (drop at s));
+    within = tt;
+  }
 
-  module _ {n next : ℕ} (e : r ≡ N.Read n next) where
-    pub negative_zero : n ≡ 0 → NegativeAt s at Fault
-    unfolding negated
-    negative_zero z = record {
-      is = sym (ap (λ t. cond (not t) (some (neg_ℤ (pos n), drop next s)) none) (eq-eqb n 0 z)) ∙ ap negated (read e).is
-          ∙ sym (negative_is (drop at s));
-      within = tt;
-    }
-
-    pub negative_read : (n ≡ 0 → ⊥) → NegativeAt s at (Read (to_z w64 (of_z w64 (pos 0 -ℤ to_z w64 n))) next)
-    unfolding negated
-    negative_read z =
-        rw (neg_bits n (read_small e))
-        (record {
-          is = sym (ap (λ t. cond (not t) (some (neg_ℤ (pos n), drop next s)) none) (ne_eqb n 0 z)) ∙ ap negated (read e).is
-              ∙ sym (negative_is (drop at s));
-          within = (rw (abs_neg n) (read_small e), (read e).within.1);
-        })
+  pub negative_some : (n ≡ 0 → ⊥) → NegativeAt s at (Some (to_z w64 (of_z w64 (pos 0 -ℤ to_z w64 n)), next))
+  unfolding negated
+  negative_some z =
+      rw (neg_bits n natural_small)
+      (record {
+        is = sym (ap (λ t. cond (not t) (some (neg_ℤ (pos n), drop next s)) none) (ne_eqb n 0 z)) ∙ ap negated natural_at.is
+            ∙ sym (negative_is (drop at s));
+        within = (rw (abs_neg n) natural_small, natural_at.within.1);
+      })
 
 -- ---- `number`
-pub number_negative : {s : List ℕ} {at : ℕ} {t : Bool} {r : ParsedNumber} → ByteIs s at minus t → t ≡ true → NegativeAt s (at + 1) r → NumberAt s at r
+pub number_negative : {s : List ℕ} {at : ℕ} {t : Bool} {r : Std.Option (ℤ × ℕ)} → ByteIs s at minus t → t ≡ true → NegativeAt s (at + 1) r → NumberAt s at r
 unfolding number
 number_negative {s} {at} byte there n = record { is = n.is ∙ sym (ap number (byte_drop byte there)); within = n.within }
 
-module _ {s : List ℕ} {at : ℕ} {t : Bool} (byte : ByteIs s at minus t) (is-not : t ≡ false) where
+module _ {s : List ℕ} {at : ℕ} {t : Bool} (byte : ByteIs s at minus t) (is_not : t ≡ false) where
   number_is : number (drop at s) ≡ natural (drop at s)
   unfolding number starts_with
-  number_is = go (drop at s) (sym is-not ∙ byte.is)
+  number_is = go (drop at s) (sym is_not ∙ byte.is)
     where
       other : (b : ℕ) (bs : List ℕ) (t : Bool) → false ≡ (t && true) → cond t (negative bs) (natural (b ∷ bs)) ≡ natural (b ∷ bs)
       other b bs true e = let z : ◌≡◌ {A = ℕ} 0 1 = cc in absurd (omega arith)
@@ -114,12 +105,11 @@ module _ {s : List ℕ} {at : ℕ} {t : Bool} (byte : ByteIs s at minus t) (is-n
       go [] e = refl
       go (b ∷ bs) e = other b bs (eqb b minus) e
 
-  module _ {r : ParsedNatural} (natural-at : NaturalAt s at r) where
-    pub number_fault : r ≡ N.Fault → NumberAt s at Fault
-    number_fault e = record { is = (fault natural-at e).is ∙ sym number_is; within = tt }
+  pub number_none : NaturalAt s at None → NumberAt s at None
+  number_none natural_at = record { is = natural_at.is ∙ sym number_is; within = tt }
 
-    pub number_read : {n next : ℕ} → r ≡ N.Read n next → NumberAt s at (Read (to_z w64 n) next)
-    number_read {n} {next} e = rw (pos_bits n (read_small natural-at e)) (record {
-      is = (read natural-at e).is ∙ sym number_is;
-      within = (read natural-at e).within;
-    })
+  pub number_some : {n next : ℕ} → NaturalAt s at (Some (n, next)) → NumberAt s at (Some (to_z w64 n, next))
+  number_some {n} {next} natural_at = rw (pos_bits n (natural_small natural_at)) (record {
+    is = natural_at.is ∙ sym number_is;
+    within = natural_at.within;
+  })

@@ -1,21 +1,19 @@
 -- What `text::digit` owes.
-use borrow.Author.Tests.{le-leb, lt-leb}
+use mathlib.Core.Path.{refl}
 use lib.ListN.{get_or-eq_default}
 use Rattle.text.specs.Ascii.{is_digit}
 use Rattle.text.proofs.digit.Goals as goal
 
-pub returns-then-b-lt48 : goal.returns-then-b-lt48
+pub returns-in_err-b : goal.returns-in_err-b
 unfolding is_digit
-returns-then-b-lt48 c = record { is = simp (lt-leb _ _ c.if-b-lt48.true) }
+returns-in_err-b c =
+    rw c.from_residual.ensures
+    (record { is = simp (get_or-eq_default c.args.s.now 0 c.in_err-b.ensures.lookup.3) })
 
-pub returns-then-b-gt57 : goal.returns-then-b-gt57
+pub returns-then-is_ascii_digit : goal.returns-then-is_ascii_digit
 unfolding is_digit
-returns-then-b-gt57 c = record { is = simp (le-leb _ _ c.if-b-lt48.false, lt-leb _ _ c.if-b-gt57.true) }
+returns-then-is_ascii_digit c = record { is = rw (← c.in_ok-b.ensures.lookup.3.1 0, ← c.if-is_ascii_digit.ensures.value) refl }
 
-pub returns-then-at-s : goal.returns-then-at-s
+pub returns-else-is_ascii_digit : goal.returns-else-is_ascii_digit
 unfolding is_digit
-returns-then-at-s c = record { is = simp (le-leb _ _ c.if-b-lt48.false, le-leb _ _ c.if-b-gt57.false) }
-
-pub returns : goal.returns
-unfolding is_digit
-returns c = record { is = simp (get_or-eq_default c.args.s.now 0 c.if-at-s.false) }
+returns-else-is_ascii_digit c = record { is = rw (← c.in_ok-b.ensures.lookup.3.1 0, ← c.if-is_ascii_digit.ensures.value) refl }

@@ -1,10 +1,7 @@
--- The loops of `text::digits`.
-use Prim.Native.Nat.{◌+◌, ◌-◌, ◌≤◌, ◌<◌, ◌^◌}
+-- The loop of `text::digits`.
+use Prim.Native.Nat.{◌+◌, ◌<◌, ◌^◌}
 use Rattle.text.proofs.DigitLaws.{Scanned}
 use Rattle.text.proofs.digits.Given as goal
 
 abbrev pub invariant-loop-count : goal.invariant-loop-count
-invariant-loop-count l = (l.count ≤ 10) × (l.at + l.count < 2 ^ 64) × Scanned l.s l.at l.count l.value
-
-abbrev pub decreases-loop-count : goal.decreases-loop-count
-decreases-loop-count l = 10 - l.count
+invariant-loop-count l = (l.at + l.count < 2 ^ 64) × Scanned l.s l.at l.count l.value

@@ -2,13 +2,14 @@
 use native.Mathlib.Omega.{arith}
 use Rattle.text.proofs.DigitLaws.{natural_none, natural_long, natural_zero, natural_one, natural_more, after_digits}
 use Rattle.text.proofs.natural.Goals as goal
-use Rattle.text.proofs.natural.Goals.{then-count-gt1+else-byte_is, else-count-gt1}
+use Rattle.text.proofs.natural.Goals.{then-count-lt1-via-then-count-lt1, then-count-lt1-via-else-count-lt1+then-count-gt9}
+use Rattle.text.proofs.natural.Goals.{else-count-gt1-via-then-count-gt1+else-byte_is, else-count-gt1-via-else-count-gt1}
 
 pub returns-then-count-lt1 : goal.returns-then-count-lt1
-returns-then-count-lt1 c = record { is = natural_none c.digits-run.ensures c.if-count-lt1.true; within = tt }
-
-pub returns-then-count-gt9 : goal.returns-then-count-gt9
-returns-then-count-gt9 c = record { is = natural_long c.digits-run.ensures c.if-count-gt9.true; within = tt }
+returns-then-count-lt1 c = elim c.then-count-lt1.branch [
+  | then-count-lt1-via-then-count-lt1 w ↦ record { is = natural_none c.digits-run.ensures w.if-count-lt1.true; within = tt }
+  | then-count-lt1-via-else-count-lt1+then-count-gt9 w ↦ record { is = natural_long c.digits-run.ensures w.if-count-gt9.true; within = tt }
+]
 
 pub returns-then-byte_is : goal.returns-then-byte_is
 returns-then-byte_is c =
@@ -25,7 +26,8 @@ overflow_add-result c = omega (arith, after_digits c.digits-run.ensures c.if-cou
 pub returns : goal.returns
 returns c =
     let run = c.digits-run.ensures in
-    elim c.if-count-gt1.branch [
-      | then-count-gt1+else-byte_is w ↦ natural_more run c.if-count-lt1.false c.if-count-gt9.false w.byte_is.ensures w.if-byte_is.false
-      | else-count-gt1 w ↦ natural_one run c.if-count-lt1.false c.if-count-gt9.false w.if-count-gt1.false
+    elim c.else-count-gt1.branch [
+      | else-count-gt1-via-then-count-gt1+else-byte_is w ↦
+          natural_more run c.if-count-lt1.false c.if-count-gt9.false w.byte_is.ensures w.if-byte_is.false
+      | else-count-gt1-via-else-count-gt1 w ↦ natural_one run c.if-count-lt1.false c.if-count-gt9.false w.if-count-gt1.false
     ]

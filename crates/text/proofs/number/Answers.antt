@@ -1,7 +1,7 @@
 -- What `text::number` owes.
 use native.Mathlib.Omega.{arith}
 use Rattle.text.proofs.KeyLaws.{byte_there}
-use Rattle.text.proofs.SignLaws.{number_negative, number_fault, number_read}
+use Rattle.text.proofs.SignLaws.{number_negative, number_none, number_some}
 use Rattle.text.proofs.number.Goals as goal
 
 pub overflow_add-at : goal.overflow_add-at
@@ -10,12 +10,8 @@ overflow_add-at c = omega (arith, byte_there c.byte_is.ensures c.if-byte_is.true
 pub returns-then-byte_is : goal.returns-then-byte_is
 returns-then-byte_is c = number_negative c.byte_is.ensures c.if-byte_is.true c.negative.ensures
 
-pub returns-in-Read : goal.returns-in-Read
-returns-in-Read c =
-    number_read c.byte_is.ensures c.if-byte_is.false
-    c.natural.ensures c.in-Read.is
+pub returns-in_err-n : goal.returns-in_err-n
+returns-in_err-n c = rw c.from_residual.ensures (number_none c.byte_is.ensures c.if-byte_is.false c.in_err-n.ensures)
 
-pub returns-in-Fault : goal.returns-in-Fault
-returns-in-Fault c =
-    number_fault c.byte_is.ensures c.if-byte_is.false
-    c.natural.ensures c.in-Fault.is
+pub returns : goal.returns
+returns c = number_some c.byte_is.ensures c.if-byte_is.false c.in_ok-n.ensures

@@ -1,22 +1,15 @@
 -- What `text::starts` owes.
-use mathlib.Core.Path.{sym}
+use mathlib.Core.Path.{◌∙◌}
+use Prim.Native.Nat.{◌≤◌}
+use lib.ListN.{length}
 use native.Mathlib.Omega.{arith}
-use Rattle.text.proofs.KeyLaws.{matched_not, matched_more, matched_all, byte_there}
+use Rattle.text.proofs.KeyLaws.{starts_rest, starts_behind}
 use Rattle.text.proofs.starts.Goals as goal
 
-pub returns-then-not-byte_is : goal.returns-then-not-byte_is
-returns-then-not-byte_is c = record {
-  is = matched_not c.loop-i.invariant.2 c.loop-i-test.true
-      c.byte_is.ensures c.if-not-byte_is.true;
-}
+pub returns-in-Some : goal.returns-in-Some
+returns-in-Some c = record { is = c.starts_with.ensures.value ∙ starts_rest _ c.args.s.now _ c.args.at c.in-Some.ensures.lookup.0.2 }
 
-pub loop-i-preserved : goal.loop-i-preserved
-loop-i-preserved c = (
-  omega arith,
-  omega (arith, byte_there c.byte_is.ensures c.if-not-byte_is.false),
-  matched_more c.loop-i.invariant.2 c.loop-i-test.true c.byte_is.ensures
-      c.if-not-byte_is.false,
-)
-
-pub returns : goal.returns
-returns c = record { is = sym (matched_all c.loop-i.invariant.2 c.loop-i-test.false) }
+pub returns-in-None : goal.returns-in-None
+returns-in-None c =
+    let past : length c.args.s.now ≤ c.args.at = grind (arith, c.in-None.ensures.lookup.0) in
+    record { is = c.is_empty.ensures ∙ starts_behind _ _ _ past }
