@@ -1,6 +1,6 @@
 -- The forms of a line at a place of a slice, and a line by its form and its ranges.
 -- Assumes nothing.
-use mathlib.Core.Path.{◌≡◌, refl, sym, subst, ◌∙◌}
+use mathlib.Core.Path.{◌≡◌, refl, sym, ap, ◌∙◌}
 use mathlib.Core.Bool.{Bool, true, false, cond, ◌&&◌}
 use mathlib.Core.List.{List, [], ◌∷◌, ◌++◌}
 use mathlib.Core.Option.{Option, none, some, bind}
@@ -13,16 +13,16 @@ use lib.Seq.{drop-drop}
 use lib.Signed.{lt_z, non_neg, pos-nat_abs}
 use mir.Syntax.{w64}
 use mir.Val.{Fits, SFits}
+use Rattle.std.specs.Prelude.{Some, None, Result, Ok, Err, IsErrAnd}
 use Rattle.text.specs.Ascii.{newline}
 use Rattle.text.specs.Numeral.{number}
 use Rattle.text.specs.TextReading.{starts_with, ByteIs, Starts, NumberAt}
-use Rattle.text.specs.declared.ParsedNumber.{ParsedNumber}
-use Rattle.text.specs.declared.ParsedNumber.TheVariants.{Read, Fault}
 use Rattle.text.proofs.KeyLaws.{byte_there}
 use Rattle.job_line.specs.Form.{byte, key, field}
 use Rattle.job_line.specs.Kinds.{Range, Row, end_of, numbers, form_of, in_ranges}
-use Rattle.job_line.specs.OneLine.{line}
-use Rattle.job_line.specs.Reading.{FieldAt, read, refused, LineAt}
+use Rattle.job_line.specs.OneLine.{fault, line}
+use Rattle.job_line.specs.Reading.{KeyAt, FieldAt, read, refused, answer_of, LineAt}
+use Rattle.refusal.specs.declared.Refusal.{Refusal}
 use Rattle.refusal.specs.declared.Refusal.TheVariants.{Malformed, OutOfRange}
 use Rattle.job_line.proofs.RangeTests.{natural}
 use Rattle.numbers.proofs.Truth.{and_right, holds}
@@ -62,12 +62,12 @@ module _ {s : List ℕ} {at b : ℕ} {t : Bool} (is_byte_lem : ByteIs s at b t) 
   pub byte_off : t ≡ false → byte b (drop at s) ≡ none
   byte_off off = byte_starts b (drop at s) ∙ rw (← is_byte_lem.is, off)
 
-module _ {s : List ℕ} {at : ℕ} {k : List ℕ} {t : Bool} (is_key : Starts s at k t) where
-  pub key_on : t ≡ true → key k (drop at s) ≡ some (tt, drop (at + length k) s)
-  key_on on = key_starts k (drop at s) ∙ rw (← is_key.is, on, drop-drop (length k) at s)
+module _ {s : List ℕ} {at : ℕ} {k : List ℕ} {n : ℕ} {t : Bool} (is_key : Starts s at k t) where
+  pub key_found : t ≡ true → KeyAt s at k n (Ok (at + length k))
+  key_found on = record { is = sym (key_starts k (drop at s) ∙ rw (← is_key.is, on, drop-drop (length k) at s)); malformed = tt }
 
-  pub key_off : t ≡ false → key k (drop at s) ≡ none
-  key_off off = key_starts k (drop at s) ∙ rw (← is_key.is, off)
+  pub key_missing : t ≡ false → KeyAt s at k n (Err (Malformed n))
+  key_missing off = record { is = sym (key_starts k (drop at s) ∙ rw (← is_key.is, off)); malformed = refl }
 
 -- ---- fields
 -- a number of at most nine digits fits 64 bits
@@ -79,48 +79,40 @@ field_is : (end : ℕ) (bs : List ℕ) → field end bs ≡ bind (number bs) (λ
 unfolding field
 field_is end bs = refl
 
-module _ {s : List ℕ} {at : ℕ} {r : ParsedNumber} (number_at : NumberAt s at r) (end : ℕ) where
-  pub field_none : r ≡ Fault → FieldAt s at end Fault
+module _ {s : List ℕ} {at : ℕ} (end n : ℕ) where
+  pub field_none : NumberAt s at None → FieldAt s at end n (Err (Malformed n))
   unfolding bind
-  field_none e = record { is = rw (field_is, ← (subst (NumberAt s at) e number_at).is); within = tt }
+  field_none number_at = record { is = rw (field_is, ← number_at.is); within = tt; malformed = refl }
 
-  module _ {z : ℤ} {next : ℕ} (e : r ≡ Read z next) {t : Bool} (is_byte_lem : ByteIs s next end t) where
-    number_read : NumberAt s at (Read z next)
-    number_read = subst (NumberAt s at) e number_at
-
-    pub field_off : t ≡ false → FieldAt s at end Fault
+  module _ {z : ℤ} {next : ℕ} (number_at : NumberAt s at (Some (z, next))) {t : Bool} (is_byte_lem : ByteIs s next end t) where
+    pub field_off : t ≡ false → FieldAt s at end n (Err (Malformed n))
     unfolding bind
-    field_off off = record { is = rw (field_is, ← number_read.is, byte_off is_byte_lem off); within = tt }
+    field_off off = record { is = rw (field_is, ← number_at.is, byte_off is_byte_lem off); within = tt; malformed = refl }
 
-    pub field_on : t ≡ true → FieldAt s at end (Read (back z) (next + 1))
+    pub field_on : t ≡ true → FieldAt s at end n (Ok (back z, next + 1))
     unfolding bind
-    field_on on =
-        rw (back_is (nine_digits_lem z number_read.within.0))
-        (record { is = rw (field_is, ← number_read.is, byte_on is_byte_lem on); within = (number_read.within.0, omega (arith, byte_there is_byte_lem on)) })
+    field_on on = rw (back_is (nine_digits_lem z number_at.within.0)) (record {
+      is = rw (field_is, ← number_at.is, byte_on is_byte_lem on);
+      within = (number_at.within.0, omega (arith, byte_there is_byte_lem on));
+      malformed = tt;
+    })
 
 -- what a field that was read is
-module _ {s : List ℕ} {at end : ℕ} {r : ParsedNumber} (field_at : FieldAt s at end r) where
-  field_fails : r ≡ Fault → field end (drop at s) ≡ none
-  field_fails e = sym (subst (FieldAt s at end) e field_at).is
+module _ {s : List ℕ} {at end n : ℕ} {z : ℤ} {next : ℕ} (field_at : FieldAt s at end n (Ok (z, next))) where
+  field_back : back z ≡ z
+  field_back = back_is (nine_digits_lem z field_at.within.0)
 
-  module _ {z : ℤ} {next : ℕ} (e : r ≡ Read z next) where
-    this : FieldAt s at end (Read z next)
-    this = subst (FieldAt s at end) e field_at
+  field_reads : field end (drop at s) ≡ some (back z, drop next s)
+  field_reads = rw field_back (sym field_at.is)
 
-    field_back : back z ≡ z
-    field_back = back_is (nine_digits_lem z this.within.0)
+  pub field_natural : lt_z (back z) (pos 0) ≡ false → T (non_neg (back z))
+  field_natural = natural (back z)
 
-    field_reads : field end (drop at s) ≡ some (back z, drop next s)
-    field_reads = rw field_back (sym this.is)
+  pub field_cast : T (non_neg (back z)) → T (non_neg (back z)) × Fits w64 (nat_abs (back z))
+  field_cast t = (t, record { fits = rw field_back (omega (arith, field_at.within.0)) })
 
-    pub field_natural : lt_z (back z) (pos 0) ≡ false → T (non_neg (back z))
-    field_natural = natural (back z)
-
-    pub field_cast : T (non_neg (back z)) → T (non_neg (back z)) × Fits w64 (nat_abs (back z))
-    field_cast t = (t, record { fits = rw field_back (omega (arith, this.within.0)) })
-
-    pub field_inside : next ≤ length s
-    field_inside = this.within.1
+  pub field_inside : next ≤ length s
+  field_inside = field_at.within.1
 
 -- the place after a key
 starts_fits : (ks bs : List ℕ) → starts_with ks bs ≡ true → length ks ≤ length bs
@@ -129,8 +121,8 @@ starts_fits [] bs e = omega arith
 starts_fits (k ∷ ks) [] e = let z : ◌≡◌ {A = ℕ} 0 1 = cc in absurd (omega arith)
 starts_fits (k ∷ ks) (b ∷ bs) e = omega (arith, starts_fits ks bs (holds _ (and_right (eqb b k) (starts_with ks bs) (is_true _ e))))
 
-pub after_key : {s : List ℕ} {at : ℕ} {k : List ℕ} {t : Bool} → Starts s at k t → t ≡ true → at + length k ≤ max at (length s)
-after_key {s} {at} {k} is_key on = omega (arith, length-drop at s, starts_fits k (drop at s) (sym is_key.is ∙ on))
+pub key_fits : {s : List ℕ} {at : ℕ} {k : List ℕ} {t : Bool} → Starts s at k t → t ≡ true → at + length k ≤ max at (length s)
+key_fits {s} {at} {k} is_key on = omega (arith, length-drop at s, starts_fits k (drop at s) (sym is_key.is ∙ on))
 
 -- ---- the numbers of a line, from the place where they start
 numbers_is : (range : Range) (others : List Range) (bs : List ℕ) →
@@ -145,23 +137,23 @@ numbers_end bs = refl
 pub record NumbersAt (ranges : List Range) (s : List ℕ) (at : ℕ) (o : Option (List ℤ × List ℕ)) : Type 0 where
   pub is : numbers ranges (drop at s) ≡ o
 
-module _ {range : Range} {others : List Range} {s : List ℕ} {at : ℕ} {r : ParsedNumber} (field_at : FieldAt s at (end_of others) r) where
-  pub no_number : r ≡ Fault → NumbersAt (range ∷ others) s at none
+module _ {range : Range} {others : List Range} {s : List ℕ} {at n : ℕ} where
+  pub no_number : {why : Refusal} → FieldAt s at (end_of others) n (Err why) → NumbersAt (range ∷ others) s at none
   unfolding bind
-  no_number e = record { is = rw (numbers_is, field_fails field_at e) }
+  no_number field_at = record { is = rw (numbers_is, ← field_at.is) }
 
-  module _ {z : ℤ} {next : ℕ} (e : r ≡ Read z next) where
+  module _ {z : ℤ} {next : ℕ} (field_at : FieldAt s at (end_of others) n (Ok (z, next))) where
     pub number_then_none : NumbersAt others s next none → NumbersAt (range ∷ others) s at none
     unfolding bind
-    number_then_none f = record { is = rw (numbers_is, field_reads field_at e, f.is) }
+    number_then_none f = record { is = rw (numbers_is, field_reads field_at, f.is) }
 
     pub number_then : {ns : List ℤ} {rest : List ℕ} → NumbersAt others s next (some (ns, rest)) → NumbersAt (range ∷ others) s at (some (back z ∷ ns, rest))
     unfolding bind
-    number_then f = record { is = rw (numbers_is, field_reads field_at e, f.is) }
+    number_then f = record { is = rw (numbers_is, field_reads field_at, f.is) }
 
-pub last_number : {range : Range} {s : List ℕ} {at : ℕ} {r : ParsedNumber} → FieldAt s at newline r → {z : ℤ} {next : ℕ} → r ≡ Read z next →
+pub last_number : {range : Range} {s : List ℕ} {at n : ℕ} {z : ℤ} {next : ℕ} → FieldAt s at newline n (Ok (z, next)) →
     NumbersAt (range ∷ []) s at (some (back z ∷ [], drop next s))
-last_number {s = s} field_at {z} {next} e = number_then field_at e (record { is = numbers_end (drop next s) })
+last_number {s = s} {next = next} field_at = number_then field_at (record { is = numbers_end (drop next s) })
 
 -- ---- a line by its form and its ranges
 form_is : (row : Row) (bs : List ℕ) → form_of row bs ≡ bind (key row.key bs) (λ k. numbers row.ranges k.1)
@@ -171,14 +163,14 @@ form_is row bs = refl
 pub record FormAt (row : Row) (s : List ℕ) (at : ℕ) (o : Option (List ℤ × List ℕ)) : Type 0 where
   pub is : form_of row (drop at s) ≡ o
 
-module _ {row : Row} {s : List ℕ} {at : ℕ} {t : Bool} (is_key : Starts s at row.key t) where
-  pub no_key : t ≡ false → FormAt row s at none
+module _ {row : Row} {s : List ℕ} {at n : ℕ} where
+  pub no_key : {why : Refusal} → KeyAt s at row.key n (Err why) → FormAt row s at none
   unfolding bind
-  no_key off = record { is = rw (form_is, key_off is_key off) }
+  no_key is_key = record { is = rw (form_is, ← is_key.is) }
 
-  pub key_then : t ≡ true → {o : Option (List ℤ × List ℕ)} → NumbersAt row.ranges s (at + length row.key) o → FormAt row s at o
+  pub key_then : {next : ℕ} → KeyAt s at row.key n (Ok next) → {o : Option (List ℤ × List ℕ)} → NumbersAt row.ranges s next o → FormAt row s at o
   unfolding bind
-  key_then on f = record { is = rw (form_is, key_on is_key on) f.is }
+  key_then is_key f = record { is = rw (form_is, ← is_key.is) f.is }
 
 -- two numbers that are not negative, by their sizes
 pub both_natural : {row : Row} {s : List ℕ} {at : ℕ} {rest : List ℕ} (x y : ℤ) → T (non_neg x) → T (non_neg y) →
@@ -186,9 +178,12 @@ pub both_natural : {row : Row} {s : List ℕ} {at : ℕ} {rest : List ℕ} (x y 
 both_natural x y t u f = rw (pos-nat_abs x t, pos-nat_abs y u) f
 
 module _ {row : Row} {s : List ℕ} {at n : ℕ} where
-  pub malformed : FormAt row s at none → LineAt row s at n (refused (Malformed n))
+  -- where a part is not there, and `?` hands its refusal on
+  pub malformed : {A : Type 0} {why : Refusal} (numbers_of : A → List ℤ) (r : Result (A × ℕ) Refusal) → FormAt row s at none → why ≡ Malformed n →
+      IsErrAnd r (λ e. e ≡ why) → LineAt row s at n (answer_of numbers_of r)
   unfolding line
-  malformed f = record { is = rw f.is; within = tt }
+  malformed numbers_of (Ok a) f e h = absurd h
+  malformed numbers_of (Err why) f e h = record { is = ap fault (h ∙ e) ∙ rw f.is refl; within = tt }
 
   pub out_of_range : {ns : List ℤ} {rest : List ℕ} → FormAt row s at (some (ns, rest)) → in_ranges row.ranges ns ≡ false →
       LineAt row s at n (refused (OutOfRange n))

@@ -7,20 +7,16 @@ use Prim.Native.Nat.{ℕ, ◌-◌}
 use native.Mathlib.Omega.{arith}
 use lib.IntN.{ℤ, pos, nat_abs}
 use lib.ListN.{length, get_or, length-drop}
+use Rattle.std.specs.Prelude.{Result, Ok, Err}
+use Rattle.deck.specs.declared.AxisCosts.{AxisCosts}
+use Rattle.deck.specs.declared.Place.{Place}
+use Rattle.deck.specs.declared.Rect.{Rect}
+use Rattle.deck.specs.declared.Stop.{Stop}
+use Rattle.refusal.specs.declared.Refusal.{Refusal}
 use Rattle.job_line.specs.Kinds.{Row}
 use Rattle.job_line.specs.OneLine.{Reading, fault, got}
-use Rattle.job_line.specs.Reading.{LineAnswer, read, refused, answer_in, Within, LineAt}
-use Rattle.job_line.specs.Reading.{area_answer, axis_answer, count_answer, post_answer, stop_answer}
-use Rattle.job_line.specs.declared.AreaLine.{AreaLine}
-use Rattle.job_line.specs.declared.AreaLine.TheVariants as A
-use Rattle.job_line.specs.declared.AxisLine.{AxisLine}
-use Rattle.job_line.specs.declared.AxisLine.TheVariants as X
-use Rattle.job_line.specs.declared.CountLine.{CountLine}
-use Rattle.job_line.specs.declared.CountLine.TheVariants as C
-use Rattle.job_line.specs.declared.PostLine.{PostLine}
-use Rattle.job_line.specs.declared.PostLine.TheVariants as P
-use Rattle.job_line.specs.declared.StopLine.{StopLine}
-use Rattle.job_line.specs.declared.StopLine.TheVariants as S
+use Rattle.job_line.specs.Reading.{LineAnswer, read, refused, answer_in, answer_of, Within, LineAt}
+use Rattle.job_line.specs.Reading.{area_numbers, cost_numbers, count_numbers, place_numbers, stop_numbers}
 
 -- ---- the answer that stands for a reading
 abbrev answer_back : List ℕ → Reading (List ℤ) → LineAnswer
@@ -34,62 +30,39 @@ answer_back_lem s n (refused why) h = refl
 one_answer : {row : Row} {s : List ℕ} {at n : ℕ} {r r' : LineAnswer} → LineAt row s at n r → LineAt row s at n r' → r ≡ r'
 one_answer {row} {s} {at} {n} {r} {r'} p q = answer_back_lem s n r p.within ∙ ap (answer_back s) (p.is ∙ sym q.is) ∙ sym (answer_back_lem s n r' q.within)
 
--- ---- as the code has it
+-- ---- as the code has it, where what was read is had back from its numbers
+module _ {A : Type 0} (numbers : A → List ℤ) (of : List ℤ → A) (back : (a : A) → of (numbers a) ≡ a) where
+  abbrev result_of : LineAnswer → Result (A × ℕ) Refusal
+  result_of (read ns next) = Ok (of ns, next)
+  result_of (refused why) = Err why
+
+  result_of_lem : (r : Result (A × ℕ) Refusal) → result_of (answer_of numbers r) ≡ r
+  result_of_lem (Ok r) = ap (λ a. Ok (a, r.1)) (back r.0)
+  result_of_lem (Err why) = refl
+
+  one : {row : Row} {s : List ℕ} {at n : ℕ} (r r' : Result (A × ℕ) Refusal) → LineAt row s at n (answer_of numbers r) →
+      LineAt row s at n (answer_of numbers r') → r ≡ r'
+  one r r' p q = sym (result_of_lem r) ∙ ap result_of (one_answer p q) ∙ result_of_lem r'
+
 abbrev number : List ℤ → ℕ → ℤ
 number ns i = get_or ns i (pos 0)
 
-abbrev area_back : LineAnswer → AreaLine
-area_back (read ns next) = A.Read (record { xlo = number ns 0; ylo = number ns 1; xhi = number ns 2; yhi = number ns 3 }) next
-area_back (refused why) = A.Refused why
-
-area_back_lem : (r : AreaLine) → area_back (area_answer r) ≡ r
-area_back_lem (A.Read a next) = refl
-area_back_lem (A.Refused why) = refl
-
-abbrev axis_back : LineAnswer → AxisLine
-axis_back (read ns next) = X.Read (record { a = nat_abs (number ns 0); b = nat_abs (number ns 1) }) next
-axis_back (refused why) = X.Refused why
-
-axis_back_lem : (r : AxisLine) → axis_back (axis_answer r) ≡ r
-axis_back_lem (X.Read c next) = refl
-axis_back_lem (X.Refused why) = refl
-
-abbrev count_back : LineAnswer → CountLine
-count_back (read ns next) = C.Read (nat_abs (number ns 0)) next
-count_back (refused why) = C.Refused why
-
-count_back_lem : (r : CountLine) → count_back (count_answer r) ≡ r
-count_back_lem (C.Read count next) = refl
-count_back_lem (C.Refused why) = refl
-
-abbrev post_back : LineAnswer → PostLine
-post_back (read ns next) = P.Read (number ns 0) (number ns 1) next
-post_back (refused why) = P.Refused why
-
-post_back_lem : (r : PostLine) → post_back (post_answer r) ≡ r
-post_back_lem (P.Read x y next) = refl
-post_back_lem (P.Refused why) = refl
-
-abbrev stop_back : LineAnswer → StopLine
-stop_back (read ns next) = S.Read (number ns 0) (number ns 1) (nat_abs (number ns 2)) next
-stop_back (refused why) = S.Refused why
-
-stop_back_lem : (r : StopLine) → stop_back (stop_answer r) ≡ r
-stop_back_lem (S.Read x y visits next) = refl
-stop_back_lem (S.Refused why) = refl
+abbrev place_of : List ℤ → Place
+place_of ns = record { x = number ns 0; y = number ns 1 }
 
 module _ {row : Row} {s : List ℕ} {at n : ℕ} where
-  pub one_area : {r r' : AreaLine} → LineAt row s at n (area_answer r) → LineAt row s at n (area_answer r') → r ≡ r'
-  one_area {r} {r'} p q = sym (area_back_lem r) ∙ ap area_back (one_answer p q) ∙ area_back_lem r'
+  pub one_area : (r r' : Result (Rect × ℕ) Refusal) → LineAt row s at n (answer_of area_numbers r) → LineAt row s at n (answer_of area_numbers r') → r ≡ r'
+  one_area = one area_numbers (λ ns. record { xlo = number ns 0; ylo = number ns 1; xhi = number ns 2; yhi = number ns 3 }) (λ a. refl)
 
-  pub one_axis : {r r' : AxisLine} → LineAt row s at n (axis_answer r) → LineAt row s at n (axis_answer r') → r ≡ r'
-  one_axis {r} {r'} p q = sym (axis_back_lem r) ∙ ap axis_back (one_answer p q) ∙ axis_back_lem r'
+  pub one_axis : (r r' : Result (AxisCosts × ℕ) Refusal) → LineAt row s at n (answer_of cost_numbers r) → LineAt row s at n (answer_of cost_numbers r') →
+      r ≡ r'
+  one_axis = one cost_numbers (λ ns. record { a = nat_abs (number ns 0); b = nat_abs (number ns 1) }) (λ c. refl)
 
-  pub one_count : {r r' : CountLine} → LineAt row s at n (count_answer r) → LineAt row s at n (count_answer r') → r ≡ r'
-  one_count {r} {r'} p q = sym (count_back_lem r) ∙ ap count_back (one_answer p q) ∙ count_back_lem r'
+  pub one_count : (r r' : Result (ℕ × ℕ) Refusal) → LineAt row s at n (answer_of count_numbers r) → LineAt row s at n (answer_of count_numbers r') → r ≡ r'
+  one_count = one count_numbers (λ ns. nat_abs (number ns 0)) (λ count. refl)
 
-  pub one_post : {r r' : PostLine} → LineAt row s at n (post_answer r) → LineAt row s at n (post_answer r') → r ≡ r'
-  one_post {r} {r'} p q = sym (post_back_lem r) ∙ ap post_back (one_answer p q) ∙ post_back_lem r'
+  pub one_post : (r r' : Result (Place × ℕ) Refusal) → LineAt row s at n (answer_of place_numbers r) → LineAt row s at n (answer_of place_numbers r') → r ≡ r'
+  one_post = one place_numbers place_of (λ p. refl)
 
-  pub one_stop : {r r' : StopLine} → LineAt row s at n (stop_answer r) → LineAt row s at n (stop_answer r') → r ≡ r'
-  one_stop {r} {r'} p q = sym (stop_back_lem r) ∙ ap stop_back (one_answer p q) ∙ stop_back_lem r'
+  pub one_stop : (r r' : Result (Stop × ℕ) Refusal) → LineAt row s at n (answer_of stop_numbers r) → LineAt row s at n (answer_of stop_numbers r') → r ≡ r'
+  one_stop = one stop_numbers (λ ns. record { at = place_of ns; visits = nat_abs (number ns 2) }) (λ p. refl)

@@ -1,6 +1,6 @@
 -- The tests of ranges, number by number.
 -- Assumes nothing.
-use mathlib.Core.Path.{◌≡◌, refl, sym, ap, ◌∙◌}
+use mathlib.Core.Path.{◌≡◌, refl, sym, ap}
 use mathlib.Core.Bool.{Bool, true, false, ◌&&◌}
 use mathlib.Core.List.{List, [], ◌∷◌}
 use Prim.Native.Nat.{ℕ, ◌≤◌, ◌<◌}
@@ -30,52 +30,52 @@ pub range_held : (range : Range) {v : ℤ} {r : Bool} → SFits w64 v → r ≡ 
 unfolding in_range
 range_held range f e = rw (back_is f) at e
 
-and_nothing : (t : Bool) → t ≡ t && true
+-- a number, or a place, of a record
+pub held : (range : Range) {v : ℤ} {r : Bool} → SFits w64 v → r ≡ in_range range (back v) → r ≡ in_range range v
+held range f e = rw (back_is f) at e
+
+pub place_held : {x y : ℤ} {r : Bool} → SFits w64 x → SFits w64 y → r ≡ in_ranges (row post).ranges (back x ∷ back y ∷ []) →
+    r ≡ in_ranges (row post).ranges (x ∷ y ∷ [])
+place_held f g e = rw (back_is f, back_is g) at e
+
+-- ---- one test after another
+pub and_on : {r t a b : Bool} → r ≡ a → r ≡ true → t ≡ b → t ≡ a && b
+and_on e on f = rw (← e, on) f
+
+pub and_off : {r a : Bool} (b : Bool) → r ≡ a → r ≡ false → r ≡ a && b
+and_off b e off = rw (← e, off) refl
+
+and_nothing : (t : Bool) → t && true ≡ t
 and_nothing true = refl
 and_nothing false = refl
 
--- ---- numbers, one after the other
-pub record Tested (ranges : List Range) (ns : List ℤ) (r : Bool) : Type 0 where
-  pub is : r ≡ in_ranges ranges ns
+and_first : (a b c : Bool) → a && (b && c) ≡ (a && (b && true)) && c
+and_first true true c = refl
+and_first true false c = refl
+and_first false b c = refl
 
-pub all_tested : (ranges : List Range) (ns : List ℤ) {r : Bool} → Tested ranges ns r → r ≡ in_ranges ranges ns
-all_tested ranges ns t = t.is
-
--- the first of them was tested
-module _ {n : ℤ} {r : Bool} (f : SFits w64 n) where
-  first : (range : Range) → r ≡ in_range range (back n) → {t : Bool} → r ≡ t → in_range range n ≡ t
-  first range e g = sym (e ∙ ap (in_range range) (back_is f)) ∙ g
-
-  pub ranges_off : {range : Range} {ranges : List Range} {ns : List ℤ} → r ≡ in_range range (back n) → r ≡ false → Tested (range ∷ ranges) (n ∷ ns) false
+module _ (p q : Range) (x y : ℤ) where
+  pub in_two : in_ranges (p ∷ q ∷ []) (x ∷ y ∷ []) ≡ in_range p x && in_range q y
   unfolding in_ranges
-  ranges_off {range} e g = record { is = rw (first range e g) }
+  in_two = ap (λ t. in_range p x && t) (and_nothing (in_range q y))
 
-  pub ranges_on : {range : Range} {ranges : List Range} {ns : List ℤ} {t : Bool} → r ≡ in_range range (back n) → r ≡ true → Tested ranges ns t →
-      Tested (range ∷ ranges) (n ∷ ns) t
+  -- a place, and the numbers behind it
+  pub in_more : (ranges : List Range) (ns : List ℤ) → in_ranges (p ∷ q ∷ ranges) (x ∷ y ∷ ns) ≡ in_ranges (p ∷ q ∷ []) (x ∷ y ∷ []) && in_ranges ranges ns
   unfolding in_ranges
-  ranges_on {range} e g others = record { is = rw (first range e g) others.is }
+  in_more ranges ns = and_first (in_range p x) (in_range q y) (in_ranges ranges ns)
 
-  pub ranges_last : {range : Range} → r ≡ in_range range (back n) → Tested (range ∷ []) (n ∷ []) r
-  unfolding in_ranges
-  ranges_last {range} e = record { is = rw (first range e refl) (and_nothing r) }
+pub in_one : (p : Range) (x : ℤ) → in_ranges (p ∷ []) (x ∷ []) ≡ in_range p x
+unfolding in_ranges
+in_one p x = and_nothing (in_range p x)
 
 -- ---- axis costs
 pub cost_on : {v : ℕ} → 1 ≤ v → leb v 9 ≡ in_range axis_costs (pos v)
 unfolding in_range
 cost_on {v} h = rw (le-leb 1 v h)
 
-pub cost_off : {v : ℕ} → v < 1 → false ≡ in_range axis_costs (pos v)
+pub cost_off : {v : ℕ} → v < 1 → leb 1 v ≡ in_range axis_costs (pos v)
 unfolding in_range
 cost_off {v} h = rw (lt-leb 1 v h)
-
-module _ (a b : ℕ) {r : Bool} (e : r ≡ in_range axis_costs (pos a)) where
-  pub costs_on : {t : Bool} → r ≡ true → t ≡ in_range axis_costs (pos b) → t ≡ in_ranges (row axis).ranges (pos a ∷ pos b ∷ [])
-  unfolding in_ranges
-  costs_on {t} on f = rw (← e, on, ← f) (and_nothing t)
-
-  pub costs_off : r ≡ false → false ≡ in_ranges (row axis).ranges (pos a ∷ pos b ∷ [])
-  unfolding in_ranges
-  costs_off off = rw (← e, off)
 
 -- a negative one
 cost_below : (z : ℤ) → lt_z z (pos 0) ≡ true → in_range axis_costs z ≡ false
@@ -95,27 +95,7 @@ second_below x y e = rw (cost_below y e) (go (in_range axis_costs x))
     go true = refl
     go false = refl
 
--- ---- a stop's numbers: its place, tested first, and its visits
-module _ (x y v : ℤ) {r : Bool} (place : r ≡ in_ranges (row post).ranges (x ∷ y ∷ [])) where
-  pub stop_on : {t : Bool} → r ≡ true → t ≡ in_range visits v → t ≡ in_ranges (row stop).ranges (x ∷ y ∷ v ∷ [])
-  unfolding in_ranges
-  stop_on on e = e ∙ go (in_range coordinates x) (in_range coordinates y) (in_range visits v) (sym place ∙ on)
-    where
-      go : (a b c : Bool) → a && (b && true) ≡ true → c ≡ a && (b && (c && true))
-      go true true true e = refl
-      go true true false e = refl
-      go true false c e = absurd (is_true _ e)
-      go false b c e = absurd (is_true _ e)
-
-  pub stop_off : r ≡ false → false ≡ in_ranges (row stop).ranges (x ∷ y ∷ v ∷ [])
-  unfolding in_ranges
-  stop_off off = go (in_range coordinates x) (in_range coordinates y) (in_range visits v) (sym place ∙ off)
-    where
-      go : (a b c : Bool) → a && (b && true) ≡ false → false ≡ a && (b && (c && true))
-      go true true c e = absurd (is_true _ (sym e))
-      go true false c e = refl
-      go false b c e = refl
-
+-- ---- a stop
 -- visits in range are not negative
 pub stop_natural : (x y v : ℤ) → in_ranges (row stop).ranges (x ∷ y ∷ v ∷ []) ≡ true → T (non_neg v)
 unfolding in_ranges

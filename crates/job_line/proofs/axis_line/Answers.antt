@@ -1,62 +1,49 @@
 -- What `job_line::axis_line` owes.
 use mathlib.Core.Path.{sym, ◌∙◌}
-use native.Mathlib.Omega.{arith}
 use Rattle.text.specs.Ascii.{bytes}
-use Rattle.job_line.proofs.LineLaws.{after_key, no_number, number_then_none, number_then, last_number, no_key, key_then, malformed, out_of_range}
+use Rattle.job_line.proofs.LineLaws.{no_number, number_then_none, number_then, last_number, no_key, key_then, malformed, out_of_range}
 use Rattle.job_line.proofs.LineLaws.{line_read, field_inside, field_natural, both_natural}
 use Rattle.job_line.proofs.RangeTests.{first_below, second_below}
+use Rattle.job_line.proofs.axis_line.Goals.{then-x_cost-lt0-via-then-x_cost-lt0, then-x_cost-lt0-via-else-x_cost-lt0+then-y_cost-lt0}
 use Rattle.job_line.proofs.axis_line.Goals as goal
 
-pub returns-then-not-starts : goal.returns-then-not-starts
+pub returns-in_err-at : goal.returns-in_err-at
 unfolding bytes
-returns-then-not-starts c = malformed (no_key c.starts.ensures c.if-not-starts.true)
+returns-in_err-at c = malformed _ _ (no_key c.in_err-at.ensures) c.in_err-at.ensures.malformed c.from_residual.ensures.1
 
-pub overflow_add-at : goal.overflow_add-at
-overflow_add-at c = omega (arith, after_key c.starts.ensures c.if-not-starts.false)
-
-pub returns-in_default : goal.returns-in_default
+pub returns-in_err-x_cost : goal.returns-in_err-x_cost
 unfolding bytes
-returns-in_default c =
-    malformed (key_then c.starts.ensures c.if-not-starts.false
-    (no_number c.field.ensures c.in_default.is))
+returns-in_err-x_cost c =
+    malformed _ _ (key_then c.in_ok-at.ensures (no_number c.in_err-x_cost.ensures))
+    c.in_err-x_cost.ensures.malformed c.from_residual-in_err-x_cost.ensures.1
 
-pub returns-in_default-field : goal.returns-in_default-field
+pub returns-in_err-y_cost : goal.returns-in_err-y_cost
 unfolding bytes
-returns-in_default-field c =
-    malformed (key_then c.starts.ensures c.if-not-starts.false
-    (number_then_none c.field.ensures c.in-Read.is
-    (no_number c.field-2.ensures c.in_default-field.is)))
+returns-in_err-y_cost c =
+    malformed _ _ (key_then c.in_ok-at.ensures (number_then_none c.in_ok-x_cost.ensures (no_number c.in_err-y_cost.ensures)))
+    c.in_err-y_cost.ensures.malformed c.from_residual-in_err-y_cost.ensures.1
 
 pub returns-then-x_cost-lt0 : goal.returns-then-x_cost-lt0
 unfolding bytes
 returns-then-x_cost-lt0 c =
-    out_of_range (key_then c.starts.ensures c.if-not-starts.false
-    (number_then c.field.ensures c.in-Read.is
-    (last_number c.field-2.ensures c.in-Read-field.is)))
-    (first_below _ _ c.if-x_cost-lt0.true)
-
-pub returns-then-y_cost-lt0 : goal.returns-then-y_cost-lt0
-unfolding bytes
-returns-then-y_cost-lt0 c =
-    out_of_range (key_then c.starts.ensures c.if-not-starts.false
-    (number_then c.field.ensures c.in-Read.is
-    (last_number c.field-2.ensures c.in-Read-field.is)))
-    (second_below _ _ c.if-y_cost-lt0.true)
+    let form = key_then c.in_ok-at.ensures (number_then c.in_ok-x_cost.ensures (last_number c.in_ok-y_cost.ensures)) in
+    elim c.then-x_cost-lt0.branch [
+      | then-x_cost-lt0-via-then-x_cost-lt0 w ↦ out_of_range form (first_below _ _ w.if-x_cost-lt0.true)
+      | then-x_cost-lt0-via-else-x_cost-lt0+then-y_cost-lt0 w ↦ out_of_range form (second_below _ _ w.if-y_cost-lt0.true)
+    ]
 
 pub returns-then-not-axis_in_range : goal.returns-then-not-axis_in_range
 unfolding bytes
 returns-then-not-axis_in_range c =
-    out_of_range (both_natural _ _ (field_natural c.field.ensures c.in-Read.is c.if-x_cost-lt0.false)
-    (field_natural c.field-2.ensures c.in-Read-field.is c.if-y_cost-lt0.false)
-    (key_then c.starts.ensures c.if-not-starts.false
-    (number_then c.field.ensures c.in-Read.is (last_number c.field-2.ensures c.in-Read-field.is))))
+    out_of_range (both_natural _ _ (field_natural c.in_ok-x_cost.ensures c.if-x_cost-lt0.false)
+    (field_natural c.in_ok-y_cost.ensures c.if-y_cost-lt0.false)
+    (key_then c.in_ok-at.ensures (number_then c.in_ok-x_cost.ensures (last_number c.in_ok-y_cost.ensures))))
     (sym c.axis_in_range.ensures ∙ c.if-not-axis_in_range.true)
 
 pub returns : goal.returns
 unfolding bytes
 returns c =
-    line_read (both_natural _ _ (field_natural c.field.ensures c.in-Read.is c.if-x_cost-lt0.false)
-    (field_natural c.field-2.ensures c.in-Read-field.is c.if-y_cost-lt0.false)
-    (key_then c.starts.ensures c.if-not-starts.false
-    (number_then c.field.ensures c.in-Read.is (last_number c.field-2.ensures c.in-Read-field.is))))
-    (sym c.axis_in_range.ensures ∙ c.if-not-axis_in_range.false) (field_inside c.field-2.ensures c.in-Read-field.is)
+    line_read (both_natural _ _ (field_natural c.in_ok-x_cost.ensures c.if-x_cost-lt0.false)
+    (field_natural c.in_ok-y_cost.ensures c.if-y_cost-lt0.false)
+    (key_then c.in_ok-at.ensures (number_then c.in_ok-x_cost.ensures (last_number c.in_ok-y_cost.ensures))))
+    (sym c.axis_in_range.ensures ∙ c.if-not-axis_in_range.false) (field_inside c.in_ok-y_cost.ensures)

@@ -2,13 +2,11 @@
 use Rattle.job_line.proofs.LineLaws.{field_none, field_off, field_on}
 use Rattle.job_line.proofs.field.Goals as goal
 
-pub returns-then-byte_is : goal.returns-then-byte_is
-returns-then-byte_is c = field_on c.number.ensures _ c.in-Read.is c.byte_is.ensures
-    c.if-byte_is.true
+pub returns-in_default : goal.returns-in_default
+returns-in_default c = field_none _ _ c.in_default.ensures
 
-pub returns-else-byte_is : goal.returns-else-byte_is
-returns-else-byte_is c = field_off c.number.ensures _ c.in-Read.is c.byte_is.ensures
-    c.if-byte_is.false
+pub returns-then-not-byte_is : goal.returns-then-not-byte_is
+returns-then-not-byte_is c = field_off _ _ c.in-Some.ensures c.byte_is.ensures c.if-not-byte_is.true
 
-pub returns-in-Fault : goal.returns-in-Fault
-returns-in-Fault c = field_none c.number.ensures _ c.in-Fault.is
+pub returns : goal.returns
+returns c = field_on _ _ c.in-Some.ensures c.byte_is.ensures c.if-not-byte_is.false

@@ -1,43 +1,34 @@
 -- What `job_line::post_line` owes.
 use mathlib.Core.Path.{sym, ◌∙◌}
-use native.Mathlib.Omega.{arith}
 use Rattle.text.specs.Ascii.{bytes}
-use Rattle.job_line.proofs.LineLaws.{after_key, no_number, number_then_none, number_then, last_number, no_key, key_then, malformed, out_of_range}
+use Rattle.job_line.proofs.LineLaws.{no_number, number_then_none, number_then, last_number, no_key, key_then, malformed, out_of_range}
 use Rattle.job_line.proofs.LineLaws.{line_read, field_inside}
 use Rattle.job_line.proofs.post_line.Goals as goal
 
-pub returns-then-not-starts : goal.returns-then-not-starts
+pub returns-in_err-at : goal.returns-in_err-at
 unfolding bytes
-returns-then-not-starts c = malformed (no_key c.starts.ensures c.if-not-starts.true)
+returns-in_err-at c = malformed _ _ (no_key c.in_err-at.ensures) c.in_err-at.ensures.malformed c.from_residual.ensures.1
 
-pub overflow_add-at : goal.overflow_add-at
-overflow_add-at c = omega (arith, after_key c.starts.ensures c.if-not-starts.false)
-
-pub returns-in_default : goal.returns-in_default
+pub returns-in_err-x : goal.returns-in_err-x
 unfolding bytes
-returns-in_default c =
-    malformed (key_then c.starts.ensures c.if-not-starts.false
-    (no_number c.field.ensures c.in_default.is))
+returns-in_err-x c =
+    malformed _ _ (key_then c.in_ok-at.ensures (no_number c.in_err-x.ensures))
+    c.in_err-x.ensures.malformed c.from_residual-in_err-x.ensures.1
 
-pub returns-in_default-field : goal.returns-in_default-field
+pub returns-in_err-y : goal.returns-in_err-y
 unfolding bytes
-returns-in_default-field c =
-    malformed (key_then c.starts.ensures c.if-not-starts.false
-    (number_then_none c.field.ensures c.in-Read.is
-    (no_number c.field-2.ensures c.in_default-field.is)))
+returns-in_err-y c =
+    malformed _ _ (key_then c.in_ok-at.ensures (number_then_none c.in_ok-x.ensures (no_number c.in_err-y.ensures)))
+    c.in_err-y.ensures.malformed c.from_residual-in_err-y.ensures.1
 
 pub returns-then-not-place_in_range : goal.returns-then-not-place_in_range
 unfolding bytes
 returns-then-not-place_in_range c =
-    out_of_range (key_then c.starts.ensures c.if-not-starts.false
-    (number_then c.field.ensures c.in-Read.is
-    (last_number c.field-2.ensures c.in-Read-field.is)))
+    out_of_range (key_then c.in_ok-at.ensures (number_then c.in_ok-x.ensures (last_number c.in_ok-y.ensures)))
     (sym c.place_in_range.ensures ∙ c.if-not-place_in_range.true)
 
 pub returns : goal.returns
 unfolding bytes
 returns c =
-    line_read (key_then c.starts.ensures c.if-not-starts.false
-    (number_then c.field.ensures c.in-Read.is
-    (last_number c.field-2.ensures c.in-Read-field.is)))
-    (sym c.place_in_range.ensures ∙ c.if-not-place_in_range.false) (field_inside c.field-2.ensures c.in-Read-field.is)
+    line_read (key_then c.in_ok-at.ensures (number_then c.in_ok-x.ensures (last_number c.in_ok-y.ensures)))
+    (sym c.place_in_range.ensures ∙ c.if-not-place_in_range.false) (field_inside c.in_ok-y.ensures)
