@@ -14,11 +14,11 @@ use Rattle.numbers.proofs.Truth.{holds}
 use Rattle.items.specs.Items.{remove_first, held, first_place}
 
 module _ {A : Type 0} (same : A → Bool) where
-  place_cons : (x : A) (xs : List A) → first_place same (x ∷ xs) ≡ cond (same x) 0 (suc (first_place same xs))
+  pub place_cons : (x : A) (xs : List A) → first_place same (x ∷ xs) ≡ cond (same x) 0 (suc (first_place same xs))
   unfolding first_place
   place_cons x xs = refl
 
-  place_none : first_place same [] ≡ 0
+  pub place_none : first_place same [] ≡ 0
   unfolding first_place
   place_none = refl
 

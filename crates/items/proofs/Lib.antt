@@ -1,6 +1,7 @@
 pub mod FirstPlace
-pub mod Removal
 pub mod FirstRemoved
-pub mod ItemValues
+pub mod Found
 pub mod ItemLaws
+pub mod ItemValues
+pub mod Removal
 pub mod TakenOut

@@ -1,63 +1,36 @@
--- An element taken out of an array: those behind it are moved, one after another.
+-- An element taken out of an array: those behind it move up.
 -- Assumes nothing.
 use mathlib.Core.Path.{◌≡◌, sym, ap, subst, ◌∙◌}
 use mathlib.Core.Logic.{⊎_elim}
-use mathlib.Core.List.{List, ◌∷◌, ◌++◌, append_assoc}
+use mathlib.Core.List.{List, [], ◌∷◌, ◌++◌, append_assoc}
 use Prim.Native.Nat.{ℕ, suc, ◌+◌, ◌-◌, ◌≤◌, ◌<◌}
 use native.Mathlib.Omega.{arith}
 use lib.Dec.{ltb, ltb→lt, nltb→le}
-use lib.ListN.{length, get_or, take, drop, set, length-append, length-drop, get_or-append}
-use lib.Seq.{drop-paste, length-take-le, get_or-take, get_or-drop, get_or-append-add, drop-cons, drop_at, take_at, take-take, set_at, take-add}
+use lib.ListN.{length, get_or, take, drop, set, length-append, length-drop, get_or-append, drop_of_length-le}
+use lib.Seq.{length-take-le, get_or-take, get_or-drop, get_or-append-add, take_at, take-take, take-length}
+use borrow.Rule.Slice.PartMut.{put_mid, mid_of}
+use Rattle.std.specs.List.{remove}
+use Rattle.std.proofs.lemmas.List.{take-set, drop-set-lt, get_or-set_same, length-set}
+use Rattle.std.proofs.lemmas.Slice.{put_mid-rotated}
 use Rattle.numbers.proofs.Truth.{test}
-use Rattle.deck.proofs.CopyLaws.{Copied, copied_more}
 use Rattle.items.specs.Items.{taken_out_at}
 
--- element i of the first n is taken out of xs; so many behind it are moved so far
-module _ {A : Type 0} (xs : List A) (i n : ℕ) (z : A) (h : i < n) (k : n ≤ length xs) where
-  abbrev behind : List A
-  behind = drop (suc i) xs
+-- what is left of an array where z is put in the place of element i and the elements from there on are rotated by one
+module _ {A : Type 0} (xs : List A) (i : ℕ) (z : A) (h : i < length xs) where
+  -- the elements behind that place, and z behind them
+  rotated_is : remove (set xs i z) i ++ get_or (set xs i z) i z ∷ [] ≡ taken_out_at (length xs) i z xs
+  unfolding taken_out_at
+  rotated_is =
+      let later : i < suc i = omega arith in
+      let whole : length xs ≤ length xs = omega arith in
+      rw (take-set xs i z, drop-set-lt (suc i) xs i z later, get_or-set_same xs i z z h, take-length xs, drop_of_length-le xs whole)
+      (append_assoc (take i xs) (drop (suc i) xs) (z ∷ []))
 
-  abbrev Moved : List A → ℕ → Type 0
-  Moved to moved = Copied xs i behind (n - 1 - i) to moved
-
-  module _ {to : List A} {moved : ℕ} (so_far : Moved to moved) where
-    -- the next one is where it was
-    not_moved : moved < n - 1 - i → get_or to (i + moved + 1) z ≡ get_or behind moved z
-    not_moved l =
-        sym (get_or-drop (i + moved) to 1 z)
-        ∙ ap (λ (t : List A). get_or t 1 z)
-        (ap (drop (i + moved)) so_far.copied ∙ drop-paste xs i behind moved (omega arith) (omega (arith, length-drop (suc i) xs)))
-        ∙ get_or-drop (i + moved) xs 1 z ∙ ap (λ (m : ℕ). get_or xs m z) place ∙ sym (get_or-drop (suc i) xs moved z)
-      where
-        place : i + moved + 1 ≡ suc i + moved
-        place = omega arith
-
-    pub moved_more : (v : A) → moved < n - 1 - i → v ≡ get_or to (i + moved + 1) z → Moved (set to (i + moved) v) (moved + 1)
-    moved_more v l e =
-        copied_more xs i behind (n - 1 - i) v z (omega arith) (omega (arith, length-drop (suc i) xs)) so_far l (e ∙ not_moved l)
-
-    -- once all are moved, z is put where the last was
-    pub moved_all : n - 1 - i ≤ moved → set to (n - 1) z ≡ taken_out_at n i z xs
-    unfolding taken_out_at
-    moved_all l =
-        let e : moved ≡ n - 1 - i = omega (arith, so_far.count) in
-        let last : i + moved ≡ n - 1 = omega arith in
-        let front : length (take i xs ++ take moved behind) ≡ n - 1 = length-append (take i xs) (take moved behind)
-        ∙ omega (arith, length-take-le i xs (omega arith), length-take-le moved behind (omega (arith, length-drop (suc i) xs))) in
-        ap (λ (t : List A). set t (n - 1) z) (so_far.copied ∙ ap (λ (t : List A). take i xs ++ take moved behind ++ t)
-        (ap (λ (m : ℕ). drop m xs) last ∙ drop-cons xs (n - 1) z (omega arith) ∙ ap (λ (m : ℕ). get_or xs (n - 1) z ∷ drop m xs) whole))
-        ∙ set_at (take i xs ++ take moved behind) (get_or xs (n - 1) z) (drop n xs) z (n - 1) front
-        ∙ append_assoc (take i xs) (take moved behind) (z ∷ drop n xs)
-        ∙ ap (λ (t : List A). take i xs ++ (t ++ (z ∷ drop n xs))) (sym (middle moved last))
-      where
-        whole : suc (n - 1) ≡ n
-        whole = omega arith
-
-        middle : (m : ℕ) → i + m ≡ n - 1 → drop (suc i) (take n xs) ≡ take m behind
-        middle m last =
-            let e : n ≡ suc i + m = omega arith in
-            ap (λ (m : ℕ). drop (suc i) (take m xs)) e ∙ ap (drop (suc i)) (take-add (suc i) m xs)
-            ∙ drop_at (take (suc i) xs) (take m behind) (suc i) (length-take-le (suc i) xs (omega arith))
+  pub rotated_out : (ys : List A) →
+      ys ≡ drop 1 (mid_of i (length (set xs i z) - i) (set xs i z)) ++ take 1 (mid_of i (length (set xs i z) - i) (set xs i z)) →
+      put_mid i (length (set xs i z) - i) (set xs i z) ys ≡ taken_out_at (length xs) i z xs
+  rotated_out ys e =
+      put_mid-rotated i (length (set xs i z) - i) (set xs i z) ys z (omega (arith, length-set xs i z)) (omega (arith, length-set xs i z)) e ∙ rotated_is
 
 -- ---- what is left: the elements before i as they were, and those behind it one place further on
 abbrev pub removed : {A : Type 0} → ℕ → List A → List A

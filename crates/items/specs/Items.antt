@@ -1,6 +1,6 @@
 -- Posts and stops as items of a list: those with equal values, the first of them, and a list and an array without it.
 -- Assumes nothing.
-use Rattle.std.specs.Prelude.{ℕ, suc, Bool, cond, ◌&&◌, List, [], ◌∷◌, ◌++◌, eqb, take, drop}
+use Rattle.std.specs.Prelude.{ℕ, suc, Bool, cond, ◌&&◌, List, [], ◌∷◌, ◌++◌, eqb, take, drop, Option, Some, None}
 use Rattle.numbers.specs.Integer.{eq_z}
 use Rattle.numbers.specs.Lists.{keep, non_empty}
 use Rattle.query.specs.Place.{Place}
@@ -26,6 +26,10 @@ held same xs = non_empty (keep same xs)
 unfoldable pub first_place : {A : Type 0} → (A → Bool) → List A → ℕ
 first_place same [] = 0
 first_place same (x ∷ xs) = let later = suc (first_place same xs) in cond (same x) 0 later
+
+-- the place of the first element that passes a test; none where no element does
+abbrev pub first_found : {A : Type 0} → (A → Bool) → List A → Option ℕ
+first_found same xs = cond (held same xs) (Some (first_place same xs)) None
 
 -- an array without element i of its first n: "later ones move up", and z stands where the last of them was
 unfoldable pub taken_out_at : {A : Type 0} → ℕ → ℕ → A → List A → List A

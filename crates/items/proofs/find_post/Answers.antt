@@ -1,22 +1,16 @@
 -- What `items::find_post` owes.
+use mathlib.Core.Path.{◌∙◌}
+use Rattle.std.proofs.Common.{rules, tests, ℤ}
+use Rattle.std.proofs.lemmas.Iterator.{YieldsList-from_slice, YieldsList-from_zip}
+use Rattle.std.proofs.lemmas.Iterator.Search.{position_from_yields_List}
+use Rattle.deck.specs.Rectangle.{place_of}
 use Rattle.items.specs.Items.{is_same_place}
-use Rattle.items.proofs.ItemLaws.{turn_found, turn_next, turns_end, posts_length, post_at, place_back}
+use Rattle.items.proofs.Found.{pair_place, posts_found}
 use Rattle.items.proofs.find_post.Goals as goal
-
-pub returns-then-same_place : goal.returns-then-same_place
-returns-then-same_place c =
-    turn_found is_same_place (posts_length _ _ _ c.requires.0 c.requires.1) (place_back c.ranges.x c.ranges.y) c.loop-post.invariant
-    c.loop-post-test.true
-    (place_back (record { sfits = c.same_place-arg-1.given }) (record { sfits = c.same_place-arg-in-loop-post-1.given }))
-    (post_at _ _ _ c.requires.0 c.requires.1 _ c.loop-post-test.true) c.same_place.ensures c.if-same_place.true
-
-pub loop-post-preserved : goal.loop-post-preserved
-loop-post-preserved c =
-    turn_next is_same_place (posts_length _ _ _ c.requires.0 c.requires.1) (place_back c.ranges.x c.ranges.y) c.loop-post.invariant
-    c.loop-post-test.true
-    (place_back (record { sfits = c.same_place-arg-1.given }) (record { sfits = c.same_place-arg-in-loop-post-1.given }))
-    (post_at _ _ _ c.requires.0 c.requires.1 _ c.loop-post-test.true) c.same_place.ensures c.if-same_place.false
 
 pub returns : goal.returns
 returns c =
-    turns_end is_same_place (posts_length _ _ _ c.requires.0 c.requires.1) (place_back c.ranges.x c.ranges.y) c.loop-post.invariant c.loop-post-test.false
+    position_from_yields_List (λ (p : ℤ × ℤ). is_same_place (place_of c.args.place) (pair_place p)) c.position.new.self _ c.position.result c.position.ensures.ran
+    (YieldsList-from_zip (YieldsList-from_slice c.args.px.now (cc)) (YieldsList-from_slice c.args.py.now (search rules)))
+    (λ x b q k. search (rules, tests))
+    ∙ posts_found (is_same_place (place_of c.args.place)) c.args.px.now c.args.py.now
