@@ -11,3 +11,4 @@ pub mod MadeColumns
 pub mod MadeNears
 pub mod PaidLaws
 pub mod SoundLaws
+pub mod ColumnLoops

@@ -1,12 +1,9 @@
--- The loops of `job_file::stops_len`.
+-- The loop of `job_file::stops_len`.
 use mathlib.Core.Path.{◌≡◌}
-use Prim.Native.Nat.{◌*◌, ◌≤◌, ◌-◌}
+use Prim.Native.Nat.{◌*◌, ◌≤◌}
 use lib.ListN.{length}
 use Rattle.job_file.specs.Texts.{stop_texts}
 use Rattle.job_file.proofs.stops_len.Given as goal
 
-abbrev pub invariant-loop-i : goal.invariant-loop-i
-invariant-loop-i l = (l.i ≤ l.n) × (l.len ≡ length (stop_texts l.xs l.ys l.visits l.i)) × (l.len ≤ l.i * 70)
-
-abbrev pub decreases-loop-i : goal.decreases-loop-i
-decreases-loop-i l = l.n - l.i
+abbrev pub invariant-loop-x : goal.invariant-loop-x
+invariant-loop-x l = (l.len ≡ length (stop_texts l.xs l.ys l.visits (length l.yielded))) × (l.len ≤ length l.yielded * 70)
