@@ -36,7 +36,7 @@ module _ {A B C : Type 0} (f : A → B → C) where
   zip_at a b c (x ∷ xs) (y ∷ ys) zero g h = refl
   zip_at a b c (x ∷ xs) (y ∷ ys) (suc i) g h = zip_at a b c xs ys i (omega arith) (omega arith)
 
-  zip_take : (k : ℕ) (xs : List A) (ys : List B) → take k (zip_with f xs ys) ≡ zip_with f (take k xs) (take k ys)
+  pub zip_take : (k : ℕ) (xs : List A) (ys : List B) → take k (zip_with f xs ys) ≡ zip_with f (take k xs) (take k ys)
   unfolding zip_with
   zip_take zero xs ys = refl
   zip_take (suc k) [] ys = refl

@@ -1,9 +1,12 @@
 -- Columns side by side, as a chain goes over them: it yields the places, or the stops, that they hold.
 -- Assumes nothing.
-use mathlib.Core.Path.{◌≡◌, refl, ap, ap₂, subst, ◌∙◌}
+use mathlib.Core.Path.{◌≡◌, refl, ap, ap₂, subst}
 use mathlib.Core.List.{List, [], ◌∷◌, map}
 use Prim.Native.Nat.{ℕ}
+use native.Mathlib.Omega.{arith}
 use lib.IntN.{ℤ}
+use lib.ListN.{take}
+use lib.Seq.{take-take}
 use Rattle.std.proofs.Common.{Iter, Option, Some, None, Bor}
 use Rattle.std.proofs.iter.Yields.{fronts}
 use Rattle.std.proofs.lemmas.Iterator.{YieldsList, YieldsList-from_slice, YieldsList-from_zip, zips}
@@ -12,9 +15,14 @@ use Rattle.std.specs.Iterator.{AlwaysYields}
 use Rattle.std.specs.Iterator.Adapters.{zip_first, zip_second}
 use Rattle.std.specs.List.{zip}
 use Rattle.std.specs.Slice.Iter.{iter_rest}
+use mir.Syntax.{w64}
+use mir.Val.{SFits}
+use Rattle.numbers.proofs.WordTests.{back, back_is}
 use Rattle.query.specs.Place.{Place}
 use Rattle.query.specs.Deck.{Stop}
 use Rattle.deck.specs.DeckOf.{places, stops_of}
+use Rattle.deck.proofs.ClosestLaws.{zip_take, places_front}
+use Rattle.deck.proofs.DeckLaws.{place_of, stop_of}
 
 -- ---- the items of a chain, read in another way
 module _ {S A B C : Type 0} (steps : S → Option A → S → Type 0) (v : A → B) (f : B → C) where
@@ -67,3 +75,27 @@ stops_yielded {s} xs ys vs e f g =
     subst (λ (l : List Stop). YieldsList (zips (zips fronts fronts) fronts) yielded_stop s l) (stops_pairs (places xs ys) vs)
     (yields_read (zips (zips fronts fronts) fronts) (λ (p : (Bor ℤ × Bor ℤ) × Bor ℕ). (yielded_place p.0, p.1.now)) pair_stop
     (YieldsList-from_zip (places_yielded xs ys e f) (YieldsList-from_slice vs g)))
+
+-- ---- the first n of columns that are given only as far
+taken_twice : {A : Type 0} (n : ℕ) (xs : List A) → take n (take n xs) ≡ take n xs
+taken_twice n xs = take-take n n xs (omega arith)
+
+pub places_taken : (n : ℕ) (xs ys : List ℤ) → take n (places (take n xs) (take n ys)) ≡ take n (places xs ys)
+places_taken n xs ys = places_front n (take n xs) (take n ys) xs ys (taken_twice n xs) (taken_twice n ys)
+
+pub stops_taken : (n : ℕ) (xs ys : List ℤ) (vs : List ℕ) →
+    take n (stops_of (places (take n xs) (take n ys)) (take n vs)) ≡ take n (stops_of (places xs ys) vs)
+unfolding stops_of
+stops_taken n xs ys vs = rw (
+  zip_take stop_of n (places (take n xs) (take n ys)) (take n vs),
+  zip_take stop_of n (places xs ys) vs,
+  places_taken n xs ys,
+  taken_twice n vs,
+)
+
+-- ---- a place that was read from columns, as words hold it
+pub word_place : {x y : ℤ} → SFits w64 x → SFits w64 y → place_of (back x) (back y) ≡ place_of x y
+word_place f g = ap₂ place_of (back_is f) (back_is g)
+
+pub word_stop : {x y : ℤ} (v : ℕ) → SFits w64 x → SFits w64 y → stop_of (place_of (back x) (back y)) v ≡ stop_of (place_of x y) v
+word_stop v f g = ap (λ (p : Place). stop_of p v) (word_place f g)

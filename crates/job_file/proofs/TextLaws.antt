@@ -8,17 +8,16 @@ use mathlib.Core.Bool.{true, false}
 use mathlib.Core.List.{List, [], ◌∷◌, ◌++◌, map, map-append, flat_map, append_assoc, append-nil}
 use lib.IntN.{ℤ, pos}
 use lib.ListN.{length, get_or, take, length-append}
-use lib.Seq.{take-suc}
+use lib.Seq.{take-suc, take_all, length-take-le}
 use Rattle.numbers.proofs.Joined.{flat_map_append}
-use Rattle.query.specs.Place.{Rect}
-use Rattle.query.specs.Deck.{AxisCosts}
+use Rattle.query.specs.Place.{Place, Rect}
+use Rattle.query.specs.Deck.{AxisCosts, Stop}
 use Rattle.text.specs.Ascii.{bytes, comma, newline}
 use Rattle.text.specs.Decimal.{spell_nat, spell_int}
 use Rattle.write.specs.Written.{Wrote}
 use Rattle.write.proofs.WrittenLaws.{wrote_both}
 use Rattle.deck.specs.DeckOf.{places, stops_of}
-use Rattle.deck.proofs.ClosestLaws.{place_at, places_length, places_at}
-use Rattle.deck.proofs.DeckLaws.{stop_in, stops_length, stops_in}
+use Rattle.deck.proofs.ColumnLoops.{places_taken, stops_taken}
 use Rattle.job_line.specs.Kinds.{Kind, row, end_of}
 use Rattle.job.specs.Spelling.{JobLine, area_line, axis_line, count_line, post_line, stop_line, spell_numbers, spell_line}
 use Rattle.job.specs.File.{writes_axis}
@@ -29,10 +28,10 @@ one : (j : JobLine) → flat_map spell_line (j ∷ []) ≡ spell_line j
 unfolding flat_map
 one j = append-nil (spell_line j)
 
-module _ {A : Type 0} (g : A → JobLine) where
+module _ {A : Type 0} (line : A → JobLine) where
   -- those of its first n elements
   abbrev texts : List A → ℕ → List ℕ
-  texts l n = flat_map spell_line (map g (take n l))
+  texts l n = flat_map spell_line (map line (take n l))
 
   texts_fewer : (k n : ℕ) (l : List A) → k ≤ n → length (texts l k) ≤ length (texts l n)
   unfolding flat_map
@@ -45,11 +44,15 @@ module _ {A : Type 0} (g : A → JobLine) where
   unfolding flat_map
   texts_none l = refl
 
+  -- all of them
+  pub texts_all : (l : List A) (m n : ℕ) → length l ≤ m → length l ≤ n → texts l m ≡ texts l n
+  texts_all l m n g h = ap (λ (k : List A). flat_map spell_line (map line k)) (take_all m l g ∙ sym (take_all n l h))
+
   -- the text of the line of element i
   pub record LineText (l : List A) (i : ℕ) (text : List ℕ) : Type 0 where
     pub within : i < length l
     pub other : A
-    pub is : text ≡ spell_line (g (get_or l i other))
+    pub is : text ≡ spell_line (line (get_or l i other))
 
   -- a turn of a loop: the line counted, the room for it, and the line written behind the others
   module _ {l : List A} {i : ℕ} {text : List ℕ} (t : LineText l i text) where
@@ -58,9 +61,9 @@ module _ {A : Type 0} (g : A → JobLine) where
         let e : take (i + 1) l ≡ take i l ++ (get_or l i t.other ∷ []) = rw add-one (take-suc l i t.other t.within) in
         rw (
           e,
-          map-append g (take i l) (get_or l i t.other ∷ []),
-          flat_map_append spell_line (map g (take i l)) (g (get_or l i t.other) ∷ []),
-          one (g (get_or l i t.other)),
+          map-append line (take i l) (get_or l i t.other ∷ []),
+          flat_map_append spell_line (map line (take i l)) (line (get_or l i t.other) ∷ []),
+          one (line (get_or l i t.other)),
           ← t.is,
         )
 
@@ -173,27 +176,28 @@ length_stop x y v = omega (
   length_nat v newline,
 )
 
--- ---- the lines of posts and stops, whose numbers the code has
-module _ {x y : ℤ} {i : ℕ} (xs ys : List ℤ) (ex : x ≡ get_or xs i (pos 0)) (ey : y ≡ get_or ys i (pos 0)) (g : i < length xs) (h : i < length ys) where
-  pub post_line_lem : LineText post_line (places xs ys) i (post_text x y)
-  post_line_lem = record {
-    within = omega (arith, places_length xs ys);
-    other = place_at xs ys i;
-    is = rw (ex, ey, places_at xs ys i (place_at xs ys i) g h);
-  }
+-- ---- the lines of posts and stops that a loop has come to
+module _ (xs ys : List ℤ) (d : Place) {i : ℕ} {p : Place} (h : i < length (places xs ys)) (e : p ≡ get_or (places xs ys) i d) where
+  pub post_line_lem : LineText post_line (places xs ys) i (post_text p.x p.y)
+  post_line_lem = record { within = h; other = d; is = ap (λ (q : Place). spell_line (post_line q)) e }
 
-  pub post_counted : {len r : ℕ} → len ≡ length (post_texts xs ys i) → r ≡ length (spell_int x) + length (spell_int y) + 2 →
-      len + (5 + r) ≡ length (post_texts xs ys (i + 1))
-  post_counted e f = omega (arith, e, f, line_counted post_line post_line_lem, length_post x y)
+  pub post_counted : {len r n : ℕ} → len ≡ length (post_texts xs ys i) → r ≡ length (spell_int p.x) + length (spell_int p.y) + 2 → n ≡ i + 1 →
+      len + (5 + r) ≡ length (post_texts xs ys n)
+  post_counted f g k = rw k (omega (arith, f, g, line_counted post_line post_line_lem, length_post p.x p.y))
 
-  module _ (vs : List ℕ) (k : i < length vs) where
-    pub stop_line_lem : LineText stop_line (stops_of (places xs ys) vs) i (stop_text x y (get_or vs i 0))
-    stop_line_lem = record {
-      within = omega (arith, stops_length xs ys vs);
-      other = stop_in xs ys vs i;
-      is = rw (ex, ey, stops_in xs ys vs i (stop_in xs ys vs i) g h k);
-    }
+module _ (xs ys : List ℤ) (vs : List ℕ) (d : Stop) {i : ℕ} {s : Stop} (h : i < length (stops_of (places xs ys) vs))
+    (e : s ≡ get_or (stops_of (places xs ys) vs) i d) where
+  pub stop_line_lem : LineText stop_line (stops_of (places xs ys) vs) i (stop_text s.at.x s.at.y s.visits)
+  stop_line_lem = record { within = h; other = d; is = ap (λ (t : Stop). spell_line (stop_line t)) e }
 
-    pub stop_counted : {len r s : ℕ} → len ≡ length (stop_texts xs ys vs i) → r ≡ length (spell_int x) + length (spell_int y) + 2 →
-        s ≡ length (spell_nat (get_or vs i 0)) → len + (5 + r + s + 1) ≡ length (stop_texts xs ys vs (i + 1))
-    stop_counted e f m = omega (arith, e, f, m, line_counted stop_line stop_line_lem, length_stop x y (get_or vs i 0))
+  pub stop_counted : {len r v n : ℕ} → len ≡ length (stop_texts xs ys vs i) → r ≡ length (spell_int s.at.x) + length (spell_int s.at.y) + 2 →
+      v ≡ length (spell_nat s.visits) → n ≡ i + 1 → len + (5 + r + v + 1) ≡ length (stop_texts xs ys vs n)
+  stop_counted f g m k = rw k (omega (arith, f, g, m, line_counted stop_line stop_line_lem, length_stop s.at.x s.at.y s.visits))
+
+-- ---- the lines of the first n, where the columns are given only as far
+pub posts_front : (n : ℕ) (xs ys : List ℤ) → n ≤ length xs → post_texts (take n xs) (take n ys) (length (take n xs)) ≡ post_texts xs ys n
+posts_front n xs ys h = rw (length-take-le n xs h) (ap (λ (l : List Place). flat_map spell_line (map post_line l)) (places_taken n xs ys))
+
+pub stops_front : (n : ℕ) (xs ys : List ℤ) (vs : List ℕ) → n ≤ length xs →
+    stop_texts (take n xs) (take n ys) (take n vs) (length (take n xs)) ≡ stop_texts xs ys vs n
+stops_front n xs ys vs h = rw (length-take-le n xs h) (ap (λ (l : List Stop). flat_map spell_line (map stop_line l)) (stops_taken n xs ys vs))

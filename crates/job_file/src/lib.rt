@@ -219,12 +219,13 @@ pub fn put_file(deck: &Deck, rounds: u64, out: &mut [u8]) -> usize
         &deck.post_y[..deck.posts],
     );
     let next = put_count(out, next, b"stops=", deck.stops as u64);
+    let count = deck.stops;
     let next = put_stops(
         out,
         next,
-        &deck.stop_x[..deck.stops],
-        &deck.stop_y[..deck.stops],
-        &deck.visits[..deck.stops],
+        &deck.stop_x[..count],
+        &deck.stop_y[..count],
+        &deck.visits[..count],
     );
     put_count(out, next, b"rounds=", rounds)
 }

@@ -1,5 +1,5 @@
 -- What `job_file::file_len` owes.
-use mathlib.Core.Path.{◌≡◌}
+use mathlib.Core.Path.{◌≡◌, ap}
 use Prim.Native.Nat.{ℕ, ◌+◌}
 use native.Mathlib.Omega.{arith}
 use lib.IntN.{ℤ}
@@ -10,6 +10,7 @@ use mir.Val.{SFits, to_z, of_z}
 use mir.ValLaws.{to_z-of_z}
 use Rattle.text.specs.Decimal.{spell_int}
 use Rattle.job_file.proofs.FileLaws.{length_file}
+use Rattle.job_file.proofs.TextLaws.{posts_front, stops_front}
 use Rattle.job_file.proofs.file_len.Goals as goal
 
 -- the length of a place that was read back from its bits
@@ -19,12 +20,14 @@ back x y fx fy e = rw (to_z-of_z w64 x fx, to_z-of_z w64 y fy) at e
 
 pub returns : goal.returns
 returns c =
-    let deck = c.args.deck in
+    let deck = c.args.deck.now in
     omega (
       arith,
       length_file deck c.args.rounds,
       c.posts_len-posts.ensures.value,
+      ap length (posts_front deck.posts deck.post_x deck.post_y (search rules)),
       c.stops_len-stops.ensures.value,
+      ap length (stops_front deck.stops deck.stop_x deck.stop_y deck.visits (search rules)),
       back deck.xlo deck.ylo (search rules) (search rules) c.place_len.ensures.value,
       back deck.xhi deck.yhi (search rules) (search rules) c.place_len-2.ensures.value,
       c.axis_len-axis_line.ensures.value,

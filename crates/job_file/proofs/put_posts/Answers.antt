@@ -1,0 +1,42 @@
+-- What `job_file::put_posts` owes.
+use mathlib.Core.Path.{◌∙◌}
+use mathlib.Core.List.{[], ◌∷◌}
+use native.Mathlib.Omega.{arith}
+use lib.ListN.{length, length-append}
+use borrow.Author.Rules.{rules}
+use Rattle.std.proofs.lemmas.Iterator.Consumers.{YieldsList-turn, YieldsList-end}
+use Rattle.write.proofs.WrittenLaws.{wrote_nothing}
+use Rattle.deck.specs.DeckOf.{places}
+use Rattle.deck.proofs.ClosestLaws.{places_length}
+use Rattle.deck.proofs.ColumnLoops.{places_yielded, word_place}
+use Rattle.job.specs.Spelling.{post_line}
+use Rattle.job_file.proofs.TextLaws.{texts_none, texts_all, line_room, line_wrote, post_line_lem}
+use Rattle.job_file.proofs.put_posts.Goals as goal
+
+pub loop-x-init : goal.loop-x-init
+loop-x-init c =
+    (omega arith, rw (texts_none post_line (places c.args.xs.now c.args.ys.now)) (wrote_nothing c.args.out.now c.args.start c.args.start (omega arith)))
+
+pub put_post-at-requires : goal.put_post-at-requires
+put_post-at-requires c =
+    let turn = YieldsList-turn (places_yielded c.args.xs.now c.args.ys.now (search rules) (search rules)) c.loop-x.yielded c.loop-x.x-iterator
+    c.loop-x.yielded_by c.next.result c.next.new.self (c.in-Some.x, c.in-Some.y) c.in-Some.is c.next.ensures.steps in
+    line_room post_line (post_line_lem c.args.xs.now c.args.ys.now _ turn.0 (word_place (search rules) (search rules) ∙ turn.1)) {n = length c.args.xs.now}
+    c.loop-x.invariant.1 (omega (arith, turn.0, places_length c.args.xs.now c.args.ys.now)) (omega (arith, c.requires, c.loop-x.invariant.0))
+
+pub loop-x-preserved : goal.loop-x-preserved
+loop-x-preserved c =
+    let turn = YieldsList-turn (places_yielded c.args.xs.now c.args.ys.now (search rules) (search rules)) c.loop-x.yielded c.loop-x.x-iterator
+    c.loop-x.yielded_by c.next.result c.next.new.self (c.in-Some.x, c.in-Some.y) c.in-Some.is c.next.ensures.steps in (
+      c.put_post-at.auto.out ∙ c.loop-x.invariant.0,
+      rw (length-append c.loop-x.yielded ((c.in-Some.x, c.in-Some.y) ∷ [])) (line_wrote post_line
+          (post_line_lem c.args.xs.now c.args.ys.now _ turn.0 (word_place (search rules) (search rules) ∙ turn.1)) c.loop-x.invariant.1
+          c.put_post-at.ensures (omega (arith, c.requires))),
+    )
+
+pub returns : goal.returns
+returns c =
+    let end = YieldsList-end (places_yielded c.args.xs.now c.args.ys.now (search rules) (search rules)) c.loop-x.yielded c.loop-x.x-iterator
+    c.loop-x.yielded_by c.next.result c.next.new.self c.in-None.is c.next.ensures.steps in
+    rw (texts_all post_line (places c.args.xs.now c.args.ys.now) (length c.args.xs.now) (length c.loop-x.yielded)
+    (omega (arith, places_length c.args.xs.now c.args.ys.now)) (omega (arith, end.1))) c.loop-x.invariant.1
