@@ -9,11 +9,7 @@ pub fn abs_diff(u: i64, v: i64) -> u64
     requires { (nat_abs u ≤ 2 ^ 61) × (nat_abs v ≤ 2 ^ 61) }
     ensures { result ≡ dist u v }
 {
-    if u < v {
-        (v - u) as u64
-    } else {
-        (u - v) as u64
-    }
+    (u - v).unsigned_abs()
 }
 
 // Half of t, rounded towards plus infinity.
