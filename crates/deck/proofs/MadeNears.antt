@@ -10,7 +10,7 @@ use lib.IntN.{ℤ, pos, negsuc, nat_abs}
 use lib.ListN.{length, get_or, take, drop, set, replicate, length-append, length-map, length-drop, length-replicate, get_or-map}
 use lib.Dec.{T}
 use lib.Seq.{paste, length-paste, take_at, take-suc, length-take-le, get_or-take, get_or-drop, drop_at}
-use mir.Syntax.{w32, w64}
+use mir.Syntax.{w32}
 use mir.Val.{Fits, SFits, to_z, of_z}
 use mir.ValLaws.{to_z-of_z}
 use lib.Signed.{non_neg, ◌≤ℤ◌}
@@ -64,13 +64,6 @@ module _ {columns : List ℤ} {n : ℕ} (held : NearColumn columns n) where
       go : (z : ℤ) → pos 0 ≤ℤ z → SFits w32 z → T (non_neg (to_z w32 (of_z w32 z))) × Fits w32 (nat_abs (to_z w32 (of_z w32 z)))
       go (pos m) l f = natural_cast w32 (pos m) m refl f.sfits
       go (negsuc m) l f = absurd (omega (arith, order))
-
-  pub row_wide : (i : ℕ) → SFits w32 (get_or columns (1536 + i) (pos 0)) → Fits w64 (nat_abs (to_z w32 (of_z w32 (get_or columns (1536 + i) (pos 0)))))
-  row_wide i fits = rw (to_z-of_z w32 (get_or columns (1536 + i) (pos 0)) fits) (go (get_or columns (1536 + i) (pos 0)) fits)
-    where
-      go : (z : ℤ) → SFits w32 z → Fits w64 (nat_abs z)
-      go (pos m) f = let g = f.sfits in record { fits = omega arith }
-      go (negsuc m) f = let g = f.sfits in record { fits = omega arith }
 
   pub row_more : (few : n ≤ 512) {near : List ℕ} {i : ℕ} → i < n → SFits w32 (get_or columns (1536 + i) (pos 0)) → near ≡ padded 512 0 (take i (rows columns)) →
       set near i (nat_abs (to_z w32 (of_z w32 (get_or columns (1536 + i) (pos 0))))) ≡ padded 512 0 (take (i + 1) (rows columns))

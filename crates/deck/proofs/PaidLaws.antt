@@ -62,9 +62,6 @@ module _ {visits nears : List ℕ} {n : ℕ} (v : VisitsInRange visits n) (k : N
     pub paid_turn : Paid visits nears n (sum + w * m) (i + 1)
     paid_turn = rw (e, f, get_or-take n visits i 0 turn, get_or-take n nears i 0 turn) (paid_more so_far turn)
 
-pub paid_all : {visits nears : List ℕ} {n sum i : ℕ} → Paid visits nears n sum i → n ≤ i → sum ≡ paid visits nears n
-paid_all {visits} {nears} {n} {sum} {i} so_far h = let e : i ≡ n = omega (arith, so_far.count) in so_far.is ∙ rw e
-
 -- ---- over stops, whose visits and near stand in front of the two columns
 pub paid_stops : (near : Stop → ℕ) (size : ℕ) (stops : List Stop) →
     paid (padded size 0 (map (λ s. s.visits) stops)) (padded size 0 (map near stops)) (length stops) ≡ sum_of (λ s. s.visits * near s) stops

@@ -41,13 +41,7 @@ module _ (k v : ℤ) (cost : AxisCostInRange k) (h : nat_abs v ≤ 20000) where
   pub product_scaled : Scaled k v (to_z w32 (of_z w32 (to_z w32 (of_z w32 k) *ℤ to_z w32 (of_z w32 (to_z w64 (of_z w64 v))))))
   product_scaled = rw (product_is, coordinate (times (nat_abs k) v) small) (record { is = refl; small = small })
 
--- a cost as a word, and what `scaled` gives of words
-pub cost_word : {k : ℤ} → AxisCostInRange k → AxisCostInRange (to_z w32 (of_z w32 k))
-cost_word {k} cost = rw (coordinate k (omega (arith, cost.most))) cost
-
-pub coordinate_word : (v : ℤ) → nat_abs v ≤ 20000 → nat_abs (to_z w64 (of_z w64 v)) ≤ 20000
-coordinate_word v h = rw (wide v (omega arith)) h
-
+-- what `scaled` gives of words
 pub scaled_word : {k r : ℤ} (v : ℤ) → nat_abs v ≤ 20000 → Scaled k (to_z w64 (of_z w64 v)) r → to_z w32 (of_z w32 r) ≡ times (nat_abs k) v
 scaled_word {k} {r} v h e = coordinate r e.small ∙ e.is ∙ ap (times (nat_abs k)) (wide v (omega arith))
 
@@ -60,6 +54,3 @@ scaled_range k xs n h range = record {
 
 pub cost_natural : (n : ℕ) → (1 ≤ n) × (n ≤ 9) → AxisCostInRange (to_z w32 n)
 cost_natural n h = rw (natural_word n h.1) (cost_of_lem n h.0 h.1)
-
-pub cost_fits : (n : ℕ) → n ≤ 9 → SFits w32 (pos n)
-cost_fits n h = word_fits w32 (pos n) (omega arith)

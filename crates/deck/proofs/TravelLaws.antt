@@ -1,14 +1,11 @@
 -- The travel between two places, by their words.
 -- Assumes nothing.
 use mathlib.Core.Path.{◌≡◌, ◌∙◌}
-use mathlib.Core.Bool.{true, false, cond}
 use Prim.Native.Nat.{ℕ, ◌+◌, ◌^◌, ◌<◌}
 use native.Mathlib.Omega.{arith}
 use lib.IntN.{ℤ, pos, ◌+ℤ◌}
-use lib.Signed.{lt_z}
 use mir.Syntax.{w32}
-use mir.Val.{SFits, to_z, of_z}
-use mir.ValLaws.{to_z-of_z}
+use mir.Val.{to_z, of_z}
 use Rattle.numbers.specs.Integer.{dist}
 use Rattle.numbers.proofs.Distance.{dist_most}
 use Rattle.numbers.proofs.Scaling.{dist_scale}
@@ -47,11 +44,3 @@ module _ (ux uy vx vy : ℤ) (u : Near180000 ux uy) (v : Near180000 vx vy) where
       sum_is a b (dist ux vx) (dist uy vy)
       (p ∙ rw (coordinate ux u.x_range, coordinate vx v.x_range)) (q ∙ rw (coordinate uy u.y_range, coordinate vy v.y_range))
       (omega (arith, dist_most 180000 ux vx u.x_range v.x_range)) (omega (arith, dist_most 180000 uy vy u.y_range v.y_range))
-
--- the smaller of two, by the code's test on t, which is z
-module _ (t z least : ℤ) (e : to_z w32 (of_z w32 t) ≡ z) (f : SFits w32 least) where
-  pub picks_first : lt_z (to_z w32 (of_z w32 t)) (to_z w32 (of_z w32 least)) ≡ true → to_z w32 (of_z w32 t) ≡ cond (lt_z z least) z least
-  picks_first h = let l : lt_z z least ≡ true = rw (e, to_z-of_z w32 least f) at h in rw l e
-
-  pub picks_second : lt_z (to_z w32 (of_z w32 t)) (to_z w32 (of_z w32 least)) ≡ false → to_z w32 (of_z w32 least) ≡ cond (lt_z z least) z least
-  picks_second h = let l : lt_z z least ≡ false = rw (e, to_z-of_z w32 least f) at h in rw l (to_z-of_z w32 least f)

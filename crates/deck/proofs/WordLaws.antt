@@ -9,7 +9,7 @@ use lib.Dec.{ltb}
 use lib.IntN.{ℤ, pos, nat_abs, ◌+ℤ◌}
 use lib.Signed.{lt_z}
 use mir.Syntax.{w32, w64}
-use mir.Val.{SFits, to_z, of_z}
+use mir.Val.{to_z, of_z}
 use mir.ValLaws.{to_z-of_z, to_z_pos}
 use Rattle.numbers.proofs.Words.{word_fits}
 
@@ -36,9 +36,6 @@ coordinate z h = to_z-of_z w32 z (word_fits w32 z (omega arith))
 module _ (z : ℤ) (h : nat_abs z ≤ 180000) where
   pub wide : to_z w64 (of_z w64 z) ≡ z
   wide = to_z-of_z w64 z (word_fits w64 z (omega arith))
-
-  pub narrow_fits : SFits w32 (to_z w64 (of_z w64 z))
-  narrow_fits = rw wide (word_fits w32 z (omega arith))
 
   pub narrowed : to_z w32 (of_z w32 (to_z w64 (of_z w64 z))) ≡ z
   narrowed = rw (wide, coordinate z h)

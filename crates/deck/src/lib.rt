@@ -52,6 +52,7 @@ pub struct AxisCosts {
 
 // A deck, one array a field. The first `posts` and `stops` elements of the arrays count; in a record that reading made the others are 0.
 // `near` has each stop's near, and `before` is the deck's.
+// kept: counts beside arrays, since memory is fixed, and one array a field, since each pass over the stops reads single columns.
 #[derive(Clone, Copy)]
 pub struct Deck {
     pub axis: AxisCosts,
@@ -106,6 +107,7 @@ pub fn copy_coordinates(from: &[i64], k: i32, to: &mut [i32], at: usize, n: usiz
 }
 
 // The same of a column of visits or of near.
+// kept: one function over both takes a closure and clauses on each of its calls, which is longer than the two loops.
 fn copy_naturals(from: &[u64], to: &mut [i32], at: usize, n: usize)
     requires { NaturalsUpTo travel_limit from.now n × (at + n ≤ length to.old) }
     ensures { to.new ≡ paste to.old at (map pos from.now) n }
