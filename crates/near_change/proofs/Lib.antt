@@ -1,2 +1,2 @@
 pub mod NearLaws
-pub mod ScaledPosts
+pub mod ScaledLaws

@@ -20,15 +20,14 @@ use Rattle.numbers.proofs.WordTests.{back}
 use Rattle.query.specs.Place.{Place}
 use Rattle.query.specs.Deck.{AxisCosts, plain}
 use Rattle.query.specs.Travel.{travel, closest}
-use Rattle.query.specs.Range.{PlaceInRange, StopInRange}
+use Rattle.query.specs.Range.{PlaceInRange}
 use Rattle.deck.specs.DeckOf.{places}
-use Rattle.deck.specs.Ranges.{CostsInRange, CoordinatesInRange, PlacesInRange, Near180000}
+use Rattle.deck.specs.Ranges.{CostsInRange, CoordinatesInRange, PlacesInRange}
 use Rattle.deck.proofs.WordLaws.{wide, coordinate}
 use Rattle.deck.proofs.TravelLaws.{far, travel_plain}
-use Rattle.deck.proofs.DeckLaws.{place_of, stop_of}
+use Rattle.deck.proofs.DeckLaws.{place_of}
 use Rattle.deck.proofs.ClosestLaws.{zip_length, zip_at, place_at, places_length, places_at, closest_one, closest_snoc, posts_more}
 use Rattle.deck.proofs.CopyLaws.{Copied, copied_more, copied_next}
-use Rattle.near_change.specs.NearChange.{near_with}
 
 -- ---- travel between two places in range, of the distances that were found of words
 module _ {axis : AxisCosts} {ux uy vx vy : ℤ} (costs : CostsInRange axis) (p : PlaceInRange (place_of ux uy)) (q : PlaceInRange (place_of vx vy)) where
@@ -84,12 +83,6 @@ stop_in_range stops i h = record { x_range = stops.x.range i h; y_range = stops.
 pub place_held : {x y : ℤ} → PlaceInRange (place_of x y) → place_of (back x) (back y) ≡ place_of x y
 place_held p = ap₂ place_of (wide _ (omega (arith, p.x_range))) (wide _ (omega (arith, p.y_range)))
 
-pub range_held : {x y : ℤ} → PlaceInRange (place_of x y) → PlaceInRange (place_of (back x) (back y))
-range_held p = rw (place_held p) p
-
-pub stop_range_held : {x y : ℤ} {v : ℕ} → StopInRange (stop_of (place_of x y) v) → StopInRange (stop_of (place_of (back x) (back y)) v)
-stop_range_held s = record { place = range_held s.place; some_visits = s.some_visits; most_visits = s.most_visits }
-
 -- ---- the closest post, post after post, at scaled places
 abbrev word : ℤ → ℤ
 word z = to_z w32 (of_z w32 z)
@@ -123,23 +116,3 @@ module _ {qx qy : List ℤ} {k : ℕ} (gx : CoordinatesInRange qx k) (gy : Coord
     where
       some : 1 ≤ length (take j (places qx qy))
       some = omega (arith, length-take-le j (places qx qy) (omega (arith, places_length qx qy, gx.count, gy.count)))
-
--- ---- near of one stop with one more post, by the code's test on the travel t
-module _ (axis : AxisCosts) {p p' q q' : Place} (near : ℕ) {t : ℕ} (e : p' ≡ p) (f : q' ≡ q) (found : t ≡ travel axis q' p') where
-  travel_is : t ≡ travel axis q p
-  travel_is = found ∙ ap₂ (travel axis) f e
-
-  pub near_first : t < near → t ≡ near_with axis p q near
-  unfolding near_with
-  near_first h = omega (arith, travel_is)
-
-  pub near_second : near ≤ t → near ≡ near_with axis p q near
-  unfolding near_with
-  near_second h = omega (arith, travel_is)
-
-pub closest_end : (qx qy : List ℤ) {k : ℕ} {x y : ℤ} → Near180000 x y → {r : ℤ} (j : ℕ) → j ≤ k → k ≤ j →
-    r ≡ pos (closest plain (place_of (word x) (word y)) (take j (places qx qy))) → r ≡ pos (closest plain (place_of x y) (take k (places qx qy)))
-closest_end qx qy {k} {x} {y} h j f g e =
-    let same : j ≡ k = omega arith in
-    e ∙ ap pos (ap₂ (λ (p : Place) (m : ℕ). closest plain p (take m (places qx qy)))
-    (ap₂ place_of (coordinate x h.x_range) (coordinate y h.y_range)) same)

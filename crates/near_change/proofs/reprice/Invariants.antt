@@ -1,15 +1,13 @@
--- The loops of `near_change::reprice`.
+-- The loop of `near_change::reprice`.
 use mathlib.Core.List.{zip_with}
-use Prim.Native.Nat.{◌-◌}
-use lib.ListN.{take}
+use lib.ListN.{length, take}
 use Rattle.deck.specs.DeckOf.{held_axis, places}
+use Rattle.deck.specs.Rectangle.{place_of}
 use Rattle.deck.proofs.CopyLaws.{Copied}
 use Rattle.near_change.specs.NearChange.{near_but}
 use Rattle.near_change.proofs.reprice.Given as goal
 
 abbrev pub invariant-loop-i : goal.invariant-loop-i
 invariant-loop-i l = Copied l.initial.near 0
-    (zip_with (near_but (held_axis l.axis) (record { x = l.x; y = l.y }) (take l.k (places l.qx l.qy))) (places l.sx l.sy) l.initial.near) l.n l.near l.i
-
-abbrev pub decreases-loop-i : goal.decreases-loop-i
-decreases-loop-i l = l.n - l.i
+    (zip_with (near_but (held_axis l.left.axis) (place_of l.post) (take l.left.count (places l.left.x l.left.y))) (places l.sx l.sy) l.initial.near)
+    (length l.sx) l.near l.i
