@@ -5,7 +5,6 @@ use mathlib.Core.Bool.{Bool, true, false, cond}
 use mathlib.Core.List.{List, [], ◌∷◌, map}
 use Prim.Native.Nat.{ℕ, ◌+◌, ◌≤◌}
 use native.Mathlib.Omega.{arith}
-use lib.Dec.{eqb}
 use lib.IntN.{ℤ}
 use lib.ListN.{length, take, length-map}
 use Rattle.numbers.specs.Lists.{keep}
@@ -16,47 +15,37 @@ use Rattle.query.specs.Reach.{reach}
 use Rattle.query.specs.Lines.{stop_coordinates, lines}
 use Rattle.query.proofs.LineLaws.{lines_law}
 use Rattle.numbers.specs.Padded.{padded}
-use Rattle.lines.specs.LineRecord.{LinesInOrder, Lined, flagged, marked, lines_between}
+use Rattle.lines.specs.LineRecord.{LinesInOrder, Lined, flagged, lines_between}
 use Rattle.lines.proofs.LineRecordLaws.{lines_between_length}
 use Rattle.numbers.proofs.Padded.{padded_front}
 
 -- ---- the lines of a deck
-abbrev pub flag : Bool → ℕ
-flag b = cond b 1 0
-
 -- the flagged ones of a list of which the test flags some
-pub flagged_map : {A : Type 0} (f : A → ℤ) (p : A → Bool) (xs : List A) → flagged (map f xs) (map (λ x. flag (p x)) xs) ≡ map f (keep p xs)
+pub flagged_map : {A : Type 0} (f : A → ℤ) (p : A → Bool) (xs : List A) → flagged (map f xs) (map p xs) ≡ map f (keep p xs)
 unfolding flagged keep
 flagged_map f p [] = refl
 flagged_map {A} f p (x ∷ xs) = go (p x) (flagged_map f p xs)
   where
-    go : (b : Bool) → flagged (map f xs) (map (λ x. flag (p x)) xs) ≡ map f (keep p xs) →
-        cond (eqb (flag b) 1) (f x ∷ flagged (map f xs) (map (λ x. flag (p x)) xs)) (flagged (map f xs) (map (λ x. flag (p x)) xs)) ≡ map f
-        (cond b (x ∷ keep p xs) (keep p xs))
+    go : (b : Bool) → flagged (map f xs) (map p xs) ≡ map f (keep p xs) →
+        cond b (f x ∷ flagged (map f xs) (map p xs)) (flagged (map f xs) (map p xs)) ≡ map f (cond b (x ∷ keep p xs) (keep p xs))
     go true e = ap (λ (l : List ℤ). f x ∷ l) e
     go false e = e
 
 module _ (deck : Deck) (axis : Axis) where
-  -- the stops' coordinates along the axis, and 1 where a stop is within reach of the area
+  -- the stops' coordinates along the axis, and whether each stop is within reach of the area
   abbrev pub coordinates : List ℤ
   coordinates = map (λ stop. coordinate axis stop.at) deck.stops
 
-  abbrev pub reached : List ℕ
-  reached = map (λ stop. flag (reach deck deck.area stop)) deck.stops
+  abbrev pub reached : List Bool
+  reached = map (reach deck deck.area) deck.stops
 
   lines_is : lines deck axis ≡ lines_between (low_edge axis deck.area) (high_edge axis deck.area)
       (map (λ stop. coordinate axis stop.at) (keep (reach deck deck.area) deck.stops))
   unfolding lines_between lines stop_coordinates
   lines_is = refl
 
-  -- columns whose first n rows are these
-  module _ (coords : List ℤ) (flags : List ℕ) (n : ℕ) (same-coords : take n coords ≡ coordinates) (same_flags : take n flags ≡ reached) where
-    pub marked_stops : marked coords flags n ≡ map (λ stop. coordinate axis stop.at) (keep (reach deck deck.area) deck.stops)
-    unfolding marked
-    marked_stops = rw (same-coords, same_flags) (flagged_map (λ stop. coordinate axis stop.at) (reach deck deck.area) deck.stops)
-
-    pub lines_marked : lines_between (low_edge axis deck.area) (high_edge axis deck.area) (marked coords flags n) ≡ lines deck axis
-    lines_marked = rw (marked_stops, lines_is)
+  pub lines_flagged : lines_between (low_edge axis deck.area) (high_edge axis deck.area) (flagged coordinates reached) ≡ lines deck axis
+  lines_flagged = rw (flagged_map (λ stop. coordinate axis stop.at) (reach deck deck.area) deck.stops, lines_is)
 
   pub lines_few : length (lines deck axis) ≤ length deck.stops + 2
   lines_few =
@@ -73,8 +62,8 @@ module _ (deck : Deck) (axis : Axis) where
   lines_in_order h = record { few = omega (arith, lines_few); increasing = (lines_law deck axis).increasing }
 
   -- an array that holds the flags in front
-  pub padded_reached : take (length deck.stops) (padded 512 0 reached) ≡ reached
-  padded_reached = rw (← length-map deck.stops (λ stop. flag (reach deck deck.area stop))) (padded_front 512 0 reached)
+  pub padded_reached : take (length deck.stops) (padded 512 false reached) ≡ reached
+  padded_reached = rw (← length-map deck.stops (reach deck deck.area)) (padded_front 512 false reached)
 
 -- those of both axes
 pub deck_lined : (deck : Deck) → length deck.stops ≤ 512 → Lined (lines deck x_axis) (lines deck y_axis)

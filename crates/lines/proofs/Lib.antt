@@ -2,5 +2,4 @@ pub mod Indexed
 pub mod InsertLaws
 pub mod LineRecordLaws
 pub mod Shifted
-pub mod StopLaws
 pub mod DeckLines
