@@ -1,124 +1,145 @@
 // The choice of a cut.
 #![tactic(auto)]
 
-ghost use Rattle.std.specs.Prelude.{◌≡◌, ◌≤◌, length, ◌+ℤ◌};
+ghost use Rattle.std.specs.Prelude.{◌≡◌, ◌≤◌, length, ◌+ℤ◌, ◌-ℤ◌};
 ghost use Rattle.numbers.specs.Integer.{half_up, strictly_between};
 ghost use Rattle.numbers.specs.Lists.{keep};
-ghost use Rattle.query.specs.Cut.{middle_line};
 ghost use Rattle.query.specs.Range.{RectInRange};
 ghost use Rattle.deck.specs.Rectangle.{rect_of};
 ghost use Rattle.lines.specs.LineRecord.{LinesInOrder, Lined, grid_of};
-ghost use Rattle.cuts.specs.CutRecord.{Edges, LineBefore, LineFrom, cut_at, cut_record, first_of};
+ghost use Rattle.cuts.specs.CutRecord.{Edges, LineBefore, LineFrom, line_inside, cut_along, cut_record, first_of};
+ghost use Rattle.lines.proofs.OneProof.{in_order_prop};
 
 use deck::Rect;
 use lines::first_at_least;
 
-// Whether a cell can be cut, and at which line: at an x where `across` is true, else at a y. Where it cannot the others are false and 0.
+#[derive(Clone, Copy, PartialEq)]
+pub enum Axis {
+    X,
+    Y,
+}
+
+// A cut of a cell at a line: at an x on axis x, at a y on axis y.
 #[derive(Clone, Copy)]
 pub struct Cut {
-    pub found: bool,
-    pub across: bool,
+    pub axis: Axis,
     pub at: i64,
 }
 
-// The middle of `lo` and `hi`, rounded up.
-fn middle(lo: i64, hi: i64) -> i64
-    requires { Edges lo hi }
-    ensures { result ≡ half_up (lo +ℤ hi) }
-{
-    (lo + hi + 1) >> 1
+// A cell along an axis: the lines of the axis, and the cell's edges.
+#[derive(Clone, Copy)]
+struct Side<'a> {
+    axis: Axis,
+    lines: &'a [i64],
+    lo: i64,
+    hi: i64,
+    ghost in_order: { LinesInOrder lines.now } by { in_order_prop lines.now },
+    ghost edges: { Edges lo hi },
 }
 
-// The line before index `at`, or `lo` where that is greater or there is none.
-fn line_before(ls: &[i64], at: usize, lo: i64) -> i64
-    requires { at ≤ length ls.now }
-    ensures { LineBefore ls.now at lo result }
-{
-    if at == 0 {
-        return lo;
+impl<'a> Side<'a> {
+    fn length(&self) -> i64
+        ensures { result ≡ self.now.hi -ℤ self.now.lo }
+    {
+        self.hi - self.lo
     }
-    let v = ls[at - 1];
-    if v < lo { lo } else { v }
-}
 
-// The line at index `at`, or `hi` where that is smaller or there is none.
-fn line_from(ls: &[i64], at: usize, hi: i64) -> i64
-    ensures { LineFrom ls.now at hi result }
-{
-    if ls.len() <= at {
-        return hi;
+    // The middle of the edges, rounded up.
+    fn middle(&self) -> i64
+        ensures { result ≡ half_up (self.now.lo +ℤ self.now.hi) }
+    {
+        (self.lo + self.hi + 1) >> 1
     }
-    let v = ls[at];
-    if hi < v { hi } else { v }
-}
 
-// The line strictly between `lo` and `hi` that is closest to their middle, the smaller one on a tie; `lo` where there is none.
-// It is the last before the middle or the first from it on, where an edge stands for one that is not between.
-fn middle_line(ls: &[i64], lo: i64, hi: i64) -> i64
-    requires { LinesInOrder ls.now × Edges lo hi }
-    ensures { result ≡ middle_line lo hi (keep (strictly_between lo hi) ls.now) }
-{
-    let at = first_at_least(ls, middle(lo, hi));
-    let below = line_before(ls, at, lo);
-    let above = line_from(ls, at, hi);
-    if lo + hi <= below + above {
-        below
-    } else {
-        above
+    // The line before index `at`, or the low edge where that is greater or there is none.
+    fn line_before(&self, at: usize) -> i64
+        requires { at ≤ length self.now.lines.now }
+        ensures { LineBefore self.now.lines.now at self.now.lo result }
+    {
+        if at == 0 {
+            return self.lo;
+        }
+        self.lines[at - 1].max(self.lo)
+    }
+
+    // The line at index `at`, or the high edge where that is smaller or there is none.
+    fn line_from(&self, at: usize) -> i64
+        ensures { LineFrom self.now.lines.now at self.now.hi result }
+    {
+        if self.lines.len() <= at {
+            return self.hi;
+        }
+        self.lines[at].min(self.hi)
+    }
+
+    // The line strictly between the edges that is closest to their middle, the smaller one on a tie.
+    // It is the last before the middle or the first from it on, where an edge stands for one that is not between.
+    fn middle_line(&self) -> Option<i64>
+        ensures { result
+            ≡ line_inside self.now.lo self.now.hi
+            (keep (strictly_between self.now.lo self.now.hi) self.now.lines.now) }
+    {
+        let at = first_at_least(self.lines, self.middle());
+        let below = self.line_before(at);
+        let above = self.line_from(at);
+        let line = if self.lo + self.hi <= below + above {
+            below
+        } else {
+            above
+        };
+        if self.lo < line { Some(line) } else { None }
+    }
+
+    // The cut at that line.
+    fn cut(&self) -> Option<Cut>
+        ensures { result
+            ≡ cut_along self.now.axis self.now.lo self.now.hi
+            (keep (strictly_between self.now.lo self.now.hi) self.now.lines.now) }
+    {
+        let at = self.middle_line()?;
+        Some(Cut {
+            axis: self.axis,
+            at,
+        })
     }
 }
 
-// A cut at a line.
-fn cut_at(across: bool, at: i64) -> Cut
-    ensures { result ≡ cut_at across at }
-{
-    Cut {
-        found: true,
-        across,
-        at,
-    }
-}
-
-// The cut at the line closest to the middle between `alo` and `ahi` on the first axis, if one lies inside; else the same between `blo`
-// and `bhi` on the second. The first axis is x where `across` is true.
-fn first_of<'a>(
-    a: &'a [i64],
-    alo: i64,
-    ahi: i64,
-    b: &'a [i64],
-    blo: i64,
-    bhi: i64,
-    across: bool,
-) -> Cut
-    requires { Lined a.now b.now × Edges alo ahi × Edges blo bhi }
+// The cut along the first axis, if some line lies inside there; else that along the second.
+fn first_of(first: &Side<'_>, second: &Side<'_>) -> Option<Cut>
     ensures { result
-        ≡ first_of across alo ahi (keep (strictly_between alo ahi) a.now) blo bhi
-        (keep (strictly_between blo bhi) b.now) }
+        ≡ first_of (cut_along first.now.axis first.now.lo first.now.hi
+        (keep (strictly_between first.now.lo first.now.hi) first.now.lines.now))
+        (cut_along second.now.axis second.now.lo second.now.hi
+        (keep (strictly_between second.now.lo second.now.hi) second.now.lines.now)) }
 {
-    let v = middle_line(a, alo, ahi);
-    if alo < v {
-        return cut_at(across, v);
-    }
-    let w = middle_line(b, blo, bhi);
-    if blo < w {
-        return cut_at(!across, w);
-    }
-    Cut {
-        found: false,
-        across: false,
-        at: 0,
+    // kept: a closure for `or_else` would have to state the contract of `cut` once more.
+    match first.cut() {
+        Some(cut) => Some(cut),
+        None => second.cut(),
     }
 }
 
 // The choice of a cut of a cell: of the axes that have lines inside the one with the longer side, x on equal sides, and on it the line
 // closest to the middle.
-pub fn find_cut<'a>(v: &'a [i64], h: &'a [i64], r: Rect) -> Cut
+pub fn find_cut<'a>(v: &'a [i64], h: &'a [i64], r: Rect) -> Option<Cut>
     requires { Lined v.now h.now × RectInRange (rect_of r) }
     ensures { result ≡ cut_record (grid_of v.now h.now) (rect_of r) }
 {
-    if r.yhi - r.ylo <= r.xhi - r.xlo {
-        first_of(v, r.xlo, r.xhi, h, r.ylo, r.yhi, true)
+    let across = Side {
+        axis: Axis::X,
+        lines: v,
+        lo: r.xlo,
+        hi: r.xhi,
+    };
+    let deep = Side {
+        axis: Axis::Y,
+        lines: h,
+        lo: r.ylo,
+        hi: r.yhi,
+    };
+    if deep.length() <= across.length() {
+        first_of(&across, &deep)
     } else {
-        first_of(h, r.ylo, r.yhi, v, r.xlo, r.xhi, false)
+        first_of(&deep, &across)
     }
 }

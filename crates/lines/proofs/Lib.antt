@@ -3,3 +3,4 @@ pub mod InsertLaws
 pub mod LineRecordLaws
 pub mod Shifted
 pub mod DeckLines
+pub mod OneProof
