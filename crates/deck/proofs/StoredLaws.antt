@@ -17,7 +17,7 @@ use Rattle.deck.specs.ObjectColumns.{column, object_columns}
 use Rattle.deck.proofs.ClosestLaws.{zip_length}
 use Rattle.deck.proofs.DeckLaws.{zip_first, zip_second, by_x, by_y, by_visits, StopColumns, stops_length}
 
-abbrev object_of : AxisCosts → Stop → ℕ → Object
+abbrev pub object_of : AxisCosts → Stop → ℕ → Object
 object_of axis stop near = record { at = scaled_place axis stop.at; visits = stop.visits; near = near }
 
 module _ (axis : AxisCosts) {xs ys : List ℤ} {vs ns : List ℕ} {n : ℕ} (places-range : PlacesInRange 512 xs ys n) (visits : VisitsInRange vs n)
@@ -31,7 +31,7 @@ module _ (axis : AxisCosts) {xs ys : List ℤ} {vs ns : List ℕ} {n : ℕ} (pla
   abbrev pub stored : List Object
   stored = stored_objects axis stops ns
 
-  stops_count : length stops ≡ n
+  pub stops_count : length stops ≡ n
   stops_count = length-take-le n (stops_of (places xs ys) vs) (omega (arith, stops_length xs ys vs, counted.x, counted.y, counted.visits))
 
   pub stored_count : length stored ≡ n

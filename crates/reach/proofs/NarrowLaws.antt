@@ -1,7 +1,7 @@
 -- Rows, scaled places and scaled rectangles as 32-bit words, which hold their numbers.
 -- Assumes nothing.
 use mathlib.Core.Path.{◌≡◌, refl, sym, ap, subst, ◌∙◌}
-use Prim.Native.Nat.{◌^◌, ◌≤◌, ◌<◌}
+use Prim.Native.Nat.{ℕ, ◌^◌, ◌≤◌, ◌<◌}
 use native.Mathlib.Omega.{arith}
 use lib.IntN.{ℤ, pos, negsuc, nat_abs}
 use lib.Signed.{◌≤ℤ◌}
@@ -12,14 +12,15 @@ use Rattle.numbers.specs.Integer.{times}
 use Rattle.numbers.proofs.Scaling.{scale_most, scale_le}
 use Rattle.numbers.proofs.Words.{word_fits}
 use Rattle.numbers.proofs.WordTests.{back}
-use Rattle.query.specs.Place.{Rect}
+use Rattle.query.specs.Place.{Place, Rect}
 use Rattle.query.specs.Deck.{AxisCosts}
 use Rattle.query.specs.Range.{PlaceInRange}
-use Rattle.deck.specs.Ranges.{Near180000, AxisCostInRange, Scaled}
+use Rattle.deck.specs.Ranges.{Near180000, CostsInRange, Scaled}
 use Rattle.deck.specs.Objects.{scaled_rect}
-use Rattle.deck.proofs.ScaleLaws.{scaled_word}
-use Rattle.reach.specs.Columns.{ObjectInRange, Ranged, EdgesInRange, edges_rect, EdgesOf}
-use Rattle.reach.specs.declared.Edges.{Edges}
+use Rattle.deck.proofs.ScaleLaws.{natural_word as cost_word, scaled_word}
+use Rattle.reach.specs.Columns.{ObjectInRange, Ranged, EdgesInRange}
+use Rattle.reach.specs.Held.{edges_rect, EdgesOf}
+use Rattle.reach.specs.declared.rectangle.Edges.{Edges}
 
 -- a number as a 32-bit word holds it
 abbrev pub word : ℤ → ℤ
@@ -52,42 +53,36 @@ module _ {x y visits near : ℤ} (row : ObjectInRange x y visits near) where
   row_word = rw (number_word x (omega (arith, row.place)), number_word y (omega (arith, row.place)), visits_word, near_word) row
 
 -- ---- a place and a rectangle, scaled
-module _ {k : ℤ} (cost : AxisCostInRange k) where
-  pub cost_back : word k ≡ k
-  cost_back = number_word k (omega (arith, cost.most))
+module _ {k : ℕ} (most : k ≤ 9) where
+  pub scaled_by : {r : ℤ} (v : ℤ) → nat_abs v ≤ 20000 → Scaled (to_z w32 k) (back v) r → word r ≡ times k v
+  scaled_by {r} v h e = scaled_word v h e ∙ ap (λ (z : ℤ). times (nat_abs z) v) (cost_word k most)
 
-  pub scaled_by : {r : ℤ} (v : ℤ) → nat_abs v ≤ 20000 → Scaled (word k) (back v) r → word r ≡ times (nat_abs k) v
-  scaled_by {r} v h e = scaled_word v h e ∙ ap (λ (z : ℤ). times (nat_abs z) v) cost_back
+  pub scaled_small : (v : ℤ) → nat_abs v ≤ 20000 → nat_abs (times k v) ≤ 180000
+  scaled_small v h = scale_most k 9 20000 v most h
 
-  pub scaled_small : (v : ℤ) → nat_abs v ≤ 20000 → nat_abs (times (nat_abs k) v) ≤ 180000
-  scaled_small v h = scale_most (nat_abs k) 9 20000 v cost.most h
+module _ {axis : AxisCosts} (costs : CostsInRange axis) where
+  pub place_scaled : (p : Place) → PlaceInRange p → Near180000 (times axis.a p.x) (times axis.b p.y)
+  place_scaled p h = record { x_range = scaled_small costs.most.0 p.x h.x_range; y_range = scaled_small costs.most.1 p.y h.y_range }
 
-module _ {k l : ℤ} (across : AxisCostInRange k) (deep : AxisCostInRange l) where
-  pub place_scaled : (x y : ℤ) → PlaceInRange (record { x = x; y = y }) → Near180000 (times (nat_abs k) x) (times (nat_abs l) y)
-  place_scaled x y h = record { x_range = scaled_small across x h.x_range; y_range = scaled_small deep y h.y_range }
-
-  module _ {r : Rect} (h : Ranged r) where
-    edges_scaled : EdgesInRange (times (nat_abs k) r.xlo) (times (nat_abs l) r.ylo) (times (nat_abs k) r.xhi) (times (nat_abs l) r.yhi)
-    edges_scaled = record {
-      low = place_scaled r.xlo r.ylo h.range.low_corner_law;
-      high = place_scaled r.xhi r.yhi h.range.high_corner_law;
-      across = scale_le (nat_abs k) r.xlo r.xhi h.full.across;
-      deep = scale_le (nat_abs l) r.ylo r.yhi h.full.deep;
+  module _ {r : Rect} (h : Ranged r) {t u v w : ℤ} (et : Scaled (to_z w32 axis.a) (back r.xlo) t) (eu : Scaled (to_z w32 axis.b) (back r.ylo) u)
+      (ev : Scaled (to_z w32 axis.a) (back r.xhi) v) (ew : Scaled (to_z w32 axis.b) (back r.yhi) w) where
+    pub made_edges : record { xlo = word t; ylo = word u; xhi = word v; yhi = word w } ≡ scaled_rect axis r
+    made_edges = λ i. record {
+      xlo = scaled_by costs.most.0 r.xlo h.range.low_corner_law.x_range et i;
+      ylo = scaled_by costs.most.1 r.ylo h.range.low_corner_law.y_range eu i;
+      xhi = scaled_by costs.most.0 r.xhi h.range.high_corner_law.x_range ev i;
+      yhi = scaled_by costs.most.1 r.yhi h.range.high_corner_law.y_range ew i;
     }
 
-    pub made_edges : {t u v w : ℤ} → Scaled (word k) (back r.xlo) t → Scaled (word l) (back r.ylo) u → Scaled (word k) (back r.xhi) v →
-        Scaled (word l) (back r.yhi) w →
-        EdgesOf (record { a = nat_abs k; b = nat_abs l }) r (record { xlo = word t; ylo = word u; xhi = word v; yhi = word w })
-    made_edges {t} {u} {v} {w} et eu ev ew =
-        let low = h.range.low_corner_law in
-        let high = h.range.high_corner_law in
-        rw (
-          scaled_by across r.xlo low.x_range et,
-          scaled_by deep r.ylo low.y_range eu,
-          scaled_by across r.xhi high.x_range ev,
-          scaled_by deep r.yhi high.y_range ew,
-        )
-        (record { are = refl; range = edges_scaled })
+    pub made_range : EdgesInRange (word t) (word u) (word v) (word w)
+    made_range =
+        subst (λ (q : Rect). EdgesInRange q.xlo q.ylo q.xhi q.yhi) (sym made_edges)
+        (record {
+          low = place_scaled (record { x = r.xlo; y = r.ylo }) h.range.low_corner_law;
+          high = place_scaled (record { x = r.xhi; y = r.yhi }) h.range.high_corner_law;
+          across = scale_le axis.a r.xlo r.xhi h.full.across;
+          deep = scale_le axis.b r.ylo r.yhi h.full.deep;
+        })
 
 -- scaled edges as words
 module _ {axis : AxisCosts} {r : Rect} {e : Edges} (h : EdgesOf axis r e) where

@@ -1,9 +1,8 @@
 -- The flags of objects, one for each, and as the reach of the stops of the deck whose objects they are.
 -- Assumes nothing.
 use mathlib.Core.Path.{◌≡◌, refl, ap, ◌∙◌}
-use mathlib.Core.Bool.{Bool, cond}
+use mathlib.Core.Bool.{Bool, false}
 use mathlib.Core.List.{map, map-map}
-use Prim.Native.Nat.{ℕ}
 use lib.Dec.{ltb}
 use Rattle.numbers.specs.Padded.{padded}
 use Rattle.numbers.proofs.Joined.{map_each}
@@ -16,15 +15,12 @@ use Rattle.deck.specs.Objects.{scaled_place, scaled_rect, Object, objects_of, Pr
 use Rattle.deck.proofs.TravelLaws.{travel_scaled}
 use Rattle.reach.specs.ObjectReach.{reaches, flags_of}
 
--- whether an object reaches a scaled rectangle, and its flag
+-- whether an object reaches a scaled rectangle
 abbrev pub reaches_to : Rect → Object → Bool
 reaches_to r s = ltb (travel plain s.at (closest_point r s.at)) s.near
 
-abbrev pub flag_by : Rect → Object → ℕ
-flag_by r s = cond (reaches_to r s) 1 0
-
 module _ (P : Pricing) where
-  pub flags_of_map : (r : Rect) → flags_of P r ≡ padded 512 0 (map (flag_by (scaled_rect P.axis r)) P.objects)
+  pub flags_of_map : (r : Rect) → flags_of P r ≡ padded 512 false (map (reaches_to (scaled_rect P.axis r)) P.objects)
   unfolding flags_of reaches
   flags_of_map r = refl
 
@@ -45,6 +41,6 @@ module _ (deck : Deck) where
     travel_scaled deck.axis stop.at (closest_point r stop.at),
   )
 
-  pub flags_law : (r : Rect) → flags_of (pricing_of deck) r ≡ padded 512 0 (map (λ stop. cond (reach deck r stop) 1 0) deck.stops)
+  pub flags_law : (r : Rect) → flags_of (pricing_of deck) r ≡ padded 512 false (map (reach deck r) deck.stops)
   flags_law r = flags_of_map (pricing_of deck) r
-      ∙ rw objects_of_map (rw map-map (ap (padded 512 0) (map_each _ _ deck.stops (λ stop m. ap (λ (b : Bool). cond b 1 0) (reach_law r stop)))))
+      ∙ rw objects_of_map (rw map-map (ap (padded 512 false) (map_each _ _ deck.stops (λ stop m. reach_law r stop))))

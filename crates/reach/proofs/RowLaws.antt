@@ -1,15 +1,13 @@
 -- A row of the columns, read from words; and one turn of the pass that sets the flags.
 -- Assumes nothing.
-use mathlib.Core.Path.{◌≡◌, ◌∙◌}
-use mathlib.Core.Bool.{Bool, cond}
+use mathlib.Core.Path.{◌≡◌, sym, ap, ◌∙◌}
+use mathlib.Core.Bool.{Bool, false}
 use mathlib.Core.List.{List, map}
-use Prim.Native.Nat.{ℕ, ◌+◌, ◌≤◌, ◌<◌}
+use Prim.Native.Nat.{ℕ, ◌+◌, ◌<◌}
 use native.Mathlib.Omega.{arith}
 use lib.Dec.{ltb}
-use lib.IntN.{ℤ, pos, nat_abs}
-use lib.ListN.{get_or, set, replicate}
-use mir.Syntax.{w32}
-use mir.Val.{to_z}
+use lib.IntN.{ℤ, nat_abs}
+use lib.ListN.{set, replicate}
 use Rattle.numbers.specs.Padded.{padded}
 use Rattle.numbers.proofs.Padded.{padded_none, padded_map}
 use Rattle.query.specs.Place.{Rect}
@@ -18,60 +16,45 @@ use Rattle.deck.specs.Objects.{Object}
 use Rattle.deck.specs.ObjectColumns.{object_at, objects_in}
 use Rattle.deck.proofs.TravelLaws.{travel_plain}
 use Rattle.deck.proofs.ColumnLaws.{objects_in_none, objects_in_more, objects_in_length}
-use Rattle.reach.specs.Columns.{Priceable, ObjectInRange}
+use Rattle.reach.specs.Held.{object_of_row}
+use Rattle.reach.specs.declared.columns.Row.{Row}
 use Rattle.reach.proofs.ExcessLaws.{away}
 use Rattle.reach.proofs.NarrowLaws.{word, number_word, near_word}
-use Rattle.reach.proofs.ReachLaws.{reaches_to, flag_by}
-
--- a number of the columns, as a word
-abbrev pub word_at : List ℤ → ℕ → ℤ
-word_at columns i = word (get_or columns i (pos 0))
-
-abbrev pub rect_words : ℕ → ℕ → ℕ → ℕ → Rect
-rect_words xlo ylo xhi yhi = record { xlo = to_z w32 xlo; ylo = to_z w32 ylo; xhi = to_z w32 xhi; yhi = to_z w32 yhi }
-
--- the code's test of whether row i reaches a rectangle
-abbrev pub reached : List ℤ → ℕ → Rect → Bool
-reached columns i r =
-    ltb (away (word_at columns i) (word_at columns (512 + i)) r.xlo r.ylo r.xhi r.yhi) (nat_abs (word_at columns (1536 + i)))
+use Rattle.reach.proofs.ReachLaws.{reaches_to}
 
 pub reaches_away : (r : Rect) (s : Object) → reaches_to r s ≡ ltb (away s.at.x s.at.y r.xlo r.ylo r.xhi r.yhi) s.near
 unfolding closest_point
 reaches_away r s = rw travel_plain
 
--- row i
-module _ {columns : List ℤ} {n : ℕ} (priceable : Priceable columns n) {i : ℕ} (h : i < n) where
-  pub row : ObjectInRange (get_or columns i (pos 0)) (get_or columns (512 + i) (pos 0)) (get_or columns (1024 + i) (pos 0)) (get_or columns (1536 + i) (pos 0))
-  row = priceable.row i (omega (arith, priceable.count))
+-- a row, of words
+module _ (row : Row) where
+  pub x_word : word row.x ≡ row.x
+  x_word = number_word row.x (omega (arith, row.in_range.place))
 
-  pub x_word : word_at columns i ≡ get_or columns i (pos 0)
-  x_word = number_word _ (omega (arith, row.place))
+  pub y_word : word row.y ≡ row.y
+  y_word = number_word row.y (omega (arith, row.in_range.place))
 
-  pub y_word : word_at columns (512 + i) ≡ get_or columns (512 + i) (pos 0)
-  y_word = number_word _ (omega (arith, row.place))
+-- the code's test of whether a row reaches a rectangle
+abbrev pub reached : Row → Rect → Bool
+reached row r = ltb (away (word row.x) (word row.y) r.xlo r.ylo r.xhi r.yhi) (nat_abs (word row.near))
 
--- ---- which rows reach a rectangle: the flags of the first i rows of n
-pub record Flagged (columns : List ℤ) (n : ℕ) (r : Rect) (flags : List ℕ) (i : ℕ) : Type 0 where
-  pub count : i ≤ n
-  pub flagged : flags ≡ padded 512 0 (map (flag_by r) (objects_in columns i))
+pub row_reaches : (row : Row) (r : Rect) {s : Object} → object_of_row row ≡ s → reached row r ≡ reaches_to r s
+row_reaches row r e = rw (x_word row, y_word row, near_word row.in_range) (sym (reaches_away r (object_of_row row)) ∙ ap (reaches_to r) e)
 
-module _ (columns : List ℤ) (n : ℕ) (r : Rect) where
-  pub flagged_none : Flagged columns n r (replicate 512 0) 0
-  flagged_none = record { count = omega arith; flagged = rw (objects_in_none, padded_none) }
+-- ---- which rows reach a rectangle: the flags of the first i rows
+pub record Flagged (columns : List ℤ) (r : Rect) (flags : List Bool) (i : ℕ) : Type 0 where
+  pub are : flags ≡ padded 512 false (map (reaches_to r) (objects_in columns i))
 
-  pub flagged_more : {flags : List ℕ} {i : ℕ} (v : ℕ) → Priceable columns n → Flagged columns n r flags i → i < n
-      → v ≡ cond (reached columns i r) 1 0
-      → Flagged columns n r (set flags i v) (i + 1)
-  flagged_more {flags} {i} v priceable so_far h e =
-      let q : v ≡ flag_by r (object_at columns i) =
-      e ∙ rw (x_word priceable h, y_word priceable h, near_word (row priceable h), reaches_away) in
+module _ (columns : List ℤ) (r : Rect) where
+  pub flagged_none : Flagged columns r (replicate 512 false) 0
+  flagged_none = record { are = rw (objects_in_none, padded_none) }
+
+  pub flagged_more : {flags : List Bool} {i : ℕ} (v : Bool) → Flagged columns r flags i → i < 512 → v ≡ reaches_to r (object_at columns i)
+      → Flagged columns r (set flags i v) (i + 1)
+  flagged_more {flags} {i} v so_far h e =
       record {
-        count = omega arith;
-        flagged =
-            rw (q, objects_in_more columns i)
-            (padded_map 512 0 (flag_by r) (objects_in columns i) (object_at columns i) (omega (arith, objects_in_length columns i))
-            (omega (arith, priceable.count)) so_far.flagged);
+        are =
+            rw (e, objects_in_more columns i)
+            (padded_map 512 false (reaches_to r) (objects_in columns i) (object_at columns i) (omega (arith, objects_in_length columns i)) h
+            so_far.are);
       }
-
-  pub flagged_all : {flags : List ℕ} {i : ℕ} → Flagged columns n r flags i → n ≤ i → flags ≡ padded 512 0 (map (flag_by r) (objects_in columns n))
-  flagged_all {flags} {i} so_far h = let k : i ≡ n = omega arith in so_far.flagged ∙ rw k

@@ -5,10 +5,7 @@ use Rattle.std.specs.Int.Signed.{lt_z}
 use Rattle.numbers.specs.Integer.{dist}
 use Rattle.query.specs.Place.{Rect, NonEmpty}
 use Rattle.query.specs.Range.{RectInRange, travel_limit, stops_limit, visits_limit}
-use Rattle.query.specs.Deck.{AxisCosts}
 use Rattle.deck.specs.Ranges.{Near180000, AxisCostInRange}
-use Rattle.deck.specs.Objects.{scaled_rect}
-use Rattle.reach.specs.declared.Edges.{Edges}
 
 -- one row of the columns
 pub record ObjectInRange (x y visits near : ℤ) : Type 0 where
@@ -43,13 +40,6 @@ pub record EdgesInRange (xlo ylo xhi yhi : ℤ) : Type 0 where
   pub high : Near180000 xhi yhi
   pub across : xlo ≤ℤ xhi
   pub deep : ylo ≤ℤ yhi
-
-abbrev pub edges_rect : Edges → Rect
-edges_rect e = record { xlo = e.xlo; ylo = e.ylo; xhi = e.xhi; yhi = e.yhi }
-
-pub record EdgesOf (axis : AxisCosts) (r : Rect) (e : Edges) : Type 0 where
-  pub are : edges_rect e ≡ scaled_rect axis r
-  pub range : EdgesInRange e.xlo e.ylo e.xhi e.yhi
 
 -- how far a lies above b
 unfoldable pub excess_of : ℤ → ℤ → ℕ

@@ -1,6 +1,6 @@
 -- Which objects, at scaled places, reach a rectangle: document 01's reach, over axis costs and objects.
 -- Assumes nothing.
-use Rattle.std.specs.Prelude.{ℕ, Bool, cond, List, map, ltb}
+use Rattle.std.specs.Prelude.{Bool, false, List, map, ltb}
 use Rattle.numbers.specs.Padded.{padded}
 use Rattle.query.specs.Place.{Rect}
 use Rattle.query.specs.Deck.{plain}
@@ -13,7 +13,7 @@ unfoldable pub reaches : Pricing → Rect → Object → Bool
 unfolding travel closest_point
 reaches P r s = ltb (travel plain s.at (closest_point (scaled_rect P.axis r) s.at)) s.near
 
--- for each object of 512 at most 1 where it is within reach and 0 where it is not, and 0 behind the last
-unfoldable pub flags_of : Pricing → Rect → List ℕ
+-- for each object of 512 at most whether it is within reach, and false behind the last
+unfoldable pub flags_of : Pricing → Rect → List Bool
 unfolding reaches padded
-flags_of P r = padded stops_limit 0 (map (λ s. cond (reaches P r s) 1 0) P.objects)
+flags_of P r = padded stops_limit false (map (reaches P r) P.objects)

@@ -1,24 +1,24 @@
 -- What `reach::reach_flags` owes.
-use mathlib.Core.Path.{sym, ◌∙◌}
-use Rattle.deck.specs.ObjectColumns.{pricing_in}
-use Rattle.reach.proofs.NarrowLaws.{edges_are, edges_words, row_word}
+use mathlib.Core.Path.{◌≡◌, sym, ap, ◌∙◌}
+use native.Mathlib.Omega.{arith}
+use Rattle.query.specs.Deck.{AxisCosts}
+use Rattle.deck.specs.Rectangle.{rect_of}
+use Rattle.deck.specs.Objects.{scaled_rect}
+use Rattle.reach.specs.Held.{pricing_of_objects}
 use Rattle.reach.proofs.ReachLaws.{flags_of_map}
-use Rattle.reach.proofs.RowLaws.{row, flagged_none, flagged_more, flagged_all}
+use Rattle.reach.proofs.RowLaws.{row_reaches, flagged_none, flagged_more}
 use Rattle.reach.proofs.reach_flags.Goals as goal
 
 pub loop-i-init : goal.loop-i-init
-loop-i-init c = flagged_none _ _ _
-
-pub flag-requires : goal.flag-requires
-flag-requires c =
-    let words = row_word (row c.requires.0 c.loop-i-test.true) in
-    (words.place, words.near_some, edges_words c.edges_of-e.ensures)
+loop-i-init c = flagged_none _ _
 
 pub loop-i-preserved : goal.loop-i-preserved
 loop-i-preserved c =
-    flagged_more _ _ _ _ c.requires.0 c.loop-i.invariant c.loop-i-test.true c.flag.ensures
+    flagged_more _ _ _ c.loop-i.invariant (omega (arith, c.loop-i-test.true, c.count-i-end.ensures, c.args.objects.now.priceable.count))
+    (c.reached_from.ensures ∙ row_reaches c.row-row.result _ c.row-row.ensures)
 
 pub returns : goal.returns
 returns c =
-    flagged_all _ _ _ c.loop-i.invariant c.loop-i-test.false
-    ∙ rw (edges_are c.edges_of-e.ensures) (sym (flags_of_map (pricing_in c.args.columns.now c.args.n) _))
+    let full : c.loop-i.i ≡ c.args.objects.now.count = omega (arith, c.loop-i-test.false, c.loop-i.auto.i-end, c.count-i-end.ensures) in
+    let edges = c.of-edges.ensures.are ∙ ap (λ (axis : AxisCosts). scaled_rect axis (rect_of c.args.r)) c.axis.ensures.is in
+    c.loop-i.invariant.are ∙ rw (full, edges) (sym (flags_of_map (pricing_of_objects c.args.objects.now) _))

@@ -1,12 +1,12 @@
--- What `reach::outside` owes.
+-- What `reach::rectangle::outside` owes.
 use Prim.Native.Nat.{◌^◌, ◌<◌}
 use native.Mathlib.Omega.{arith}
 use mir.Syntax.{w32}
 use Rattle.numbers.specs.Integer.{dist, clamp}
 use Rattle.numbers.proofs.Words.{natural_fits, result_is}
 use Rattle.reach.proofs.ExcessLaws.{outside_most, outside_sum}
-use Rattle.reach.proofs.outside.Goals.{Start}
-use Rattle.reach.proofs.outside.Goals as goal
+use Rattle.reach.proofs.rectangle.outside.Goals.{Start}
+use Rattle.reach.proofs.rectangle.outside.Goals as goal
 
 small : (c : Start) → dist c.args.v (clamp c.args.lo c.args.hi c.args.v) < 2 ^ 31
 small c = omega (arith, outside_most c.args.v c.args.lo c.args.hi c.requires.0 c.requires.1 c.requires.2)

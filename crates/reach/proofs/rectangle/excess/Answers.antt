@@ -1,12 +1,12 @@
--- What `reach::excess` owes.
+-- What `reach::rectangle::excess` owes.
 use Prim.Native.Nat.{◌^◌, ◌<◌}
 use native.Mathlib.Omega.{arith}
 use mir.Syntax.{w32}
 use Rattle.numbers.proofs.Words.{result_is}
 use Rattle.reach.specs.Columns.{excess_of}
 use Rattle.reach.proofs.ExcessLaws.{excess_most, excess_above, excess_none}
-use Rattle.reach.proofs.excess.Goals.{Start}
-use Rattle.reach.proofs.excess.Goals as goal
+use Rattle.reach.proofs.rectangle.excess.Goals.{Start}
+use Rattle.reach.proofs.rectangle.excess.Goals as goal
 
 small : (c : Start) → excess_of c.args.a c.args.b < 2 ^ 31
 small c = omega (arith, excess_most c.args.a c.args.b c.requires.x_range c.requires.y_range)

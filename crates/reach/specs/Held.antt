@@ -1,0 +1,35 @@
+-- What the code holds: objects in columns, one of them, and the scaled edges of a rectangle.
+-- Assumes nothing.
+use Rattle.std.specs.Prelude.{◌≡◌, nat_abs}
+use Rattle.query.specs.Place.{Rect}
+use Rattle.query.specs.Deck.{AxisCosts}
+use Rattle.deck.specs.declared.AxisCosts as Code
+use Rattle.deck.specs.DeckOf.{held_axis}
+use Rattle.deck.specs.Ranges.{CostsInRange}
+use Rattle.deck.specs.Objects.{scaled_rect, Object, Pricing}
+use Rattle.deck.specs.ObjectColumns.{pricing_in}
+use Rattle.reach.specs.Columns.{EdgesInRange}
+use Rattle.reach.specs.declared.columns.Objects.{Objects}
+use Rattle.reach.specs.declared.columns.Row.{Row}
+use Rattle.reach.specs.declared.rectangle.Edges.{Edges}
+
+-- the object of a row
+abbrev pub object_of_row : Row → Object
+object_of_row r = record { at = record { x = r.x; y = r.y }; visits = nat_abs r.visits; near = nat_abs r.near }
+
+-- what pricing needs, of objects in columns
+abbrev pub pricing_of_objects : Objects → Pricing
+pricing_of_objects o = pricing_in o.columns o.count
+
+-- axis costs as the code holds them
+pub record AxisOf (axis : AxisCosts) (held : Code.AxisCosts) : Type 0 where
+  pub is : held_axis held ≡ axis
+  pub range : CostsInRange (held_axis held)
+
+abbrev pub edges_rect : Edges → Rect
+edges_rect e = record { xlo = e.xlo; ylo = e.ylo; xhi = e.xhi; yhi = e.yhi }
+
+-- the edges of a rectangle, scaled
+pub record EdgesOf (axis : AxisCosts) (r : Rect) (e : Edges) : Type 0 where
+  pub are : edges_rect e ≡ scaled_rect axis r
+  pub range : EdgesInRange e.xlo e.ylo e.xhi e.yhi

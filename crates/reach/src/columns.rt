@@ -1,0 +1,92 @@
+// The objects of a deck in columns, with the axis costs behind them.
+
+ghost use Rattle.std.specs.Prelude.{◌≡◌, ◌<◌};
+ghost use Rattle.deck.specs.DeckOf.{held_axis};
+ghost use Rattle.deck.specs.Objects.{stored_pricing};
+ghost use Rattle.deck.specs.ObjectColumns.{object_at, axis_in, columns_of};
+ghost use Rattle.deck.specs.Ranges.{CostsInRange, PlacesInRange, VisitsInRange, NearsInRange};
+ghost use Rattle.reach.specs.Columns.{ObjectInRange, Priceable};
+
+use deck::{AxisCosts, put_columns};
+use limits::{COLUMNS, NEAR_COLUMN, VISITS_COLUMN, X_COST, Y_COLUMN, Y_COST};
+
+// One object: its scaled place, its visits and its near.
+#[derive(Clone, Copy)]
+pub struct Row {
+    pub x: i32,
+    pub y: i32,
+    pub visits: i32,
+    pub near: i32,
+    pub ghost in_range: { ObjectInRange x y visits near },
+}
+
+// The objects of a deck at scaled places, and its axis costs. The first `count` rows of the columns count.
+// kept: one array of columns in place of a slice of rows, since the passes over it are vectorised and the project has no heap.
+#[derive(Drop)]
+pub struct Objects {
+    count: usize,
+    columns: [i32; COLUMNS],
+    pub ghost priceable: { Priceable columns count },
+}
+
+impl Objects {
+    ghost use Rattle.reach.specs.Held.{object_of_row, AxisOf};
+
+    // Columns as they are.
+    pub fn new(columns: [i32; COLUMNS], count: usize) -> Objects
+        requires { Priceable columns count }
+        ensures { (result.columns ≡ columns) × (result.count ≡ count) }
+    {
+        Objects { count, columns }
+    }
+
+    // The objects of the first n stops in columns of coordinates, visits and near. Not inlined, so that a caller's frame has no second
+    // array of columns.
+    #[inline(never)]
+    pub fn of_stops<'a>(
+        axis: AxisCosts,
+        x: &'a [i64],
+        y: &'a [i64],
+        visits: &'a [u64],
+        near: &'a [u64],
+        n: usize,
+    ) -> Objects
+        requires { CostsInRange (held_axis axis) × PlacesInRange 512 x.now y.now n × VisitsInRange visits.now n
+            × NearsInRange near.now n }
+        ensures { (result.columns
+            ≡ columns_of (stored_pricing (held_axis axis) x.now y.now visits.now near.now n))
+            × (result.count ≡ n) }
+    {
+        let mut columns = [0i32; COLUMNS];
+        put_columns(axis, x, y, visits, near, n, &mut columns);
+        Objects { count: n, columns }
+    }
+
+    pub fn count(&self) -> usize
+        ensures { result ≡ self.now.count }
+    {
+        self.count
+    }
+
+    pub fn axis(&self) -> AxisCosts
+        ensures { AxisOf (axis_in self.now.columns) result }
+    {
+        AxisCosts {
+            a: (self.columns[X_COST] as u32) as u64,
+            b: (self.columns[Y_COST] as u32) as u64,
+        }
+    }
+
+    // The object in row i.
+    pub fn row(&self, i: usize) -> Row
+        requires { i < self.now.count }
+        ensures { object_of_row result ≡ object_at self.now.columns i }
+    {
+        Row {
+            x: self.columns[i],
+            y: self.columns[Y_COLUMN + i],
+            visits: self.columns[VISITS_COLUMN + i],
+            near: self.columns[NEAR_COLUMN + i],
+        }
+    }
+}

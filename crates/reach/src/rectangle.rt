@@ -1,0 +1,63 @@
+// The scaled edges of a rectangle, and whether they are reached.
+
+ghost use Rattle.std.specs.Prelude.{◌≡◌, ◌+◌, ◌≤◌, ltb, pos, nat_abs, ◌≤ℤ◌};
+ghost use Rattle.numbers.specs.Integer.{dist, clamp};
+ghost use Rattle.deck.specs.Ranges.{Near180000, CostsInRange};
+ghost use Rattle.deck.specs.DeckOf.{held_axis};
+ghost use Rattle.deck.specs.Rectangle.{rect_of};
+ghost use Rattle.reach.specs.Columns.{Ranged, EdgesInRange, excess_of};
+
+use deck::{AxisCosts, Rect, scaled};
+
+// The edges of a rectangle, scaled.
+#[derive(Clone, Copy)]
+pub struct Edges {
+    pub xlo: i32,
+    pub ylo: i32,
+    pub xhi: i32,
+    pub yhi: i32,
+    pub ghost in_range: { EdgesInRange xlo ylo xhi yhi },
+}
+
+// How far a lies above b.
+fn excess(a: i32, b: i32) -> i32
+    requires { Near180000 a b }
+    ensures { result ≡ pos (excess_of a b) }
+{
+    if b < a { a - b } else { 0 }
+}
+
+// The distance of v to the closest number of lo .. hi.
+fn outside(v: i32, lo: i32, hi: i32) -> i32
+    requires { (nat_abs v ≤ 180000) × Near180000 lo hi × (lo ≤ℤ hi) }
+    ensures { result ≡ pos (dist v (clamp lo hi v)) }
+{
+    excess(lo, v) + excess(v, hi)
+}
+
+impl Edges {
+    ghost use Rattle.reach.specs.Held.{EdgesOf};
+
+    // The edges of a rectangle as the passes take them.
+    pub fn of(axis: AxisCosts, r: Rect) -> Edges
+        requires { CostsInRange (held_axis axis) × Ranged (rect_of r) }
+        ensures { EdgesOf (held_axis axis) (rect_of r) result }
+    {
+        let a = axis.a as i32;
+        let b = axis.b as i32;
+        Edges {
+            xlo: scaled(a, r.xlo),
+            ylo: scaled(b, r.ylo),
+            xhi: scaled(a, r.xhi),
+            yhi: scaled(b, r.yhi),
+        }
+    }
+
+    // Whether the travel from a scaled place to the closest point of the rectangle is less than the place's near.
+    pub fn reached_from(self, x: i32, y: i32, near: i32) -> bool
+        requires { Near180000 x y × (pos 0 ≤ℤ near) }
+        ensures { result ≡ ltb (dist x (clamp self.xlo self.xhi x) + dist y (clamp self.ylo self.yhi y)) (nat_abs near) }
+    {
+        outside(x, self.xlo, self.xhi) + outside(y, self.ylo, self.yhi) < near
+    }
+}
