@@ -1,6 +1,6 @@
 -- The rows of columns, one after another: a pass over the columns that adds up a figure of each row has the sum over the rows passed.
 -- Assumes nothing.
-use mathlib.Core.Path.{◌≡◌, ◌∙◌}
+use mathlib.Core.Path.{◌≡◌}
 use mathlib.Core.List.{List, [], ◌∷◌, ◌++◌}
 use Prim.Native.Nat.{ℕ, zero, suc, ◌+◌, ◌*◌, ◌≤◌, ◌<◌}
 use native.Mathlib.Numerals.{add-one}
@@ -25,22 +25,17 @@ module _ (f : Object → ℕ) where
     pub sum_more : (i : ℕ) → sum_of f (objects_in columns (i + 1)) ≡ sum_of f (objects_in columns i) + f (object_at columns i)
     sum_more i = rw (objects_in_more columns i) (sum_snoc (objects_in columns i) (object_at columns i))
 
--- a pass over the first n rows that has added up f of i rows, each at most k
-pub record Passed (f : Object → ℕ) (k : ℕ) (columns : List ℤ) (n sum i : ℕ) : Type 0 where
-  pub count : i ≤ n
+-- a pass over the rows that has added up f of i rows, each at most k
+pub record Passed (f : Object → ℕ) (k : ℕ) (columns : List ℤ) (sum i : ℕ) : Type 0 where
   pub so_far : sum ≡ sum_of f (objects_in columns i)
   pub most : sum ≤ i * k
 
-module _ (f : Object → ℕ) (k : ℕ) (columns : List ℤ) (n : ℕ) where
-  pub passed_none : Passed f k columns n 0 0
-  passed_none = record { count = omega arith; so_far = omega (arith, sum_none f columns); most = omega arith }
+module _ (f : Object → ℕ) (k : ℕ) (columns : List ℤ) where
+  pub passed_none : Passed f k columns 0 0
+  passed_none = record { so_far = omega (arith, sum_none f columns); most = omega arith }
 
-  pub passed_more : {sum i : ℕ} (v : ℕ) → Passed f k columns n sum i → i < n → v ≡ f (object_at columns i) → f (object_at columns i) ≤ k
-      → Passed f k columns n (sum + v) (i + 1)
-  passed_more {sum} {i} v p h e m = record { count = omega arith; so_far = omega (arith, sum_more f columns i); most = omega arith }
-
-  pub passed_all : {sum i : ℕ} → Passed f k columns n sum i → n ≤ i → (sum ≡ sum_of f (objects_in columns n)) × (sum ≤ n * k)
-  passed_all {sum} {i} p h = let e : i ≡ n = omega arith in (p.so_far ∙ rw e, rw e at p.most)
+  pub passed_more : {sum i : ℕ} (v : ℕ) → Passed f k columns sum i → v ≡ f (object_at columns i) → v ≤ k → Passed f k columns (sum + v) (i + 1)
+  passed_more {sum} {i} v p e m = record { so_far = omega (arith, sum_more f columns i); most = omega arith }
 
 -- the sum over rows that are each at most k
 pub sum_most : (f : Object → ℕ) (k : ℕ) (columns : List ℤ) (n : ℕ) → ((i : ℕ) → i < n → f (object_at columns i) ≤ k)

@@ -1,27 +1,30 @@
 -- What pricing computes with, as words: casts of a row's numbers, a scaled place, the sides of a scaled rectangle.
 -- Assumes nothing.
-use mathlib.Core.Path.{◌≡◌, ◌∙◌}
-use Prim.Native.Nat.{◌+◌, ◌*◌, ◌≤◌}
+use mathlib.Core.Path.{◌≡◌, ap, ◌∙◌}
+use Prim.Native.Nat.{ℕ, ◌+◌, ◌*◌, ◌≤◌, min}
 use native.Mathlib.Omega.{arith}
 use lib.Dec.{T}
 use lib.IntN.{ℤ, pos, nat_abs, ◌-ℤ◌}
 use lib.Signed.{non_neg, ◌≤ℤ◌}
 use mir.Syntax.{w32, w64}
-use mir.Val.{SFits, Fits}
+use mir.Val.{Fits, to_z}
+use Rattle.std.specs.Int.{int_min}
+use Rattle.std.proofs.lemmas.Int.{ints, clamps}
 use Rattle.numbers.specs.Integer.{dist}
 use Rattle.numbers.proofs.Integer.{order, sub_nat, dist_nat}
 use Rattle.numbers.proofs.Distance.{dist_most}
 use Rattle.numbers.proofs.Scaling.{dist_scale}
-use Rattle.numbers.proofs.Words.{natural_fits, natural_is, natural_cast}
+use Rattle.numbers.proofs.Words.{natural_is, natural_cast}
 use Rattle.numbers.proofs.WordTests.{back}
-use Rattle.query.specs.Place.{Rect}
+use Rattle.query.specs.Place.{Place, Rect}
 use Rattle.query.specs.Deck.{AxisCosts}
 use Rattle.query.specs.Bound.{span}
 use Rattle.query.specs.Range.{PlaceInRange, travel_limit}
-use Rattle.deck.specs.Ranges.{Near180000, AxisCostInRange, Scaled}
+use Rattle.deck.specs.Ranges.{Near180000, CostsInRange, Scaled}
 use Rattle.deck.specs.Objects.{scaled_place}
-use Rattle.reach.specs.Columns.{ObjectInRange, EdgesOf}
-use Rattle.reach.specs.declared.Edges.{Edges}
+use Rattle.reach.specs.Columns.{ObjectInRange}
+use Rattle.reach.specs.Held.{EdgesOf}
+use Rattle.reach.specs.declared.rectangle.Edges.{Edges}
 use Rattle.reach.proofs.NarrowLaws.{word, natural, number_word, visits_word, near_word, scaled_by, place_scaled}
 use Rattle.pricing.specs.ObjectFigures.{Figure}
 
@@ -39,14 +42,26 @@ module _ {x y visits near : ℤ} (row : ObjectInRange x y visits near) where
   pub near_wide : Fits w64 (nat_abs (word near))
   near_wide = rw (near_word row) (omega (arith, row.near_range))
 
+-- ---- the smaller of near and of a travel
+least : (a b : ℕ) → int_min (pos a) (pos b) ≡ pos (min b a)
+least a b = omega (arith, ints, clamps)
+
+pub smaller : (near t m : ℤ) (k : ℕ) → pos 0 ≤ℤ near → nat_abs near ≤ 720000 → k ≤ 720000 → t ≡ pos k → m ≡ int_min (word t) (word near)
+    → nat_abs (word m) ≡ min (nat_abs near) k
+smaller near t m k some most small et em =
+    let t_is : word t ≡ pos k = ap word et ∙ number_word (pos k) small in
+    let near_is : word near ≡ pos (nat_abs near) = number_word near most ∙ natural near some in
+    let m_is : m ≡ pos (min (nat_abs near) k) = em ∙ (λ i. int_min (t_is i) (near_is i)) ∙ least k (nat_abs near) in
+    rw m_is (ap nat_abs (number_word (pos (min (nat_abs near) k)) (omega arith)))
+
 -- ---- a place, scaled
-module _ {k l x y u v : ℤ} (across : AxisCostInRange k) (deep : AxisCostInRange l) (h : PlaceInRange (record { x = x; y = y }))
-    (eu : Scaled (word k) (back x) u) (ev : Scaled (word l) (back y) v) where
-  pub place_words : record { x = word u; y = word v } ≡ scaled_place (record { a = nat_abs k; b = nat_abs l }) (record { x = x; y = y })
-  place_words = λ i. record { x = scaled_by across x h.x_range eu i; y = scaled_by deep y h.y_range ev i }
+module _ {axis : AxisCosts} {p : Place} {u v : ℤ} (costs : CostsInRange axis) (h : PlaceInRange p) (eu : Scaled (to_z w32 axis.a) (back p.x) u)
+    (ev : Scaled (to_z w32 axis.b) (back p.y) v) where
+  pub place_words : record { x = word u; y = word v } ≡ scaled_place axis p
+  place_words = λ i. record { x = scaled_by costs.most.0 p.x h.x_range eu i; y = scaled_by costs.most.1 p.y h.y_range ev i }
 
   pub place_near : Near180000 (word u) (word v)
-  place_near = rw (scaled_by across x h.x_range eu, scaled_by deep y h.y_range ev) (place_scaled across deep x y h)
+  place_near = rw (scaled_by costs.most.0 p.x h.x_range eu, scaled_by costs.most.1 p.y h.y_range ev) (place_scaled costs p h)
 
 -- ---- a side of a scaled rectangle, and both
 module _ (lo hi : ℤ) (g : nat_abs lo ≤ 180000) (h : nat_abs hi ≤ 180000) (k : lo ≤ℤ hi) where
@@ -56,14 +71,8 @@ module _ (lo hi : ℤ) (g : nat_abs lo ≤ 180000) (h : nat_abs hi ≤ 180000) (
   side_most : dist lo hi ≤ 360000
   side_most = omega (arith, dist_most 180000 lo hi g h)
 
-  side_fits : SFits w32 (word hi -ℤ word lo)
-  side_fits = natural_fits w32 (word hi -ℤ word lo) (dist lo hi) side_is (omega (arith, side_most))
-
   side_value : nat_abs (word (word hi -ℤ word lo)) ≡ dist lo hi
   side_value = natural_is w32 (word hi -ℤ word lo) (dist lo hi) side_is (omega (arith, side_most))
-
-  side_cast : T (non_neg (word (word hi -ℤ word lo))) × Fits w64 (nat_abs (word (word hi -ℤ word lo)))
-  side_cast = ((natural_cast w32 (word hi -ℤ word lo) (dist lo hi) side_is (omega (arith, side_most))).0, rw side_value (omega (arith, side_most)))
 
 -- both, of a scaled rectangle's edges
 module _ {axis : AxisCosts} {r : Rect} {e : Edges} (h : EdgesOf axis r e) where
@@ -72,18 +81,6 @@ module _ {axis : AxisCosts} {r : Rect} {e : Edges} (h : EdgesOf axis r e) where
 
   height_is : dist e.ylo e.yhi ≡ axis.b * dist r.ylo r.yhi
   height_is = (λ i. dist (h.are i).ylo (h.are i).yhi) ∙ dist_scale axis.b r.ylo r.yhi
-
-  pub width_fits : SFits w32 (word e.xhi -ℤ word e.xlo)
-  width_fits = side_fits e.xlo e.xhi h.range.low.x_range h.range.high.x_range h.range.across
-
-  pub width_cast : T (non_neg (word (word e.xhi -ℤ word e.xlo))) × Fits w64 (nat_abs (word (word e.xhi -ℤ word e.xlo)))
-  width_cast = side_cast e.xlo e.xhi h.range.low.x_range h.range.high.x_range h.range.across
-
-  pub height_fits : SFits w32 (word e.yhi -ℤ word e.ylo)
-  height_fits = side_fits e.ylo e.yhi h.range.low.y_range h.range.high.y_range h.range.deep
-
-  pub height_cast : T (non_neg (word (word e.yhi -ℤ word e.ylo))) × Fits w64 (nat_abs (word (word e.yhi -ℤ word e.ylo)))
-  height_cast = side_cast e.ylo e.yhi h.range.low.y_range h.range.high.y_range h.range.deep
 
   pub span_is : Figure (span axis r) travel_limit (nat_abs (word (word e.xhi -ℤ word e.xlo)) + nat_abs (word (word e.yhi -ℤ word e.ylo)))
   unfolding span

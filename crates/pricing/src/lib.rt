@@ -23,7 +23,7 @@ fn paid(row: Row, x: i32, y: i32) -> u64
     ensures { result ≡ nat_abs row.visits * min (nat_abs row.near) (dist row.x x + dist row.y y) }
 {
     let t = travelled(row.x, row.y, x, y);
-    let m = if t < row.near { t } else { row.near };
+    let m = t.min(row.near);
     ((row.visits as u32) as u64) * ((m as u32) as u64)
 }
 
