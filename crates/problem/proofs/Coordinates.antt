@@ -1,12 +1,11 @@
 -- Places in signed 64-bit words, and priced ones.
 -- Assumes nothing.
 use mathlib.Core.Path.{◌≡◌}
-use Prim.Native.Nat.{ℕ, ◌≤◌}
+use Prim.Native.Nat.{◌≤◌}
 use lib.IntN.{ℤ, nat_abs}
 use Rattle.numbers.proofs.WordTests.{back}
 use Rattle.query.specs.Range.{PlaceInRange}
 use Rattle.deck.specs.Objects.{Pricing}
-use Rattle.pricing.specs.ObjectFigures.{cost_of}
 use Rattle.prepare.proofs.Coordinates.{near_back}
 use Rattle.problem.specs.declared.Spot.{Spot}
 use Rattle.problem.specs.ObjectProblem.{spot_of}
@@ -17,7 +16,3 @@ spot_back P x y r h k e = rw (near_back x h, near_back y k) at e
 
 pub near_places : (x y : ℤ) → nat_abs x ≤ 20000 → nat_abs y ≤ 20000 → PlaceInRange (record { x = back x; y = back y })
 near_places x y h k = rw (near_back x h, near_back y k) (record { x_range = h; y_range = k })
-
-pub priced_is : (P : Pricing) (x y : ℤ) (r : ℕ) → PlaceInRange (record { x = x; y = y }) → r ≡ cost_of P (record { x = back x; y = back y }) →
-    ◌≡◌ {A = Spot} (record { x = back x; y = back y; cost = r }) (spot_of P (record { x = x; y = y }))
-priced_is P x y r h e = rw (e, near_back x h.x_range, near_back y h.y_range)

@@ -7,7 +7,7 @@ use Rattle.query.specs.Bound.{span}
 use Rattle.query.specs.Grid.{Grid}
 use Rattle.query.specs.Problem.{Rules, Problem}
 use Rattle.query.specs.Order.{Priced}
-use Rattle.deck.specs.Rectangle.{rect_of}
+use Rattle.deck.specs.Rectangle.{place_of, rect_of}
 use Rattle.deck.specs.Objects.{Pricing}
 use Rattle.pricing.specs.ObjectFigures.{cost_of, load_of}
 use Rattle.slots.specs.declared.Cell.{Cell}
@@ -32,13 +32,13 @@ object_problem P G area = record { area = area; rules = object_rules P G }
 -- ---- places and cells as the code holds them
 -- a place with a cost
 abbrev pub spot_at : ℤ → ℤ → ℕ → Spot
-spot_at x y cost = record { x = x; y = y; cost = cost }
+spot_at x y cost = record { at = record { x = x; y = y }; cost = cost }
 
 abbrev pub priced_of : Spot → Priced
-priced_of p = record { at = record { x = p.x; y = p.y }; cost = p.cost }
+priced_of p = record { at = place_of p.at; cost = p.cost }
 
 abbrev pub spot_of : Pricing → Place → Spot
-spot_of P p = record { x = p.x; y = p.y; cost = cost_of P p }
+spot_of P p = spot_at p.x p.y (cost_of P p)
 
 abbrev pub rect_in : Cell → Rect
 rect_in c = rect_of c.rect

@@ -3,32 +3,32 @@
 
 ghost use Rattle.std.specs.Prelude.{◌≡◌};
 ghost use Rattle.query.specs.Range.{PlaceInRange};
-ghost use Rattle.deck.specs.ObjectColumns.{pricing_in};
-ghost use Rattle.reach.specs.Columns.{Priceable};
+ghost use Rattle.deck.specs.Rectangle.{place_of};
+ghost use Rattle.reach.specs.Held.{pricing_of_objects};
 ghost use Rattle.problem.specs.ObjectProblem.{spot_of, spot_at};
 
-use limits::COLUMNS;
+use deck::Place;
+use reach::Objects;
 
 // A place with its cost.
 #[derive(Clone, Copy)]
 pub struct Spot {
-    pub x: i64,
-    pub y: i64,
+    pub at: Place,
     pub cost: u64,
 }
 
 // A place, priced.
-pub fn priced(columns: &[i32; COLUMNS], n: usize, x: i64, y: i64) -> Spot
-    requires { Priceable columns.now n × PlaceInRange (record { x = x; y = y }) }
-    ensures { result ≡ spot_of (pricing_in columns.now n) (record { x = x; y = y }) }
+pub fn priced(objects: &Objects, at: Place) -> Spot
+    requires { PlaceInRange (place_of at) }
+    ensures { result ≡ spot_of (pricing_of_objects objects.now) (place_of at) }
 {
-    let cost = pricing::cost(columns, n, x, y);
-    place(x, y, cost)
+    let cost = pricing::cost(objects, at);
+    place(at, cost)
 }
 
 // A place with a cost that is known.
-pub fn place(x: i64, y: i64, cost: u64) -> Spot
-    ensures { result ≡ spot_at x y cost }
+pub fn place(at: Place, cost: u64) -> Spot
+    ensures { result ≡ spot_at at.x at.y cost }
 {
-    Spot { x, y, cost }
+    Spot { at, cost }
 }
