@@ -16,6 +16,7 @@ ghost use Rattle.pricing.specs.ObjectFigures.{cost_of, load_of, BoundInRange, Fi
 use deck::{AxisCosts, Place, Rect, scaled, travelled};
 use numbers::half_up;
 use reach::{Edges, Objects, Row};
+use slots::Costs;
 
 // What an object pays for a post at (x, y): its visits times the smaller of its near and its travel there.
 fn paid(row: Row, x: i32, y: i32) -> u64
@@ -77,13 +78,14 @@ pub fn span(axis: AxisCosts, r: Rect) -> u64
     (e.xhi - e.xlo) as u64 + (e.yhi - e.ylo) as u64
 }
 
-// The bound of a cell, from the costs of its corners, first by x and then by y: c01 is that at (xlo, yhi).
-pub fn bound(c00: u64, c01: u64, c10: u64, c11: u64, span: u64, load: u64) -> i64
-    requires { BoundInRange c00 c01 c10 c11 span load }
-    ensures { result ≡ half_up (pos (max (c00 + c11) (c01 + c10)) -ℤ pos (span * load)) }
+// The bound of a cell, from the costs of its corners.
+pub fn bound(corners: Costs, span: u64, load: u64) -> i64
+    requires { BoundInRange corners.c00 corners.c01 corners.c10 corners.c11 span load }
+    ensures { result
+        ≡ half_up (pos (max (corners.c00 + corners.c11) (corners.c01 + corners.c10)) -ℤ pos (span * load)) }
 {
-    let rising = c00 + c11;
-    let falling = c01 + c10;
+    let rising = corners.c00 + corners.c11;
+    let falling = corners.c01 + corners.c10;
     let larger = rising.max(falling);
     half_up((larger as i64) - ((span * load) as i64))
 }
