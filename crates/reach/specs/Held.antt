@@ -26,10 +26,11 @@ pub record AxisOf (axis : AxisCosts) (held : Code.AxisCosts) : Type 0 where
   pub is : held_axis held ≡ axis
   pub range : CostsInRange (held_axis held)
 
+-- scaled edges as a rectangle
 abbrev pub edges_rect : Edges → Rect
 edges_rect e = record { xlo = e.xlo; ylo = e.ylo; xhi = e.xhi; yhi = e.yhi }
 
--- the edges of a rectangle, scaled
+-- the edges of a rectangle, scaled, in the range that the passes need
 pub record EdgesOf (axis : AxisCosts) (r : Rect) (e : Edges) : Type 0 where
   pub are : edges_rect e ≡ scaled_rect axis r
   pub range : EdgesInRange e.xlo e.ylo e.xhi e.yhi

@@ -32,7 +32,7 @@ pub struct Objects {
 impl Objects {
     ghost use Rattle.reach.specs.Held.{object_of_row, AxisOf};
 
-    // Columns as they are.
+    // The objects in columns that can be priced.
     pub fn new(columns: [i32; COLUMNS], count: usize) -> Objects
         requires { Priceable columns count }
         ensures { (result.columns ≡ columns) × (result.count ≡ count) }
@@ -62,12 +62,14 @@ impl Objects {
         Objects { count: n, columns }
     }
 
+    // How many objects there are.
     pub fn count(&self) -> usize
         ensures { result ≡ self.now.count }
     {
         self.count
     }
 
+    // The axis costs.
     pub fn axis(&self) -> AxisCosts
         ensures { AxisOf (axis_in self.now.columns) result }
     {
