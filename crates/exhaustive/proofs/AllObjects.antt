@@ -29,6 +29,7 @@ use Rattle.reach.proofs.RowLaws.{row}
 use Rattle.pricing.specs.ObjectFigures.{cost_of, before_of}
 use Rattle.pricing.proofs.ObjectLaws.{paid_by, paid_now, cost_of_sum, before_of_sum}
 use Rattle.pricing.proofs.ColumnLaws.{sum_none, sum_more}
+use Rattle.exhaustive.specs.declared.ramp_sums.ObjectRamps.{ObjectRamps}
 use Rattle.exhaustive.specs.Ramps.{scaled_lines, ObjectLines, LinesFound, prefix_sum, ObjectSums, ObjectAdded, ObjectsAdded}
 use Rattle.exhaustive.proofs.Prefixes.{prefix_most}
 use Rattle.exhaustive.proofs.ObjectRamps.{sums_more, small_back}
@@ -59,8 +60,8 @@ empty : (xs : List ℕ) (m n : ℕ) → ((k : ℕ) → get_or xs k 0 ≤ 0 * m) 
 empty xs m n each = omega (arith, prefix_most xs 0 (λ k. omega (arith, each k)) n)
 
 module _ (columns : List ℤ) where
-  pub objects_none : (ls : List ℤ) (v : ℤ) (up us down ds : List ℕ) → ObjectSums up us down ds 0 → ObjectsAdded (pricing_in columns 0) 0 ls v up us down ds
-  objects_none ls v up us down ds sums = record {
+  pub objects_none : (ls : List ℤ) (v : ℤ) (r : ObjectRamps) → ObjectSums r 0 → ObjectsAdded (pricing_in columns 0) 0 ls v r
+  objects_none ls v r sums = record {
     sums = sums;
     cost = λ j h.
         let p : Place = record { x = v; y = get_or ls j (pos 0) } in
@@ -69,10 +70,10 @@ module _ (columns : List ℤ) where
           before_of_sum (pricing_in columns 0),
           sum_none (paid_by (scaled_place (axis_in columns) p)) columns,
           sum_none paid_now columns,
-          empty up 131070 (j + 1) sums.up_sums.weights_most,
-          empty us 262140000000 (j + 1) sums.up_sums.starts_most,
-          empty down 131070 (j + 1) sums.down_sums.weights_most,
-          empty ds 262140000000 (j + 1) sums.down_sums.starts_most,
+          empty r.up.weights 131070 (j + 1) sums.up_sums.weights_most,
+          empty r.up.starts 262140000000 (j + 1) sums.up_sums.starts_most,
+          empty r.down.weights 131070 (j + 1) sums.down_sums.weights_most,
+          empty r.down.starts 262140000000 (j + 1) sums.down_sums.starts_most,
         )
         (omega arith);
   }
@@ -140,12 +141,12 @@ module _ {columns : List ℤ} {n i : ℕ} (priceable : Priceable columns n) (h :
       → FirstAtLeast (scaled_lines b ls) (widened (y columns i)) (get_or rows i 0)
   first_at ls rows b e all = rw (y_is, e) (all.first i h)
 
-  pub objects_more : (ls : List ℤ) (v u : ℤ) (b : ℕ) (up us down ds up' us' down' ds' : List ℕ) → u ≡ times (axis_in columns).a v
-      → b ≡ (axis_in columns).b → ObjectsAdded (pricing_in columns i) i ls v up us down ds
+  pub objects_more : (ls : List ℤ) (v u : ℤ) (b : ℕ) (old new : ObjectRamps) → u ≡ times (axis_in columns).a v
+      → b ≡ (axis_in columns).b → ObjectsAdded (pricing_in columns i) i ls v old
       → ObjectAdded (scaled_lines b ls) u (widened (x columns i)) (widened (y columns i)) (counted (visits columns i)) (counted (near columns i))
-      up us down ds up' us' down' ds'
-      → ObjectsAdded (pricing_in columns (i + 1)) (i + 1) ls v up' us' down' ds'
-  objects_more ls v u b up us down ds up' us' down' ds' eu eb so_far one = record {
+      old new
+      → ObjectsAdded (pricing_in columns (i + 1)) (i + 1) ls v new
+  objects_more ls v u b old new eu eb so_far one = record {
     sums = one.sums i so_far.sums;
     cost = λ j k.
         let p : Place = record { x = v; y = get_or ls j (pos 0) } in
@@ -157,5 +158,5 @@ module _ {columns : List ℤ} {n i : ℕ} (priceable : Priceable columns n) (h :
   }
 
 -- at most 600 objects
-pub sums_few : {up us down ds : List ℕ} (m : ℕ) → ObjectSums up us down ds m → m ≤ 600 → ObjectSums up us down ds 600
+pub sums_few : {r : ObjectRamps} (m : ℕ) → ObjectSums r m → m ≤ 600 → ObjectSums r 600
 sums_few m s h = record { up_sums = sums_more m 600 s.up_sums h; down_sums = sums_more (2 * m) (2 * 600) s.down_sums (omega arith) }

@@ -1,4 +1,4 @@
--- One vertical line after another: the columns of a line, and the cheapest crossing over the lines.
+-- One vertical line after another: the ramps of a line, and the cheapest crossing over the lines.
 -- Assumes nothing.
 use mathlib.Core.Path.{◌≡◌, refl, sym, ◌∙◌}
 use mathlib.Core.List.{List, flat_map}
@@ -12,6 +12,8 @@ use Rattle.deck.specs.Objects.{Pricing}
 use Rattle.pricing.specs.ObjectFigures.{before_of, Figure}
 use Rattle.problem.specs.declared.Spot.{Spot}
 use Rattle.numbers.proofs.WordTests.{back}
+use Rattle.exhaustive.specs.declared.ramp_sums.Ramps.{Ramps}
+use Rattle.exhaustive.specs.declared.ramp_sums.ObjectRamps.{ObjectRamps}
 use Rattle.exhaustive.specs.Ramps.{scaled_lines, LinesInRange, RampSums, ObjectSums, ObjectsAdded, Sweepable}
 use Rattle.exhaustive.specs.Cheapest.{first_cheapest, along, costs_along, Swept}
 use Rattle.exhaustive.proofs.ObjectRamps.{small_back}
@@ -19,13 +21,16 @@ use Rattle.exhaustive.proofs.AllObjects.{sums_few}
 use Rattle.exhaustive.proofs.ChooseLaws.{next_line}
 use Rattle.exhaustive.proofs.CheapestLaws.{cheapest_none, cheapest_append}
 
--- ---- columns of no ramps
+-- ---- no ramps
 zeros : (n k : ℕ) → get_or {A = ℕ} (replicate n 0) k 0 ≡ 0
 zeros zero k = refl
 zeros (suc n) zero = refl
 zeros (suc n) (suc k) = zeros n k
 
-zero_ramps : RampSums (replicate 515 0) (replicate 515 0) 0
+abbrev no_ramps : Ramps
+no_ramps = record { weights = replicate 515 0; starts = replicate 515 0 }
+
+zero_ramps : RampSums no_ramps 0
 zero_ramps = record {
   weights_long = length-replicate {A = ℕ} 515 0;
   starts_long = length-replicate {A = ℕ} 515 0;
@@ -33,30 +38,29 @@ zero_ramps = record {
   starts_most = λ k. omega (arith, zeros 515 k);
 }
 
-pub zero_sums : ObjectSums (replicate 515 0) (replicate 515 0) (replicate 515 0) (replicate 515 0) 0
+pub zero_sums : ObjectSums (record { up = no_ramps; down = no_ramps }) 0
 zero_sums = record { up_sums = zero_ramps; down_sums = zero_ramps }
 
--- ---- the columns of objects
-module _ (P : Pricing) (m : ℕ) (ls : List ℤ) (v : ℤ) (up us down ds : List ℕ) (before : ℕ) (few : m ≤ 512) (now : Figure (before_of P) cost_limit before)
-    (added : ObjectsAdded P m ls v up us down ds) where
-  pub sweepable : Sweepable (scaled_lines P.axis.b ls) up us down ds before
+-- ---- the ramps of objects
+module _ (P : Pricing) (m : ℕ) (ls : List ℤ) (v : ℤ) (r : ObjectRamps) (before : ℕ) (few : m ≤ 512) (now : Figure (before_of P) cost_limit before)
+    (added : ObjectsAdded P m ls v r) where
+  pub sweepable : Sweepable (scaled_lines P.axis.b ls) r before
   sweepable = record {
     before_most = now.within;
     sums = sums_few m added.sums (omega arith);
     enough = λ j h. omega (arith, added.cost j (omega (arith, length-map ls (times P.axis.b))), now.is);
   }
 
-  pub swept_line : (b : ℕ) (old costs : List ℕ) → P.axis.b ≡ b → Swept ls b up us down ds before old costs → costs ≡ costs_along P ls v old
+  pub swept_line : (b : ℕ) (old costs : List ℕ) → P.axis.b ≡ b → Swept ls b r before old costs → costs ≡ costs_along P ls v old
   swept_line b old costs e s = s.is P m v e added now.is
 
 -- ---- line after line
 pub record Compared (P : Pricing) (hs vs : List ℤ) (first found : Spot) (i : ℕ) : Type 0 where
-  pub count : i ≤ length vs
   pub left : first_cheapest P first (flat_map (along hs) vs) ≡ first_cheapest P found (flat_map (along hs) (drop i vs))
 
 module _ (P : Pricing) (hs vs : List ℤ) (first : Spot) where
   pub compared_none : Compared P hs vs first first 0
-  compared_none = record { count = omega arith; left = refl }
+  compared_none = record { left = refl }
 
   pub compared_all : {found : Spot} {i : ℕ} → Compared P hs vs first found i → length vs ≤ i → found ≡ first_cheapest P first (flat_map (along hs) vs)
   unfolding flat_map
@@ -69,6 +73,5 @@ module _ (P : Pricing) (hs vs : List ℤ) (first : Spot) where
       let v = get_or vs i (pos 0) in
       let e : found' ≡ first_cheapest P found (along hs v) = rw (small_back v (omega (arith, lines.range i h))) at b in
       record {
-        count = omega arith;
         left = w.left ∙ rw (next_line vs i h, e) (cheapest_append P found (along hs v) (flat_map (along hs) (drop (i + 1) vs)));
       }

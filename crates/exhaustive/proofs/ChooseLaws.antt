@@ -23,12 +23,11 @@ pub next_line : (ls : List ℤ) (j : ℕ) → j < length ls → drop j ls ≡ ge
 next_line ls j h = drop-cons ls j (pos 0) h ∙ rw (add-one j)
 
 pub record Choosing (ls : List ℤ) (v : ℤ) (costs : List ℕ) (first found : Spot) (j : ℕ) : Type 0 where
-  pub count : j ≤ length ls
   pub left : (P : Pricing) (old : List ℕ) → costs ≡ costs_along P ls v old → first_cheapest P first (along ls v) ≡ first_cheapest P found (along (drop j ls) v)
 
 module _ (ls : List ℤ) (v : ℤ) (costs : List ℕ) (first : Spot) where
   pub choose_none : Choosing ls v costs first first 0
-  choose_none = record { count = omega arith; left = λ P old e. refl }
+  choose_none = record { left = λ P old e. refl }
 
   pub choose_all : {found : Spot} {j : ℕ} → Choosing ls v costs first found j → length ls ≤ j → Chosen ls v costs first found
   choose_all {found} {j} s h = record {
@@ -45,7 +44,6 @@ module _ (ls : List ℤ) (v : ℤ) (costs : List ℕ) (first : Spot) where
 
     pub choose_more : (p found' : Spot) → p ≡ spot_at v (back y) (get_or costs j 0) → found' ≡ cheaper_of found p → Choosing ls v costs first found' (j + 1)
     choose_more p found' f g = record {
-      count = omega arith;
       left =
           λ P old e. s.left P old e ∙ rw (next_line ls j h) (cheapest_more P found (record { x = v; y = y }) (along (drop (j + 1) ls) v))
           ∙ ap (λ (q : Spot). first_cheapest P q (along (drop (j + 1) ls) v)) (sym (g ∙ ap (cheaper_of found) (spot_is p f P old e)));

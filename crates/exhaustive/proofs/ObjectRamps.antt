@@ -14,12 +14,14 @@ use Rattle.numbers.proofs.Integer.{add_nat, sub_nat, sum_abs, sub_abs}
 use Rattle.numbers.proofs.Words.{word_fits}
 use Rattle.reach.specs.Columns.{ObjectInRange}
 use Rattle.numbers.proofs.WordTests.{back}
+use Rattle.exhaustive.specs.declared.ramp_sums.Ramps.{Ramps}
+use Rattle.exhaustive.specs.declared.ramp_sums.ObjectRamps.{ObjectRamps}
 use Rattle.exhaustive.specs.Ramps.{height_of, RampSums, RampInRange, RampAdded, ObjectAdded}
 use Rattle.exhaustive.proofs.Heights.{height_nat, height_least, height_dist}
 use Rattle.exhaustive.proofs.ScaledLines.{ScaledInRange}
 
--- ---- columns of at most m ramps
-pub sums_more : {ws us : List ℕ} (m k : ℕ) → RampSums ws us m → m ≤ k → RampSums ws us k
+-- ---- sums of at most m ramps
+pub sums_more : {r : Ramps} (m k : ℕ) → RampSums r m → m ≤ k → RampSums r k
 sums_more m k s h = record {
   weights_long = s.weights_long;
   starts_long = s.starts_long;
@@ -115,8 +117,8 @@ module _ (v sx sy : ℤ) (visits near d : ℕ) (g : nat_abs v ≤ 180000) (objec
     paid_times = times _ _ _ _ paid_ramps
 
   module _ (ls : List ℤ) (lines : ScaledInRange ls) where
-    pub object_none : (up us down ds : List ℕ) → near ≤ d → ObjectAdded ls v sx sy visits near up us down ds up us down ds
-    object_none up us down ds h = record {
+    pub object_none : (old : ObjectRamps) → near ≤ d → ObjectAdded ls v sx sy visits near old old
+    object_none old h = record {
       sums = λ m s. record {
         up_sums = sums_more m (m + 1) s.up_sums (omega arith);
         down_sums = sums_more (2 * m) (2 * (m + 1)) s.down_sums (omega arith);
@@ -127,10 +129,11 @@ module _ (v sx sy : ℤ) (visits near d : ℕ) (g : nat_abs v ≤ 180000) (objec
         same : (m a b : ℕ) → m ≡ near → visits * m + a + b ≡ visits * near + b + a
         same m a b q = rw q (omega arith)
 
-    pub object_added : (up us down ds up' us' down₁ ds₁ down' ds' : List ℕ) → d < near
-        → RampAdded ls (back (back sy -ℤ to_z w64 r)) visits down ds down₁ ds₁ → RampAdded ls (back sy) (2 * visits) up us up' us'
-        → RampAdded ls (back (back sy +ℤ to_z w64 r)) visits down₁ ds₁ down' ds' → ObjectAdded ls v sx sy visits near up us down ds up' us' down' ds'
-    object_added up us down ds up' us' down₁ ds₁ down' ds' h low middle high = record {
+    -- the parts change one after another: those that lower it, those that raise it, those that lower it
+    pub object_added : (old new : ObjectRamps) (down₁ : Ramps) → d < near
+        → RampAdded ls (back (back sy -ℤ to_z w64 r)) visits old.down down₁ → RampAdded ls (back sy) (2 * visits) old.up new.up
+        → RampAdded ls (back (back sy +ℤ to_z w64 r)) visits down₁ new.down → ObjectAdded ls v sx sy visits near old new
+    object_added old new down₁ h low middle high = record {
       sums = λ m s. record {
         up_sums = middle.sums m s.up_sums;
         down_sums = sums_more (2 * m + 1 + 1) (2 * (m + 1)) (high.sums (2 * m + 1) (low.sums (2 * m) s.down_sums)) (omega arith);

@@ -42,9 +42,10 @@ module _ (xs : List ℕ) (from j : ℕ) where
 -- ---- lines
 -- the slots before `from` are those of the heights up to the last of j lines
 pub record Numbering (ls : List ℤ) (j from : ℕ) (table : List ℕ) : Type 0 where
-  pub count : j ≤ length ls
+  pub within : from ≤ 40001
   pub long : length table ≡ 40001
   pub passed : (k : ℕ) → k < j → height_of (get_or ls k (pos 0)) < from + 980000
+  pub ahead : (k : ℕ) → j ≤ k → k < length ls → from + 979999 ≤ height_of (get_or ls k (pos 0))
   pub parted : (t : ℕ) → t < from → Parted ls (t + 980000) (get_or table t 0)
 
 module _ (ls : List ℤ) (lines : LinesInRange ls) where
@@ -54,8 +55,20 @@ module _ (ls : List ℤ) (lines : LinesInRange ls) where
   rising : (k l : ℕ) → k ≤ l → l < length ls → height_of (get_or ls k (pos 0)) ≤ height_of (get_or ls l (pos 0))
   rising k l h g = height_le (get_or ls k (pos 0)) (get_or ls l (pos 0)) (wide k (omega arith)) (wide l g) (front_le ls lines.in_order.increasing k l h g)
 
+  pub slot_most : (k : ℕ) → k < length ls → height_of (get_or ls k (pos 0)) ≤ 1020000
+  slot_most k h = height_most (get_or ls k (pos 0)) 20000 (lines.range k h) (omega arith)
+
+  pub slot_least : (k : ℕ) → k < length ls → 980000 ≤ height_of (get_or ls k (pos 0))
+  slot_least k h = omega (arith, height_least (get_or ls k (pos 0)) 20000 (lines.range k h) (omega arith))
+
   pub numbering_none : (table : List ℕ) → length table ≡ 40001 → Numbering ls 0 0 table
-  numbering_none table e = record { count = omega arith; long = e; passed = λ k h. absurd (omega arith); parted = λ t h. absurd (omega arith) }
+  numbering_none table e = record {
+    within = omega arith;
+    long = e;
+    passed = λ k h. absurd (omega arith);
+    ahead = λ k g h. omega (arith, slot_least k h);
+    parted = λ t h. absurd (omega arith);
+  }
 
   module _ {j from : ℕ} {table : List ℕ} (s : Numbering ls j from table) where
     -- the slots from `from` on
@@ -69,9 +82,10 @@ module _ (ls : List ℤ) (lines : LinesInRange ls) where
     pub numbering_more : j < length ls → (to : ℕ) (table' : List ℕ) → to + 979999 ≡ height_of (get_or ls j (pos 0)) → SlotsFilled table from to j table'
         → Numbering ls (j + 1) to table'
     numbering_more h to table' e f = record {
-      count = omega arith;
+      within = omega (arith, e, slot_most j h);
       long = f.long ∙ s.long;
       passed = λ k g. omega (arith, rising k j (omega arith) h, e);
+      ahead = λ k g l. omega (arith, rising j k (omega arith) l, e);
       parted = parted_from j to table' f (λ t g l. record {
         within = omega arith;
         before = λ k q. omega (arith, s.passed k q);
@@ -87,12 +101,6 @@ module _ (ls : List ℤ) (lines : LinesInRange ls) where
           record { within = omega arith; before = λ k q. omega (arith, s.passed k (omega arith)); after = λ k q p. absurd (omega arith) } in
           λ t g. parted_from (length ls) 40001 table' f all t (omega arith);
     }
-
-  pub slot_most : (k : ℕ) → k < length ls → height_of (get_or ls k (pos 0)) ≤ 1020000
-  slot_most k h = height_most (get_or ls k (pos 0)) 20000 (lines.range k h) (omega arith)
-
-  pub slot_least : (k : ℕ) → k < length ls → 980000 ≤ height_of (get_or ls k (pos 0))
-  slot_least k h = omega (arith, height_least (get_or ls k (pos 0)) 20000 (lines.range k h) (omega arith))
 
   -- as the code computes it
   module _ (j : ℕ) (h : j < length ls) where

@@ -8,6 +8,7 @@ use Rattle.deck.specs.Objects.{Pricing}
 use Rattle.pricing.specs.ObjectFigures.{cost_of, before_of}
 use Rattle.problem.specs.declared.Spot.{Spot}
 use Rattle.problem.specs.ObjectProblem.{spot_of}
+use Rattle.exhaustive.specs.declared.ramp_sums.ObjectRamps.{ObjectRamps}
 use Rattle.exhaustive.specs.Ramps.{ObjectsAdded}
 
 -- the cheaper of two spots, the first of them where they cost the same
@@ -29,10 +30,9 @@ unfoldable pub costs_along : Pricing → List ℤ → ℤ → List ℕ → List 
 unfolding cost_of
 costs_along P ls v old = map (λ h. cost_of P (record { x = v; y = h })) ls ++ drop (length ls) old
 
--- such an array, whatever the objects whose ramps the columns hold, where b is the axis cost of y
-pub record Swept (ls : List ℤ) (b : ℕ) (up up_at down down-at : List ℕ) (before : ℕ) (old costs : List ℕ) : Type 0 where
-  pub is : (P : Pricing) (m : ℕ) (v : ℤ) → P.axis.b ≡ b → ObjectsAdded P m ls v up up_at down down-at → before ≡ before_of P →
-      costs ≡ costs_along P ls v old
+-- such an array, whatever the objects whose ramps there are, where b is the axis cost of y
+pub record Swept (ls : List ℤ) (b : ℕ) (r : ObjectRamps) (before : ℕ) (old costs : List ℕ) : Type 0 where
+  pub is : (P : Pricing) (m : ℕ) (v : ℤ) → P.axis.b ≡ b → ObjectsAdded P m ls v r → before ≡ before_of P → costs ≡ costs_along P ls v old
 
 -- the cheapest of a spot and the crossings of the vertical line at v, whatever the objects whose costs the array holds
 pub record Chosen (ls : List ℤ) (v : ℤ) (costs : List ℕ) (first r : Spot) : Type 0 where

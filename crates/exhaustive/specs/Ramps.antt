@@ -10,7 +10,9 @@ use Rattle.deck.specs.Objects.{Pricing}
 use Rattle.deck.specs.ObjectColumns.{axis_in}
 use Rattle.pricing.specs.ObjectFigures.{cost_of, before_of}
 use Rattle.lines.specs.LineRecord.{LinesInOrder, FirstAtLeast}
-use Rattle.exhaustive.specs.declared.Divisor.{Divisor}
+use Rattle.exhaustive.specs.declared.ramp_sums.Ramps.{Ramps}
+use Rattle.exhaustive.specs.declared.ramp_sums.ObjectRamps.{ObjectRamps}
+use Rattle.exhaustive.specs.declared.ramp_sums.RunningSums.{RunningSums}
 
 -- how far a coordinate lies above −1,000,000
 unfoldable pub height_of : ℤ → ℕ
@@ -30,15 +32,11 @@ pub record LinesInRange (ls : List ℤ) : Type 0 where
 abbrev pub scaled_lines : ℕ → List ℤ → List ℤ
 scaled_lines b ls = map (times b) ls
 
--- an axis cost to divide by
-pub record Dividing (d : Divisor) : Type 0 where
-  pub some : 1 ≤ d.by
-  pub most : d.by ≤ axis_cost_limit
-  pub reciprocal_is : d.reciprocal ≡ 4294967296 / d.by + 1
-
-pub record DivisorOf (b : ℕ) (d : Divisor) : Type 0 where
-  pub is : d.by ≡ b
-  pub dividing : Dividing d
+-- an axis cost to divide by, and what is multiplied with instead
+pub record Dividing (by reciprocal : ℕ) : Type 0 where
+  pub some : 1 ≤ by
+  pub most : by ≤ axis_cost_limit
+  pub reciprocal_is : reciprocal ≡ 4294967296 / by + 1
 
 -- slots from `from` on that are before `to` hold j now, and those before `from` what they held
 pub record SlotsFilled (xs : List ℕ) (from to j : ℕ) (xs' : List ℕ) : Type 0 where
@@ -62,80 +60,86 @@ pub record ObjectLines (columns : List ℤ) (n : ℕ) (ls : List ℤ) (rows : Li
   pub long : length rows ≡ stops_limit
   pub first : (i : ℕ) → i < n → FirstAtLeast (scaled_lines (axis_in columns).b ls) (get_or columns (512 + i) (pos 0)) (get_or rows i 0)
 
--- ramps are held by line, at the first line that is not below the start, in two columns: the sum of their weights, and that of weight ×
--- height of the start. Up to line j the weights times the height of that line, and the starts
-abbrev pub weights_at : List ℤ → List ℕ → ℕ → ℕ
-weights_at ls weights j = prefix_sum weights (j + 1) * height_of (get_or ls j (pos 0))
-
-abbrev pub starts_at : List ℕ → ℕ → ℕ
-starts_at starts j = prefix_sum starts (j + 1)
-
--- columns of such sums, each of at most m ramps
-pub record RampSums (weights starts : List ℕ) (m : ℕ) : Type 0 where
-  pub weights_long : length weights ≡ 515
-  pub starts_long : length starts ≡ 515
-  pub weights_most : (k : ℕ) → get_or weights k 0 ≤ m * 131070
-  pub starts_most : (k : ℕ) → get_or starts k 0 ≤ m * 262140000000
-
-pub record RampInRange (start : ℤ) (w : ℕ) : Type 0 where
-  pub start_range : nat_abs start ≤ 900000
-  pub weight_range : w ≤ 131070
-
 -- such lines found, in an array whose entries behind them are as they were
 pub record LinesFound (columns : List ℤ) (n : ℕ) (ls : List ℤ) (old rows : List ℕ) : Type 0 where
   pub lines : ObjectLines columns n ls rows
   pub kept : (i : ℕ) → n ≤ i → get_or rows i 0 ≡ get_or old i 0
 
+-- ramps are held by line, at the first line that is not below the start: the sum of their weights, and that of weight × height of the
+-- start. Up to line j the weights times the height of that line, and the starts
+abbrev pub weights_at : List ℤ → Ramps → ℕ → ℕ
+weights_at ls r j = prefix_sum r.weights (j + 1) * height_of (get_or ls j (pos 0))
+
+abbrev pub starts_at : Ramps → ℕ → ℕ
+starts_at r j = prefix_sum r.starts (j + 1)
+
+-- such sums, each of at most m ramps
+pub record RampSums (r : Ramps) (m : ℕ) : Type 0 where
+  pub weights_long : length r.weights ≡ 515
+  pub starts_long : length r.starts ≡ 515
+  pub weights_most : (k : ℕ) → get_or r.weights k 0 ≤ m * 131070
+  pub starts_most : (k : ℕ) → get_or r.starts k 0 ≤ m * 262140000000
+
+pub record RampInRange (start : ℤ) (w : ℕ) : Type 0 where
+  pub start_range : nat_abs start ≤ 900000
+  pub weight_range : w ≤ 131070
+
 -- a ramp put at index k
-pub record RampPut (k : ℕ) (start : ℤ) (w : ℕ) (weights starts weights' starts' : List ℕ) : Type 0 where
-  pub weights_are : weights' ≡ set weights k (get_or weights k 0 + w)
-  pub starts_are : starts' ≡ set starts k (get_or starts k 0 + w * height_of start)
+pub record RampPut (k : ℕ) (start : ℤ) (w : ℕ) (old new : Ramps) : Type 0 where
+  pub weights_are : new.weights ≡ set old.weights k (get_or old.weights k 0 + w)
+  pub starts_are : new.starts ≡ set old.starts k (get_or old.starts k 0 + w * height_of start)
 
 -- one ramp more
-pub record RampAdded (ls : List ℤ) (start : ℤ) (w : ℕ) (weights starts weights' starts' : List ℕ) : Type 0 where
-  pub sums : (m : ℕ) → RampSums weights starts m → RampSums weights' starts' (m + 1)
+pub record RampAdded (ls : List ℤ) (start : ℤ) (w : ℕ) (old new : Ramps) : Type 0 where
+  pub sums : (m : ℕ) → RampSums old m → RampSums new (m + 1)
   pub added : (j : ℕ) → j < length ls →
-      weights_at ls weights' j + starts_at starts j
-      ≡ weights_at ls weights j + starts_at starts' j + w * (height_of (get_or ls j (pos 0)) - height_of start)
+      weights_at ls new j + starts_at old j
+      ≡ weights_at ls old j + starts_at new j + w * (height_of (get_or ls j (pos 0)) - height_of start)
 
--- the columns of the ramps that raise the cost and of those that lower it, of at most m objects
-pub record ObjectSums (up up_at down down-at : List ℕ) (m : ℕ) : Type 0 where
-  pub up_sums : RampSums up up_at m
-  pub down_sums : RampSums down down-at (2 * m)
+-- the ramps that raise the cost and those that lower it, of at most m objects
+pub record ObjectSums (r : ObjectRamps) (m : ℕ) : Type 0 where
+  pub up_sums : RampSums r.up m
+  pub down_sums : RampSums r.down (2 * m)
 
 -- what they come to at line j: raised_at − lowered_at, each with the starts of the other, so that both are sums
-abbrev pub raised_at : List ℤ → List ℕ → List ℕ → ℕ → ℕ
-raised_at ls up down-at j = weights_at ls up j + starts_at down-at j
+abbrev pub raised_at : List ℤ → ObjectRamps → ℕ → ℕ
+raised_at ls r j = weights_at ls r.up j + starts_at r.down j
 
-abbrev pub lowered_at : List ℤ → List ℕ → List ℕ → ℕ → ℕ
-lowered_at ls down up_at j = weights_at ls down j + starts_at up_at j
+abbrev pub lowered_at : List ℤ → ObjectRamps → ℕ → ℕ
+lowered_at ls r j = weights_at ls r.down j + starts_at r.up j
 
 -- one object more, along the line at v
-pub record ObjectAdded (ls : List ℤ) (v sx sy : ℤ) (visits near : ℕ)
-    (up up_at down down-at up' up-at' down' down-at' : List ℕ) : Type 0 where
-  pub sums : (m : ℕ) → ObjectSums up up_at down down-at m → ObjectSums up' up-at' down' down-at' (m + 1)
+pub record ObjectAdded (ls : List ℤ) (v sx sy : ℤ) (visits near : ℕ) (old new : ObjectRamps) : Type 0 where
+  pub sums : (m : ℕ) → ObjectSums old m → ObjectSums new (m + 1)
   pub added : (j : ℕ) → j < length ls →
-      visits * min near (dist sx v + dist sy (get_or ls j (pos 0))) + lowered_at ls down' up-at' j + raised_at ls up down-at j
-      ≡ visits * near + raised_at ls up' down-at' j + lowered_at ls down up_at j
+      visits * min near (dist sx v + dist sy (get_or ls j (pos 0))) + lowered_at ls new j + raised_at ls old j
+      ≡ visits * near + raised_at ls new j + lowered_at ls old j
 
--- the columns of m objects along the line at v: the cost at each line is what the objects pay now and what is added, less what is taken off
-pub record ObjectsAdded (P : Pricing) (m : ℕ) (ls : List ℤ) (v : ℤ) (up up_at down down-at : List ℕ) : Type 0 where
-  pub sums : ObjectSums up up_at down down-at m
+-- the ramps of m objects along the line at v: the cost at each line is what the objects pay now and what is added, less what is taken off
+pub record ObjectsAdded (P : Pricing) (m : ℕ) (ls : List ℤ) (v : ℤ) (r : ObjectRamps) : Type 0 where
+  pub sums : ObjectSums r m
   pub cost : (j : ℕ) → j < length ls → let scaled = scaled_lines P.axis.b ls in
-      cost_of P (record { x = v; y = get_or ls j (pos 0) }) + lowered_at scaled down up_at j ≡ before_of P + raised_at scaled up down-at j
+      cost_of P (record { x = v; y = get_or ls j (pos 0) }) + lowered_at scaled r j ≡ before_of P + raised_at scaled r j
+
+-- the sums of the ramps of the first j lines
+pub record SumsTo (r : ObjectRamps) (j : ℕ) (s : RunningSums) : Type 0 where
+  pub up_is : s.up ≡ prefix_sum r.up.weights j
+  pub up_at_is : s.up_at ≡ prefix_sum r.up.starts j
+  pub down_is : s.down ≡ prefix_sum r.down.weights j
+  pub down_at_is : s.down_at ≡ prefix_sum r.down.starts j
 
 -- what `cost_at` asks: no sum is too large, and not more is taken off than is there
-pub record Payable (before up up_at down down-at t : ℕ) : Type 0 where
+pub record Payable (before : ℕ) (s : RunningSums) (t : ℕ) : Type 0 where
   pub before_small : before ≤ 2 ^ 60
-  pub up_small : up ≤ 2 ^ 40
-  pub up_at_small : up_at ≤ 2 ^ 60
-  pub down_small : down ≤ 2 ^ 40
-  pub down_at_small : down-at ≤ 2 ^ 60
+  pub up_small : s.up ≤ 2 ^ 40
+  pub up_at_small : s.up_at ≤ 2 ^ 60
+  pub down_small : s.down ≤ 2 ^ 40
+  pub down_at_small : s.down_at ≤ 2 ^ 60
   pub height_small : t ≤ 2000000
-  pub enough : down * t + up_at ≤ before + (up * t + down-at)
+  pub enough : s.down * t + s.up_at ≤ before + (s.up * t + s.down_at)
 
 -- what `sweep` asks: at each line not more is taken off than is there
-pub record Sweepable (ls : List ℤ) (up up_at down down-at : List ℕ) (before : ℕ) : Type 0 where
+pub record Sweepable (ls : List ℤ) (r : ObjectRamps) (before : ℕ) : Type 0 where
   pub before_most : before ≤ cost_limit
-  pub sums : ObjectSums up up_at down down-at 600
-  pub enough : (j : ℕ) → j < length ls → lowered_at ls down up_at j ≤ before + raised_at ls up down-at j
+  pub sums : ObjectSums r 600
+  pub enough : (j : ℕ) → j < length ls → lowered_at ls r j ≤ before + raised_at ls r j

@@ -9,26 +9,22 @@ pub number_lines-requires : goal.number_lines-requires
 number_lines-requires c = (horizontal_lines c.requires.0, length-replicate {A = ℕ} 40001 0)
 
 pub number_objects-requires : goal.number_objects-requires
-number_objects-requires c =
-    let pre = c.requires.0 in
-    (prepared_priceable pre, horizontal_lines pre, c.number_lines.ensures, length-replicate {A = ℕ} 512 0)
+number_objects-requires c = (prepared_priceable c.requires.0, length-replicate {A = ℕ} 512 0)
 
 pub priced-first-requires : goal.priced-first-requires
-priced-first-requires c =
-    let pre = c.requires.0 in
-    (prepared_priceable pre, corner_near pre)
+priced-first-requires c = (prepared_priceable c.requires.0, corner_near c.requires.0)
+
+pub invariant_of-lines : goal.invariant_of-lines
+invariant_of-lines c = record { in_range = horizontal_lines c.requires.0; numbered = c.number_lines.ensures }
+
+pub new-crossings-requires : goal.new-crossings-requires
+new-crossings-requires c = (prepared_priceable c.requires.0, c.number_objects.ensures.lines, c.requires.1)
 
 pub cheapest_of-requires : goal.cheapest_of-requires
-cheapest_of-requires c =
-    let pre = c.requires.0 in (
-      prepared_priceable pre,
-      vertical_lines pre,
-      horizontal_lines pre,
-      c.requires.1,
-      c.number_lines.ensures,
-      c.number_objects.ensures.lines,
-    )
+cheapest_of-requires c = vertical_lines c.requires.0
 
 pub returns : goal.returns
 returns c =
-    answers c.requires.0 _ _ c.priced-first.ensures c.cheapest_of.ensures
+    let made = c.new-crossings.ensures in
+    let best = rw (made.objects.0, made.objects.1, made.lines) at c.cheapest_of.ensures in
+    answers c.requires.0 _ _ c.priced-first.ensures best

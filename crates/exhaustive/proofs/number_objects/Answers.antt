@@ -1,9 +1,10 @@
 -- What `exhaustive::number_objects` owes.
-use native.Mathlib.Omega.{arith}
-use Rattle.exhaustive.proofs.AllObjects.{lines_more}
+use Rattle.exhaustive.proofs.AllObjects.{lines_none, lines_more}
 use Rattle.exhaustive.proofs.number_objects.Goals as goal
+
+pub loop-i-init : goal.loop-i-init
+loop-i-init c = lines_none _ _ c.requires.1
 
 pub loop-i-preserved : goal.loop-i-preserved
 loop-i-preserved c =
-    let taken = c.loop-i-test.true in
-    (omega (arith, taken), lines_more c.requires.0 taken _ _ _ _ _ c.divisor_of-d.ensures.is c.line_from.ensures c.loop-i.invariant.1)
+    lines_more c.requires.0 c.loop-i-test.true _ _ _ _ _ c.divisor_of-divisor.ensures c.first_from.ensures c.loop-i.invariant

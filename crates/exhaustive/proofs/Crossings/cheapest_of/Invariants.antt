@@ -1,0 +1,10 @@
+-- The loops of `exhaustive::Crossings::cheapest_of`.
+use mathlib.Core.Path.{◌≡◌}
+use lib.ListN.{length}
+use Rattle.deck.specs.ObjectColumns.{pricing_in}
+use Rattle.exhaustive.proofs.CheapestOfLines.{Compared}
+use Rattle.exhaustive.proofs.Crossings.cheapest_of.Given as goal
+
+abbrev pub invariant-loop-v : goal.invariant-loop-v
+invariant-loop-v l =
+    (length l.costs ≡ 514) × Compared (pricing_in l.self.columns.now l.self.n) l.self.lines.at.now l.vertical l.initial.found l.found l.v-index

@@ -1,6 +1,0 @@
--- What `exhaustive::height` owes.
-use Rattle.exhaustive.proofs.Heights.{height_is}
-use Rattle.exhaustive.proofs.height.Goals as goal
-
-pub returns : goal.returns
-returns c = height_is c.args.y c.requires
