@@ -9,23 +9,24 @@ use lib.IntN.{ℤ, pos, nat_abs}
 use lib.Dec.{ltb, ltb→lt, nltb→le}
 use lib.ListN.{length, get_or, set, length-set, length-map}
 use lib.Seq.{get_or-set_same, get_or-set_other}
-use mir.Syntax.{w64}
-use mir.Val.{SFits}
+use mir.Syntax.{w32}
+use mir.Val.{to_z}
 use Rattle.numbers.specs.Integer.{times}
 use Rattle.numbers.proofs.Truth.{test}
 use Rattle.numbers.proofs.Scaling.{scaled_at}
-use Rattle.numbers.proofs.Words.{word_fits}
 use Rattle.numbers.proofs.WordTests.{back}
 use Rattle.query.specs.Place.{Place}
-use Rattle.deck.specs.Ranges.{AxisCostInRange, Scaled}
-use Rattle.deck.specs.Objects.{scaled_place}
+use Rattle.deck.specs.Ranges.{Scaled}
+use Rattle.deck.specs.Objects.{Object, scaled_place}
 use Rattle.deck.specs.ObjectColumns.{object_at, axis_in, pricing_in}
-use Rattle.deck.proofs.WordLaws.{coordinate}
 use Rattle.deck.proofs.TravelLaws.{far, travel_plain}
 use Rattle.lines.specs.LineRecord.{FirstAtLeast}
-use Rattle.reach.specs.Columns.{Priceable, ObjectInRange}
+use Rattle.reach.specs.Columns.{ObjectInRange}
+use Rattle.reach.specs.Held.{object_of_row}
+use Rattle.reach.specs.declared.columns.Objects.{Objects}
+use Rattle.reach.specs.declared.columns.Row.{Row}
+use Rattle.reach.proofs.RowLaws.{x_word, y_word}
 use Rattle.reach.proofs.NarrowLaws.{word, natural, visits_word, near_word, scaled_by, scaled_small}
-use Rattle.reach.proofs.RowLaws.{row}
 use Rattle.pricing.specs.ObjectFigures.{cost_of, before_of}
 use Rattle.pricing.proofs.ObjectLaws.{paid_by, paid_now, cost_of_sum, before_of_sum}
 use Rattle.pricing.proofs.ColumnLaws.{sum_none, sum_more}
@@ -34,26 +35,32 @@ use Rattle.exhaustive.specs.Ramps.{scaled_lines, ObjectLines, LinesFound, prefix
 use Rattle.exhaustive.proofs.Prefixes.{prefix_most}
 use Rattle.exhaustive.proofs.ObjectRamps.{sums_more, small_back}
 
--- a coordinate of a column, widened, and a natural number of a column
+-- a coordinate, widened, and a natural number
 abbrev pub widened : ℤ → ℤ
 widened z = back (word z)
 
 abbrev pub counted : ℤ → ℕ
 counted z = nat_abs (word z)
 
-module _ (z : ℤ) (h : nat_abs z ≤ 180000) where
-  pub wide_fits : SFits w64 (word z)
-  wide_fits = rw (coordinate z h) (word_fits w64 z (omega arith))
-
-  wide_is : widened z ≡ z
-  wide_is = rw (coordinate z h) (small_back z (omega arith))
-
 -- a coordinate that was scaled
-pub scaled_wide : {k r : ℤ} (v : ℤ) → AxisCostInRange k → nat_abs v ≤ 20000 → Scaled (word k) (back v) r → widened r ≡ times (nat_abs k) v
-scaled_wide {k} v cost h e = ap back (scaled_by cost v h e) ∙ small_back (times (nat_abs k) v) (omega (arith, scaled_small cost v h))
+pub scaled_wide : {k : ℕ} {r : ℤ} (v : ℤ) → k ≤ 9 → nat_abs v ≤ 20000 → Scaled (to_z w32 k) (back v) r → widened r ≡ times k v
+scaled_wide {k} v most h e = ap back (scaled_by most v h e) ∙ small_back (times k v) (omega (arith, scaled_small most v h))
 
-pub lines_none : {columns : List ℤ} (ls : List ℤ) (rows : List ℕ) → length rows ≡ 512 → LinesFound columns 0 ls rows rows
-lines_none ls rows e = record { lines = record { long = e; first = λ i h. absurd (omega arith) }; kept = λ i h. refl }
+-- ---- a row, as the code reads it
+module _ (row : Row) where
+  pub y_wide : widened row.y ≡ row.y
+  y_wide = rw (y_word row) (small_back row.y (omega (arith, row.in_range.place.y_range)))
+
+  pub visits_is : counted row.visits ≡ nat_abs row.visits
+  visits_is = ap nat_abs (visits_word row.in_range)
+
+  pub near_is : counted row.near ≡ nat_abs row.near
+  near_is = ap nat_abs (near_word row.in_range)
+
+  pub object_range : ObjectInRange (word row.x) (word row.y) (pos (counted row.visits)) (pos (counted row.near))
+  object_range =
+      let r = row.in_range in
+      rw (x_word row, y_word row, visits_is, near_is, ← natural row.visits r.visits_some, ← natural row.near r.near_some) r
 
 -- ---- no object
 empty : (xs : List ℕ) (m n : ℕ) → ((k : ℕ) → get_or xs k 0 ≤ 0 * m) → prefix_sum xs n ≡ 0
@@ -102,60 +109,59 @@ module _ (columns : List ℤ) where
     before_more : before_of (pricing_in columns (i + 1)) ≡ before_of (pricing_in columns i) + nat_abs visits * nat_abs near
     before_more = rw (before_of_sum (pricing_in columns (i + 1)), before_of_sum (pricing_in columns i)) (sum_more paid_now columns i)
 
--- ---- row i, as the code reads it
-module _ {columns : List ℤ} {n i : ℕ} (priceable : Priceable columns n) (h : i < n) where
-  pub x_fits : SFits w64 (word (x columns i))
-  x_fits = wide_fits (x columns i) (row priceable h).place.x_range
+-- ---- the first lines that are not below the first i objects
+pub record Finding (o : Objects) (ls : List ℤ) (old rows : List ℕ) (i : ℕ) : Type 0 where
+  pub long : length rows ≡ 512
+  pub first : (j : ℕ) → j < i → FirstAtLeast (scaled_lines (axis_in o.columns).b ls) (object_at o.columns j).at.y (get_or rows j 0)
+  pub kept : (j : ℕ) → i ≤ j → get_or rows j 0 ≡ get_or old j 0
 
-  pub y_fits : SFits w64 (word (y columns i))
-  y_fits = wide_fits (y columns i) (row priceable h).place.y_range
+pub finding_none : (o : Objects) (ls : List ℤ) (rows : List ℕ) → length rows ≡ 512 → Finding o ls rows rows 0
+finding_none o ls rows e = record { long = e; first = λ i h. absurd (omega arith); kept = λ i h. refl }
 
-  x_is : widened (x columns i) ≡ x columns i
-  x_is = wide_is (x columns i) (row priceable h).place.x_range
-
-  y_is : widened (y columns i) ≡ y columns i
-  y_is = wide_is (y columns i) (row priceable h).place.y_range
-
-  pub object_range : ObjectInRange (widened (x columns i)) (widened (y columns i)) (pos (counted (visits columns i))) (pos (counted (near columns i)))
-  object_range =
-      let r = row priceable h in
-      rw (x_is, y_is, visits_word r, near_word r, ← natural (visits columns i) r.visits_some, ← natural (near columns i) r.near_some) r
-
-  pub y_small : nat_abs (widened (y columns i)) ≤ 900000
-  y_small = rw y_is (omega (arith, (row priceable h).place.y_range))
-
-  -- the first line that is not below object i
-  pub lines_more : (ls : List ℤ) (old rows : List ℕ) (b k : ℕ) → b ≡ (axis_in columns).b → FirstAtLeast (scaled_lines b ls) (widened (y columns i)) k
-      → LinesFound columns i ls old rows → LinesFound columns (i + 1) ls old (set rows i k)
-  lines_more ls old rows b k e f so_far = record {
-    lines = record {
-      long = length-set rows i k ∙ so_far.lines.long;
-      first = λ j l. ⊎_elim (λ u. rw (get_or-set_other rows i j k 0 (λ q. omega (arith, ltb→lt))) (so_far.lines.first j (ltb→lt j i u)))
-          (λ u. let q : i ≡ j = omega (arith, nltb→le) in
-          rw (← q, get_or-set_same rows i k 0 (omega (arith, so_far.lines.long, priceable.count))) (rw (y_is, e) at f)) (test (ltb j i));
-    };
+module _ (o : Objects) (ls : List ℤ) {old rows : List ℕ} {i : ℕ} (so_far : Finding o ls old rows i) where
+  pub finding_more : (row : Row) {b k : ℕ} → i < o.count → object_of_row row ≡ object_at o.columns i → b ≡ (axis_in o.columns).b
+      → FirstAtLeast (scaled_lines b ls) (widened row.y) k → Finding o ls old (set rows i k) (i + 1)
+  finding_more row {b} {k} h at e f = record {
+    long = length-set rows i k ∙ so_far.long;
+    first = λ j l. ⊎_elim (λ u. rw (get_or-set_other rows i j k 0 (λ q. omega (arith, ltb→lt))) (so_far.first j (ltb→lt j i u)))
+        (λ u. let q : i ≡ j = omega (arith, nltb→le) in
+        rw (← q, get_or-set_same rows i k 0 (omega (arith, so_far.long, o.priceable.count))) (rw (y_wide row, e, ap (λ (s : Object). s.at.y) at) at f))
+        (test (ltb j i));
     kept = λ j l. get_or-set_other rows i j k 0 (λ q. omega arith) ∙ so_far.kept j (omega arith);
   }
 
-  pub first_at : (ls : List ℤ) (rows : List ℕ) (b : ℕ) → b ≡ (axis_in columns).b → ObjectLines columns n ls rows
-      → FirstAtLeast (scaled_lines b ls) (widened (y columns i)) (get_or rows i 0)
-  first_at ls rows b e all = rw (y_is, e) (all.first i h)
-
-  pub objects_more : (ls : List ℤ) (v u : ℤ) (b : ℕ) (old new : ObjectRamps) → u ≡ times (axis_in columns).a v
-      → b ≡ (axis_in columns).b → ObjectsAdded (pricing_in columns i) i ls v old
-      → ObjectAdded (scaled_lines b ls) u (widened (x columns i)) (widened (y columns i)) (counted (visits columns i)) (counted (near columns i))
-      old new
-      → ObjectsAdded (pricing_in columns (i + 1)) (i + 1) ls v new
-  objects_more ls v u b old new eu eb so_far one = record {
-    sums = one.sums i so_far.sums;
-    cost = λ j k.
-        let p : Place = record { x = v; y = get_or ls j (pos 0) } in
-        let read = rw (x_is, y_is, visits_word (row priceable h), near_word (row priceable h), eu, eb) at one in
-        let c = (axis_in columns).b in
-        let paid = rw (scaled_at c ls j) at (read.added j (omega (arith, length-map ls (times c)))) in
-        let past = rw (scaled_at c ls j) at (so_far.cost j k) in
-        rw (scaled_at c ls j) (omega (arith, cost_more columns i p, before_more columns i, past, paid));
+  pub finding_all : i ≡ o.count → LinesFound o ls old rows
+  finding_all e = record {
+    lines = record { long = so_far.long; first = λ j h. so_far.first j (omega arith) };
+    kept = λ j h. so_far.kept j (omega arith);
   }
+
+pub first_at : (o : Objects) (ls : List ℤ) {rows : List ℕ} (row : Row) {i b : ℕ} → i < o.count → object_of_row row ≡ object_at o.columns i
+    → b ≡ (axis_in o.columns).b → ObjectLines o ls rows → FirstAtLeast (scaled_lines b ls) row.y (get_or rows i 0)
+first_at o ls {rows} row {i} h at e all = rw (ap (λ (s : Object). s.at.y) at, e) (all.first i h)
+
+-- ---- one object more
+pub objects_more : (columns : List ℤ) (i : ℕ) (ls : List ℤ) (v u : ℤ) (b : ℕ) (row : Row) (old new : ObjectRamps) → object_of_row row ≡ object_at columns i
+    → u ≡ times (axis_in columns).a v → b ≡ (axis_in columns).b → ObjectsAdded (pricing_in columns i) i ls v old
+    → ObjectAdded (scaled_lines b ls) u row.x row.y (nat_abs row.visits) (nat_abs row.near) old new
+    → ObjectsAdded (pricing_in columns (i + 1)) (i + 1) ls v new
+objects_more columns i ls v u b row old new at eu eb so_far one = record {
+  sums = one.sums i so_far.sums;
+  cost = λ j k.
+      let p : Place = record { x = v; y = get_or ls j (pos 0) } in
+      let read = rw (
+        ap (λ (s : Object). s.at.x) at,
+        ap (λ (s : Object). s.at.y) at,
+        ap (λ (s : Object). s.visits) at,
+        ap (λ (s : Object). s.near) at,
+        eu,
+        eb,
+      ) at one in
+      let c = (axis_in columns).b in
+      let paid = rw (scaled_at c ls j) at (read.added j (omega (arith, length-map ls (times c)))) in
+      let past = rw (scaled_at c ls j) at (so_far.cost j k) in
+      rw (scaled_at c ls j) (omega (arith, cost_more columns i p, before_more columns i, past, paid));
+}
 
 -- at most 600 objects
 pub sums_few : {r : ObjectRamps} (m : ℕ) → ObjectSums r m → m ≤ 600 → ObjectSums r 600

@@ -25,8 +25,8 @@ module _ (a b : Spot) where
   leaves t = rw (fails (ltb b.cost a.cost) t)
 
 -- a spot made of the fields of one
-pub spot_same : (s : Spot) → mag s.x < 2 ^ 63 → mag s.y < 2 ^ 63 → record { x = back s.x; y = back s.y; cost = s.cost } ≡ s
-spot_same s h k = rw (fitting s.x h, fitting s.y k)
+pub spot_same : (s : Spot) → mag s.at.x < 2 ^ 63 → mag s.at.y < 2 ^ 63 → record { at = record { x = back s.at.x; y = back s.at.y }; cost = s.cost } ≡ s
+spot_same s h k = rw (fitting s.at.x h, fitting s.at.y k)
 
 -- ---- of some places
 module _ (P : Pricing) where

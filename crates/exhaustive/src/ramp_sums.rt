@@ -1,8 +1,7 @@
 // The ramps of objects along a vertical line, and the costs that follow from their sums.
 
-ghost use Rattle.std.specs.Prelude.{◌≡◌, ◌+◌, ◌*◌, ◌≤◌, ◌<◌, pos, nat_abs, length};
-ghost use Rattle.deck.specs.Ranges.{AxisCostInRange};
-ghost use Rattle.reach.specs.Columns.{ObjectInRange};
+ghost use Rattle.std.specs.Prelude.{◌≡◌, ◌+◌, ◌*◌, ◌≤◌, ◌<◌, nat_abs, length};
+ghost use Rattle.query.specs.Range.{axis_cost_limit};
 ghost use Rattle.lines.specs.LineRecord.{FirstAtLeast};
 ghost use Rattle.exhaustive.specs.Ramps.{scaled_lines};
 ghost use Rattle.exhaustive.specs.Ramps.{
@@ -22,6 +21,7 @@ use crate::line_numbers::{NumberedLines, ScaledLines, height};
 use deck::scaled;
 use limits::LINES;
 use numbers::abs_diff;
+use reach::Row;
 
 // Ramps by line: the sum of their weights, and that of their weights times the heights at which they start.
 #[derive(Clone, Copy)]
@@ -50,16 +50,6 @@ impl Ramps {
     }
 }
 
-// One object: its scaled place, its visits and its near.
-#[derive(Clone, Copy)]
-pub(crate) struct Row {
-    pub(crate) x: i64,
-    pub(crate) y: i64,
-    pub(crate) visits: u64,
-    pub(crate) near: u64,
-    ghost in_range: { ObjectInRange x y (pos visits) (pos near) },
-}
-
 // The ramps that raise the cost, and those that lower it.
 #[derive(Clone, Copy)]
 pub(crate) struct ObjectRamps {
@@ -73,24 +63,27 @@ impl ObjectRamps {
     pub(crate) fn add_object(&mut self, lines: &ScaledLines, v: i64, object: Row, line: usize)
         requires { (nat_abs v ≤ 180000) × ObjectSums self.old 600
             × FirstAtLeast (scaled_lines lines.now.divisor.by lines.now.plain.at.now) object.y line }
-        ensures { ObjectAdded (scaled_lines lines.now.divisor.by lines.now.plain.at.now) v object.x object.y object.visits
-            object.near self.old self.new }
+        ensures { ObjectAdded (scaled_lines lines.now.divisor.by lines.now.plain.at.now) v object.x object.y
+            (nat_abs object.visits) (nat_abs object.near) self.old self.new }
     {
-        let far = abs_diff(object.x, v);
-        if object.near <= far {
+        let y = object.y as i64;
+        let visits = (object.visits as u32) as u64;
+        let near = (object.near as u32) as u64;
+        let far = abs_diff(object.x as i64, v);
+        if near <= far {
             return;
         }
-        let r = (object.near - far) as i64;
-        self.down.add(lines, object.y - r, object.visits);
-        self.up.put(line, object.y, 2 * object.visits);
-        self.down.add(lines, object.y + r, object.visits);
+        let r = (near - far) as i64;
+        self.down.add(lines, y - r, visits);
+        self.up.put(line, y, 2 * visits);
+        self.down.add(lines, y + r, visits);
     }
 
     // Writes the cost of each crossing of the vertical line into `costs`, where b is the axis cost of y.
-    pub(crate) fn sweep(&self, lines: &NumberedLines, b: i32, before: u64, costs: &mut [u64; LINES])
-        requires { Sweepable (scaled_lines (nat_abs b) lines.now.at.now) self.now before × (length costs.old ≡ 514)
-            × AxisCostInRange b }
-        ensures { Swept lines.now.at.now (nat_abs b) self.now before costs.old costs.new }
+    pub(crate) fn sweep(&self, lines: &NumberedLines, b: u64, before: u64, costs: &mut [u64; LINES])
+        requires { Sweepable (scaled_lines b lines.now.at.now) self.now before × (length costs.old ≡ 514)
+            × ((1 ≤ b) × (b ≤ axis_cost_limit)) }
+        ensures { Swept lines.now.at.now b self.now before costs.old costs.new }
     {
         let mut sums = RunningSums {
             up: 0,
@@ -100,7 +93,7 @@ impl ObjectRamps {
         };
         for (k, y) in lines.at.iter().enumerate() {
             sums.add_line(self, k);
-            let y = scaled(b, *y);
+            let y = scaled(b as i32, *y);
             let cost = sums.cost_at(before, height(y as i64));
             costs[k] = cost;
         }

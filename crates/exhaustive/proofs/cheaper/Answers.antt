@@ -8,12 +8,10 @@ use Rattle.exhaustive.proofs.cheaper.Goals as goal
 pub returns-then-p-best : goal.returns-then-p-best
 returns-then-p-best c =
     let a = c.args in
-    let p = c.struct_told-1.given in
-    spot_same a.p p.0.1 p.1.0.1 ∙ sym (takes a.best a.p (lt→ltb a.p.cost a.best.cost (omega (arith, c.if-p-best.true))))
+    spot_same a.p (omega arith) (omega arith) ∙ sym (takes a.best a.p (lt→ltb a.p.cost a.best.cost (omega (arith, c.if-p-best.true))))
 
 pub returns : goal.returns
 returns c =
     let a = c.args in
-    let p = c.struct_told-2-1.given in
-    spot_same a.best p.0.1 p.1.0.1 ∙ sym (leaves a.best a.p
+    spot_same a.best (omega arith) (omega arith) ∙ sym (leaves a.best a.p
     (not_T (ltb a.p.cost a.best.cost) (λ t. omega (arith, c.if-p-best.false, ltb→lt a.p.cost a.best.cost t))))

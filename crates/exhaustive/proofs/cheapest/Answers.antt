@@ -1,7 +1,6 @@
 -- What `exhaustive::cheapest` owes.
 use Prim.Native.Nat.{ℕ}
 use lib.ListN.{length-replicate}
-use Rattle.problem.proofs.DeckProblem.{prepared_priceable}
 use Rattle.exhaustive.proofs.DeckCrossings.{vertical_lines, horizontal_lines, corner_near, answers}
 use Rattle.exhaustive.proofs.cheapest.Goals as goal
 
@@ -9,16 +8,16 @@ pub number_lines-requires : goal.number_lines-requires
 number_lines-requires c = (horizontal_lines c.requires.0, length-replicate {A = ℕ} 40001 0)
 
 pub number_objects-requires : goal.number_objects-requires
-number_objects-requires c = (prepared_priceable c.requires.0, length-replicate {A = ℕ} 512 0)
+number_objects-requires c = length-replicate {A = ℕ} 512 0
 
 pub priced-first-requires : goal.priced-first-requires
-priced-first-requires c = (prepared_priceable c.requires.0, corner_near c.requires.0)
+priced-first-requires c = corner_near c.requires.0
 
 pub invariant_of-lines : goal.invariant_of-lines
 invariant_of-lines c = record { in_range = horizontal_lines c.requires.0; numbered = c.number_lines.ensures }
 
 pub new-crossings-requires : goal.new-crossings-requires
-new-crossings-requires c = (prepared_priceable c.requires.0, c.number_objects.ensures.lines, c.requires.1)
+new-crossings-requires c = (c.number_objects.ensures.lines, c.requires.1)
 
 pub cheapest_of-requires : goal.cheapest_of-requires
 cheapest_of-requires c = vertical_lines c.requires.0
@@ -26,5 +25,5 @@ cheapest_of-requires c = vertical_lines c.requires.0
 pub returns : goal.returns
 returns c =
     let made = c.new-crossings.ensures in
-    let best = rw (made.objects.0, made.objects.1, made.lines) at c.cheapest_of.ensures in
+    let best = rw (made.0, made.1) at c.cheapest_of.ensures in
     answers c.requires.0 _ _ c.priced-first.ensures best

@@ -3,38 +3,32 @@ use mathlib.Core.Path.{◌≡◌, ap, sym, ◌∙◌}
 use native.Mathlib.Omega.{arith}
 use Rattle.numbers.specs.Integer.{times}
 use Rattle.numbers.proofs.WordTests.{back}
+use Rattle.query.specs.Deck.{AxisCosts}
 use Rattle.deck.specs.ObjectColumns.{axis_in}
 use Rattle.reach.proofs.NarrowLaws.{scaled_small}
-use Rattle.reach.proofs.RowLaws.{row}
-use Rattle.pricing.proofs.PricedWords.{visits_cast, near_cast}
 use Rattle.exhaustive.proofs.ObjectRamps.{small_back}
-use Rattle.exhaustive.proofs.AllObjects.{widened, scaled_wide, first_at, objects_none, object_range, objects_more, sums_few}
+use Rattle.exhaustive.proofs.AllObjects.{widened, scaled_wide, first_at, objects_none, objects_more, sums_few}
 use Rattle.exhaustive.proofs.Crossings.add_objects.Goals as goal
+
+pub new-divisor-requires : goal.new-divisor-requires
+new-divisor-requires c = let costs = c.axis-axis.ensures.range in (costs.some.1, costs.most.1)
 
 pub loop-i-init : goal.loop-i-init
 loop-i-init c = objects_none _ _ _ _ c.requires.1
 
-pub overflow_cast-visits : goal.overflow_cast-visits
-overflow_cast-visits c = visits_cast (row c.args.self.now.priceable c.loop-i-test.true)
-
-pub overflow_cast-near : goal.overflow_cast-near
-overflow_cast-near c = near_cast (row c.args.self.now.priceable c.loop-i-test.true)
-
-pub invariant_of-object : goal.invariant_of-object
-invariant_of-object c = record { in_range = object_range c.args.self.now.priceable c.loop-i-test.true }
-
 pub add_object-requires : goal.add_object-requires
 add_object-requires c =
-    let held = c.args.self.now.priceable in (
-      rw (scaled_wide c.args.v held.costs.x_cost c.requires.0 c.scaled-x.ensures) (scaled_small held.costs.x_cost c.args.v c.requires.0),
-      sums_few c.loop-i.i c.loop-i.invariant.sums (omega (arith, c.loop-i-test.true, held.count)),
-      first_at held c.loop-i-test.true _ _ _ c.divisor_of-divisor.ensures c.args.self.now.found,
+    let most = c.axis-axis.ensures.range.most.0 in
+    let b_is = c.new-divisor.ensures ∙ ap (λ (a : AxisCosts). a.b) c.axis-axis.ensures.is in (
+      rw (scaled_wide c.args.v most c.requires.0 c.scaled-x.ensures) (scaled_small most c.args.v c.requires.0),
+      sums_few c.loop-i.i c.loop-i.invariant.sums (omega (arith, c.loop-i-test.true, c.count-i-end.ensures, c.args.self.now.objects.now.priceable.count)),
+      first_at _ _ c.row.result (omega (arith, c.loop-i-test.true, c.count-i-end.ensures)) c.row.ensures b_is c.args.self.now.found,
     )
 
 pub loop-i-preserved : goal.loop-i-preserved
 loop-i-preserved c =
-    let held = c.args.self.now.priceable in
-    let x_is : widened c.scaled-x.result ≡ times (axis_in c.args.self.now.columns.now).a (back c.args.v) =
-    scaled_wide c.args.v held.costs.x_cost c.requires.0 c.scaled-x.ensures
-    ∙ ap (times (axis_in c.args.self.now.columns.now).a) (sym (small_back c.args.v (omega (arith, c.requires.0)))) in
-    objects_more held c.loop-i-test.true _ _ _ _ _ _ x_is c.divisor_of-divisor.ensures c.loop-i.invariant c.add_object.ensures
+    let x_is : widened c.scaled-x.result ≡ times (axis_in c.args.self.now.objects.now.columns).a (back c.args.v) =
+    scaled_wide c.args.v c.axis-axis.ensures.range.most.0 c.requires.0 c.scaled-x.ensures
+    ∙ (λ i. times (c.axis-axis.ensures.is i).a (sym (small_back c.args.v (omega (arith, c.requires.0))) i)) in
+    let b_is = c.new-divisor.ensures ∙ ap (λ (a : AxisCosts). a.b) c.axis-axis.ensures.is in
+    objects_more _ _ _ _ _ _ c.row.result _ _ c.row.ensures x_is b_is c.loop-i.invariant c.add_object.ensures

@@ -4,4 +4,4 @@ use Rattle.exhaustive.specs.Ramps.{ObjectsAdded}
 use Rattle.exhaustive.proofs.Crossings.add_objects.Given as goal
 
 abbrev pub invariant-loop-i : goal.invariant-loop-i
-invariant-loop-i l = ObjectsAdded (pricing_in l.self.columns.now l.i) l.i l.self.lines.at.now l.v l.ramps
+invariant-loop-i l = ObjectsAdded (pricing_in l.self.objects.now.columns l.i) l.i l.self.lines.at.now l.v l.ramps

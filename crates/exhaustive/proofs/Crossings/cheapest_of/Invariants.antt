@@ -1,10 +1,10 @@
 -- The loops of `exhaustive::Crossings::cheapest_of`.
 use mathlib.Core.Path.{◌≡◌}
 use lib.ListN.{length}
-use Rattle.deck.specs.ObjectColumns.{pricing_in}
+use Rattle.reach.specs.Held.{pricing_of_objects}
 use Rattle.exhaustive.proofs.CheapestOfLines.{Compared}
 use Rattle.exhaustive.proofs.Crossings.cheapest_of.Given as goal
 
 abbrev pub invariant-loop-v : goal.invariant-loop-v
 invariant-loop-v l =
-    (length l.costs ≡ 514) × Compared (pricing_in l.self.columns.now l.self.n) l.self.lines.at.now l.vertical l.initial.found l.found l.v-index
+    (length l.costs ≡ 514) × Compared (pricing_of_objects l.self.objects.now) l.self.lines.at.now l.vertical l.initial.found l.found l.v-index
