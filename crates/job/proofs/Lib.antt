@@ -6,8 +6,8 @@ pub mod JobLaws
 pub mod Faults
 pub mod Meaning
 pub mod AllowedLaws
+pub mod RefusalLaws
 pub mod PartLaws
 pub mod FilledLaws
 pub mod ReadLaws
-pub mod RefusalLaws
 pub mod ReadDeck

@@ -1,18 +1,19 @@
 -- A job that was read: what the record says of the bytes, and of the deck that they spell.
 -- Assumes nothing.
 use mathlib.Core.Path.{◌≡◌, refl, sym, ap, subst, ◌∙◌}
-use mathlib.Core.Bool.{Bool, true, false}
+use mathlib.Core.Bool.{true, false}
 use mathlib.Core.List.{List}
 use Prim.Native.Nat.{ℕ}
+use native.Mathlib.Omega.{arith}
 use lib.Dec.{T}
 use Rattle.query.specs.Range.{InRange}
+use Rattle.std.specs.Prelude as Std
+use Rattle.std.specs.Prelude.{Ok, Err}
 use Rattle.job.specs.Format.{Job, Result, refused, accepted, read_job}
 use Rattle.job.specs.Spelling.{Allowed}
-use Rattle.job.specs.JobRecord.{job_record}
+use Rattle.job.specs.JobRecord.{job_result}
 use Rattle.job.specs.declared.Job as Held
 use Rattle.refusal.specs.declared.Refusal.{Refusal}
-use Rattle.job.specs.declared.Outcome.{Outcome}
-use Rattle.job.specs.declared.Outcome.TheVariants.{Accepted, Refused}
 use Rattle.job.proofs.Meaning.{accepted_job, allowed_in_range}
 use Rattle.deck.specs.DeckOf.{deck_of, deck_record}
 use Rattle.deck.specs.Sound.{Sound}
@@ -23,17 +24,15 @@ use Rattle.deck.proofs.SoundLaws.{record_sound}
 pub differ : {P : Type 0} → true ≡ false → P
 differ e = absurd (subst T e tt)
 
-abbrev pub is_accepted : Outcome → Bool
-is_accepted (Accepted rounds) = true
-is_accepted (Refused why) = false
+-- a job and a refusal differ
+pub not_both : {P : Type 0} {j : Held.Job} {why : Refusal} → Ok j ≡ Err why → P
+not_both e = absurd (let z : ◌≡◌ {A = ℕ} 0 1 = cc in omega arith)
 
-abbrev rounds_in : Outcome → ℕ
-rounds_in (Accepted rounds) = rounds
-rounds_in (Refused why) = 0
+same_job : {i j : Held.Job} → ◌≡◌ {A = Std.Result Held.Job Refusal} (Ok i) (Ok j) → i ≡ j
+same_job e = cc
 
-abbrev refusal_in : Refusal → Outcome → Refusal
-refusal_in other (Accepted rounds) = other
-refusal_in other (Refused why) = why
+same_refusal : {why other : Refusal} → ◌≡◌ {A = Std.Result Held.Job Refusal} (Err why) (Err other) → why ≡ other
+same_refusal e = cc
 
 -- the job that accepted bytes spell
 pub record Spelt (bytes : List ℕ) : Type 0 where
@@ -41,37 +40,41 @@ pub record Spelt (bytes : List ℕ) : Type 0 where
   pub read : read_job bytes ≡ accepted job
   pub allowed : Allowed job
 
-module _ (bytes : List ℕ) (j : Held.Job) (e : j ≡ job_record (read_job bytes)) where
-  pub read_accepted : (rounds : ℕ) → j.outcome ≡ Accepted rounds → Spelt bytes
-  unfolding job_record
-  read_accepted rounds f = go (read_job bytes) refl e
+-- a refusal
+pub read_refused : (bytes : List ℕ) (why : Refusal) → Err why ≡ job_result (read_job bytes) → read_job bytes ≡ refused why
+unfolding job_result
+read_refused bytes why e = go (read_job bytes) refl e
+  where
+    go : (r : Result) → read_job bytes ≡ r → Err why ≡ job_result r → read_job bytes ≡ refused why
+    go (refused other) p q = p ∙ ap refused (sym (same_refusal q))
+    go (accepted job) p q = not_both (sym q)
+
+-- a job
+module _ (bytes : List ℕ) (j : Held.Job) (e : Ok j ≡ job_result (read_job bytes)) where
+  pub read_accepted : Spelt bytes
+  unfolding job_result
+  read_accepted = go (read_job bytes) refl e
     where
-      go : (r : Result) → read_job bytes ≡ r → j ≡ job_record r → Spelt bytes
-      go (refused why) p q = differ (sym (ap is_accepted f) ∙ ap (λ (k : Held.Job). is_accepted k.outcome) q)
+      go : (r : Result) → read_job bytes ≡ r → Ok j ≡ job_result r → Spelt bytes
+      go (refused why) p q = not_both q
       go (accepted job) p q = record { job = job; read = p; allowed = ((accepted_job bytes job).0 p).2 }
 
+  read_as : (s : Spelt bytes) → j ≡ record { rounds = s.job.rounds; deck = deck_record s.job.deck }
+  unfolding job_result
+  read_as s = same_job (e ∙ ap job_result s.read)
+
   pub read_deck : (s : Spelt bytes) → j.deck ≡ deck_record s.job.deck
-  unfolding job_record
-  read_deck s = ap (λ (k : Held.Job). k.deck) (e ∙ ap job_record s.read)
+  read_deck s = ap (λ (k : Held.Job). k.deck) (read_as s)
 
-  pub read_rounds : (rounds : ℕ) → j.outcome ≡ Accepted rounds → (s : Spelt bytes) → rounds ≡ s.job.rounds
-  unfolding job_record
-  read_rounds rounds f s = sym (ap rounds_in f) ∙ ap (λ (k : Held.Job). rounds_in k.outcome) (e ∙ ap job_record s.read)
-
-  pub read_refused : (why : Refusal) → j.outcome ≡ Refused why → read_job bytes ≡ refused why
-  unfolding job_record
-  read_refused why f = go (read_job bytes) refl e
-    where
-      go : (r : Result) → read_job bytes ≡ r → j ≡ job_record r → read_job bytes ≡ refused why
-      go (refused other) p q = p ∙ ap refused (sym (ap (λ (k : Held.Job). refusal_in why k.outcome) q) ∙ ap (refusal_in why) f)
-      go (accepted job) p q = differ (sym (ap (λ (k : Held.Job). is_accepted k.outcome) q) ∙ ap is_accepted f)
+  pub read_rounds : (s : Spelt bytes) → j.rounds ≡ s.job.rounds
+  read_rounds s = ap (λ (k : Held.Job). k.rounds) (read_as s)
 
 -- ---- the deck
 module _ {bytes : List ℕ} (s : Spelt bytes) where
   pub spelt_range : InRange s.job.deck
   spelt_range = allowed_in_range s.job s.allowed
 
-  module _ (j : Held.Job) (e : j ≡ job_record (read_job bytes)) where
+  module _ (j : Held.Job) (e : Ok j ≡ job_result (read_job bytes)) where
     pub read_deck_of : deck_of j.deck ≡ s.job.deck
     read_deck_of = ap deck_of (read_deck bytes j e s) ∙ held_deck s.job.deck
 

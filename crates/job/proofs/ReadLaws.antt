@@ -7,51 +7,45 @@ use Prim.Native.Nat.{ℕ, zero, suc, ◌+◌, ◌≤◌, ◌<◌}
 use native.Mathlib.Omega.{arith}
 use borrow.Author.Tests.{lt-ltb}
 use lib.IntN.{ℤ, pos}
-use lib.ListN.{length, take, drop, length-map}
+use lib.ListN.{length, take, drop, replicate, length-map}
 use lib.Signed.{lt_z}
 use mir.Syntax.{w64}
 use mir.Val.{SFits}
+use Rattle.std.specs.Prelude as Std
+use Rattle.std.specs.Prelude.{Ok, Err}
 use Rattle.numbers.specs.Lists.{non_empty}
+use Rattle.numbers.specs.Padded.{padded}
 use Rattle.job_line.specs.Kinds.{area, axis, posts, stops, rounds, row}
 use Rattle.job_line.specs.OneLine.{Reading, fault, got, Reader, line}
+use Rattle.job_line.specs.Reading.{LineAnswer, read, refused, area_numbers, cost_numbers, answer_in, LineAt}
 use Rattle.job.specs.Reader.{and_then, optional, end}
 use Rattle.job.specs.Format as Format
-use Rattle.job.specs.Format.{refused, accepted, area_of, axis_costs_of, axis_numbers, count_of, post_of, stop_of, job_of, empty_area, checked, job_lines}
+use Rattle.job.specs.Format.{accepted, area_of, axis_costs_of, axis_numbers, count_of, post_of, stop_of, job_of, empty_area, checked, job_lines}
 use Rattle.job.specs.Format.{reading_result, read_with, missing_axis, read_job}
-use Rattle.job.specs.JobRecord.{job_record}
-use Rattle.numbers.specs.Padded.{padded}
-use Rattle.job_line.specs.Reading.{area_numbers, cost_numbers, area_answer, count_answer, answer_in, LineAt}
-use Rattle.job.specs.ManyLines.{post_lines, stop_lines, counted_lines, all_posts, all_stops, last_line, rest_lines, next_in}
-use Rattle.job.specs.ManyLines.{AxisAt, PostsAt, StopsAt, LastAt, CheckedAt, no_lists, ListsAt, RestAt}
+use Rattle.job.specs.JobRecord.{job_result}
+use Rattle.job.specs.ManyLines.{post_lines, stop_lines, counted_lines, all_posts, all_stops, last_line, rest_lines, with_posts, with_stops, reading_of, job_unless}
+use Rattle.job.specs.ManyLines.{AxisAt, PostsAt, StopsAt, LastAt, CheckedAt, RestAt}
 use Rattle.query.specs.Deck as Query
 use Rattle.query.specs.Travel as Travel
 use Rattle.query.specs.Cost.{before}
 use Rattle.deck.specs.DeckOf.{held_axis, axis_record, places}
+use Rattle.deck.specs.Ranges.{PlacesInRange, VisitsInRange}
 use Rattle.deck.specs.StopFigures.{Nears, paid}
 use Rattle.deck.specs.declared.AxisCosts.{AxisCosts}
+use Rattle.deck.specs.declared.Deck.{Deck}
 use Rattle.deck.specs.declared.Rect.{Rect}
-use Rattle.job_line.specs.declared.AreaLine.{AreaLine}
-use Rattle.job_line.specs.declared.AreaLine.TheVariants as A
-use Rattle.job_line.specs.declared.CountLine.{CountLine}
-use Rattle.job_line.specs.declared.CountLine.TheVariants as C
-use Rattle.job.specs.declared.Next.TheVariants.{At, Refused}
-use Rattle.job.specs.declared.AxisRead.{AxisRead}
-use Rattle.job.specs.declared.Listed.{Listed}
-use Rattle.job.specs.declared.Lists.{Lists}
 use Rattle.job.specs.declared.Job.{Job}
-use Rattle.job.specs.declared.Outcome.{Outcome}
 use Rattle.refusal.specs.declared.Refusal.{Refusal}
 use Rattle.refusal.specs.declared.Refusal.TheVariants.{TooLong, EmptyArea, NoPosts, NoStops}
 use Rattle.numbers.proofs.WordTests.{back, back_is}
 use Rattle.job.proofs.Meaning.{read_short, job_with}
-use Rattle.job.proofs.FilledLaws.{lists_held, near_filled, before_filled}
-use Rattle.job.proofs.ReadDeck.{differ, is_accepted}
+use Rattle.job.proofs.FilledLaws.{posts_in, stops_in, visits_in, near_filled, before_filled}
 
 -- ---- refusal 4
 module _ {a : Rect} (xlo : SFits w64 a.xlo) (ylo : SFits w64 a.ylo) (xhi : SFits w64 a.xhi) (yhi : SFits w64 a.yhi) where
-  pub empty_across : lt_z (back a.xhi) (back a.xlo) ≡ true → true ≡ empty_area (area_of (area_numbers a))
+  pub empty_across : lt_z (back a.xhi) (back a.xlo) ≡ true → lt_z (back a.xhi) (back a.xlo) ≡ empty_area (area_of (area_numbers a))
   unfolding empty_area
-  empty_across e = rw (rw (back_is xhi, back_is xlo) at e)
+  empty_across e = e ∙ rw (rw (back_is xhi, back_is xlo) at e)
 
   pub empty_deep : lt_z (back a.xhi) (back a.xlo) ≡ false → lt_z (back a.yhi) (back a.ylo) ≡ empty_area (area_of (area_numbers a))
   unfolding empty_area
@@ -75,32 +69,29 @@ module _ {A : Type 0} (f : List ℤ → A) {count : ℕ} (ls : List (List ℤ)) 
   none_lines : count ≡ 0 → non_empty (map f ls) ≡ false
   none_lines z = no_elements (map f ls) (length-map ls f ∙ sym e ∙ z)
 
-not_accepted : {P : Type 0} {why : Refusal} {n : ℕ} → Outcome.Refused why ≡ Outcome.Accepted n → P
-not_accepted e = differ (sym (ap is_accepted e))
-
-module _ {a : Rect} {k m : ℕ} (n : ℕ) {t : Bool} (is-empty : t ≡ empty_area (area_of (area_numbers a))) where
-  pub checked_empty : t ≡ true → CheckedAt a k m n (Outcome.Refused EmptyArea)
+module _ {a : Rect} {k m : ℕ} {t : Bool} (is_empty : t ≡ empty_area (area_of (area_numbers a))) where
+  pub checked_empty : t ≡ true → CheckedAt a k m (Err EmptyArea)
   unfolding checked
-  checked_empty on = record { is = λ c ps ss p s. rw (← is-empty, on); posts_some = not_accepted }
+  checked_empty on = record { is = λ c ps ss n p s. rw (← is_empty, on); posts_some = tt }
 
   module _ (off : t ≡ false) where
-    pub checked_no_posts : k ≡ 0 → CheckedAt a k m n (Outcome.Refused NoPosts)
+    pub checked_no_posts : k ≡ 0 → CheckedAt a k m (Err NoPosts)
     unfolding checked
-    checked_no_posts z = record { is = λ c ps ss p s. rw (← is-empty, off, none_lines post_of ps p z); posts_some = not_accepted }
+    checked_no_posts z = record { is = λ c ps ss n p s. rw (← is_empty, off, none_lines post_of ps p z); posts_some = tt }
 
     module _ (some_posts : k ≡ 0 → ⊥) where
-      pub checked_no_stops : m ≡ 0 → CheckedAt a k m n (Outcome.Refused NoStops)
+      pub checked_no_stops : m ≡ 0 → CheckedAt a k m (Err NoStops)
       unfolding checked
       checked_no_stops z = record {
-        is = λ c ps ss p s. rw (← is-empty, off, some_lines post_of ps p some_posts, none_lines stop_of ss s z);
-        posts_some = not_accepted;
+        is = λ c ps ss n p s. rw (← is_empty, off, some_lines post_of ps p some_posts, none_lines stop_of ss s z);
+        posts_some = tt;
       }
 
-      pub checked_accepted : (m ≡ 0 → ⊥) → CheckedAt a k m n (Outcome.Accepted n)
+      pub checked_accepted : (m ≡ 0 → ⊥) → CheckedAt a k m (Ok tt)
       unfolding checked
       checked_accepted some_stops = record {
-        is = λ c ps ss p s. rw (← is-empty, off, some_lines post_of ps p some_posts, some_lines stop_of ss s some_stops);
-        posts_some = λ e. at_least k some_posts;
+        is = λ c ps ss n p s. rw (← is_empty, off, some_lines post_of ps p some_posts, some_lines stop_of ss s some_stops);
+        posts_some = at_least k some_posts;
       }
         where
           at_least : (k : ℕ) → (k ≡ 0 → ⊥) → 1 ≤ k
@@ -170,59 +161,27 @@ lines_are missing n bs = then_same (line (row area) n bs) _ _
     (λ a n bs. then_same (optional (row axis) (axis_numbers missing) n bs) (behind_axis_lem a) (rest_lines a) (axis_same a))
 
 -- ---- the lines behind those of the area and the axis costs
--- the reading that they come to
-record RestIs (s : List ℕ) (at first : ℕ) (a : Rect) (c : List ℤ) (reading : Reading Format.Job) : Type 0 where
-  is : rest_lines (area_numbers a) c first (drop at s) ≡ reading
+-- the record that has none of them
+abbrev pub start_deck : Rect → AxisCosts → Deck
+start_deck a c = record {
+  axis = c;
+  xlo = back a.xlo;
+  ylo = back a.ylo;
+  xhi = back a.xhi;
+  yhi = back a.yhi;
+  posts = 0;
+  post_x = replicate 64 (pos 0);
+  post_y = replicate 64 (pos 0);
+  stops = 0;
+  stop_x = replicate 512 (pos 0);
+  stop_y = replicate 512 (pos 0);
+  visits = replicate 512 0;
+  near = replicate 512 0;
+  before = 0;
+}
 
-module _ {s : List ℕ} {at first : ℕ} {a : Rect} where
-  lists_refused : {why : Refusal} → ((c : List ℤ) → RestIs s at first a c (fault why)) → {px py sx sy : List ℤ} {visits : List ℕ} {r : Lists} →
-      r ≡ no_lists why → ListsAt s at first a px py sx sy visits r
-  lists_refused rest {px} {py} {sx} {sy} {visits} e = subst (ListsAt s at first a px py sx sy visits) (sym e)
-      (record { post_lines_law = []; stop_lines_law = []; is = λ c. ap reading_result (rest c).is; held = not_accepted })
-
-  module _ {px py : List ℤ} {posts_read : Listed} (posts-at : PostsAt s (first + 1) (all_posts first (drop at s)) px py posts_read) where
-    from_posts : (c : List ℤ) → RestIs s at first a c (and_then (next_in s posts-at.lines (first + 1 + posts_read.count) posts_read.next)
-        (after_posts (area_numbers a) c))
-    from_posts c = record { is = rw (rest_is (area_numbers a) c first (drop at s), posts-at.is) }
-
-    pub lists_posts : {why : Refusal} → posts_read.next ≡ Refused why → {sx sy : List ℤ} {visits : List ℕ} {r : Lists} → r ≡ no_lists why →
-        ListsAt s at first a px py sx sy visits r
-    lists_posts e = lists_refused (λ c. record { is = rw ((from_posts c).is, e) })
-
-    module _ {at₂ : ℕ} (posts-is : posts_read.next ≡ At at₂) {sx sy : List ℤ} {visits : List ℕ} {stops_read : Listed}
-        (stops_at : StopsAt s (first + 1 + posts_read.count + 1) (all_stops (first + 1 + posts_read.count) (drop at₂ s)) sx sy visits stops_read) where
-      from_stops : (c : List ℤ) →
-          RestIs s at first a c (and_then (next_in s stops_at.lines (first + 1 + posts_read.count + 1 + stops_read.count) stops_read.next)
-          (after_stops (area_numbers a) c posts-at.lines))
-      unfolding after_posts
-      from_stops c = record { is = rw ((from_posts c).is, posts-is, stops_at.is) }
-
-      pub lists_stops : {why : Refusal} → stops_read.next ≡ Refused why → {r : Lists} → r ≡ no_lists why → ListsAt s at first a px py sx sy visits r
-      lists_stops e = lists_refused (λ c. record { is = rw ((from_stops c).is, e) })
-
-      module _ {at₃ : ℕ} (stops-is : stops_read.next ≡ At at₃) {last : CountLine}
-          (last-at : LastAt s at₃ (first + 1 + posts_read.count + 1 + stops_read.count) last) where
-        from_last : (c : List ℤ) →
-            RestIs s at first a c (and_then (answer_in s (first + 1 + posts_read.count + 1 + stops_read.count) (count_answer last))
-            (λ k n bs. got (job_of (area_numbers a) c posts-at.lines stops_at.lines k) n bs))
-        unfolding after_stops
-        from_last c = record { is = rw ((from_stops c).is, stops-is, last-at.is) }
-
-        pub lists_last : {why : Refusal} → last ≡ C.Refused why → {r : Lists} → r ≡ no_lists why → ListsAt s at first a px py sx sy visits r
-        lists_last e = lists_refused (λ c. record { is = rw ((from_last c).is, e) })
-
-        pub lists_all : {n next : ℕ} → last ≡ C.Read n next → {o : Outcome} → CheckedAt a posts_read.count stops_read.count n o
-            → ListsAt s at first a px py sx sy visits (record { outcome = o; posts = posts_read.count; stops = stops_read.count })
-        lists_all e checked-at = record {
-          post_lines_law = posts-at.lines;
-          stop_lines_law = stops_at.lines;
-          is = λ c. rw ((from_last c).is, e) (checked-at.is c _ _ posts-at.hold.count_is stops_at.hold.places.count_is);
-          held = λ f. lists_held _ _ _ _ posts-at posts-is stops_at stops-is (checked-at.posts_some f);
-        }
-
--- ---- the job that they come to
-accepted_is : (a c : List ℤ) (ps ss : List (List ℤ)) (n : List ℤ) → job_record (accepted (job_of a c ps ss n)) ≡ record {
-  outcome = Outcome.Accepted (count_of n);
+accepted_is : (a c : List ℤ) (ps ss : List (List ℤ)) (n : List ℤ) → job_result (accepted (job_of a c ps ss n)) ≡ Ok (record {
+  rounds = count_of n;
   deck = record {
     axis = axis_record (axis_costs_of c);
     xlo = (area_of a).xlo;
@@ -239,97 +198,153 @@ accepted_is : (a c : List ℤ) (ps ss : List (List ℤ)) (n : List ℤ) → job_
     near = padded 512 0 (map (Travel.near (job_of a c ps ss n).deck) (map stop_of ss));
     before = before (job_of a c ps ss n).deck;
   };
-}
-unfolding job_record
+})
+unfolding job_result
 accepted_is a c ps ss n = refl
 
-module _ {s : List ℕ} {at first : ℕ} {a : Rect} (c : AxisCosts) {px py sx sy : List ℤ} {visits : List ℕ} {r : Lists}
-    (lists_at : ListsAt s at first a px py sx sy visits r) where
-  pub rest_refused : {why : Refusal} → r.outcome ≡ Outcome.Refused why → {j : Job} → j ≡ job_record (refused why) → RestAt s at first a c j
-  rest_refused e f = record { is = rw (lists_at.is (cost_numbers c), e) f }
+-- the record that holds those that were read
+module _ {s : List ℕ} {at n : ℕ} {d₀ d₁ : Deck} {at₂ : ℕ} (posts_at : PostsAt s at n d₀ d₁ (Ok at₂)) where
+  posts_are : d₁.posts ≡ length posts_at.lines
+  posts_are = ap (λ (d : Deck). d.posts) posts_at.held
 
-  -- the job as the code makes it of its parts
-  pub rest_accepted : SFits w64 a.xlo → SFits w64 a.ylo → SFits w64 a.xhi → SFits w64 a.yhi → {n : ℕ} → r.outcome ≡ Outcome.Accepted n →
-      {near : List ℕ} {sum : ℕ} → Nears (held_axis c) (take r.posts (places px py)) (take r.stops (places sx sy)) near →
-      sum ≡ paid visits near r.stops →
-      RestAt s at first a c (record {
-        outcome = Outcome.Accepted n;
-        deck = record {
-          axis = c;
-          xlo = back a.xlo;
-          ylo = back a.ylo;
-          xhi = back a.xhi;
-          yhi = back a.yhi;
-          posts = r.posts;
-          post_x = px;
-          post_y = py;
-          stops = r.stops;
-          stop_x = sx;
-          stop_y = sy;
-          visits = visits;
-          near = near;
-          before = sum;
-        };
-      })
-  rest_accepted xlo ylo xhi yhi {n} e found summed =
-      let ps = lists_at.post_lines_law in
-      let ss = lists_at.stop_lines_law in
-      let p = (lists_at.held e).posts_held in
-      let q = (lists_at.held e).stops_held in
-      record {
-        is = rw (
-          lists_at.is (cost_numbers c),
-          e,
-          accepted_is (area_numbers a) (cost_numbers c) ps ss (pos n ∷ []),
-          before_filled c p q (area_numbers a) (pos n ∷ []) found summed,
-          near_filled c p q (area_numbers a) (pos n ∷ []) found,
-          back_is xlo,
-          back_is ylo,
-          back_is xhi,
-          back_is yhi,
-          p.count_is,
-          p.x_is,
-          p.y_is,
-          q.places.count_is,
-          q.places.x_is,
-          q.places.y_is,
-          q.visits_is,
-          length-map ps post_of,
-          map-map (λ p. p.x) post_of ps,
-          map-map (λ p. p.y) post_of ps,
-          length-map ss stop_of,
-          map-map (λ s. s.at.x) stop_of ss,
-          map-map (λ s. s.at.y) stop_of ss,
-          map-map (λ s. s.visits) stop_of ss,
-        );
-      }
+  module _ {m : ℕ} {d₂ : Deck} {at₃ : ℕ} (stops_at : StopsAt s at₂ m d₁ d₂ (Ok at₃)) where
+    stops_are : d₂.stops ≡ length stops_at.lines
+    stops_are = ap (λ (d : Deck). d.stops) stops_at.held
+
+    filled : d₂ ≡ with_stops (with_posts d₀ posts_at.lines) stops_at.lines
+    filled = stops_at.held ∙ ap (λ d. with_stops d stops_at.lines) posts_at.held
+
+    posts_count : d₂.posts ≡ length posts_at.lines
+    posts_count = ap (λ (d : Deck). d.posts) filled
+
+    pub filled_posts : PlacesInRange 64 d₂.post_x d₂.post_y d₂.posts
+    filled_posts = subst (λ (d : Deck). PlacesInRange 64 d.post_x d.post_y d.posts) (sym filled) (posts_in posts_at)
+
+    pub filled_stops : PlacesInRange 512 d₂.stop_x d₂.stop_y d₂.stops
+    filled_stops = subst (λ (d : Deck). PlacesInRange 512 d.stop_x d.stop_y d.stops) (sym filled) (stops_in stops_at)
+
+    pub filled_visits : VisitsInRange d₂.visits d₂.stops
+    filled_visits = subst (λ (d : Deck). VisitsInRange d.visits d.stops) (sym filled) (visits_in stops_at)
+
+    checked_is : {a : Rect} {r : Std.Result (Unit {0}) Refusal} (c : AxisCosts) (k : ℕ) → CheckedAt a d₂.posts d₂.stops r →
+        checked (job_of (area_numbers a) (cost_numbers c) posts_at.lines stops_at.lines (pos k ∷ []))
+        ≡ job_unless (job_of (area_numbers a) (cost_numbers c) posts_at.lines stops_at.lines (pos k ∷ [])) r
+    checked_is c k checked_at = checked_at.is (cost_numbers c) posts_at.lines stops_at.lines (pos k ∷ []) posts_count stops_are
+
+-- the job as the code makes it of the record
+abbrev as_read : Job → Std.Result Job Refusal
+as_read job = Ok job
+
+job_made : {a : Rect} (c : AxisCosts) (ps ss : List (List ℤ)) (n : ℕ) {d : Deck} → d ≡ with_stops (with_posts (start_deck a c) ps) ss → SFits w64 a.xlo →
+    SFits w64 a.ylo → SFits w64 a.xhi → SFits w64 a.yhi → {near : List ℕ} {sum : ℕ} →
+    Nears (held_axis c) (take d.posts (places d.post_x d.post_y)) (take d.stops (places d.stop_x d.stop_y)) near → sum ≡ paid d.visits near d.stops →
+    Ok (record { rounds = n; deck = record d { near = near; before = sum } }) ≡ job_result (accepted (job_of (area_numbers a) (cost_numbers c) ps ss (pos n ∷ [])))
+job_made {a} c ps ss n held xlo ylo xhi yhi {near} {sum} found summed =
+    ap (λ (d : Deck). as_read (record { rounds = n; deck = record d { near = near; before = sum } })) held ∙ rw (
+      accepted_is (area_numbers a) (cost_numbers c) ps ss (pos n ∷ []),
+      before_filled c ps ss (area_numbers a) (pos n ∷ []) found_in paid_in,
+      near_filled c ps ss (area_numbers a) (pos n ∷ []) found_in,
+      back_is xlo,
+      back_is ylo,
+      back_is xhi,
+      back_is yhi,
+      length-map ps post_of,
+      map-map (λ p. p.x) post_of ps,
+      map-map (λ p. p.y) post_of ps,
+      length-map ss stop_of,
+      map-map (λ s. s.at.x) stop_of ss,
+      map-map (λ s. s.at.y) stop_of ss,
+      map-map (λ s. s.visits) stop_of ss,
+    )
+  where
+    found_in : Nears (held_axis c) (take (length ps) (places (padded 64 (pos 0) (map (λ l. (post_of l).x) ps)) (padded 64 (pos 0) (map (λ l. (post_of l).y) ps))))
+        (take (length ss) (places (padded 512 (pos 0) (map (λ l. (post_of l).x) ss)) (padded 512 (pos 0) (map (λ l. (post_of l).y) ss)))) near
+    found_in = subst (λ (d : Deck). Nears (held_axis c) (take d.posts (places d.post_x d.post_y)) (take d.stops (places d.stop_x d.stop_y)) near) held found
+
+    paid_in : sum ≡ paid (padded 512 0 (map (λ l. (stop_of l).visits) ss)) near (length ss)
+    paid_in = subst (λ (d : Deck). sum ≡ paid d.visits near d.stops) held summed
+
+-- the reading that they come to
+record RestIs (s : List ℕ) (at first : ℕ) (a : Rect) (c : AxisCosts) (reading : Reading Format.Job) : Type 0 where
+  is : rest_lines (area_numbers a) (cost_numbers c) first (drop at s) ≡ reading
+
+module _ {s : List ℕ} {at first : ℕ} {a : Rect} {c : AxisCosts} where
+  rest_refused : {why : Refusal} → RestIs s at first a c (fault why) → RestAt s at first a c (Err why)
+  unfolding job_result
+  rest_refused r = record { is = rw r.is refl }
+
+  rest_made : {job : Format.Job} {m : ℕ} {bs : List ℕ} {r : Std.Result Job Refusal} → RestIs s at first a c (got job m bs) → r ≡ job_result (checked job) →
+      RestAt s at first a c r
+  rest_made f e = record { is = rw f.is e }
+
+  from_posts : {d₀ d₁ : Deck} {r : Std.Result ℕ Refusal} (posts_at : PostsAt s at first d₀ d₁ r) →
+      RestIs s at first a c (and_then (reading_of (λ next. got posts_at.lines (first + 1 + length posts_at.lines) (drop next s)) r)
+      (after_posts (area_numbers a) (cost_numbers c)))
+  from_posts posts_at = record { is = rw (rest_is (area_numbers a) (cost_numbers c) first (drop at s), posts_at.is) }
+
+  pub rest_no_posts : {d₀ d₁ : Deck} {why : Refusal} → PostsAt s at first d₀ d₁ (Err why) → RestAt s at first a c (Err why)
+  rest_no_posts posts_at = rest_refused (from_posts posts_at)
+
+  module _ {d₀ d₁ : Deck} {at₂ : ℕ} (posts_at : PostsAt s at first d₀ d₁ (Ok at₂)) where
+    from_stops : {d₂ : Deck} {r : Std.Result ℕ Refusal} (stops_at : StopsAt s at₂ (first + 1 + d₁.posts) d₁ d₂ r) →
+        RestIs s at first a c (and_then (reading_of (λ next. got stops_at.lines (first + 1 + d₁.posts + 1 + length stops_at.lines) (drop next s)) r)
+        (after_stops (area_numbers a) (cost_numbers c) posts_at.lines))
+    unfolding after_posts
+    from_stops stops_at = record { is = (from_posts posts_at).is ∙ rw (← posts_are posts_at, stops_at.is) }
+
+    pub rest_no_stops : {d₂ : Deck} {why : Refusal} → StopsAt s at₂ (first + 1 + d₁.posts) d₁ d₂ (Err why) → RestAt s at first a c (Err why)
+    rest_no_stops stops_at = rest_refused (from_stops stops_at)
+
+    module _ {d₂ : Deck} {at₃ : ℕ} (stops_at : StopsAt s at₂ (first + 1 + d₁.posts) d₁ d₂ (Ok at₃)) where
+      from_last : {r : Std.Result ℕ Refusal} → LastAt s at₃ (first + 1 + d₁.posts + 1 + d₂.stops) r →
+          RestIs s at first a c (and_then (reading_of (λ count. got (pos count ∷ []) (first + 1 + d₁.posts + 1 + d₂.stops + 1) []) r)
+          (λ k n bs. got (job_of (area_numbers a) (cost_numbers c) posts_at.lines stops_at.lines k) n bs))
+      unfolding after_stops
+      from_last last_at = record { is = (from_stops stops_at).is ∙ rw (← stops_are posts_at stops_at, last_at.is) }
+
+      pub rest_no_rounds : {why : Refusal} → LastAt s at₃ (first + 1 + d₁.posts + 1 + d₂.stops) (Err why) → RestAt s at first a c (Err why)
+      rest_no_rounds last_at = rest_refused (from_last last_at)
+
+      module _ {n : ℕ} (last_at : LastAt s at₃ (first + 1 + d₁.posts + 1 + d₂.stops) (Ok n)) where
+        pub rest_unchecked : {why : Refusal} → CheckedAt a d₂.posts d₂.stops (Err why) → RestAt s at first a c (Err why)
+        unfolding job_result
+        rest_unchecked checked_at = rest_made (from_last last_at) (ap job_result (sym (checked_is posts_at stops_at c n checked_at)))
+
+        pub rest_read : CheckedAt a d₂.posts d₂.stops (Ok tt) → d₀ ≡ start_deck a c → SFits w64 a.xlo → SFits w64 a.ylo → SFits w64 a.xhi → SFits w64 a.yhi →
+            {near : List ℕ} {sum : ℕ} → Nears (held_axis c) (take d₂.posts (places d₂.post_x d₂.post_y)) (take d₂.stops (places d₂.stop_x d₂.stop_y)) near →
+            sum ≡ paid d₂.visits near d₂.stops → RestAt s at first a c (Ok (record { rounds = n; deck = record d₂ { near = near; before = sum } }))
+        rest_read checked_at start xlo ylo xhi yhi found summed =
+            rest_made (from_last last_at)
+            (job_made c posts_at.lines stops_at.lines n (filled posts_at stops_at ∙ ap (λ d. with_stops (with_posts d posts_at.lines) stops_at.lines) start)
+            xlo ylo xhi yhi found summed ∙ ap job_result (sym (checked_is posts_at stops_at c n checked_at)))
 
 -- ---- the whole reading
-pub read_long : (missing : Query.AxisCosts) (s : List ℕ) → 16384 < length s → refused TooLong ≡ read_with missing s
-unfolding read_with
+pub read_long : (missing : Query.AxisCosts) (s : List ℕ) → 16384 < length s → Err TooLong ≡ job_result (read_with missing s)
+unfolding read_with job_result
 read_long missing s h = rw (lt-ltb 16384 (length s) h)
 
-module _ (missing : AxisCosts) {s : List ℕ} (short : length s ≤ 16384) {area-answer : AreaLine}
-    (area-at : LineAt (row area) s 0 1 (area_answer area-answer)) where
-  from_area : {r : AreaLine} → area-answer ≡ r → job_lines (held_axis missing) 1 s ≡ and_then (answer_in s 1 (area_answer r))
+module _ (missing : AxisCosts) {s : List ℕ} (short : length s ≤ 16384) where
+  from_area : {answer : LineAnswer} → LineAt (row area) s 0 1 answer → job_lines (held_axis missing) 1 s ≡ and_then (answer_in s 1 answer)
       (λ a n bs. and_then (optional (row axis) (cost_numbers missing) n bs) (rest_lines a))
-  from_area e = rw (lines_are (held_axis missing) 1 s, ← (subst (λ (r : AreaLine). LineAt (row area) s 0 1 (area_answer r)) e area-at).is)
+  from_area area_at = rw (lines_are (held_axis missing) 1 s, ← area_at.is)
 
-  pub read_area : {why : Refusal} → area-answer ≡ A.Refused why → refused why ≡ read_with (held_axis missing) s
-  read_area e = rw (read_short (held_axis missing) s short, from_area e)
+  pub read_no_area : {why : Refusal} → LineAt (row area) s 0 1 (refused why) → Err why ≡ job_result (read_with (held_axis missing) s)
+  unfolding job_result
+  read_no_area area_at = rw (read_short (held_axis missing) s short, from_area area_at)
 
-  module _ {a : Rect} {at : ℕ} (area_is : area-answer ≡ A.Read a at) {axis_read : AxisRead} (axis-at : AxisAt s at missing axis_read) where
-    from_axis : job_lines (held_axis missing) 1 s
-        ≡ and_then (next_in s (cost_numbers axis_read.costs) axis_read.line axis_read.next) (rest_lines (area_numbers a))
-    from_axis = rw (from_area area_is, axis-at.is)
+  module _ {a : Rect} {at : ℕ} (area_at : LineAt (row area) s 0 1 (read (area_numbers a) at)) where
+    from_axis : {r : Std.Result (AxisCosts × ℕ × ℕ) Refusal} → AxisAt s at missing r →
+        job_lines (held_axis missing) 1 s ≡ and_then (reading_of (λ a. got (cost_numbers a.0) a.1 (drop a.2 s)) r) (rest_lines (area_numbers a))
+    from_axis axis_at = rw (from_area area_at, axis_at.is)
 
-    pub read_axis : {why : Refusal} → axis_read.next ≡ Refused why → refused why ≡ read_with (held_axis missing) s
-    read_axis e = rw (read_short (held_axis missing) s short, from_axis, e)
+    pub read_no_axis : {why : Refusal} → AxisAt s at missing (Err why) → Err why ≡ job_result (read_with (held_axis missing) s)
+    unfolding job_result
+    read_no_axis axis_at = rw (read_short (held_axis missing) s short, from_axis axis_at)
 
-    pub read_rest : {at₂ : ℕ} → axis_read.next ≡ At at₂ → {r : Job} → RestAt s at₂ axis_read.line a axis_read.costs r →
-        r ≡ job_record (read_with (held_axis missing) s)
-    read_rest e rest_at = rw (read_short (held_axis missing) s short, from_axis, e) rest_at.is
+    pub read_rest : {costs : AxisCosts} {line at₂ : ℕ} → AxisAt s at missing (Ok (costs, line, at₂)) → {r : Std.Result Job Refusal} →
+        RestAt s at₂ line a costs r → r ≡ job_result (read_with (held_axis missing) s)
+    read_rest axis_at rest_at = rw (read_short (held_axis missing) s short, from_axis axis_at) rest_at.is
 
 -- where a missing line means what it does for every call
-pub read_missing : (s : List ℕ) {r : Job} → r ≡ job_record (read_with missing_axis s) → r ≡ job_record (read_job s)
+pub read_missing : (s : List ℕ) {r : Std.Result Job Refusal} → r ≡ job_result (read_with missing_axis s) → r ≡ job_result (read_job s)
 read_missing s e = rw (job_with s) e

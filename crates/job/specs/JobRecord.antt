@@ -1,12 +1,14 @@
 -- A job as the code holds it.
 -- Assumes nothing.
-use Rattle.deck.specs.DeckOf.{deck_record, empty_deck}
+use Rattle.std.specs.Prelude as Std
+use Rattle.std.specs.Prelude.{Ok, Err}
+use Rattle.deck.specs.DeckOf.{deck_record}
 use Rattle.job.specs.Format.{Result, refused, accepted}
 use Rattle.job.specs.declared.Job.{Job}
-use Rattle.job.specs.declared.Outcome.TheVariants.{Accepted, Refused}
+use Rattle.refusal.specs.declared.Refusal.{Refusal}
 
--- what `read` answers: the record of the deck that the bytes spell, or a refusal with an empty one
-unfoldable pub job_record : Result → Job
+-- what `read` answers: the rounds and the record of the deck that the bytes spell, or the refusal
+unfoldable pub job_result : Result → Std.Result Job Refusal
 unfolding deck_record
-job_record (refused why) = record { outcome = Refused why; deck = deck_record empty_deck }
-job_record (accepted job) = record { outcome = Accepted job.rounds; deck = deck_record job.deck }
+job_result (refused why) = Err why
+job_result (accepted job) = Ok (record { rounds = job.rounds; deck = deck_record job.deck })

@@ -2,216 +2,83 @@
 
 #![tactic(auto)]
 
-ghost use Rattle.std.specs.Prelude.{[], ◌≡◌, ◌+◌, ◌≤◌, drop};
+ghost use Rattle.std.specs.Prelude.{◌≡◌, ◌≤◌};
 ghost use Rattle.deck.specs.DeckOf.{held_axis};
 ghost use Rattle.deck.specs.Ranges.{CostsInRange};
 ghost use Rattle.job_line.specs.Reading.{area_numbers};
 ghost use Rattle.job.specs.File.{writes_axis};
-ghost use Rattle.job.specs.Format.{area_of, empty_area, read_with, read_job, refused};
-ghost use Rattle.job.specs.JobRecord.{job_record};
-ghost use Rattle.job.specs.ManyLines.{post_lines, stop_lines, all_posts, all_stops};
-ghost use Rattle.job.specs.ManyLines.{PlacesHeld, StopsHeld, AxisAt, PostsAt, StopsAt, LastAt, CheckedAt, no_lists, ListsAt, RestAt};
+ghost use Rattle.job.specs.Format.{area_of, empty_area, read_with, read_job};
+ghost use Rattle.job.specs.JobRecord.{job_result};
+ghost use Rattle.job.specs.ManyLines.{AxisAt, NoPostsYet, NoStopsYet, PostsAt, StopsAt, LastAt, CheckedAt, RestAt};
 
 use deck::{AxisCosts, Deck, Rect};
-use job_line::{AreaLine, AxisLine, CountLine, PostLine, StopLine};
 use limits::{JOB_BYTES, MOST_ROUNDS, POSTS, STOPS};
 use refusal::Refusal;
 
-#[derive(Clone, Copy)]
-pub enum Outcome {
-    Accepted(u64),
-    Refused(Refusal),
-}
-
-// What a job's bytes are read as: the rounds and the deck, or a refusal and an empty deck.
+// What a job's bytes spell.
 #[derive(Drop)]
 pub struct Job {
-    pub outcome: Outcome,
+    pub rounds: u64,
     pub deck: Deck,
-}
-
-// Where reading goes on, or the refusal.
-#[derive(Clone, Copy)]
-enum Next {
-    At(usize),
-    Refused(Refusal),
-}
-
-// The axis costs, and the line where reading goes on.
-#[derive(Clone, Copy)]
-struct AxisRead {
-    next: Next,
-    costs: AxisCosts,
-    line: u64,
-}
-
-// How many posts or stops were read, and where reading goes on.
-#[derive(Clone, Copy)]
-struct Listed {
-    next: Next,
-    count: usize,
-}
-
-// The rounds, and how many posts and stops were read, or a refusal.
-#[derive(Clone, Copy)]
-struct Lists {
-    outcome: Outcome,
-    posts: usize,
-    stops: usize,
 }
 
 // ---- parts
 
-// The line `axis=a,b`, which is the second line where the text goes on with its key. Where it is missing, `missing` stands for it.
-fn read_axis(s: &[u8], at: usize, missing: AxisCosts) -> AxisRead
+// The line `axis=a,b`, which is the second line where the text goes on with its key. Where it is missing, `missing` stands for it. Then the
+// number of the line where reading goes on, and its place.
+fn read_axis(s: &[u8], at: usize, missing: AxisCosts) -> Result<(AxisCosts, u64, usize), Refusal>
     ensures { AxisAt s.now at missing result }
 {
     if !text::starts(s, at, b"axis=") {
-        return AxisRead {
-            next: Next::At(at),
-            costs: missing,
-            line: 2,
-        };
+        return Ok((missing, 2, at));
     }
-    match job_line::axis_line(s, at, 2) {
-        AxisLine::Read(costs, next) => AxisRead {
-            next: Next::At(next),
-            costs,
-            line: 3,
-        },
-        AxisLine::Refused(why) => AxisRead {
-            next: Next::Refused(why),
-            costs: missing,
-            line: 2,
-        },
-    }
+    let (costs, next) = job_line::axis_line(s, at, 2)?;
+    Ok((costs, 3, next))
 }
 
-// `count` lines `post=x,y` from line `first` on, into arrays that hold none.
-fn post_lines(
-    s: &[u8],
-    start: usize,
-    count: usize,
-    first: u64,
-    x: &mut [i64; POSTS],
-    y: &mut [i64; POSTS],
-) -> Listed
-    requires { (count ≤ 64) × (first ≤ 1000) × PlacesHeld 64 0 x.old y.old [] }
-    ensures { PostsAt s.now first (post_lines count first (drop start s.now)) x.new y.new result }
+// The line `posts=n` and the n lines `post=x,y` behind it, into a deck that holds none, and the place after them.
+fn read_posts(s: &[u8], at: usize, line: u64, deck: &mut Deck) -> Result<usize, Refusal>
+    requires { (line ≤ 900) × NoPostsYet deck.old }
+    ensures { PostsAt s.now at line deck.old deck.new result }
 {
-    let mut at = start;
-    let mut i: usize = 0;
-    while i < count {
-        match job_line::post_line(s, at, first + i as u64) {
-            PostLine::Read(post_x, post_y, next) => {
-                x[i] = post_x;
-                y[i] = post_y;
-                at = next;
-                i += 1;
-            }
-            PostLine::Refused(why) => {
-                return Listed {
-                    next: Next::Refused(why),
-                    count: i,
-                };
-            }
-        }
+    let (count, mut at) = job_line::count_line(s, at, b"posts=", POSTS, line)?;
+    for i in 0..count {
+        let (post, next) = job_line::post_line(s, at, line + 1 + i as u64)?;
+        deck.post_x[i] = post.x;
+        deck.post_y[i] = post.y;
+        at = next;
     }
-    Listed {
-        next: Next::At(at),
-        count: i,
-    }
+    deck.posts = count;
+    Ok(at)
 }
 
-// `count` lines `stop=x,y,visits` from line `first` on, into arrays that hold none.
-fn stop_lines(
-    s: &[u8],
-    start: usize,
-    count: usize,
-    first: u64,
-    x: &mut [i64; STOPS],
-    y: &mut [i64; STOPS],
-    visits: &mut [u64; STOPS],
-) -> Listed
-    requires { (count ≤ 512) × (first ≤ 1000) × StopsHeld 0 x.old y.old visits.old [] }
-    ensures { StopsAt s.now first (stop_lines count first (drop start s.now)) x.new y.new
-        visits.new result }
+// The line `stops=n` and the n lines `stop=x,y,visits` behind it, into a deck that holds none, and the place after them.
+fn read_stops(s: &[u8], at: usize, line: u64, deck: &mut Deck) -> Result<usize, Refusal>
+    requires { (line ≤ 900) × NoStopsYet deck.old }
+    ensures { StopsAt s.now at line deck.old deck.new result }
 {
-    let mut at = start;
-    let mut i: usize = 0;
-    while i < count {
-        match job_line::stop_line(s, at, first + i as u64) {
-            StopLine::Read(stop_x, stop_y, stop_visits, next) => {
-                x[i] = stop_x;
-                y[i] = stop_y;
-                visits[i] = stop_visits;
-                at = next;
-                i += 1;
-            }
-            StopLine::Refused(why) => {
-                return Listed {
-                    next: Next::Refused(why),
-                    count: i,
-                };
-            }
-        }
+    let (count, mut at) = job_line::count_line(s, at, b"stops=", STOPS, line)?;
+    for i in 0..count {
+        let (stop, next) = job_line::stop_line(s, at, line + 1 + i as u64)?;
+        deck.stop_x[i] = stop.at.x;
+        deck.stop_y[i] = stop.at.y;
+        deck.visits[i] = stop.visits;
+        at = next;
     }
-    Listed {
-        next: Next::At(at),
-        count: i,
-    }
-}
-
-// The line `posts=n` and the n lines behind it, into arrays that hold none.
-fn read_posts(s: &[u8], at: usize, line: u64, x: &mut [i64; POSTS], y: &mut [i64; POSTS]) -> Listed
-    requires { (line ≤ 900) × PlacesHeld 64 0 x.old y.old [] }
-    ensures { PostsAt s.now (line + 1) (all_posts line (drop at s.now)) x.new y.new result }
-{
-    match job_line::count_line(s, at, b"posts=", POSTS, line) {
-        CountLine::Read(count, next) => post_lines(s, next, count, line + 1, x, y),
-        CountLine::Refused(why) => Listed {
-            next: Next::Refused(why),
-            count: 0,
-        },
-    }
-}
-
-// The line `stops=n` and the n lines behind it, into arrays that hold none.
-fn read_stops(
-    s: &[u8],
-    at: usize,
-    line: u64,
-    x: &mut [i64; STOPS],
-    y: &mut [i64; STOPS],
-    visits: &mut [u64; STOPS],
-) -> Listed
-    requires { (line ≤ 900) × StopsHeld 0 x.old y.old visits.old [] }
-    ensures { StopsAt s.now (line + 1) (all_stops line (drop at s.now)) x.new y.new
-        visits.new result }
-{
-    match job_line::count_line(s, at, b"stops=", STOPS, line) {
-        CountLine::Read(count, next) => stop_lines(s, next, count, line + 1, x, y, visits),
-        CountLine::Refused(why) => Listed {
-            next: Next::Refused(why),
-            count: 0,
-        },
-    }
+    deck.stops = count;
+    Ok(at)
 }
 
 // The line `rounds=n`, behind which nothing follows.
-fn last_line(s: &[u8], at: usize, line: u64) -> CountLine
+fn last_line(s: &[u8], at: usize, line: u64) -> Result<u64, Refusal>
     requires { line ≤ 900 }
     ensures { LastAt s.now at line result }
 {
-    match job_line::count_line(s, at, b"rounds=", MOST_ROUNDS, line) {
-        CountLine::Read(rounds, next) => {
-            if next < s.len() {
-                return CountLine::Refused(Refusal::Malformed(line + 1));
-            }
-            CountLine::Read(rounds, next)
-        }
-        CountLine::Refused(why) => CountLine::Refused(why),
+    let (rounds, next) = job_line::count_line(s, at, b"rounds=", MOST_ROUNDS, line)?;
+    if next < s.len() {
+        return Err(Refusal::Malformed(line + 1));
     }
+    Ok(rounds as u64)
 }
 
 // ---- the job
@@ -220,182 +87,83 @@ fn last_line(s: &[u8], at: usize, line: u64) -> CountLine
 pub fn empty_area(a: Rect) -> bool
     ensures { result ≡ empty_area (area_of (area_numbers a)) }
 {
-    if a.xhi < a.xlo { true } else { a.yhi < a.ylo }
+    a.xhi < a.xlo || a.yhi < a.ylo
 }
 
-// A refusal, with an empty deck.
-fn refuse(why: Refusal) -> Job
-    ensures { result ≡ job_record (refused why) }
+// Refusals 4, 5 and 6, in this order.
+fn check(area: Rect, posts: usize, stops: usize) -> Result<(), Refusal>
+    ensures { CheckedAt area posts stops result }
 {
-    let few = [0i64; POSTS];
-    let many = [0i64; STOPS];
-    Job {
-        outcome: Outcome::Refused(why),
-        deck: Deck {
-            axis: AxisCosts { a: 0, b: 0 },
-            xlo: 0,
-            ylo: 0,
-            xhi: 0,
-            yhi: 0,
-            posts: 0,
-            post_x: few,
-            post_y: few,
-            stops: 0,
-            stop_x: many,
-            stop_y: many,
-            visits: [0u64; STOPS],
-            near: [0u64; STOPS],
-            before: 0,
-        },
+    if empty_area(area) {
+        return Err(Refusal::EmptyArea);
     }
+    if posts == 0 {
+        return Err(Refusal::NoPosts);
+    }
+    if stops == 0 {
+        return Err(Refusal::NoStops);
+    }
+    Ok(())
 }
 
-// Refusals 4, 5 and 6, in this order, or the rounds.
-fn check(area: Rect, posts: usize, stops: usize, rounds: u64) -> Outcome
-    ensures { CheckedAt area posts stops rounds result }
+// The lines behind those of the area and the axis costs, from `line` on, and then refusals 4, 5 and 6: the job, with the near of its stops
+// and its before. Not inlined, so that the deck stands once on the stack besides the result.
+#[inline(never)]
+fn read_rest(s: &[u8], at: usize, line: u64, area: Rect, axis: AxisCosts) -> Result<Job, Refusal>
+    requires { (line ≤ 3) × CostsInRange (held_axis axis) }
+    ensures { RestAt s.now at line area axis result }
 {
-    let empty = empty_area(area);
-    let no_posts = posts == 0;
-    let no_stops = stops == 0;
-    if empty {
-        return Outcome::Refused(Refusal::EmptyArea);
-    }
-    if no_posts {
-        return Outcome::Refused(Refusal::NoPosts);
-    }
-    if no_stops {
-        return Outcome::Refused(Refusal::NoStops);
-    }
-    Outcome::Accepted(rounds)
-}
-
-// A refusal, with nothing listed.
-fn no_lists(why: Refusal) -> Lists
-    ensures { result ≡ no_lists why }
-{
-    Lists {
-        outcome: Outcome::Refused(why),
+    let mut deck = Deck {
+        axis,
+        xlo: area.xlo,
+        ylo: area.ylo,
+        xhi: area.xhi,
+        yhi: area.yhi,
         posts: 0,
+        post_x: [0; POSTS],
+        post_y: [0; POSTS],
         stops: 0,
-    }
-}
-
-// The lines behind those of the area and the axis costs, from line `first` on, into arrays that hold none, and then refusals 4, 5 and 6.
-fn read_lists(
-    s: &[u8],
-    at: usize,
-    first: u64,
-    area: Rect,
-    post_x: &mut [i64; POSTS],
-    post_y: &mut [i64; POSTS],
-    stop_x: &mut [i64; STOPS],
-    stop_y: &mut [i64; STOPS],
-    visits: &mut [u64; STOPS],
-) -> Lists
-    requires { (first ≤ 3) × PlacesHeld 64 0 post_x.old post_y.old []
-        × StopsHeld 0 stop_x.old stop_y.old visits.old [] }
-    ensures { ListsAt s.now at first area post_x.new post_y.new stop_x.new
-        stop_y.new visits.new result }
-{
-    let posts = read_posts(s, at, first, post_x, post_y);
-    let after_posts = posts.next;
-    let at = match after_posts {
-        Next::At(at) => at,
-        Next::Refused(why) => return no_lists(why),
+        stop_x: [0; STOPS],
+        stop_y: [0; STOPS],
+        visits: [0; STOPS],
+        near: [0; STOPS],
+        before: 0,
     };
-    let line = first + 1 + posts.count as u64;
-    let stops = read_stops(s, at, line, stop_x, stop_y, visits);
-    let after_stops = stops.next;
-    let at = match after_stops {
-        Next::At(at) => at,
-        Next::Refused(why) => return no_lists(why),
-    };
-    match last_line(s, at, line + 1 + stops.count as u64) {
-        CountLine::Read(rounds, _) => Lists {
-            outcome: check(area, posts.count, stops.count, rounds as u64),
-            posts: posts.count,
-            stops: stops.count,
-        },
-        CountLine::Refused(why) => no_lists(why),
-    }
-}
-
-// The same, as the job, with the near of its stops and its before.
-fn read_rest(s: &[u8], at: usize, first: u64, area: Rect, costs: AxisCosts) -> Job
-    requires { (first ≤ 3) × CostsInRange (held_axis costs) }
-    ensures { RestAt s.now at first area costs result }
-{
-    let mut post_x = [0i64; POSTS];
-    let mut post_y = [0i64; POSTS];
-    let mut stop_x = [0i64; STOPS];
-    let mut stop_y = [0i64; STOPS];
-    let mut visits = [0u64; STOPS];
-    let lists = read_lists(
-        s,
-        at,
-        first,
-        area,
-        &mut post_x,
-        &mut post_y,
-        &mut stop_x,
-        &mut stop_y,
-        &mut visits,
+    let at = read_posts(s, at, line, &mut deck)?;
+    let line = line + 1 + deck.posts as u64;
+    let at = read_stops(s, at, line, &mut deck)?;
+    let rounds = last_line(s, at, line + 1 + deck.stops as u64)?;
+    check(area, deck.posts, deck.stops)?;
+    deck.near = deck::nears_of(
+        axis,
+        &deck.post_x,
+        &deck.post_y,
+        deck.posts,
+        &deck.stop_x,
+        &deck.stop_y,
+        deck.stops,
     );
-    let outcome = lists.outcome;
-    let rounds = match outcome {
-        Outcome::Accepted(rounds) => rounds,
-        Outcome::Refused(why) => return refuse(why),
-    };
-    let k = lists.posts;
-    let n = lists.stops;
-    let near = deck::nears_of(costs, &post_x, &post_y, k, &stop_x, &stop_y, n);
-    let before = deck::before_of(&visits, &near, n);
-    Job {
-        outcome: Outcome::Accepted(rounds),
-        deck: Deck {
-            axis: costs,
-            xlo: area.xlo,
-            ylo: area.ylo,
-            xhi: area.xhi,
-            yhi: area.yhi,
-            posts: k,
-            post_x,
-            post_y,
-            stops: n,
-            stop_x,
-            stop_y,
-            visits,
-            near,
-            before,
-        },
-    }
+    deck.before = deck::before_of(&deck.visits, &deck.near, deck.stops);
+    Ok(Job { rounds, deck })
 }
 
 // A job's bytes, read line by line from the top: the deck and the rounds that they spell, or the first refusal. A job without an axis
 // line has the axis costs `missing`.
-pub fn read_with(bytes: &[u8], missing: AxisCosts) -> Job
+pub fn read_with(bytes: &[u8], missing: AxisCosts) -> Result<Job, Refusal>
     requires { CostsInRange (held_axis missing) }
-    ensures { result ≡ job_record (read_with (held_axis missing) bytes.now) }
+    ensures { result ≡ job_result (read_with (held_axis missing) bytes.now) }
 {
     if JOB_BYTES < bytes.len() {
-        return refuse(Refusal::TooLong);
+        return Err(Refusal::TooLong);
     }
-    match job_line::area_line(bytes, 0, 1) {
-        AreaLine::Read(area, at) => {
-            let axis = read_axis(bytes, at, missing);
-            let after_axis = axis.next;
-            match after_axis {
-                Next::At(at) => return read_rest(bytes, at, axis.line, area, axis.costs),
-                Next::Refused(why) => return refuse(why),
-            }
-        }
-        AreaLine::Refused(why) => return refuse(why),
-    }
+    let (area, at) = job_line::area_line(bytes, 0, 1)?;
+    let (costs, line, at) = read_axis(bytes, at, missing)?;
+    read_rest(bytes, at, line, area, costs)
 }
 
 // The same, where a job without an axis line has the axis costs 1 and 1.
-pub fn read(bytes: &[u8]) -> Job
-    ensures { result ≡ job_record (read_job bytes.now) }
+pub fn read(bytes: &[u8]) -> Result<Job, Refusal>
+    ensures { result ≡ job_result (read_job bytes.now) }
 {
     read_with(bytes, AxisCosts { a: 1, b: 1 })
 }
@@ -404,5 +172,5 @@ pub fn read(bytes: &[u8]) -> Job
 pub fn writes_axis(c: AxisCosts) -> bool
     ensures { result ≡ writes_axis (held_axis c) }
 {
-    if c.a == 1 { c.b != 1 } else { true }
+    c.a != 1 || c.b != 1
 }

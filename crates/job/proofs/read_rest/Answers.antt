@@ -1,20 +1,41 @@
 -- What `job::read_rest` owes.
-use native.Mathlib.Omega.{arith}
+use mathlib.Core.Path.{refl}
 use borrow.Author.Rules.{rules}
-use Rattle.job.proofs.PartLaws.{places_none, stops_none}
+use Rattle.job.proofs.PartLaws.{handed}
 use Rattle.job.proofs.FilledLaws.{nears_range}
-use Rattle.job.proofs.ReadLaws.{rest_accepted}
+use Rattle.job.proofs.ReadLaws.{rest_no_posts, rest_no_stops, rest_no_rounds, filled_posts, filled_stops, filled_visits, rest_unchecked, rest_read}
 use Rattle.job.proofs.read_rest.Goals as goal
 
-pub read_lists-lists-requires : goal.read_lists-lists-requires
-read_lists-lists-requires c = (omega arith, places_none 64, stops_none)
+pub returns-in_err-at : goal.returns-in_err-at
+returns-in_err-at c = rw (handed _ c.from_residual.ensures.1) (rest_no_posts c.in_err-at.ensures)
 
-pub before_of-before-requires : goal.before_of-before-requires
-before_of-before-requires c =
-    let h = c.read_lists-lists.ensures.held c.in-Accepted.is in
-    (h.visits_range, nears_range h.stops_range c.nears_of-near.ensures, h.stops_range.few)
+pub returns-in_err-at-2 : goal.returns-in_err-at-2
+returns-in_err-at-2 c = rw (handed _ c.from_residual-in_err-at-2.ensures.1) (rest_no_stops c.in_ok-at.ensures c.in_err-at-2.ensures)
+
+pub returns-in_err-rounds : goal.returns-in_err-rounds
+returns-in_err-rounds c =
+    rw (handed _ c.from_residual-in_err-rounds.ensures.1)
+    (rest_no_rounds c.in_ok-at.ensures c.in_ok-at-2.ensures c.in_err-rounds.ensures)
+
+pub returns-in_err-check : goal.returns-in_err-check
+returns-in_err-check c =
+    rw (handed _ c.from_residual-in_err-check.ensures.1)
+    (rest_unchecked c.in_ok-at.ensures c.in_ok-at-2.ensures c.in_ok-rounds.ensures c.in_err-check.ensures)
+
+pub nears_of-deck-requires : goal.nears_of-deck-requires
+nears_of-deck-requires c = (
+  c.requires.1,
+  filled_posts c.in_ok-at.ensures c.in_ok-at-2.ensures,
+  filled_stops c.in_ok-at.ensures c.in_ok-at-2.ensures,
+  c.in_ok-check.ensures.posts_some,
+)
+
+pub before_of-requires : goal.before_of-requires
+before_of-requires c =
+    let stops = filled_stops c.in_ok-at.ensures c.in_ok-at-2.ensures in
+    (filled_visits c.in_ok-at.ensures c.in_ok-at-2.ensures, nears_range stops c.nears_of-deck.ensures, stops.few)
 
 pub returns : goal.returns
 returns c =
-    rest_accepted _ c.read_lists-lists.ensures (search rules) (search rules) (search rules) (search rules) c.in-Accepted.is
-    c.nears_of-near.ensures c.before_of-before.ensures
+    rest_read c.in_ok-at.ensures c.in_ok-at-2.ensures c.in_ok-rounds.ensures c.in_ok-check.ensures refl (search rules) (search rules)
+    (search rules) (search rules) c.nears_of-deck.ensures c.before_of.ensures

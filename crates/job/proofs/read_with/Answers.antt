@@ -1,27 +1,24 @@
 -- What `job::read_with` owes.
-use mathlib.Core.Path.{ap, ◌∙◌}
-use Rattle.job.specs.JobRecord.{job_record}
+use Rattle.job.proofs.PartLaws.{handed}
 use Rattle.job.proofs.FilledLaws.{axis_in_range}
-use Rattle.job.proofs.ReadLaws.{read_long, read_area, read_axis, read_rest}
+use Rattle.job.proofs.ReadLaws.{read_long, read_no_area, read_no_axis, read_rest}
 use Rattle.job.proofs.read_with.Goals as goal
 
 pub returns-then-bytes-gt-JOB_BYTES : goal.returns-then-bytes-gt-JOB_BYTES
-returns-then-bytes-gt-JOB_BYTES c = c.refuse.ensures ∙ ap job_record (read_long _ _ c.if-bytes-gt-JOB_BYTES.true)
+returns-then-bytes-gt-JOB_BYTES c = read_long _ _ c.if-bytes-gt-JOB_BYTES.true
+
+pub returns-in_err-area : goal.returns-in_err-area
+returns-in_err-area c =
+    rw (handed _ c.from_residual.ensures.1)
+    (read_no_area _ c.if-bytes-gt-JOB_BYTES.false c.in_err-area.ensures)
+
+pub returns-in_err-costs : goal.returns-in_err-costs
+returns-in_err-costs c =
+    rw (handed _ c.from_residual-in_err-costs.ensures.1)
+    (read_no_axis _ c.if-bytes-gt-JOB_BYTES.false c.in_ok-area.ensures c.in_err-costs.ensures)
 
 pub read_rest-requires : goal.read_rest-requires
-read_rest-requires c =
-    (c.read_axis-axis.ensures.few, axis_in_range c.read_axis-axis.ensures c.in-At.is c.requires)
+read_rest-requires c = (c.in_ok-costs.ensures.few, axis_in_range c.in_ok-costs.ensures c.requires)
 
-pub returns-in-At : goal.returns-in-At
-returns-in-At c =
-    read_rest _ c.if-bytes-gt-JOB_BYTES.false c.area_line.ensures c.in-Read.is c.read_axis-axis.ensures
-    c.in-At.is c.read_rest.ensures
-
-pub returns-in-Refused-after_axis : goal.returns-in-Refused-after_axis
-returns-in-Refused-after_axis c =
-    c.refuse-in-Refused-after_axis.ensures ∙ ap job_record (read_axis _ c.if-bytes-gt-JOB_BYTES.false c.area_line.ensures c.in-Read.is c.read_axis-axis.ensures
-    c.in-Refused-after_axis.is)
-
-pub returns-in-Refused : goal.returns-in-Refused
-returns-in-Refused c =
-    c.refuse-in-Refused.ensures ∙ ap job_record (read_area _ c.if-bytes-gt-JOB_BYTES.false c.area_line.ensures c.in-Refused.is)
+pub returns : goal.returns
+returns c = read_rest _ c.if-bytes-gt-JOB_BYTES.false c.in_ok-area.ensures c.in_ok-costs.ensures c.read_rest.ensures
