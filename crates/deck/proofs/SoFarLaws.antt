@@ -24,7 +24,8 @@ use Rattle.deck.specs.ClosestSoFar.{closest_so_far, columns_so_far, improved, co
 use Rattle.deck.specs.Ranges.{CoordinatesInRange, Near180000}
 use Rattle.deck.proofs.WordLaws.{coordinate}
 use Rattle.deck.proofs.TravelLaws.{far, travel_plain, place_word}
-use Rattle.deck.proofs.ClosestLaws.{zip_length, zip_at, place_at, places_length, places_at, closest_one, closest_snoc, near_by, some_posts, posts_more, post_range}
+use Rattle.deck.proofs.ClosestLaws.{zip_length, zip_at, place_at, places_length, places_at, closest_one, closest_snoc}
+use Rattle.deck.proofs.ClosestLaws.{near_by, some_posts, posts_more, post_range}
 use Rattle.deck.proofs.CopyLaws.{Copied, copied_more, copied_all, copied_before, copied_next, copied_within, copied_again}
 
 -- ---- one stop
