@@ -10,7 +10,7 @@ use Rattle.write.proofs.WrittenLaws.{wrote_pair}
 use Rattle.report.proofs.put_costs.Goals as goal
 
 pub put_key-next-requires : goal.put_key-next-requires
-put_key-next-requires c = omega (arith, c.requires, length_spell_nat c.args.high)
+put_key-next-requires c = omega (arith, c.requires, length_spell_nat c.args.high, length_spell_nat c.args.before)
 
 pub put_key-next-requires-2 : goal.put_key-next-requires-2
 put_key-next-requires-2 c = omega (

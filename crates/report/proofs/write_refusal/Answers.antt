@@ -6,7 +6,7 @@ use Rattle.report.proofs.TextLaws.{refusal_filled}
 use Rattle.report.proofs.write_refusal.Goals as goal
 
 pub put_key-next-requires : goal.put_key-next-requires
-put_key-next-requires c = omega (arith, c.requires, length_spell_nat c.number_of-number.result)
+put_key-next-requires c = omega (arith, c.requires, length_spell_nat c.number_of-number.result, length_spell_nat c.line_of-line.result)
 
 pub put_key-next-requires-2 : goal.put_key-next-requires-2
 put_key-next-requires-2 c = omega (
