@@ -1,4 +1,3 @@
 pub mod Coordinates
 pub mod JobProblem
 pub mod MadeProblem
-pub mod RecordParts

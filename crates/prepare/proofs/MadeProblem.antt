@@ -1,8 +1,9 @@
--- What `of_job` makes of the record that it reads: the columns and the flags give the deck's lines.
+-- What `of_deck` makes of a sound record: the columns and the flags give the deck's lines.
 -- Assumes nothing.
-use mathlib.Core.Path.{◌≡◌, sym, ap, subst, ◌∙◌}
+use mathlib.Core.Path.{◌≡◌, sym, ap, ◌∙◌}
+use mathlib.Core.Bool.{Bool, false}
 use mathlib.Core.List.{List}
-use Prim.Native.Nat.{ℕ, ◌≤◌}
+use Prim.Native.Nat.{◌≤◌}
 use lib.IntN.{ℤ, nat_abs}
 use lib.ListN.{length, take}
 use Rattle.numbers.specs.Padded.{padded}
@@ -17,51 +18,30 @@ use Rattle.deck.specs.Sound.{Sound}
 use Rattle.deck.proofs.DeckLaws.{stops_x, stops_y}
 use Rattle.deck.proofs.SoundLaws.{sound_columns, sound_stops}
 use Rattle.reach.specs.ObjectReach.{flags_of}
-use Rattle.reach.specs.Columns.{Priceable, Ranged}
+use Rattle.reach.specs.Columns.{Ranged}
+use Rattle.reach.specs.Held.{pricing_of_objects}
+use Rattle.reach.specs.declared.columns.Objects.{Objects}
 use Rattle.reach.proofs.ReachLaws.{flags_law}
-use Rattle.reach.proofs.RecordLaws.{made_priceable, made_pricing}
-use Rattle.lines.specs.LineRecord.{Lines, marked, lines_between, lines_record}
-use Rattle.lines.proofs.DeckLines.{coordinates, reached, lines_marked, padded_reached}
+use Rattle.reach.proofs.RecordLaws.{made_pricing}
+use Rattle.lines.specs.LineRecord.{flagged, lines_between}
+use Rattle.lines.proofs.DeckLines.{coordinates, reached, lines_flagged, padded_reached}
 use Rattle.numbers.proofs.WordTests.{back}
-use Rattle.prepare.specs.declared.Problem.{Problem}
-use Rattle.prepare.specs.ProblemRecord.{problem_record}
+use Rattle.prepare.specs.ProblemRecord.{Parts, problem_record}
 use Rattle.prepare.proofs.Coordinates.{near_back, rect_back}
 
 module _ (deck : Deck) (h : Sound deck) where
   stops_count : length (deck_of deck).stops ≡ deck.stops
   stops_count = sym (sound_stops h)
 
-  module _ (columns : List ℤ) (e : columns ≡ columns_of (pricing_of (deck_of deck))) where
-    pub columns_priceable : Priceable columns deck.stops
-    columns_priceable = subst (λ n. Priceable columns n) stops_count (rw e (made_priceable (deck_of deck) h.range))
-
-    module _ (flags : List ℕ) (f : flags ≡ flags_of (pricing_in columns deck.stops) (deck_of deck).area) where
-      flags_are : flags ≡ padded 512 0 (reached (deck_of deck) x_axis)
-      unfolding deck_of
-      flags_are =
-          f ∙ (λ i. flags_of (pricing_in (e i) (sym stops_count i)) (deck_of deck).area)
-          ∙ ap (λ P. flags_of P (deck_of deck).area) (made_pricing (deck_of deck) h.range)
-          ∙ flags_law (deck_of deck) (deck_of deck).area
-
-      flags_front : (axis : Axis) → take deck.stops flags ≡ reached (deck_of deck) axis
-      flags_front axis = (λ i. take (sym stops_count i) (flags_are i)) ∙ padded_reached (deck_of deck) axis
-
-      -- the lines that `find_lines` finds along an axis, in a column of the stops' coordinates
-      pub lines_found : (axis : Axis) (coords : List ℤ) (lo hi : ℤ) → take deck.stops coords ≡ coordinates (deck_of deck) axis →
-          lo ≡ low_edge axis (deck_of deck).area → hi ≡ high_edge axis (deck_of deck).area →
-          lines_record (lines_between lo hi (marked coords flags deck.stops)) ≡ lines_record (lines (deck_of deck) axis)
-      lines_found axis coords lo hi same g k =
-          rw (g, k) (ap lines_record (lines_marked (deck_of deck) axis coords flags deck.stops same (flags_front axis)))
-
   -- the columns of coordinates
-  pub x_coordinates : take deck.stops deck.stop_x ≡ coordinates (deck_of deck) x_axis
+  x_coordinates : take deck.stops deck.stop_x ≡ coordinates (deck_of deck) x_axis
   x_coordinates = sym (stops_x deck (sound_columns h))
 
-  pub y_coordinates : take deck.stops deck.stop_y ≡ coordinates (deck_of deck) y_axis
+  y_coordinates : take deck.stops deck.stop_y ≡ coordinates (deck_of deck) y_axis
   y_coordinates = sym (stops_y deck (sound_columns h))
 
   -- the area in words: its edges as `find_lines` gets them, and as a rectangle
-  pub edges : (back (back deck.xlo) ≡ (deck_of deck).area.xlo) × (back (back deck.ylo) ≡ (deck_of deck).area.ylo)
+  edges : (back (back deck.xlo) ≡ (deck_of deck).area.xlo) × (back (back deck.ylo) ≡ (deck_of deck).area.ylo)
       × (back (back deck.xhi) ≡ (deck_of deck).area.xhi) × (back (back deck.yhi) ≡ (deck_of deck).area.yhi)
   unfolding deck_of
   edges =
@@ -73,31 +53,51 @@ module _ (deck : Deck) (h : Sound deck) where
         twice deck.yhi r.high_corner_law.y_range,
       )
 
-  pub area_back_lem : record { xlo = back deck.xlo; ylo = back deck.ylo; xhi = back deck.xhi; yhi = back deck.yhi } ≡ (deck_of deck).area
+  area_back_lem : record { xlo = back deck.xlo; ylo = back deck.ylo; xhi = back deck.xhi; yhi = back deck.yhi } ≡ (deck_of deck).area
   unfolding deck_of
   area_back_lem = rect_back (deck_of deck).area h.range.area
 
   pub area_ranged : Ranged (record { xlo = back deck.xlo; ylo = back deck.ylo; xhi = back deck.xhi; yhi = back deck.yhi })
   area_ranged = rw area_back_lem (record { range = h.range.area; full = h.full })
 
-  -- the record
-  pub made_problem : (columns : List ℤ) → columns ≡ columns_of (pricing_of (deck_of deck)) → (v w : Lines) → v ≡ lines_record (lines (deck_of deck) x_axis) →
-      w ≡ lines_record (lines (deck_of deck) y_axis) → ◌≡◌ {A = Problem} (record {
-        area = record { xlo = back deck.xlo; ylo = back deck.ylo; xhi = back deck.xhi; yhi = back deck.yhi };
-        count = deck.stops;
-        columns = columns;
-        nv = v.count;
-        v = v.at;
-        nh = w.count;
-        h = w.at;
-      }) (problem_record (deck_of deck))
-  unfolding problem_record lines_record
-  made_problem columns e v w f g = λ i. record {
-    area = rect_record (area_back_lem i);
-    count = sym stops_count i;
-    columns = e i;
-    nv = (f i).count;
-    v = (f i).at;
-    nh = (g i).count;
-    h = (g i).at;
-  }
+  -- its objects, and which of them reach the area
+  module _ (objects : Objects) (e : objects.columns ≡ columns_of (pricing_of (deck_of deck))) (n : objects.count ≡ deck.stops)
+      (flags : List Bool) (f : flags ≡ flags_of (pricing_of_objects objects)
+      (record { xlo = back deck.xlo; ylo = back deck.ylo; xhi = back deck.xhi; yhi = back deck.yhi })) where
+    flags_are : flags ≡ padded 512 false (reached (deck_of deck) x_axis)
+    unfolding deck_of
+    flags_are =
+        f ∙ ap (flags_of (pricing_of_objects objects)) area_back_lem
+        ∙ (λ i. flags_of (pricing_in (e i) ((n ∙ sym stops_count) i)) (deck_of deck).area)
+        ∙ ap (λ P. flags_of P (deck_of deck).area) (made_pricing (deck_of deck) h.range)
+        ∙ flags_law (deck_of deck) (deck_of deck).area
+
+    flags_front : (axis : Axis) → take deck.stops flags ≡ reached (deck_of deck) axis
+    flags_front axis = (λ i. take (sym stops_count i) (flags_are i)) ∙ padded_reached (deck_of deck) axis
+
+    -- the lines that `find_lines` finds along an axis, in a column of the stops' coordinates
+    lines_found : (axis : Axis) (coords ws : List ℤ) (lo hi : ℤ) → take deck.stops coords ≡ coordinates (deck_of deck) axis →
+        lo ≡ low_edge axis (deck_of deck).area → hi ≡ high_edge axis (deck_of deck).area →
+        ws ≡ lines_between lo hi (flagged (take deck.stops coords) (take deck.stops flags)) → ws ≡ lines (deck_of deck) axis
+    lines_found axis coords ws lo hi same g k found =
+        found ∙ (λ i. lines_between (g i) (k i) (flagged (same i) (flags_front axis i))) ∙ lines_flagged (deck_of deck) axis
+
+    -- the record
+    pub made_problem : (v w : List ℤ) →
+        v ≡ lines_between (back (back deck.xlo)) (back (back deck.xhi)) (flagged (take deck.stops deck.stop_x) (take deck.stops flags)) →
+        w ≡ lines_between (back (back deck.ylo)) (back (back deck.yhi)) (flagged (take deck.stops deck.stop_y) (take deck.stops flags)) →
+        ◌≡◌ {A = Parts} (record {
+          area = record { xlo = back deck.xlo; ylo = back deck.ylo; xhi = back deck.xhi; yhi = back deck.yhi };
+          count = objects.count;
+          columns = objects.columns;
+          vertical = v;
+          horizontal = w;
+        }) (problem_record (deck_of deck))
+    unfolding problem_record
+    made_problem v w found_x found_y = λ i. record {
+      area = rect_record (area_back_lem i);
+      count = (n ∙ sym stops_count) i;
+      columns = e i;
+      vertical = lines_found x_axis deck.stop_x v _ _ x_coordinates edges.0 edges.2 found_x i;
+      horizontal = lines_found y_axis deck.stop_y w _ _ y_coordinates edges.1 edges.3 found_y i;
+    }

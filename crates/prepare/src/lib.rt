@@ -1,100 +1,76 @@
-// The problem of a job's deck as both searches and the estimate take it, prepared once for each call: its area, the columns of its objects
-// and its lines.
+// The problem of a job's deck as both searches and the estimate take it, prepared once for each call: its area, its objects and its lines.
 #![tactic(auto)]
 
 ghost use Rattle.std.specs.Prelude.{◌≡◌};
+ghost use Rattle.deck.specs.DeckOf.{deck_of};
+ghost use Rattle.deck.specs.Sound.{Sound};
 ghost use Rattle.job.specs.Format.{read_job};
-ghost use Rattle.prepare.specs.ProblemRecord.{Cleared, given_by, given_for, refused_parts};
+ghost use Rattle.prepare.specs.ProblemRecord.{parts_in, problem_record, given_by, given_for};
 
-use deck::Rect;
-use job::Outcome;
-use limits::{COLUMNS, LINES};
+use deck::{Deck, Rect};
+use lines::Lines;
+use reach::Objects;
 use refusal::Refusal;
 
-// The problem of a deck: its area; the columns of its `count` objects; `nv` vertical lines in `v` and `nh` horizontal ones in `h`, in
-// increasing order, with 0 behind them.
+// The problem of a deck: its area, its objects, and its vertical and horizontal lines.
 #[derive(Drop)]
 pub struct Problem {
     pub area: Rect,
-    pub count: usize,
-    pub columns: [i32; COLUMNS],
-    pub nv: usize,
-    pub v: [i64; LINES],
-    pub nh: usize,
-    pub h: [i64; LINES],
+    pub objects: Objects,
+    pub vertical: Lines,
+    pub horizontal: Lines,
 }
 
-// What a job gives besides the arrays of its deck's problem: the rounds or the refusal, what is paid before, the area and the counts.
+// What an accepted job gives: its rounds, what is paid before, and the problem of its deck.
 #[derive(Drop)]
-pub struct Parts {
-    pub outcome: Outcome,
+pub struct Given {
+    pub rounds: u64,
     pub before: u64,
-    pub area: Rect,
-    pub count: usize,
-    pub nv: usize,
-    pub nh: usize,
+    pub problem: Problem,
 }
 
-// A refusal, with no problem.
-fn refuse(why: Refusal) -> Parts
-    ensures { result ≡ refused_parts why }
+// The problem of a deck. Not inlined, so that what it is made of is gone from the stack when a search runs.
+#[inline(never)]
+fn of_deck(deck: &Deck) -> Problem
+    requires { Sound deck.now }
+    ensures { parts_in result ≡ problem_record (deck_of deck.now) }
 {
-    Parts {
-        outcome: Outcome::Refused(why),
-        before: 0,
-        area: Rect {
-            xlo: 0,
-            ylo: 0,
-            xhi: 0,
-            yhi: 0,
-        },
-        count: 0,
-        nv: 0,
-        nh: 0,
-    }
-}
-
-// Reads a job, and puts the columns of its deck's objects and its lines into arrays of zeros; they stay so where the job is refused.
-pub fn of_job(
-    bytes: &[u8],
-    columns: &mut [i32; COLUMNS],
-    v: &mut [i64; LINES],
-    h: &mut [i64; LINES],
-) -> Parts
-    requires { Cleared columns.old v.old h.old }
-    ensures { given_by result columns.new v.new h.new ≡ given_for (read_job bytes.now) }
-{
-    let j = job::read(bytes);
-    let outcome = j.outcome;
-    match outcome {
-        Outcome::Accepted(_) => {}
-        Outcome::Refused(why) => return refuse(why),
-    }
-    let n = j.deck.stops;
+    let n = deck.stops;
     let area = Rect {
-        xlo: j.deck.xlo,
-        ylo: j.deck.ylo,
-        xhi: j.deck.xhi,
-        yhi: j.deck.yhi,
+        xlo: deck.xlo,
+        ylo: deck.ylo,
+        xhi: deck.xhi,
+        yhi: deck.yhi,
     };
-    deck::put_columns(
-        j.deck.axis,
-        &j.deck.stop_x,
-        &j.deck.stop_y,
-        &j.deck.visits,
-        &j.deck.near,
+    let objects = Objects::of_stops(
+        deck.axis,
+        &deck.stop_x,
+        &deck.stop_y,
+        &deck.visits,
+        &deck.near,
         n,
-        columns,
     );
-    let flags = reach::reach_flags(columns, n, area);
-    let nv = lines::find_lines(&j.deck.stop_x, &flags, n, area.xlo, area.xhi, v);
-    let nh = lines::find_lines(&j.deck.stop_y, &flags, n, area.ylo, area.yhi, h);
-    Parts {
-        outcome,
-        before: j.deck.before,
+    let flags = reach::reach_flags(&objects, area);
+    let vertical = lines::find_lines(&deck.stop_x[..n], &flags[..n], area.xlo, area.xhi);
+    let horizontal = lines::find_lines(&deck.stop_y[..n], &flags[..n], area.ylo, area.yhi);
+    Problem {
         area,
-        count: n,
-        nv,
-        nh,
+        objects,
+        vertical,
+        horizontal,
     }
+}
+
+// What a job gives, or its refusal. Not inlined, so that the job's record is gone from the stack when a search runs.
+#[inline(never)]
+pub fn of_job(bytes: &[u8]) -> Result<Given, Refusal>
+    ensures { given_by result ≡ given_for (read_job bytes.now) }
+{
+    let job = job::read(bytes)?;
+    let problem = of_deck(&job.deck);
+    Ok(Given {
+        rounds: job.rounds,
+        before: job.deck.before,
+        problem,
+    })
 }

@@ -1,10 +1,8 @@
 -- The problem that the code prepares of a deck is the deck's, and its figures are in range.
 -- Assumes nothing.
 use mathlib.Core.Path.{◌≡◌, refl, sym, ap, subst, ◌∙◌}
-use mathlib.Core.List.{List}
 use Prim.Native.Nat.{ℕ, ◌+◌, ◌*◌, max}
-use lib.IntN.{ℤ, pos, ◌-ℤ◌}
-use lib.ListN.{take}
+use lib.IntN.{pos, ◌-ℤ◌}
 use Rattle.numbers.specs.Integer.{half_up}
 use Rattle.query.specs.Place as Place
 use Rattle.query.specs.Deck as Query
@@ -14,19 +12,18 @@ use Rattle.query.specs.Grid.{grid}
 use Rattle.query.specs.Problem.{problem}
 use Rattle.query.specs.Range.{InRange}
 use Rattle.query.proofs.BoundLaws.{bound_is, corner_sum_is}
-use Rattle.deck.specs.declared.Rect.{Rect}
 use Rattle.deck.specs.Rectangle.{rect_of}
 use Rattle.deck.specs.Objects.{Pricing, pricing_of}
-use Rattle.deck.specs.ObjectColumns.{columns_of, pricing_in}
-use Rattle.reach.specs.Columns.{Priceable, Ranged}
-use Rattle.reach.proofs.RecordLaws.{made_priceable, made_pricing}
+use Rattle.deck.specs.ObjectColumns.{pricing_in}
+use Rattle.reach.specs.Columns.{Ranged}
+use Rattle.reach.specs.Held.{pricing_of_objects}
+use Rattle.reach.proofs.RecordLaws.{made_pricing}
 use Rattle.pricing.specs.ObjectFigures.{cost_of, load_of}
 use Rattle.pricing.proofs.ObjectLaws.{cost_law, load_law}
 use Rattle.lines.specs.LineRecord.{LinesInOrder, Lined, grid_of}
 use Rattle.lines.proofs.DeckLines.{deck_lined}
 use Rattle.prepare.specs.declared.Problem.{Problem}
-use Rattle.prepare.specs.ProblemRecord.{problem_record}
-use Rattle.prepare.proofs.RecordParts.{record_columns, record_count, record_vertical, record_horizontal, record_area}
+use Rattle.prepare.specs.ProblemRecord.{Parts, parts_in, problem_record}
 use Rattle.problem.specs.ObjectProblem.{bound_of, object_problem}
 use Rattle.problem.specs.Prepared.{problem_of, Prepared}
 
@@ -53,19 +50,14 @@ module _ (deck : Query.Deck) where
   deck_problem = λ i. record { area = deck.area; rules = record { grid = grid deck; price = λ p. cost_law deck p i; bound = λ r. bound_law r i } }
 
 -- ---- a problem that was prepared
-module _ {columns : List ℤ} {n : ℕ} {v h : List ℤ} {area : Rect} (prepared : Prepared columns n v h area) where
+module _ {p : Problem} (prepared : Prepared p) where
   abbrev deck : Query.Deck
   deck = prepared.deck
 
-  pub prepared_priceable : Priceable columns n
-  prepared_priceable =
-      subst (λ (l : List ℤ). Priceable l n) (sym prepared.columns_are)
-      (subst (Priceable (columns_of (pricing_of deck))) (sym prepared.count_is) (made_priceable deck prepared.range))
-
-  pub prepared_ranged : Ranged (rect_of area)
+  pub prepared_ranged : Ranged (rect_of p.area)
   prepared_ranged = subst Ranged (sym prepared.area_is) (record { range = prepared.range.area; full = prepared.full })
 
-  pub prepared_lined : Lined v h
+  pub prepared_lined : Lined p.vertical p.horizontal
   prepared_lined =
       let lined = deck_lined deck prepared.range.most_stops in
       record {
@@ -74,27 +66,27 @@ module _ {columns : List ℤ} {n : ℕ} {v h : List ℤ} {area : Rect} (prepared
       }
 
   -- what pricing needs, the lines and the whole problem are the deck's
-  pub prepared_pricing : pricing_in columns n ≡ pricing_of deck
+  pub prepared_pricing : pricing_of_objects p.objects ≡ pricing_of deck
   prepared_pricing =
       (λ i. pricing_in (prepared.columns_are i) (prepared.count_is i)) ∙ made_pricing deck prepared.range
 
-  pub prepared_grid : grid_of v h ≡ grid deck
+  pub prepared_grid : grid_of p.vertical p.horizontal ≡ grid deck
   unfolding grid
   prepared_grid = λ i. grid_of (prepared.vertical_are i) (prepared.horizontal_are i)
 
-  pub prepared_problem : problem_of columns n v h area ≡ problem deck
+  pub prepared_problem : problem_of p ≡ problem deck
   prepared_problem = (λ i. object_problem (prepared_pricing i) (prepared_grid i) (prepared.area_is i)) ∙ deck_problem deck
 
 -- ---- the problem that was made of a deck in range was prepared
-abbrev pub made_prepared : (deck : Query.Deck) → InRange deck → Place.NonEmpty deck.area → (p : Problem) → p ≡ problem_record deck →
-    Prepared p.columns p.count (take p.nv p.v) (take p.nh p.h) p.area
+abbrev pub made_prepared : (deck : Query.Deck) → InRange deck → Place.NonEmpty deck.area → (p : Problem) → parts_in p ≡ problem_record deck → Prepared p
+unfolding problem_record
 made_prepared deck range full p e = record {
   deck = deck;
   range = range;
   full = full;
-  columns_are = record_columns deck p e;
-  count_is = record_count deck p e;
-  vertical_are = record_vertical deck p e;
-  horizontal_are = record_horizontal deck p e;
-  area_is = record_area deck p e;
+  columns_are = ap (λ (q : Parts). q.columns) e;
+  count_is = ap (λ (q : Parts). q.count) e;
+  vertical_are = ap (λ (q : Parts). q.vertical) e;
+  horizontal_are = ap (λ (q : Parts). q.horizontal) e;
+  area_is = ap (λ (q : Parts). rect_of q.area) e;
 }

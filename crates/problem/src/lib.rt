@@ -1,4 +1,4 @@
-// Places with their costs. And, in specs/, the problem that both searches take, of the parts that are lent.
+// Places with their costs. And, in specs/, the problem that both searches take.
 #![tactic(auto)]
 
 ghost use Rattle.std.specs.Prelude.{◌≡◌};
