@@ -1,7 +1,7 @@
 -- What `cuts::Side::middle_line` owes.
 use native.Mathlib.Omega.{arith}
 use mathlib.Core.Path.{◌≡◌, sym, ◌∙◌}
-use lib.Signed.{◌≤ℤ◌}
+use lib.Signed.{◌≤ℤ◌, ◌<ℤ◌}
 use Rattle.numbers.specs.Integer.{strictly_between}
 use Rattle.numbers.specs.Lists.{keep}
 use Rattle.query.specs.Cut.{middle_line}
@@ -32,7 +32,8 @@ chosen c =
 pub returns-then-self-line : goal.returns-then-self-line
 returns-then-self-line c =
     let read : back c.args.self.now.lo ≡ c.args.self.now.lo = back_low c.args.self.now.edges in
-    rw c.if-self-below.line-is (line_some _ _ _ c.if-self-below.line (chosen c.before.before) (record { lt = rw (read, c.if-self-below.line-is) at (is_true _ c.if-self-line.true) }))
+    let t : c.args.self.now.lo <ℤ c.if-self-below.line = record { lt = rw (read, c.if-self-below.line-is) at (is_true _ c.if-self-line.true) } in
+    rw c.if-self-below.line-is (line_some _ _ _ c.if-self-below.line (chosen c.before.before) t)
 
 pub returns-else-self-line : goal.returns-else-self-line
 returns-else-self-line c =
