@@ -6,7 +6,7 @@ use native.Mathlib.Omega.{arith}
 use lib.Dec.{T}
 use lib.IntN.{ℤ, pos, nat_abs, ◌-ℤ◌}
 use lib.Signed.{non_neg, ◌≤ℤ◌}
-use mir.Syntax.{w32, w64}
+use mir.Syntax.{w32}
 use mir.Val.{Fits, to_z}
 use Rattle.std.specs.Int.{int_min}
 use Rattle.std.proofs.lemmas.Int.{ints, clamps}
@@ -25,22 +25,16 @@ use Rattle.deck.specs.Objects.{scaled_place}
 use Rattle.reach.specs.Columns.{ObjectInRange}
 use Rattle.reach.specs.Held.{EdgesOf}
 use Rattle.reach.specs.declared.rectangle.Edges.{Edges}
-use Rattle.reach.proofs.NarrowLaws.{word, natural, number_word, visits_word, near_word, scaled_by, place_scaled}
+use Rattle.reach.proofs.NarrowLaws.{word, natural, number_word, scaled_by, place_scaled}
 use Rattle.pricing.specs.ObjectFigures.{Figure}
 
--- ---- a row: casts to an unsigned word, and from there to a wider one
+-- ---- a row: casts to an unsigned word
 module _ {x y visits near : ℤ} (row : ObjectInRange x y visits near) where
   pub visits_cast : T (non_neg (word visits)) × Fits w32 (nat_abs (word visits))
   visits_cast = natural_cast w32 visits (nat_abs visits) (natural visits row.visits_some) (omega (arith, row.visits_range))
 
-  pub visits_wide : Fits w64 (nat_abs (word visits))
-  visits_wide = rw (visits_word row) (omega (arith, row.visits_range))
-
   pub near_cast : T (non_neg (word near)) × Fits w32 (nat_abs (word near))
   near_cast = natural_cast w32 near (nat_abs near) (natural near row.near_some) (omega (arith, row.near_range))
-
-  pub near_wide : Fits w64 (nat_abs (word near))
-  near_wide = rw (near_word row) (omega (arith, row.near_range))
 
 -- ---- the smaller of near and of a travel
 least : (a b : ℕ) → int_min (pos a) (pos b) ≡ pos (min b a)

@@ -1,16 +1,13 @@
 -- How far a number lies above another, and beyond the ends of a range: its distance to the closest number of the range.
 -- Assumes nothing.
-use mathlib.Core.Path.{◌≡◌, sym, ap, ◌∙◌}
-use mathlib.Core.Bool.{Bool, true, false}
+use mathlib.Core.Path.{◌≡◌, ap, ◌∙◌}
+use mathlib.Core.Bool.{true, false}
 use mathlib.Core.Logic.{⊎_elim}
 use Prim.Native.Nat.{ℕ, ◌+◌, ◌^◌, ◌≤◌, ◌<◌}
 use native.Mathlib.Omega.{arith}
-use lib.Dec.{ltb}
 use lib.IntN.{ℤ, pos, nat_abs, ◌+ℤ◌, ◌-ℤ◌}
 use lib.Signed.{lt_z, ◌≤ℤ◌}
 use mir.Syntax.{w32}
-use mir.Val.{SFits}
-use mir.ValLaws.{to_z-of_z}
 use Rattle.numbers.specs.Integer.{dist, clamp}
 use Rattle.numbers.proofs.Truth.{test, holds, fails, cond_ind}
 use Rattle.numbers.proofs.Integer.{order, dist_nat}
@@ -99,9 +96,3 @@ module _ (sx sy xlo ylo xhi yhi : ℤ) (at : Near180000 sx sy) (edges : EdgesInR
     where
       small : (n : ℕ) → n ≤ 720000 → n < 2 ^ 31
       small n h = omega arith
-
-  -- the outcome of the test of reach, of words
-  pub reach_word : (near : ℤ) (r b : Bool) → SFits w32 near
-      → r ≡ ltb (away (word sx) (word sy) (word xlo) (word ylo) (word xhi) (word yhi)) (nat_abs (word near))
-      → r ≡ b → ltb (away sx sy xlo ylo xhi yhi) (nat_abs near) ≡ b
-  reach_word near r b f p q = rw (← away_word, ← to_z-of_z w32 near f) (sym p ∙ q)

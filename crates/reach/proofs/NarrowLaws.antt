@@ -19,8 +19,6 @@ use Rattle.deck.specs.Ranges.{Near180000, CostsInRange, Scaled}
 use Rattle.deck.specs.Objects.{scaled_rect}
 use Rattle.deck.proofs.ScaleLaws.{natural_word as cost_word, scaled_word}
 use Rattle.reach.specs.Columns.{ObjectInRange, Ranged, EdgesInRange}
-use Rattle.reach.specs.Held.{edges_rect, EdgesOf}
-use Rattle.reach.specs.declared.rectangle.Edges.{Edges}
 
 -- a number as a 32-bit word holds it
 abbrev pub word : ℤ → ℤ
@@ -48,9 +46,6 @@ module _ {x y visits near : ℤ} (row : ObjectInRange x y visits near) where
 
   pub near_word : word near ≡ near
   near_word = number_word near row.near_range
-
-  pub row_word : ObjectInRange (word x) (word y) (word visits) (word near)
-  row_word = rw (number_word x (omega (arith, row.place)), number_word y (omega (arith, row.place)), visits_word, near_word) row
 
 -- ---- a place and a rectangle, scaled
 module _ {k : ℕ} (most : k ≤ 9) where
@@ -83,19 +78,3 @@ module _ {axis : AxisCosts} (costs : CostsInRange axis) where
           across = scale_le axis.a r.xlo r.xhi h.full.across;
           deep = scale_le axis.b r.ylo r.yhi h.full.deep;
         })
-
--- scaled edges as words
-module _ {axis : AxisCosts} {r : Rect} {e : Edges} (h : EdgesOf axis r e) where
-  edges_back : record { xlo = word e.xlo; ylo = word e.ylo; xhi = word e.xhi; yhi = word e.yhi } ≡ edges_rect e
-  edges_back = λ i. record {
-    xlo = number_word e.xlo (omega (arith, h.range.low.x_range)) i;
-    ylo = number_word e.ylo (omega (arith, h.range.low.y_range)) i;
-    xhi = number_word e.xhi (omega (arith, h.range.high.x_range)) i;
-    yhi = number_word e.yhi (omega (arith, h.range.high.y_range)) i;
-  }
-
-  pub edges_are : record { xlo = word e.xlo; ylo = word e.ylo; xhi = word e.xhi; yhi = word e.yhi } ≡ scaled_rect axis r
-  edges_are = edges_back ∙ h.are
-
-  pub edges_words : EdgesInRange (word e.xlo) (word e.ylo) (word e.xhi) (word e.yhi)
-  edges_words = subst (λ (q : Rect). EdgesInRange q.xlo q.ylo q.xhi q.yhi) (sym edges_back) h.range
