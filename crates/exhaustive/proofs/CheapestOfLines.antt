@@ -44,12 +44,12 @@ zero_sums = record { up_sums = zero_ramps; down_sums = zero_ramps }
 -- ---- the ramps of objects
 module _ (P : Pricing) (m : ℕ) (ls : List ℤ) (v : ℤ) (r : ObjectRamps) (before : ℕ) (few : m ≤ 512) (now : Figure (before_of P) cost_limit before)
     (added : ObjectsAdded P m ls v r) where
-  pub sweepable : Sweepable (scaled_lines P.axis.b ls) r before
-  sweepable = record {
+  pub sweepable : (b : ℕ) → b ≡ P.axis.b → Sweepable (scaled_lines b ls) r before
+  sweepable b e = rw e (record {
     before_most = now.within;
     sums = sums_few m added.sums (omega arith);
     enough = λ j h. omega (arith, added.cost j (omega (arith, length-map ls (times P.axis.b))), now.is);
-  }
+  })
 
   pub swept_line : (b : ℕ) (old costs : List ℕ) → P.axis.b ≡ b → Swept ls b r before old costs → costs ≡ costs_along P ls v old
   swept_line b old costs e s = s.is P m v e added now.is
