@@ -4,17 +4,6 @@ use mathlib.Core.Path.{◌≡◌, ap, ◌∙◌}
 use Prim.Native.Nat.{ℕ, ◌+◌, ◌*◌, ◌-◌, ◌/◌, ◌≤◌, ◌<◌}
 use native.Mathlib.Nat.{mul-le-mul, mul-le-mul_left, div-le_self, div-mul-le_self, lt-div-mul-add, lt_of_mul-lt-mul_right, div-eq_of_lt-le}
 use native.Mathlib.Omega.{arith}
-use lib.IntN.{ℤ, pos, nat_abs}
-use Rattle.numbers.proofs.Integer.{order}
-use Rattle.deck.specs.Ranges.{AxisCostInRange}
-use Rattle.reach.proofs.NarrowLaws.{natural}
-
--- an axis cost is a natural number that is not 0
-pub cost_natural : {k : ℤ} → AxisCostInRange k → k ≡ pos (nat_abs k)
-cost_natural {k} h = natural k (omega (arith, order, h.some))
-
-pub cost_some : {k : ℤ} → AxisCostInRange k → 1 ≤ nat_abs k
-cost_some {k} h = omega (arith, order, h.some, cost_natural h)
 
 -- n / b is n × m / P, where P = 2 ^ 32, m = P / b + 1, and n and b are small
 module _ (n b q r : ℕ) (some : 1 ≤ b) (most : b ≤ 9) (small : n ≤ 2000000) (q_le : q * b ≤ n) (q_lt : n < q * b + b) (r_le : r * b ≤ 4294967296)

@@ -1,6 +1,6 @@
--- The table of line numbers: how it is filled, and what is read from it.
+-- The table of line numbers: how it is filled, run after run, and what is read from it.
 -- Assumes nothing.
-use mathlib.Core.Path.{◌≡◌, refl, sym, ap, subst, ◌∙◌}
+use mathlib.Core.Path.{◌≡◌, sym, ap, subst, ◌∙◌}
 use mathlib.Core.List.{List}
 use mathlib.Core.Logic.{⊎_elim}
 use Prim.Native.Nat.{ℕ, ◌+◌, ◌*◌, ◌-◌, ◌≤◌, ◌<◌}
@@ -8,9 +8,9 @@ use native.Mathlib.Nat.{mul-le-mul_left}
 use native.Mathlib.Omega.{arith}
 use lib.Dec.{ltb, ltb→lt, nltb→le}
 use lib.IntN.{ℤ, pos, nat_abs}
-use lib.ListN.{length, get_or, set, length-set, length-map}
+use lib.ListN.{length, get_or, length-map}
 use lib.Signed.{◌≤ℤ◌, ◌<ℤ◌}
-use lib.Seq.{get_or-set_same, get_or-set_other, ext_get_or}
+use lib.Seq.{ext_get_or}
 use Rattle.numbers.specs.Integer.{times}
 use Rattle.numbers.proofs.Truth.{test}
 use Rattle.numbers.proofs.Integer.{order}
@@ -22,22 +22,6 @@ use Rattle.exhaustive.specs.Ramps.{height_of, scaled_lines, LinesInRange, SlotsF
 use Rattle.exhaustive.proofs.Division.{Upwards}
 use Rattle.exhaustive.proofs.Heights.{height_nat, height_most, height_least, height_le}
 use Rattle.exhaustive.proofs.ObjectRamps.{small_back}
-
--- ---- slots
-module _ (xs : List ℕ) (from j : ℕ) where
-  pub fill_none : SlotsFilled xs from from j xs
-  fill_none = record { long = refl; inside = λ t h k. absurd (omega arith); outside = λ t h. refl }
-
-  pub fill_more : (xs' : List ℕ) (i : ℕ) → SlotsFilled xs from i j xs' → from ≤ i → i < length xs → SlotsFilled xs from (i + 1) j (set xs' i j)
-  fill_more xs' i f g l = record {
-    long = length-set xs' i j ∙ f.long;
-    inside = λ t h k. ⊎_elim (λ u. get_or-set_other xs' i t j 0 (λ q. omega (arith, ltb→lt)) ∙ f.inside t h (ltb→lt t i u)) (λ u. let e : i ≡ t =
-        omega (arith, nltb→le) in rw (← e) (get_or-set_same xs' i j 0 (omega (arith, f.long)))) (test (ltb t i));
-    outside = λ t h. get_or-set_other xs' i t j 0 (λ q. omega arith) ∙ f.outside t h;
-  }
-
-  pub fill_all : (xs' : List ℕ) (i to : ℕ) → SlotsFilled xs from i j xs' → to ≤ i → SlotsFilled xs from to j xs'
-  fill_all xs' i to f h = record { long = f.long; inside = λ t g k. f.inside t g (omega arith); outside = f.outside }
 
 -- ---- lines
 -- the slots before `from` are those of the heights up to the last of j lines

@@ -1,6 +1,5 @@
 -- What `exhaustive::ramp_sums::ObjectRamps::add_object` owes.
 use native.Mathlib.Omega.{arith}
-use Rattle.numbers.proofs.WordTests.{back}
 use Rattle.lines.specs.LineRecord.{FirstAtLeast}
 use Rattle.reach.proofs.NarrowLaws.{word}
 use Rattle.reach.proofs.RowLaws.{x_word, y_word}
