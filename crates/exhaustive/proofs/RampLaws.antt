@@ -17,7 +17,7 @@ use Rattle.exhaustive.proofs.Heights.{height_most, height_le, height_lt}
 use Rattle.exhaustive.proofs.ScaledLines.{ScaledInRange}
 use Rattle.exhaustive.proofs.Prefixes.{prefix_before, prefix_behind, set_each}
 
--- the columns after a ramp is added at index k
+-- the numbers after a ramp is added at index k
 abbrev pub raised_by : List ℕ → ℕ → ℕ → List ℕ
 raised_by xs k w = set xs k (get_or xs k 0 + w)
 

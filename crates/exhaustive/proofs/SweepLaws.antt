@@ -13,7 +13,8 @@ use Rattle.numbers.proofs.Scaling.{scaled_at}
 use Rattle.exhaustive.specs.declared.ramp_sums.Ramps.{Ramps}
 use Rattle.exhaustive.specs.declared.ramp_sums.ObjectRamps.{ObjectRamps}
 use Rattle.exhaustive.specs.declared.ramp_sums.RunningSums.{RunningSums}
-use Rattle.exhaustive.specs.Ramps.{height_of, prefix_sum, scaled_lines, LinesInRange, RampSums, ObjectSums, raised_at, lowered_at, ObjectsAdded, SumsTo, Payable, Sweepable}
+use Rattle.exhaustive.specs.Ramps.{height_of, prefix_sum, scaled_lines, LinesInRange, RampSums, ObjectSums, raised_at, lowered_at}
+use Rattle.exhaustive.specs.Ramps.{ObjectsAdded, SumsTo, Payable, Sweepable}
 use Rattle.exhaustive.specs.Cheapest.{Swept}
 use Rattle.exhaustive.proofs.Heights.{height_most}
 use Rattle.exhaustive.proofs.Prefixes.{prefix_none, prefix_more, prefix_most}

@@ -24,6 +24,7 @@ use numbers::abs_diff;
 use reach::Row;
 
 // Ramps by line: the sum of their weights, and that of their weights times the heights at which they start.
+// kept: two arrays, since the definitions take sums of lists of numbers; one of pairs would need a list of each part first.
 #[derive(Clone, Copy)]
 pub(crate) struct Ramps {
     pub(crate) weights: [u64; 515],

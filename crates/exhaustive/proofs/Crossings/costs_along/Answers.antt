@@ -28,4 +28,4 @@ returns c =
     let it = c.args.self.now in
     let b_is = ap (λ (a : AxisCosts). a.b) c.axis-axis.ensures.is in
     rw (back_is c.ranges.v) at
-    (swept_line _ _ _ _ _ _ it.objects.now.priceable.count it.paid c.add_objects.ensures _ _ _ (sym b_is) c.sweep.ensures)
+    (swept_line _ _ _ (back c.args.v) _ _ it.objects.now.priceable.count it.paid c.add_objects.ensures _ _ _ (sym b_is) c.sweep.ensures)
