@@ -140,7 +140,8 @@ module _ (c : AxisCosts) (ps ss : List (List ℤ)) (a n : List ℤ) where
   abbrev deck : Query.Deck
   deck = (job_of a (cost_numbers c) ps ss n).deck
 
-  module _ {near : List ℕ} (found : Nears (held_axis c) (take (length ps) (places (xs 64 ps) (ys 64 ps))) (take (length ss) (places (xs 512 ss) (ys 512 ss))) near) where
+  module _ {near : List ℕ} (found : Nears (held_axis c) (take (length ps) (places (xs 64 ps) (ys 64 ps)))
+      (take (length ss) (places (xs 512 ss) (ys 512 ss))) near) where
     pub near_filled : near ≡ padded 512 0 (map (Travel.near deck) deck.stops)
     unfolding Travel.near
     near_filled =

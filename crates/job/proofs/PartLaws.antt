@@ -23,7 +23,8 @@ use Rattle.job_line.specs.OneLine.{fault, got, Reader, line}
 use Rattle.job_line.specs.Reading.{LineAnswer, read, refused, cost_numbers, answer_in, LineAt}
 use Rattle.job.specs.Reader.{and_then, repeated, optional, end}
 use Rattle.job.specs.Format.{count_of, post_of, stop_of}
-use Rattle.job.specs.ManyLines.{AxisAt, many_lines, counted_lines, NoPostsYet, NoStopsYet, with_post_lines, with_posts, with_stop_lines, with_stops, ListAt, last_line, LastAt}
+use Rattle.job.specs.ManyLines.{AxisAt, many_lines, counted_lines, NoPostsYet, NoStopsYet, with_post_lines, with_posts, with_stop_lines, with_stops}
+use Rattle.job.specs.ManyLines.{ListAt, last_line, LastAt}
 use Rattle.refusal.specs.declared.Refusal.{Refusal}
 use Rattle.refusal.specs.declared.Refusal.TheVariants.{Malformed}
 use Rattle.job.proofs.ReaderLaws.{optional_is, Ranged, line_got}
@@ -39,7 +40,8 @@ module _ {s : List ℕ} {at : ℕ} {t : Bool} (starts : Starts s at (row axis).k
   axis_missing off = record { is = rw (optional_is, ← starts.is, off); few = omega arith }
 
   module _ (on : t ≡ true) where
-    axis_line_lem : (missing : AxisCosts) {answer : LineAnswer} → LineAt (row axis) s at 2 answer → answer_in s 2 answer ≡ optional (row axis) (cost_numbers missing) 2 (drop at s)
+    axis_line_lem : (missing : AxisCosts) {answer : LineAnswer} → LineAt (row axis) s at 2 answer →
+        answer_in s 2 answer ≡ optional (row axis) (cost_numbers missing) 2 (drop at s)
     axis_line_lem missing axis_at = rw (optional_is, ← starts.is, on) axis_at.is
 
     pub axis_read : {missing c : AxisCosts} {next : ℕ} → LineAt (row axis) s at 2 (read (cost_numbers c) next) → AxisAt s at missing (Ok (c, 3, next))
@@ -170,7 +172,8 @@ module _ (k kind : Kind) {s : List ℕ} {at n : ℕ} where
     lines_are : many_lines kind count (n + 1) (drop start s) ≡ counted_lines k kind n (drop at s)
     lines_are = counted count_at (λ c. many_lines kind (count_of c)) ∙ counted_is k kind n (drop at s)
 
-    module _ {fill : Put} {first now : Deck} {to i : ℕ} (f : Filled kind fill first now s start count (n + 1) to i) {put : Put} {most : ℕ} {old new : Deck} where
+    module _ {fill : Put} {first now : Deck} {to i : ℕ} (f : Filled kind fill first now s start count (n + 1) to i) {put : Put} {most : ℕ}
+        {old new : Deck} where
       pub list_read : count ≤ i → i ≤ count → count ≤ most → new ≡ put old f.lines → ListAt (counted_lines k kind) put most s at n old new (Ok to)
       list_read g h few e = record { lines = f.lines; is = all_read f g ∙ lines_are; few = omega (arith, f.count_is); held = e }
 

@@ -23,8 +23,8 @@ use Rattle.job.specs.Format as Format
 use Rattle.job.specs.Format.{accepted, area_of, axis_costs_of, axis_numbers, count_of, post_of, stop_of, job_of, empty_area, checked, job_lines}
 use Rattle.job.specs.Format.{reading_result, read_with, missing_axis, read_job}
 use Rattle.job.specs.JobRecord.{job_result}
-use Rattle.job.specs.ManyLines.{post_lines, stop_lines, counted_lines, all_posts, all_stops, last_line, rest_lines, with_posts, with_stops, reading_of, job_unless}
-use Rattle.job.specs.ManyLines.{AxisAt, PostsAt, StopsAt, LastAt, CheckedAt, RestAt}
+use Rattle.job.specs.ManyLines.{post_lines, stop_lines, counted_lines, all_posts, all_stops, last_line, rest_lines, with_posts, with_stops}
+use Rattle.job.specs.ManyLines.{reading_of, job_unless, AxisAt, PostsAt, StopsAt, LastAt, CheckedAt, RestAt}
 use Rattle.query.specs.Deck as Query
 use Rattle.query.specs.Travel as Travel
 use Rattle.query.specs.Cost.{before}
@@ -238,7 +238,8 @@ as_read job = Ok job
 job_made : {a : Rect} (c : AxisCosts) (ps ss : List (List ℤ)) (n : ℕ) {d : Deck} → d ≡ with_stops (with_posts (start_deck a c) ps) ss → SFits w64 a.xlo →
     SFits w64 a.ylo → SFits w64 a.xhi → SFits w64 a.yhi → {near : List ℕ} {sum : ℕ} →
     Nears (held_axis c) (take d.posts (places d.post_x d.post_y)) (take d.stops (places d.stop_x d.stop_y)) near → sum ≡ paid d.visits near d.stops →
-    Ok (record { rounds = n; deck = record d { near = near; before = sum } }) ≡ job_result (accepted (job_of (area_numbers a) (cost_numbers c) ps ss (pos n ∷ [])))
+    Ok (record { rounds = n; deck = record d { near = near; before = sum } })
+    ≡ job_result (accepted (job_of (area_numbers a) (cost_numbers c) ps ss (pos n ∷ [])))
 job_made {a} c ps ss n held xlo ylo xhi yhi {near} {sum} found summed =
     ap (λ (d : Deck). as_read (record { rounds = n; deck = record d { near = near; before = sum } })) held ∙ rw (
       accepted_is (area_numbers a) (cost_numbers c) ps ss (pos n ∷ []),
@@ -257,7 +258,8 @@ job_made {a} c ps ss n held xlo ylo xhi yhi {near} {sum} found summed =
       map-map (λ s. s.visits) stop_of ss,
     )
   where
-    found_in : Nears (held_axis c) (take (length ps) (places (padded 64 (pos 0) (map (λ l. (post_of l).x) ps)) (padded 64 (pos 0) (map (λ l. (post_of l).y) ps))))
+    found_in : Nears (held_axis c) (take (length ps) (places (padded 64 (pos 0) (map (λ l. (post_of l).x) ps))
+        (padded 64 (pos 0) (map (λ l. (post_of l).y) ps))))
         (take (length ss) (places (padded 512 (pos 0) (map (λ l. (post_of l).x) ss)) (padded 512 (pos 0) (map (λ l. (post_of l).y) ss)))) near
     found_in = subst (λ (d : Deck). Nears (held_axis c) (take d.posts (places d.post_x d.post_y)) (take d.stops (places d.stop_x d.stop_y)) near) held found
 

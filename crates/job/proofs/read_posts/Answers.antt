@@ -25,11 +25,14 @@ pub loop-i-preserved : goal.loop-i-preserved
 loop-i-preserved c =
     let f = c.loop-i.invariant.1 in (
       c.loop-i.invariant.0,
-      filled_more f c.loop-i-test.true c.in_ok-post.ensures (posts_more c.args.deck.now c.loop-i.deck f.lines f.count_is (search rules) (search rules) f.deck_is (omega (arith, c.loop-i.invariant.0))),
+      filled_more f c.loop-i-test.true c.in_ok-post.ensures
+          (posts_more c.args.deck.now c.loop-i.deck f.lines f.count_is (search rules) (search rules) f.deck_is
+          (omega (arith, c.loop-i.invariant.0))),
     )
 
 pub returns : goal.returns
 unfolding bytes
 returns c =
     let f = c.loop-i.invariant.1 in
-    list_read posts post c.in_ok-count.ensures f (omega arith) (omega arith) c.loop-i.invariant.0 (posts_all f.lines f.count_is (omega arith) (omega arith) c.args.deck.now c.loop-i.deck f.deck_is)
+    list_read posts post c.in_ok-count.ensures f (omega arith) (omega arith) c.loop-i.invariant.0
+    (posts_all f.lines f.count_is (omega arith) (omega arith) c.args.deck.now c.loop-i.deck f.deck_is)

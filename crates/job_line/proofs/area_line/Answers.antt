@@ -30,17 +30,20 @@ returns-in_err-xhi c =
 pub returns-in_err-yhi : goal.returns-in_err-yhi
 unfolding bytes
 returns-in_err-yhi c =
-    malformed _ _ (key_then c.in_ok-at.ensures (number_then_none c.in_ok-xlo.ensures (number_then_none c.in_ok-ylo.ensures (number_then_none c.in_ok-xhi.ensures (no_number c.in_err-yhi.ensures)))))
+    malformed _ _ (key_then c.in_ok-at.ensures (number_then_none c.in_ok-xlo.ensures (number_then_none c.in_ok-ylo.ensures
+    (number_then_none c.in_ok-xhi.ensures (no_number c.in_err-yhi.ensures)))))
     c.in_err-yhi.ensures.malformed c.from_residual-in_err-yhi.ensures.1
 
 pub returns-then-not-area_in_range : goal.returns-then-not-area_in_range
 unfolding bytes
 returns-then-not-area_in_range c =
-    out_of_range (key_then c.in_ok-at.ensures (number_then c.in_ok-xlo.ensures (number_then c.in_ok-ylo.ensures (number_then c.in_ok-xhi.ensures (last_number c.in_ok-yhi.ensures)))))
+    out_of_range (key_then c.in_ok-at.ensures (number_then c.in_ok-xlo.ensures (number_then c.in_ok-ylo.ensures
+    (number_then c.in_ok-xhi.ensures (last_number c.in_ok-yhi.ensures)))))
     (sym c.area_in_range.ensures ∙ c.if-not-area_in_range.true)
 
 pub returns : goal.returns
 unfolding bytes
 returns c =
-    line_read (key_then c.in_ok-at.ensures (number_then c.in_ok-xlo.ensures (number_then c.in_ok-ylo.ensures (number_then c.in_ok-xhi.ensures (last_number c.in_ok-yhi.ensures)))))
+    line_read (key_then c.in_ok-at.ensures (number_then c.in_ok-xlo.ensures (number_then c.in_ok-ylo.ensures
+    (number_then c.in_ok-xhi.ensures (last_number c.in_ok-yhi.ensures)))))
     (sym c.area_in_range.ensures ∙ c.if-not-area_in_range.false) (field_inside c.in_ok-yhi.ensures)
