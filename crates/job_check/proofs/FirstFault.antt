@@ -1,22 +1,22 @@
 -- The first fault of lines one after another: by what is left of them, and of lines joined end to end; and the faults behind all lines.
 -- Assumes nothing.
-use mathlib.Core.Path.{◌≡◌, refl, sym, ◌∙◌}
+use mathlib.Core.Path.{◌≡◌, refl, sym, ap, ◌∙◌}
 use mathlib.Core.Bool.{Bool, true, false}
 use mathlib.Core.List.{List, [], ◌∷◌, ◌++◌, map}
 use mathlib.Core.Option.{Option, none, some}
-use Prim.Native.Nat.{ℕ, ◌+◌, ◌^◌, ◌≤◌, ◌<◌}
+use Prim.Native.Nat.{ℕ, ◌+◌, ◌≤◌, ◌<◌}
 use native.Mathlib.Omega.{arith}
 use borrow.Author.Tests.{eq-eqb, ne_eqb}
 use lib.IntN.{ℤ, pos}
 use lib.ListN.{length, get_or, take, drop, length-take, length-map, drop_of_length-le, get_or-map}
-use lib.Seq.{get_or-take}
-use lib.Signed.{mag}
+use lib.Seq.{get_or-take, length-take-le}
 use Rattle.numbers.proofs.Joined.{drop_next}
-use Rattle.numbers.proofs.WordTests.{back, fitting}
-use Rattle.query.specs.Place.{Rect}
+use Rattle.query.specs.Place.{Place, Rect}
+use Rattle.query.specs.Deck.{Stop}
 use Rattle.deck.specs.DeckOf.{places, stops_of}
-use Rattle.deck.proofs.ClosestLaws.{place_at, places_length, places_at}
-use Rattle.deck.proofs.DeckLaws.{stop_in, stops_length, stops_in}
+use Rattle.deck.proofs.ClosestLaws.{places_length}
+use Rattle.deck.proofs.ColumnLoops.{places_taken, stops_taken}
+use Rattle.deck.proofs.DeckLaws.{stops_length}
 use Rattle.job_line.specs.Kinds.{post, stop, row}
 use Rattle.job.specs.Format.{empty_area}
 use Rattle.job.specs.Spelling.{JobLine, post_line, stop_line}
@@ -87,26 +87,28 @@ module _ (xs ys : List ℤ) (n : ℕ) (hx : n ≤ length xs) (hy : n ≤ length 
   pub posts_count : length (post_lines xs ys n) ≡ n
   posts_count = omega (arith, length-map (take n (places xs ys)) post_line, length-take n (places xs ys), places_length xs ys)
 
-  pub all_posts_passed : {first i : ℕ} → Passed first (post_lines xs ys n) i → n ≤ i → none ≡ first_fault first (post_lines xs ys n)
-  all_posts_passed passed h = all_passed passed (omega (arith, posts_count))
+-- those of all posts, of which a loop has come to one
+module _ (xs ys : List ℤ) {first i : ℕ} (passed : Passed first (post_lines xs ys (length xs)) i) where
+  post_count : length (post_lines xs ys (length xs)) ≡ length (places xs ys)
+  post_count = omega (arith, length-map (take (length xs) (places xs ys)) post_line, length-take (length xs) (places xs ys), places_length xs ys)
 
-  module _ {first i : ℕ} (passed : Passed first (post_lines xs ys n) i) (h : i < n)
-      (fx : mag (get_or xs i (pos 0)) < 2 ^ 63) (fy : mag (get_or ys i (pos 0)) < 2 ^ 63) {found : Option Refusal}
-      (e : found ≡ numbers_fault (row post).ranges (first + i) (back (get_or xs i (pos 0)) ∷ back (get_or ys i (pos 0)) ∷ [])) where
-    post_fault : found ≡ line_fault (first + i) (get_or (post_lines xs ys n) i (post_line (place_at xs ys 0)))
-    post_fault = e ∙ rw (
-      fitting (get_or xs i (pos 0)) fx,
-      fitting (get_or ys i (pos 0)) fy,
-      get_or-map post_line (take n (places xs ys)) i (place_at xs ys 0),
-      get_or-take n (places xs ys) i (place_at xs ys 0) h,
-      places_at xs ys i (place_at xs ys 0) (omega arith) (omega arith),
-    )
+  pub all_posts_passed : i ≡ length (places xs ys) → none ≡ first_fault first (post_lines xs ys (length xs))
+  all_posts_passed h = all_passed passed (omega (arith, post_count))
 
-    pub post_passed : found ≡ none → Passed first (post_lines xs ys n) (i + 1)
-    post_passed = line_passed passed (omega (arith, posts_count)) (post_line (place_at xs ys 0)) post_fault
+  module _ (d : Place) (h : i < length (places xs ys)) {p : Place} (at : p ≡ get_or (places xs ys) i d) {line : ℕ} (l : line ≡ first + i)
+      {found : Option Refusal} (e : found ≡ numbers_fault (row post).ranges line (p.x ∷ p.y ∷ [])) where
+    post_fault : found ≡ line_fault (first + i) (get_or (post_lines xs ys (length xs)) i (post_line d))
+    post_fault = e ∙ rw (l, get_or-map post_line (take (length xs) (places xs ys)) i d, get_or-take (length xs) (places xs ys) i d within)
+        (ap (λ (q : Place). line_fault (first + i) (post_line q)) at)
+      where
+        within : i < length xs
+        within = omega (arith, places_length xs ys)
 
-    pub post_refused : {why : Refusal} → found ≡ some why → some why ≡ first_fault first (post_lines xs ys n)
-    post_refused = line_refused passed (omega (arith, posts_count)) (post_line (place_at xs ys 0)) post_fault
+    pub post_passed : {j : ℕ} → j ≡ i + 1 → found ≡ none → Passed first (post_lines xs ys (length xs)) j
+    post_passed k fine = rw k (line_passed passed (omega (arith, post_count)) (post_line d) post_fault fine)
+
+    pub post_refused : {why : Refusal} → found ≡ some why → some why ≡ first_fault first (post_lines xs ys (length xs))
+    post_refused = line_refused passed (omega (arith, post_count)) (post_line d) post_fault
 
 -- ---- the lines of the first n stops
 abbrev pub stop_lines : List ℤ → List ℤ → List ℕ → ℕ → List JobLine
@@ -121,26 +123,44 @@ module _ (xs ys : List ℤ) (vs : List ℕ) (n : ℕ) (hx : n ≤ length xs) (hy
     stops_length xs ys vs,
   )
 
-  pub all_stops_passed : {first i : ℕ} → Passed first (stop_lines xs ys vs n) i → n ≤ i → none ≡ first_fault first (stop_lines xs ys vs n)
-  all_stops_passed passed h = all_passed passed (omega (arith, stops_count))
+-- those of all stops
+module _ (xs ys : List ℤ) (vs : List ℕ) {first i : ℕ} (passed : Passed first (stop_lines xs ys vs (length xs)) i) where
+  stop_count : length (stop_lines xs ys vs (length xs)) ≡ length (stops_of (places xs ys) vs)
+  stop_count = omega (
+    arith,
+    length-map (take (length xs) (stops_of (places xs ys) vs)) stop_line,
+    length-take (length xs) (stops_of (places xs ys) vs),
+    stops_length xs ys vs,
+  )
 
-  module _ {first i : ℕ} (passed : Passed first (stop_lines xs ys vs n) i) (h : i < n)
-      (fx : mag (get_or xs i (pos 0)) < 2 ^ 63) (fy : mag (get_or ys i (pos 0)) < 2 ^ 63) {found : Option Refusal}
-      (e : found ≡ numbers_fault (row stop).ranges (first + i) (back (get_or xs i (pos 0)) ∷ back (get_or ys i (pos 0)) ∷ pos (get_or vs i 0) ∷ [])) where
-    stop_fault : found ≡ line_fault (first + i) (get_or (stop_lines xs ys vs n) i (stop_line (stop_in xs ys vs 0)))
+  pub all_stops_passed : i ≡ length (stops_of (places xs ys) vs) → none ≡ first_fault first (stop_lines xs ys vs (length xs))
+  all_stops_passed h = all_passed passed (omega (arith, stop_count))
+
+  module _ (d : Stop) (h : i < length (stops_of (places xs ys) vs)) {s : Stop} (at : s ≡ get_or (stops_of (places xs ys) vs) i d) {line : ℕ}
+      (l : line ≡ first + i) {found : Option Refusal} (e : found ≡ numbers_fault (row stop).ranges line (s.at.x ∷ s.at.y ∷ pos s.visits ∷ [])) where
+    stop_fault : found ≡ line_fault (first + i) (get_or (stop_lines xs ys vs (length xs)) i (stop_line d))
     stop_fault = e ∙ rw (
-      fitting (get_or xs i (pos 0)) fx,
-      fitting (get_or ys i (pos 0)) fy,
-      get_or-map stop_line (take n (stops_of (places xs ys) vs)) i (stop_in xs ys vs 0),
-      get_or-take n (stops_of (places xs ys) vs) i (stop_in xs ys vs 0) h,
-      stops_in xs ys vs i (stop_in xs ys vs 0) (omega arith) (omega arith) (omega arith),
-    )
+      l,
+      get_or-map stop_line (take (length xs) (stops_of (places xs ys) vs)) i d,
+      get_or-take (length xs) (stops_of (places xs ys) vs) i d within,
+    ) (ap (λ (q : Stop). line_fault (first + i) (stop_line q)) at)
+      where
+        within : i < length xs
+        within = omega (arith, stops_length xs ys vs)
 
-    pub stop_passed : found ≡ none → Passed first (stop_lines xs ys vs n) (i + 1)
-    stop_passed = line_passed passed (omega (arith, stops_count)) (stop_line (stop_in xs ys vs 0)) stop_fault
+    pub stop_passed : {j : ℕ} → j ≡ i + 1 → found ≡ none → Passed first (stop_lines xs ys vs (length xs)) j
+    stop_passed k fine = rw k (line_passed passed (omega (arith, stop_count)) (stop_line d) stop_fault fine)
 
-    pub stop_refused : {why : Refusal} → found ≡ some why → some why ≡ first_fault first (stop_lines xs ys vs n)
-    stop_refused = line_refused passed (omega (arith, stops_count)) (stop_line (stop_in xs ys vs 0)) stop_fault
+    pub stop_refused : {why : Refusal} → found ≡ some why → some why ≡ first_fault first (stop_lines xs ys vs (length xs))
+    stop_refused = line_refused passed (omega (arith, stop_count)) (stop_line d) stop_fault
+
+-- ---- the lines of columns that are given only as far as they count
+pub posts_given : (n : ℕ) (xs ys : List ℤ) → n ≤ length xs → post_lines (take n xs) (take n ys) (length (take n xs)) ≡ post_lines xs ys n
+posts_given n xs ys h = rw (length-take-le n xs h) (ap (map post_line) (places_taken n xs ys))
+
+pub stops_given : (n : ℕ) (xs ys : List ℤ) (vs : List ℕ) → n ≤ length xs →
+    stop_lines (take n xs) (take n ys) (take n vs) (length (take n xs)) ≡ stop_lines xs ys vs n
+stops_given n xs ys vs h = rw (length-take-le n xs h) (ap (map stop_line) (stops_taken n xs ys vs))
 
 -- ---- the area and the counts, once every line is read
 module _ (r : Rect) (p s : ℕ) {empty : Bool} (e : empty ≡ empty_area r) where

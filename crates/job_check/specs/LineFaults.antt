@@ -1,6 +1,7 @@
 -- What reading finds in lines that numbers were spelled in: their first refusal, by the numbers themselves.
 -- Assumes nothing.
-use Rattle.std.specs.Prelude.{ℕ, ◌+◌, Bool, true, cond, ◌&&◌, List, [], ◌∷◌, eqb, ltb, ℤ, nat_abs}
+use Rattle.std.specs.Prelude as Std
+use Rattle.std.specs.Prelude.{Ok, Err, ℕ, ◌+◌, Bool, true, cond, ◌&&◌, List, [], ◌∷◌, eqb, ltb, ℤ, nat_abs}
 use Rattle.std.proofs.Math.Option.{Option, none, some}
 use Rattle.query.specs.Place.{Rect}
 use Rattle.job_line.specs.Kinds.{Range, row, in_ranges}
@@ -8,8 +9,6 @@ use Rattle.job.specs.Format.{Result, refused, accepted, empty_area}
 use Rattle.job.specs.Spelling.{JobLine}
 use Rattle.refusal.specs.declared.Refusal.{Refusal}
 use Rattle.refusal.specs.declared.Refusal.TheVariants.{Malformed, OutOfRange, EmptyArea, NoPosts, NoStops}
-use Rattle.job_check.specs.declared.Checked.{Checked}
-use Rattle.job_check.specs.declared.Checked.TheVariants as C
 
 -- 01 "A number has 1 to 9 digits"
 unfoldable pub short : ℤ → Bool
@@ -20,10 +19,14 @@ unfolding short
 all_short [] = true
 all_short (z ∷ zs) = short z && all_short zs
 
--- the refusal of line n, where these numbers are spelled in it: 2, then 3
+-- the refusal of line n, by whether its numbers are short and in range: 2, then 3
+abbrev pub tested_fault : Bool → Bool → ℕ → Option Refusal
+tested_fault short in_range n = cond short (cond in_range none (some (OutOfRange n))) (some (Malformed n))
+
+-- and where these numbers are spelled in it
 unfoldable pub numbers_fault : List Range → ℕ → List ℤ → Option Refusal
 unfolding all_short in_ranges
-numbers_fault ranges n ns = cond (all_short ns) (cond (in_ranges ranges ns) none (some (OutOfRange n))) (some (Malformed n))
+numbers_fault ranges n ns = tested_fault (all_short ns) (in_ranges ranges ns) n
 
 abbrev pub line_fault : ℕ → JobLine → Option Refusal
 line_fault n l = numbers_fault (row l.kind).ranges n l.numbers
@@ -50,6 +53,6 @@ refusal_in (refused why) = some why
 refusal_in (accepted job) = none
 
 -- what the functions of this crate answer
-abbrev pub checked_as : Checked → Option Refusal
-checked_as C.Fine = none
-checked_as (C.Refused why) = some why
+abbrev pub checked_as : Std.Result (Unit {0}) Refusal → Option Refusal
+checked_as (Ok u) = none
+checked_as (Err why) = some why

@@ -4,169 +4,160 @@
 ghost use Rattle.std.specs.Prelude.{◌≡◌, cond, [], ◌∷◌, map, ◌≤◌, pos, length, take};
 ghost use Rattle.deck.specs.DeckOf.{held_axis, places, stops_of};
 ghost use Rattle.job_line.specs.Kinds.{area, axis, posts, post, stops, stop, up_to, row};
-ghost use Rattle.job_line.specs.Reading.{area_numbers, cost_numbers, place_numbers};
+ghost use Rattle.job_line.specs.Reading.{area_numbers, cost_numbers};
 ghost use Rattle.job.specs.Format.{area_of, read_text};
 ghost use Rattle.job.specs.Spelling.{count_line, post_line, stop_line};
 ghost use Rattle.job.specs.File.{writes_axis, file_text};
-ghost use Rattle.job_check.specs.LineFaults.{short, all_short, numbers_fault, first_fault, parts_fault, refusal_in, checked_as};
+ghost use Rattle.job_check.specs.LineFaults.{short, all_short, tested_fault, numbers_fault, first_fault, parts_fault, refusal_in, checked_as};
 
-use deck::{AxisCosts, Deck, Rect};
-use job_line::Place;
+use deck::{AxisCosts, Deck, Place, Rect, Stop};
 use limits::{MOST_ROUNDS, POSTS, STOPS};
 use refusal::Refusal;
 
-#[derive(Clone, Copy)]
-pub enum Checked {
-    Fine,
-    Refused(Refusal),
+// The smallest number of ten digits.
+const FIRST_LONG: u64 = 1000000000;
+
+// ---- whether numbers have at most nine digits
+
+fn short(z: i64) -> bool
+    ensures { result ≡ short z }
+{
+    z.unsigned_abs() < FIRST_LONG
+}
+
+fn short_place(p: Place) -> bool
+    ensures { result ≡ all_short (p.x ∷ p.y ∷ []) }
+{
+    short(p.x) && short(p.y)
+}
+
+fn short_area(a: Rect) -> bool
+    ensures { result ≡ all_short (area_numbers a) }
+{
+    short_place(Place { x: a.xlo, y: a.ylo }) && short_place(Place { x: a.xhi, y: a.yhi })
+}
+
+fn short_costs(c: AxisCosts) -> bool
+    ensures { result ≡ all_short (cost_numbers c) }
+{
+    c.a < FIRST_LONG && c.b < FIRST_LONG
+}
+
+fn short_stop(s: Stop) -> bool
+    ensures { result ≡ all_short (s.at.x ∷ s.at.y ∷ pos s.visits ∷ []) }
+{
+    short_place(s.at) && s.visits < FIRST_LONG
 }
 
 // ---- one line
 
-// Whether a number has at most nine digits.
-fn short(z: i64) -> bool
-    ensures { result ≡ short z }
+// A line whose numbers are not short is malformed; one whose short numbers are not in range is out of range.
+fn check_numbers(short: bool, in_range: bool, line: u64) -> Result<(), Refusal>
+    ensures { checked_as result ≡ tested_fault short in_range line }
 {
-    if -1000000000 < z {
-        z < 1000000000
-    } else {
-        false
+    if !short {
+        return Err(Refusal::Malformed(line));
     }
+    if !in_range {
+        return Err(Refusal::OutOfRange(line));
+    }
+    Ok(())
 }
 
-fn short_place(p: Place) -> bool
-    ensures { result ≡ all_short (place_numbers p) }
-{
-    if short(p.x) { short(p.y) } else { false }
-}
-
-fn area_line(a: Rect) -> Checked
+fn area_line(a: Rect) -> Result<(), Refusal>
     ensures { checked_as result ≡ numbers_fault (row area).ranges 1 (area_numbers a) }
 {
-    let low = Place { x: a.xlo, y: a.ylo };
-    let high = Place { x: a.xhi, y: a.yhi };
-    if !short_place(low) {
-        return Checked::Refused(Refusal::Malformed(1));
-    }
-    if !short_place(high) {
-        return Checked::Refused(Refusal::Malformed(1));
-    }
-    if !job_line::area_in_range(a) {
-        return Checked::Refused(Refusal::OutOfRange(1));
-    }
-    Checked::Fine
+    let in_range = job_line::area_in_range(a);
+    check_numbers(short_area(a), in_range, 1)
 }
 
-fn axis_line(c: AxisCosts) -> Checked
+fn axis_line(c: AxisCosts) -> Result<(), Refusal>
     ensures { checked_as result ≡ numbers_fault (row axis).ranges 2 (cost_numbers c) }
 {
-    if 999999999 < c.a {
-        return Checked::Refused(Refusal::Malformed(2));
-    }
-    if 999999999 < c.b {
-        return Checked::Refused(Refusal::Malformed(2));
-    }
-    if !job_line::axis_in_range(c) {
-        return Checked::Refused(Refusal::OutOfRange(2));
-    }
-    Checked::Fine
+    check_numbers(short_costs(c), job_line::axis_in_range(c), 2)
 }
 
 // `posts=n`, `stops=n`, `rounds=n`: a number from 0 to `most`.
-fn count_line(n: u64, most: usize, line: u64) -> Checked
+fn count_line(n: u64, most: usize, line: u64) -> Result<(), Refusal>
     ensures { checked_as result ≡ numbers_fault (up_to most ∷ []) line (pos n ∷ []) }
 {
-    if 999999999 < n {
-        return Checked::Refused(Refusal::Malformed(line));
-    }
-    if (most as u64) < n {
-        return Checked::Refused(Refusal::OutOfRange(line));
-    }
-    Checked::Fine
+    check_numbers(n < FIRST_LONG, n <= most as u64, line)
 }
 
-fn post_line(p: Place, line: u64) -> Checked
-    ensures { checked_as result ≡ numbers_fault (row post).ranges line (place_numbers p) }
+fn post_line(p: Place, line: u64) -> Result<(), Refusal>
+    ensures { checked_as result ≡ numbers_fault (row post).ranges line (p.x ∷ p.y ∷ []) }
 {
-    if !short_place(p) {
-        return Checked::Refused(Refusal::Malformed(line));
-    }
-    if !job_line::place_in_range(p) {
-        return Checked::Refused(Refusal::OutOfRange(line));
-    }
-    Checked::Fine
+    check_numbers(
+        short_place(p),
+        job_line::place_in_range(job_line::Place { x: p.x, y: p.y }),
+        line,
+    )
 }
 
-fn stop_line(p: Place, visits: u64, line: u64) -> Checked
-    ensures { checked_as result ≡ numbers_fault (row stop).ranges line (p.x ∷ p.y ∷ pos visits ∷ []) }
+fn stop_line(s: Stop, line: u64) -> Result<(), Refusal>
+    ensures { checked_as result ≡ numbers_fault (row stop).ranges line (s.at.x ∷ s.at.y ∷ pos s.visits ∷ []) }
 {
-    if !short_place(p) {
-        return Checked::Refused(Refusal::Malformed(line));
+    if !short_stop(s) {
+        return Err(Refusal::Malformed(line));
     }
-    if 999999999 < visits {
-        return Checked::Refused(Refusal::Malformed(line));
-    }
-    if !job_line::stop_in_range(p, visits as i64) {
-        return Checked::Refused(Refusal::OutOfRange(line));
-    }
-    Checked::Fine
+    let p = job_line::Place {
+        x: s.at.x,
+        y: s.at.y,
+    };
+    check_numbers(true, job_line::stop_in_range(p, s.visits as i64), line)
 }
 
 // ---- many lines
 
-// The lines of the first n posts, from line `first` on.
-fn post_lines<'a>(xs: &'a [i64], ys: &'a [i64], n: usize, first: u64) -> Checked
-    requires { (n ≤ length xs.now) × (n ≤ length ys.now) × (n ≤ 512) × (first ≤ 1000) }
-    ensures { checked_as result ≡ first_fault first (map post_line (take n (places xs.now ys.now))) }
+// The lines of posts, from line `first` on.
+fn post_lines(xs: &[i64], ys: &[i64], first: u64) -> Result<(), Refusal>
+    requires { (length xs.now ≤ 512) × (first ≤ 1000) }
+    ensures { checked_as result ≡ first_fault first (map post_line (take (length xs.now) (places xs.now ys.now))) }
 {
-    let mut i: usize = 0;
-    while i < n {
-        match post_line(Place { x: xs[i], y: ys[i] }, first + i as u64) {
-            Checked::Fine => i += 1,
-            Checked::Refused(why) => return Checked::Refused(why),
-        }
+    let mut line = first;
+    for (x, y) in xs.iter().zip(ys) {
+        post_line(Place { x: *x, y: *y }, line)?;
+        line += 1;
     }
-    Checked::Fine
+    Ok(())
 }
 
-// The lines of the first n stops, from line `first` on.
-fn stop_lines<'a>(xs: &'a [i64], ys: &'a [i64], visits: &'a [u64], n: usize, first: u64) -> Checked
-    requires { (n ≤ length xs.now) × (n ≤ length ys.now) × (n ≤ length visits.now) × (n ≤ 512) × (first ≤ 1000) }
+// The lines of stops, from line `first` on.
+fn stop_lines(xs: &[i64], ys: &[i64], visits: &[u64], first: u64) -> Result<(), Refusal>
+    requires { (length xs.now ≤ 512) × (first ≤ 1000) }
     ensures { checked_as result
-        ≡ first_fault first (map stop_line (take n (stops_of (places xs.now ys.now) visits.now))) }
+        ≡ first_fault first (map stop_line (take (length xs.now) (stops_of (places xs.now ys.now) visits.now))) }
 {
-    let mut i: usize = 0;
-    while i < n {
-        match stop_line(Place { x: xs[i], y: ys[i] }, visits[i], first + i as u64) {
-            Checked::Fine => i += 1,
-            Checked::Refused(why) => return Checked::Refused(why),
-        }
+    let mut line = first;
+    for ((x, y), v) in xs.iter().zip(ys).zip(visits) {
+        let stop = Stop {
+            at: Place { x: *x, y: *y },
+            visits: *v,
+        };
+        stop_line(stop, line)?;
+        line += 1;
     }
-    Checked::Fine
+    Ok(())
 }
 
 // The line `posts=n`, which is line `line`, and the lines of the posts.
-fn all_posts<'a>(xs: &'a [i64], ys: &'a [i64], n: usize, line: u64) -> Checked
+fn all_posts(xs: &[i64], ys: &[i64], n: usize, line: u64) -> Result<(), Refusal>
     requires { (64 ≤ length xs.now) × (64 ≤ length ys.now) × (line ≤ 900) }
     ensures { checked_as result
         ≡ first_fault line (count_line posts n ∷ map post_line (take n (places xs.now ys.now))) }
 {
-    match count_line(n as u64, POSTS, line) {
-        Checked::Fine => post_lines(xs, ys, n, line + 1),
-        Checked::Refused(why) => Checked::Refused(why),
-    }
+    count_line(n as u64, POSTS, line)?;
+    post_lines(&xs[..n], &ys[..n], line + 1)
 }
 
 // The line `stops=n`, which is line `line`, and the lines of the stops.
-fn all_stops<'a>(xs: &'a [i64], ys: &'a [i64], visits: &'a [u64], n: usize, line: u64) -> Checked
+fn all_stops(xs: &[i64], ys: &[i64], visits: &[u64], n: usize, line: u64) -> Result<(), Refusal>
     requires { (512 ≤ length xs.now) × (512 ≤ length ys.now) × (512 ≤ length visits.now) × (line ≤ 900) }
     ensures { checked_as result ≡ first_fault line
         (count_line stops n ∷ map stop_line (take n (stops_of (places xs.now ys.now) visits.now))) }
 {
-    match count_line(n as u64, STOPS, line) {
-        Checked::Fine => stop_lines(xs, ys, visits, n, line + 1),
-        Checked::Refused(why) => Checked::Refused(why),
-    }
+    count_line(n as u64, STOPS, line)?;
+    stop_lines(&xs[..n], &ys[..n], &visits[..n], line + 1)
 }
 
 // ---- the file
@@ -179,24 +170,24 @@ fn posts_at(c: AxisCosts) -> u64
 }
 
 // Refusals 4, 5 and 6, in this order.
-fn missing_part(a: Rect, posts: usize, stops: usize) -> Checked
+fn missing_part(a: Rect, posts: usize, stops: usize) -> Result<(), Refusal>
     ensures { checked_as result ≡ parts_fault (area_of (area_numbers a)) posts stops }
 {
     if job::empty_area(a) {
-        return Checked::Refused(Refusal::EmptyArea);
+        return Err(Refusal::EmptyArea);
     }
     if posts == 0 {
-        return Checked::Refused(Refusal::NoPosts);
+        return Err(Refusal::NoPosts);
     }
     if stops == 0 {
-        return Checked::Refused(Refusal::NoStops);
+        return Err(Refusal::NoStops);
     }
-    Checked::Fine
+    Ok(())
 }
 
 // The refusal that reading the file of a record and rounds would give, its size aside.
-pub fn check(deck: Deck, rounds: u64) -> Checked
-    ensures { checked_as result ≡ refusal_in (read_text (file_text deck rounds)) }
+pub fn check(deck: &Deck, rounds: u64) -> Result<(), Refusal>
+    ensures { checked_as result ≡ refusal_in (read_text (file_text deck.now rounds)) }
 {
     let area = Rect {
         xlo: deck.xlo,
@@ -204,28 +195,13 @@ pub fn check(deck: Deck, rounds: u64) -> Checked
         xhi: deck.xhi,
         yhi: deck.yhi,
     };
-    match area_line(area) {
-        Checked::Fine => {}
-        Checked::Refused(why) => return Checked::Refused(why),
-    }
+    area_line(area)?;
     // costs of 1 and 1, which have no line, have no fault either
-    match axis_line(deck.axis) {
-        Checked::Fine => {}
-        Checked::Refused(why) => return Checked::Refused(why),
-    }
+    axis_line(deck.axis)?;
     let first = posts_at(deck.axis);
-    match all_posts(&deck.post_x, &deck.post_y, deck.posts, first) {
-        Checked::Fine => {}
-        Checked::Refused(why) => return Checked::Refused(why),
-    }
+    all_posts(&deck.post_x, &deck.post_y, deck.posts, first)?;
     let line = first + 1 + deck.posts as u64;
-    match all_stops(&deck.stop_x, &deck.stop_y, &deck.visits, deck.stops, line) {
-        Checked::Fine => {}
-        Checked::Refused(why) => return Checked::Refused(why),
-    }
-    match count_line(rounds, MOST_ROUNDS, line + 1 + deck.stops as u64) {
-        Checked::Fine => {}
-        Checked::Refused(why) => return Checked::Refused(why),
-    }
+    all_stops(&deck.stop_x, &deck.stop_y, &deck.visits, deck.stops, line)?;
+    count_line(rounds, MOST_ROUNDS, line + 1 + deck.stops as u64)?;
     missing_part(area, deck.posts, deck.stops)
 }

@@ -1,5 +1,5 @@
 -- What `job_check::check` owes.
-use mathlib.Core.Path.{◌≡◌, ap}
+use mathlib.Core.Path.{◌≡◌, ap, ◌∙◌}
 use mathlib.Core.Option.{Option, none}
 use Prim.Native.Nat.{ℕ, ◌+◌, ◌≤◌}
 use native.Mathlib.Omega.{arith}
@@ -16,6 +16,7 @@ use Rattle.job_check.proofs.FileFaults.{file_fault}
 use Rattle.job_check.proofs.CheckLaws.{AreaFits, back_numbers, behind_area, behind_axis, behind_posts, behind_stops, posts_most, stops_most}
 use Rattle.job_check.proofs.CheckLaws.{Left, part_fine, part_refused, all_left, post_part, posts_at, posts_behind, stop_part, stops_behind, rounds_behind}
 use Rattle.job_check.proofs.CheckLaws.{parts_answer}
+use Rattle.job_check.proofs.ShortLaws.{passed_on}
 use Rattle.job_check.proofs.check.Goals as goal
 
 -- ---- what is left of the refusal, part after part
@@ -51,70 +52,75 @@ first_few deck e = omega (arith, e, third_line (writes_axis (held_axis deck.axis
 line_few : (deck : Deck) {first : ℕ} → first ≡ posts_at deck → deck.posts ≤ 64 → first + 1 + deck.posts ≤ 68
 line_few deck e few = omega (arith, first_few deck e)
 
-pub returns-in-Refused : goal.returns-in-Refused
-returns-in-Refused c =
-    let s : Sized c.args.deck = record { post_x = search rules; post_y = search rules; stop_x = search rules; stop_y = search rules; visits = search rules } in
-    let f : AreaFits c.args.deck = record { xlo = search rules; ylo = search rules; xhi = search rules; yhi = search rules } in
-    part_refused _ (left s f) c.area_line.ensures (ap checked_as c.in-Refused.is)
+pub returns-in_err-area_line : goal.returns-in_err-area_line
+returns-in_err-area_line c =
+    let s : Sized c.args.deck.now = record { post_x = search rules; post_y = search rules; stop_x = search rules; stop_y = search rules; visits = search rules } in
+    let f : AreaFits c.args.deck.now = record { xlo = search rules; ylo = search rules; xhi = search rules; yhi = search rules } in
+    passed_on _ c.from_residual.ensures.1
+    ∙ part_refused _ (left s f) c.area_line.ensures (ap checked_as c.in_err-area_line.was)
 
-pub returns-in-Refused-axis_line : goal.returns-in-Refused-axis_line
-returns-in-Refused-axis_line c =
-    let s : Sized c.args.deck = record { post_x = search rules; post_y = search rules; stop_x = search rules; stop_y = search rules; visits = search rules } in
-    let f : AreaFits c.args.deck = record { xlo = search rules; ylo = search rules; xhi = search rules; yhi = search rules } in
-    part_refused _ (left-area s f c.area_line.ensures (ap checked_as c.in-Fine.is)) c.axis_line.ensures (ap checked_as c.in-Refused-axis_line.is)
+pub returns-in_err-axis_line : goal.returns-in_err-axis_line
+returns-in_err-axis_line c =
+    let s : Sized c.args.deck.now = record { post_x = search rules; post_y = search rules; stop_x = search rules; stop_y = search rules; visits = search rules } in
+    let f : AreaFits c.args.deck.now = record { xlo = search rules; ylo = search rules; xhi = search rules; yhi = search rules } in
+    passed_on _ c.from_residual-in_err-axis_line.ensures.1
+    ∙ part_refused _ (left-area s f c.area_line.ensures (ap checked_as c.in_ok-area_line.was)) c.axis_line.ensures (ap checked_as c.in_err-axis_line.was)
 
-pub returns-in-Refused-all_posts : goal.returns-in-Refused-all_posts
-returns-in-Refused-all_posts c =
-    let s : Sized c.args.deck = record { post_x = search rules; post_y = search rules; stop_x = search rules; stop_y = search rules; visits = search rules } in
-    let f : AreaFits c.args.deck = record { xlo = search rules; ylo = search rules; xhi = search rules; yhi = search rules } in
-    part_refused _ (left-axis s f c.area_line.ensures (ap checked_as c.in-Fine.is) c.axis_line.ensures (ap checked_as c.in-Fine-axis_line.is)
-    c.posts_at-first.ensures) c.all_posts.ensures (ap checked_as c.in-Refused-all_posts.is)
+pub returns-in_err-all_posts : goal.returns-in_err-all_posts
+returns-in_err-all_posts c =
+    let s : Sized c.args.deck.now = record { post_x = search rules; post_y = search rules; stop_x = search rules; stop_y = search rules; visits = search rules } in
+    let f : AreaFits c.args.deck.now = record { xlo = search rules; ylo = search rules; xhi = search rules; yhi = search rules } in
+    passed_on _ c.from_residual-in_err-all_posts.ensures.1
+    ∙ part_refused _ (left-axis s f c.area_line.ensures (ap checked_as c.in_ok-area_line.was) c.axis_line.ensures (ap checked_as c.in_ok-axis_line.was)
+    c.posts_at-first.ensures) c.all_posts.ensures (ap checked_as c.in_err-all_posts.was)
 
 pub overflow_add-line-2 : goal.overflow_add-line-2
 overflow_add-line-2 c =
-    let few : c.args.deck.posts ≤ 64 = posts_most c.args.deck _ c.all_posts.ensures (ap checked_as c.in-Fine-all_posts.is) in
-    omega (arith, line_few c.args.deck c.posts_at-first.ensures few)
+    let few : c.args.deck.now.posts ≤ 64 = posts_most c.args.deck.now _ c.all_posts.ensures (ap checked_as c.in_ok-all_posts.was) in
+    omega (arith, line_few c.args.deck.now c.posts_at-first.ensures few)
 
 pub all_stops-requires : goal.all_stops-requires
 all_stops-requires c =
-    let s : Sized c.args.deck = record { post_x = search rules; post_y = search rules; stop_x = search rules; stop_y = search rules; visits = search rules } in
-    let few : c.args.deck.posts ≤ 64 = posts_most c.args.deck _ c.all_posts.ensures (ap checked_as c.in-Fine-all_posts.is) in
-    (omega (arith, s.stop_x), omega (arith, s.stop_y), omega (arith, s.visits), omega (arith, line_few c.args.deck c.posts_at-first.ensures few))
+    let s : Sized c.args.deck.now = record { post_x = search rules; post_y = search rules; stop_x = search rules; stop_y = search rules; visits = search rules } in
+    let few : c.args.deck.now.posts ≤ 64 = posts_most c.args.deck.now _ c.all_posts.ensures (ap checked_as c.in_ok-all_posts.was) in
+    (omega (arith, s.stop_x), omega (arith, s.stop_y), omega (arith, s.visits), omega (arith, line_few c.args.deck.now c.posts_at-first.ensures few))
 
-pub returns-in-Refused-all_stops : goal.returns-in-Refused-all_stops
-returns-in-Refused-all_stops c =
-    let s : Sized c.args.deck = record { post_x = search rules; post_y = search rules; stop_x = search rules; stop_y = search rules; visits = search rules } in
-    let f : AreaFits c.args.deck = record { xlo = search rules; ylo = search rules; xhi = search rules; yhi = search rules } in
-    part_refused _ (left-posts s f c.area_line.ensures (ap checked_as c.in-Fine.is) c.axis_line.ensures (ap checked_as c.in-Fine-axis_line.is)
+pub returns-in_err-all_stops : goal.returns-in_err-all_stops
+returns-in_err-all_stops c =
+    let s : Sized c.args.deck.now = record { post_x = search rules; post_y = search rules; stop_x = search rules; stop_y = search rules; visits = search rules } in
+    let f : AreaFits c.args.deck.now = record { xlo = search rules; ylo = search rules; xhi = search rules; yhi = search rules } in
+    passed_on _ c.from_residual-in_err-all_stops.ensures.1
+    ∙ part_refused _ (left-posts s f c.area_line.ensures (ap checked_as c.in_ok-area_line.was) c.axis_line.ensures (ap checked_as c.in_ok-axis_line.was)
     c.posts_at-first.ensures
-    c.all_posts.ensures (ap checked_as c.in-Fine-all_posts.is)) c.all_stops.ensures (ap checked_as c.in-Refused-all_stops.is)
+    c.all_posts.ensures (ap checked_as c.in_ok-all_posts.was)) c.all_stops.ensures (ap checked_as c.in_err-all_stops.was)
 
 pub overflow_add-line-3 : goal.overflow_add-line-3
 overflow_add-line-3 c =
-    let few : c.args.deck.posts ≤ 64 = posts_most c.args.deck _ c.all_posts.ensures (ap checked_as c.in-Fine-all_posts.is) in
-    omega (arith, line_few c.args.deck c.posts_at-first.ensures few)
+    let few : c.args.deck.now.posts ≤ 64 = posts_most c.args.deck.now _ c.all_posts.ensures (ap checked_as c.in_ok-all_posts.was) in
+    omega (arith, line_few c.args.deck.now c.posts_at-first.ensures few)
 
 pub overflow_add-line-4 : goal.overflow_add-line-4
 overflow_add-line-4 c =
-    let few : c.args.deck.posts ≤ 64 = posts_most c.args.deck _ c.all_posts.ensures (ap checked_as c.in-Fine-all_posts.is) in
-    let many : c.args.deck.stops ≤ 512 = stops_most c.args.deck _ c.all_stops.ensures (ap checked_as c.in-Fine-all_stops.is) in
-    omega (arith, line_few c.args.deck c.posts_at-first.ensures few, many)
+    let few : c.args.deck.now.posts ≤ 64 = posts_most c.args.deck.now _ c.all_posts.ensures (ap checked_as c.in_ok-all_posts.was) in
+    let many : c.args.deck.now.stops ≤ 512 = stops_most c.args.deck.now _ c.all_stops.ensures (ap checked_as c.in_ok-all_stops.was) in
+    omega (arith, line_few c.args.deck.now c.posts_at-first.ensures few, many)
 
-pub returns-in-Refused-count_line : goal.returns-in-Refused-count_line
-returns-in-Refused-count_line c =
-    let s : Sized c.args.deck = record { post_x = search rules; post_y = search rules; stop_x = search rules; stop_y = search rules; visits = search rules } in
-    let f : AreaFits c.args.deck = record { xlo = search rules; ylo = search rules; xhi = search rules; yhi = search rules } in
-    part_refused _ (left-stops s f c.area_line.ensures (ap checked_as c.in-Fine.is) c.axis_line.ensures (ap checked_as c.in-Fine-axis_line.is)
+pub returns-in_err-count_line : goal.returns-in_err-count_line
+returns-in_err-count_line c =
+    let s : Sized c.args.deck.now = record { post_x = search rules; post_y = search rules; stop_x = search rules; stop_y = search rules; visits = search rules } in
+    let f : AreaFits c.args.deck.now = record { xlo = search rules; ylo = search rules; xhi = search rules; yhi = search rules } in
+    passed_on _ c.from_residual-in_err-count_line.ensures.1
+    ∙ part_refused _ (left-stops s f c.area_line.ensures (ap checked_as c.in_ok-area_line.was) c.axis_line.ensures (ap checked_as c.in_ok-axis_line.was)
     c.posts_at-first.ensures
-    c.all_posts.ensures (ap checked_as c.in-Fine-all_posts.is) c.all_stops.ensures (ap checked_as c.in-Fine-all_stops.is)) c.count_line.ensures
-    (ap checked_as c.in-Refused-count_line.is)
+    c.all_posts.ensures (ap checked_as c.in_ok-all_posts.was) c.all_stops.ensures (ap checked_as c.in_ok-all_stops.was)) c.count_line.ensures
+    (ap checked_as c.in_err-count_line.was)
 
 pub returns : goal.returns
 returns c =
-    let s : Sized c.args.deck = record { post_x = search rules; post_y = search rules; stop_x = search rules; stop_y = search rules; visits = search rules } in
-    let f : AreaFits c.args.deck = record { xlo = search rules; ylo = search rules; xhi = search rules; yhi = search rules } in
-    parts_answer f (part_fine _ (left-stops s f c.area_line.ensures (ap checked_as c.in-Fine.is) c.axis_line.ensures (ap checked_as c.in-Fine-axis_line.is)
+    let s : Sized c.args.deck.now = record { post_x = search rules; post_y = search rules; stop_x = search rules; stop_y = search rules; visits = search rules } in
+    let f : AreaFits c.args.deck.now = record { xlo = search rules; ylo = search rules; xhi = search rules; yhi = search rules } in
+    parts_answer f (part_fine _ (left-stops s f c.area_line.ensures (ap checked_as c.in_ok-area_line.was) c.axis_line.ensures (ap checked_as c.in_ok-axis_line.was)
     c.posts_at-first.ensures
-    c.all_posts.ensures (ap checked_as c.in-Fine-all_posts.is) c.all_stops.ensures (ap checked_as c.in-Fine-all_stops.is)) c.count_line.ensures
-    (ap checked_as c.in-Fine-count_line.is))
+    c.all_posts.ensures (ap checked_as c.in_ok-all_posts.was) c.all_stops.ensures (ap checked_as c.in_ok-all_stops.was)) c.count_line.ensures
+    (ap checked_as c.in_ok-count_line.was))
     c.missing_part.ensures

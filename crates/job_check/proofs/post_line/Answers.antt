@@ -1,17 +1,11 @@
 -- What `job_check::post_line` owes.
-use mathlib.Core.Path.{sym, ◌∙◌}
-use Rattle.job_check.proofs.ShortLaws.{malformed, out_of_range, in_range_lem}
+use mathlib.Core.List.{[]}
+use borrow.Author.Rules.{rules}
+use Rattle.job_line.specs.Kinds.{in_ranges}
+use Rattle.job_check.proofs.ShortLaws.{line_tested, words_two}
 use Rattle.job_check.proofs.post_line.Goals as goal
-
-pub returns-then-not-short_place : goal.returns-then-not-short_place
-returns-then-not-short_place c = malformed _ _ _ (sym c.short_place.ensures ∙ c.if-not-short_place.true)
-
-pub returns-then-not-place_in_range : goal.returns-then-not-place_in_range
-returns-then-not-place_in_range c =
-    out_of_range _ _ _ (sym c.short_place.ensures ∙ c.if-not-short_place.false)
-    (sym c.place_in_range.ensures ∙ c.if-not-place_in_range.true)
 
 pub returns : goal.returns
 returns c =
-    in_range_lem _ _ _ (sym c.short_place.ensures ∙ c.if-not-short_place.false)
-    (sym c.place_in_range.ensures ∙ c.if-not-place_in_range.false)
+    line_tested _ _ _ c.check_numbers.ensures c.short_place.ensures
+    (words_two (in_ranges _) [] (search rules) (search rules) c.place_in_range.ensures)
