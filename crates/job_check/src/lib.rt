@@ -4,7 +4,7 @@
 ghost use Rattle.std.specs.Prelude.{◌≡◌, cond, [], ◌∷◌, map, ◌≤◌, pos, length, take};
 ghost use Rattle.deck.specs.DeckOf.{held_axis, places, stops_of};
 ghost use Rattle.job_line.specs.Kinds.{area, axis, posts, post, stops, stop, up_to, row};
-ghost use Rattle.job_line.specs.Reading.{area_numbers, cost_numbers};
+ghost use Rattle.job_line.specs.Reading.{area_numbers, cost_numbers, place_numbers, stop_numbers};
 ghost use Rattle.job.specs.Format.{area_of, read_text};
 ghost use Rattle.job.specs.Spelling.{count_line, post_line, stop_line};
 ghost use Rattle.job.specs.File.{writes_axis, file_text};
@@ -26,7 +26,7 @@ fn short(z: i64) -> bool
 }
 
 fn short_place(p: Place) -> bool
-    ensures { result ≡ all_short (p.x ∷ p.y ∷ []) }
+    ensures { result ≡ all_short (place_numbers p) }
 {
     short(p.x) && short(p.y)
 }
@@ -44,7 +44,7 @@ fn short_costs(c: AxisCosts) -> bool
 }
 
 fn short_stop(s: Stop) -> bool
-    ensures { result ≡ all_short (s.at.x ∷ s.at.y ∷ pos s.visits ∷ []) }
+    ensures { result ≡ all_short (stop_numbers s) }
 {
     short_place(s.at) && s.visits < FIRST_LONG
 }
@@ -85,26 +85,18 @@ fn count_line(n: u64, most: usize, line: u64) -> Result<(), Refusal>
 }
 
 fn post_line(p: Place, line: u64) -> Result<(), Refusal>
-    ensures { checked_as result ≡ numbers_fault (row post).ranges line (p.x ∷ p.y ∷ []) }
+    ensures { checked_as result ≡ numbers_fault (row post).ranges line (place_numbers p) }
 {
-    check_numbers(
-        short_place(p),
-        job_line::place_in_range(job_line::Place { x: p.x, y: p.y }),
-        line,
-    )
+    check_numbers(short_place(p), job_line::place_in_range(p), line)
 }
 
 fn stop_line(s: Stop, line: u64) -> Result<(), Refusal>
-    ensures { checked_as result ≡ numbers_fault (row stop).ranges line (s.at.x ∷ s.at.y ∷ pos s.visits ∷ []) }
+    ensures { checked_as result ≡ numbers_fault (row stop).ranges line (stop_numbers s) }
 {
     if !short_stop(s) {
         return Err(Refusal::Malformed(line));
     }
-    let p = job_line::Place {
-        x: s.at.x,
-        y: s.at.y,
-    };
-    check_numbers(true, job_line::stop_in_range(p, s.visits as i64), line)
+    check_numbers(true, job_line::stop_in_range(s.at, s.visits as i64), line)
 }
 
 // ---- many lines

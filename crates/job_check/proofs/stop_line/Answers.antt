@@ -1,11 +1,7 @@
 -- What `job_check::stop_line` owes.
 use mathlib.Core.Path.{sym, ◌∙◌}
-use mathlib.Core.List.{[], ◌∷◌}
 use native.Mathlib.Omega.{arith}
-use borrow.Author.Rules.{rules}
-use lib.IntN.{pos}
-use Rattle.job_line.specs.Kinds.{in_ranges}
-use Rattle.job_check.proofs.ShortLaws.{malformed, line_tested, few_visits, visits_tested, words_two}
+use Rattle.job_check.proofs.ShortLaws.{malformed, line_tested, few_visits, visits_tested}
 use Rattle.job_check.proofs.stop_line.Goals as goal
 
 pub returns-then-not-short_stop : goal.returns-then-not-short_stop
@@ -18,4 +14,4 @@ pub returns : goal.returns
 returns c =
     let few = few_visits _ _ _ c.short_stop.ensures c.if-not-short_stop.false in
     line_tested _ _ _ c.check_numbers.ensures (sym c.if-not-short_stop.false ∙ c.short_stop.ensures)
-    (words_two (in_ranges _) (pos c.args.s.visits ∷ []) (search rules) (search rules) (visits_tested _ _ _ few c.stop_in_range.ensures))
+    (visits_tested _ _ _ few c.stop_in_range.ensures)
