@@ -4,5 +4,5 @@ pub mod Entries
 pub mod Trims
 pub mod Numbers
 pub mod SpaceLaws
-pub mod Rotations
 pub mod Inserts
+pub mod LiveLaws

@@ -1,2 +1,4 @@
 pub mod SlotLaws
 pub mod NumberingLaws
+pub mod Rotations
+pub mod PlaceLaws

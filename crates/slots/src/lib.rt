@@ -1,13 +1,16 @@
 // The slots in which a search keeps its cells while it runs. A cell stands in a slot: five numbers in one array, the costs of its four
-// corners in another. A third array holds the numbers of the slots, each once.
+// corners in another. A third array holds the numbers of the slots, each once: it is the order in which the slots are read and written.
 #![tactic(auto)]
 
-ghost use Rattle.std.specs.Prelude.{◌≡◌, ◌+◌, ◌*◌, ◌<◌, length};
+ghost use Rattle.std.specs.Prelude.{◌≡◌, ◌+◌, ◌*◌, ◌≤◌, ◌<◌, length, replicate};
 ghost use Rattle.slots.specs.Slot.{cell_at, costs_at, CellPut, CostsPut, EntryPut};
-ghost use Rattle.slots.specs.Numbering.{Numbered, slot_numbers, cells_in, costs_in};
+ghost use Rattle.slots.specs.Numbering.{slot_numbers};
+ghost use Rattle.slots.specs.Places.{no_entry, at_place, Stored, Turned};
 
 use deck::Rect;
 use limits::{CELLS, CORNER_COSTS, SPACE};
+use std::array;
+use std::marker::Model;
 
 #[derive(Clone, Copy)]
 pub struct Cell {
@@ -24,35 +27,64 @@ pub struct Costs {
     pub c11: u64,
 }
 
+// A cell with the costs of its corners.
+#[derive(Clone, Copy)]
+pub struct Entry {
+    pub cell: Cell,
+    pub costs: Costs,
+}
+
+// The entries of all slots. A contract sees them as the list of the entries in the order of the slot numbers.
+// kept: a cell is five numbers of an array, since the cell space of a C caller has this layout and is written by the same put_cell.
+#[derive(Drop)]
+pub struct Slots {
+    cells: [i64; SPACE],
+    costs: [u64; CORNER_COSTS],
+    order: [u16; CELLS],
+}
+
+impl Model for Slots {
+    ghost use Rattle.std.specs.Prelude.{List};
+    ghost use Rattle.slots.specs.declared.Entry.{Entry};
+    ghost use Rattle.slots.specs.Numbering.{Numbered};
+    ghost use Rattle.slots.specs.Places.{entries_in};
+
+    ghost Value = { List Entry };
+
+    ghost view = { λ s. entries_in s.cells s.costs s.order };
+
+    ghost invariant = { λ s. Numbered s.order };
+}
+
 // The cell in a slot.
-pub(crate) fn get_cell(s: &[i64; SPACE], slot: usize) -> Cell
+fn get_cell(cells: &[i64; SPACE], slot: usize) -> Cell
     requires { slot < 1001 }
-    ensures { result ≡ cell_at s.now slot }
+    ensures { result ≡ cell_at cells.now slot }
 {
     let at = slot * 5;
     let rect = Rect {
-        xlo: s[at],
-        ylo: s[at + 1],
-        xhi: s[at + 2],
-        yhi: s[at + 3],
+        xlo: cells[at],
+        ylo: cells[at + 1],
+        xhi: cells[at + 2],
+        yhi: cells[at + 3],
     };
     Cell {
         rect,
-        bound: s[at + 4],
+        bound: cells[at + 4],
     }
 }
 
 // The costs of the corners of the cell in a slot.
-pub(crate) fn get_costs(t: &[u64; CORNER_COSTS], slot: usize) -> Costs
+fn get_costs(costs: &[u64; CORNER_COSTS], slot: usize) -> Costs
     requires { slot < 1001 }
-    ensures { result ≡ costs_at t.now slot }
+    ensures { result ≡ costs_at costs.now slot }
 {
     let at = slot * 4;
     Costs {
-        c00: t[at],
-        c01: t[at + 1],
-        c10: t[at + 2],
-        c11: t[at + 3],
+        c00: costs[at],
+        c01: costs[at + 1],
+        c10: costs[at + 2],
+        c11: costs[at + 3],
     }
 }
 
@@ -76,11 +108,11 @@ pub fn put_cell(numbers: &mut [i64], slot: usize, c: Cell)
 }
 
 // The costs of a cell's corners stored in a slot. The numbers are written through a slice, which tells how many they are.
-pub(crate) fn put_costs(t: &mut [u64; CORNER_COSTS], slot: usize, k: Costs)
+fn put_costs(costs: &mut [u64; CORNER_COSTS], slot: usize, k: Costs)
     requires { slot < 1001 }
-    ensures { CostsPut t.old slot k t.new }
+    ensures { CostsPut costs.old slot k costs.new }
 {
-    let numbers: &mut [u64] = t;
+    let numbers: &mut [u64] = costs;
     let at = slot * 4;
     numbers[at] = k.c00;
     numbers[at + 1] = k.c01;
@@ -89,39 +121,82 @@ pub(crate) fn put_costs(t: &mut [u64; CORNER_COSTS], slot: usize, k: Costs)
 }
 
 // A cell and the costs of its corners stored in a slot.
-pub fn put_entry(s: &mut [i64; SPACE], t: &mut [u64; CORNER_COSTS], slot: usize, c: Cell, k: Costs)
+pub fn put_entry(
+    cells: &mut [i64; SPACE],
+    costs: &mut [u64; CORNER_COSTS],
+    slot: usize,
+    entry: Entry,
+)
     requires { slot < 1001 }
-    ensures { EntryPut s.old t.old slot (record { cell = c; costs = k }) s.new t.new }
+    ensures { EntryPut cells.old costs.old slot entry cells.new costs.new }
 {
-    let numbers: &mut [i64] = s;
-    put_cell(numbers, slot, c);
-    put_costs(t, slot, k);
+    let numbers: &mut [i64] = cells;
+    put_cell(numbers, slot, entry.cell);
+    put_costs(costs, slot, entry.costs);
 }
 
-// The number of each slot at its own place.
-pub fn number(o: &mut [u16; CELLS])
-    ensures { o.new ≡ slot_numbers }
+// The number of each slot at its own place. Not inlined, so that its array is gone from the stack when a search runs.
+#[inline(never)]
+pub fn numbers() -> [u16; CELLS]
+    ensures { result ≡ slot_numbers }
 {
-    let numbers: &mut [u16] = o;
-    let mut i = 0;
-    while i < CELLS {
-        numbers[i] = i as u16;
-        i += 1;
+    array::from_fn(|i| i as u16)
+}
+
+impl Slots {
+    // Slots of zeros. Not inlined, so that what it is made of is gone from the stack when a search runs.
+    #[inline(never)]
+    pub fn new() -> Self
+        ensures { result ≡ replicate 1001 no_entry }
+    {
+        Slots {
+            cells: [0; SPACE],
+            costs: [0; CORNER_COSTS],
+            order: numbers(),
+        }
     }
-}
 
-// The cell at a place of the order.
-pub fn cell_at<'a>(s: &'a [i64; SPACE], o: &'a [u16; CELLS], i: usize) -> Cell
-    requires { Numbered o.now × (i < 1001) }
-    ensures { result ≡ cell_at (cells_in s.now o.now) i }
-{
-    get_cell(s, o[i] as usize)
-}
+    // The cell at a place of the order.
+    pub fn cell_at(&self, place: usize) -> Cell
+        requires { place < 1001 }
+        ensures { result ≡ (at_place self.now place).cell }
+    {
+        get_cell(&self.cells, self.order[place] as usize)
+    }
 
-// The costs of its corners.
-pub fn costs_at<'a>(t: &'a [u64; CORNER_COSTS], o: &'a [u16; CELLS], i: usize) -> Costs
-    requires { Numbered o.now × (i < 1001) }
-    ensures { result ≡ costs_at (costs_in t.now o.now) i }
-{
-    get_costs(t, o[i] as usize)
+    // The costs of its corners.
+    pub fn costs_at(&self, place: usize) -> Costs
+        requires { place < 1001 }
+        ensures { result ≡ (at_place self.now place).costs }
+    {
+        get_costs(&self.costs, self.order[place] as usize)
+    }
+
+    // The entry at a place of the order.
+    pub fn get(&self, place: usize) -> Entry
+        requires { place < 1001 }
+        ensures { result ≡ at_place self.now place }
+    {
+        Entry {
+            cell: self.cell_at(place),
+            costs: self.costs_at(place),
+        }
+    }
+
+    // An entry stored at a place of the order.
+    pub fn store(&mut self, place: usize, entry: Entry)
+        requires { place < 1001 }
+        ensures { Stored self.old place entry self.new }
+    {
+        let slot = self.order[place] as usize;
+        put_entry(&mut self.cells, &mut self.costs, slot, entry);
+    }
+
+    // The entries from head up to a place, each one place to the left, and the one that was before head behind them.
+    pub fn rotate(&mut self, head: usize, to: usize)
+        requires { (1 ≤ head) × (head ≤ to) × (to ≤ 1001) }
+        ensures { Turned self.old head to self.new }
+    {
+        self.order[head - 1..to].rotate_left(1);
+    }
 }
