@@ -1,18 +1,21 @@
 -- A cut cell as the code makes its parts: the rectangles, new corners and corner costs are those of document 01, and stay in range.
 -- Assumes nothing.
-use mathlib.Core.Path.{◌≡◌, refl, ◌∙◌}
+use mathlib.Core.Path.{◌≡◌, refl, ap, ◌∙◌}
 use mathlib.Core.Bool.{Bool, true, false}
 use Prim.Native.Nat.{◌≤◌}
 use native.Mathlib.Omega.{arith}
 use lib.Dec.{T}
 use lib.IntN.{ℤ, nat_abs}
 use lib.Signed.{◌<ℤ◌}
+use Rattle.numbers.proofs.WordTests.{back}
+use Rattle.prepare.proofs.Coordinates.{near_back}
+use Rattle.problem.proofs.Coordinates.{spot_back}
 use Rattle.numbers.proofs.Truth.{holds}
 use Rattle.numbers.proofs.Integer.{order, abs_range}
-use Rattle.query.specs.Place.{Rect, Axis, x_axis, y_axis, low_edge, high_edge}
+use Rattle.query.specs.Place.{Place, Rect, corner, Axis, x_axis, y_axis, low_edge, high_edge}
 use Rattle.query.specs.Grid.{Grid}
 use Rattle.query.specs.Cut.{can_cut, cut_line, cut_before, cut_after, low_corner, high_corner}
-use Rattle.query.specs.Range.{RectInRange}
+use Rattle.query.specs.Range.{PlaceInRange, RectInRange}
 use Rattle.query.proofs.CutLaws.{cut_law}
 use Rattle.deck.specs.Objects.{Pricing}
 use Rattle.reach.specs.Columns.{Ranged}
@@ -20,12 +23,12 @@ use Rattle.pricing.specs.ObjectFigures.{cost_of}
 use Rattle.cuts.specs.CutRecord.{axis_of, is_x, cut_at, cut_record}
 use Rattle.cuts.specs.declared.Cut.{Cut}
 use Rattle.cuts.proofs.CutRecordLaws.{cut_record_cut}
-use Rattle.slots.specs.declared.Cell.{Cell}
+use Rattle.slots.specs.declared.Entry.{Entry}
 use Rattle.slots.specs.declared.Costs.{Costs}
 use Rattle.problem.specs.declared.Spot.{Spot}
 use Rattle.problem.specs.ObjectProblem.{spot_of}
 use Rattle.search.specs.declared.halves.Halves.{Halves}
-use Rattle.search.specs.Corners.{corner_costs, cell_for}
+use Rattle.search.specs.Corners.{corner_costs, entry_for}
 use Rattle.search.specs.CutCell.{first_costs_of, second_costs_of, halves_of}
 
 -- ---- by axis
@@ -97,6 +100,16 @@ module _ (G : Grid) (r : Rect) (can : T (can_cut G r)) (cut : Cut) (e : cut ≡ 
         rw (cut_is, axis_is (cut_line G r).axis) (parts_range (cut_line G r).axis (cut_line G r).at r h at_line i.above i.below)
 
 -- ---- the parts as the code makes them
+-- the new corners are corners of the parts
+low_is_corner : (axis : Axis) (v : ℤ) (r : Rect) → corner (cut_after axis v r) ≡ low_corner axis v r
+low_is_corner x_axis v r = refl
+low_is_corner y_axis v r = refl
+
+high_is_corner : (axis : Axis) (v : ℤ) (r : Rect)
+    → ◌≡◌ {A = Place} (record { x = (cut_before axis v r).xhi; y = (cut_before axis v r).yhi }) (high_corner axis v r)
+high_is_corner x_axis v r = refl
+high_is_corner y_axis v r = refl
+
 module _ (P : Pricing) (r : Rect) (k : Costs) (costs : k ≡ corner_costs P r) (cut : Cut) (low high : Spot)
     (low_is : low ≡ spot_of P (low_corner (axis_of cut.across) cut.at r)) (high_is : high ≡ spot_of P (high_corner (axis_of cut.across) cut.at r)) where
   pub first_costs_is : (l : Costs) → l ≡ first_costs_of cut.across k low.cost high.cost → l ≡ corner_costs P (cut_before (axis_of cut.across) cut.at r)
@@ -105,17 +118,28 @@ module _ (P : Pricing) (r : Rect) (k : Costs) (costs : k ≡ corner_costs P r) (
   pub second_costs_is : (l : Costs) → l ≡ second_costs_of cut.across k low.cost high.cost → l ≡ corner_costs P (cut_after (axis_of cut.across) cut.at r)
   second_costs_is l e = (rw (costs, low_is, high_is) at e) ∙ second_costs_are P cut.across cut.at r
 
-pub halves_are : (P : Pricing) (r : Rect) (cut : Cut) (low high : Spot) (first second : Cell) (fk sk : Costs)
-    → low ≡ spot_of P (low_corner (axis_of cut.across) cut.at r) → high ≡ spot_of P (high_corner (axis_of cut.across) cut.at r)
-    → first ≡ cell_for P (cut_before (axis_of cut.across) cut.at r) → fk ≡ corner_costs P (cut_before (axis_of cut.across) cut.at r)
-    → second ≡ cell_for P (cut_after (axis_of cut.across) cut.at r) → sk ≡ corner_costs P (cut_after (axis_of cut.across) cut.at r)
-    → ◌≡◌ {A = Halves} (record { low = low; high = high; first = first; first_costs = fk; second = second; second_costs = sk }) (halves_of P cut r)
-unfolding halves_of
-halves_are P r cut low high first second fk sk a b c d e f = λ i. record {
-  low = a i;
-  high = b i;
-  first = c i;
-  first_costs = d i;
-  second = e i;
-  second_costs = f i;
-}
+  pub halves_are : (first second : Entry) → first ≡ entry_for P (cut_before (axis_of cut.across) cut.at r)
+      → second ≡ entry_for P (cut_after (axis_of cut.across) cut.at r)
+      → ◌≡◌ {A = Halves} (record { low = low; high = high; first = first; second = second }) (halves_of P cut r)
+  unfolding halves_of
+  halves_are first second a b = λ i. record { low = low_is i; high = high_is i; first = a i; second = b i }
+
+-- a corner of a part, priced, is a new corner of the cut
+module _ (P : Pricing) (r : Rect) (cut : Cut) (part : Rect) where
+  pub new_low : part ≡ cut_after (axis_of cut.across) cut.at r → RectInRange part → (spot : Spot)
+      → spot ≡ spot_of P (record { x = back part.xlo; y = back part.ylo }) → spot ≡ spot_of P (low_corner (axis_of cut.across) cut.at r)
+  new_low e h spot q =
+      spot_back P part.xlo part.ylo spot h.low_corner_law.x_range h.low_corner_law.y_range q
+      ∙ ap (λ (p : Rect). spot_of P (corner p)) e
+      ∙ ap (spot_of P) (low_is_corner (axis_of cut.across) cut.at r)
+
+  pub new_high : part ≡ cut_before (axis_of cut.across) cut.at r → RectInRange part → (spot : Spot)
+      → spot ≡ spot_of P (record { x = back part.xhi; y = back part.yhi }) → spot ≡ spot_of P (high_corner (axis_of cut.across) cut.at r)
+  new_high e h spot q =
+      spot_back P part.xhi part.yhi spot h.high_corner_law.x_range h.high_corner_law.y_range q
+      ∙ ap (λ (p : Rect). spot_of P (record { x = p.xhi; y = p.yhi })) e
+      ∙ ap (spot_of P) (high_is_corner (axis_of cut.across) cut.at r)
+
+-- a place of numbers that were read back is in range
+pub back_in_range : (x y : ℤ) → nat_abs x ≤ 20000 → nat_abs y ≤ 20000 → PlaceInRange (record { x = back x; y = back y })
+back_in_range x y h g = rw (near_back x h, near_back y g) (record { x_range = h; y_range = g })

@@ -1,11 +1,10 @@
 -- A deck's search as the code prepares it: what its runs keep in range, and its answer.
 -- Assumes nothing.
 use mathlib.Core.Path.{◌≡◌, sym, ap, subst, ◌∙◌}
-use mathlib.Core.List.{List, []}
-use Prim.Native.Nat.{ℕ, ◌-◌}
-use native.Mathlib.Omega.{arith}
+use mathlib.Core.List.{List, map}
+use Prim.Native.Nat.{ℕ}
 use lib.IntN.{ℤ, pos}
-use lib.ListN.{length, take, drop}
+use lib.ListN.{length}
 use Rattle.numbers.specs.Padded.{padded}
 use Rattle.query.specs.Place.{NonEmpty}
 use Rattle.query.specs.Deck.{Deck}
@@ -23,13 +22,13 @@ use Rattle.deck.specs.Objects.{Pricing}
 use Rattle.deck.specs.declared.Rect.{Rect}
 use Rattle.problem.specs.Prepared.{problem_of, Prepared}
 use Rattle.problem.proofs.DeckProblem.{prepared_problem}
-use Rattle.slots.specs.Numbering.{Numbered, cells_in}
-use Rattle.cells.proofs.Numbers.{order_numbers}
+use Rattle.slots.specs.Slot.{entry_cell}
+use Rattle.cells.specs.Live.{Live}
 use Rattle.search.specs.declared.run.Running.{Running}
 use Rattle.search.specs.declared.run.Found.{Found}
 use Rattle.search.specs.Running.{search_of, Holds, Steady}
 use Rattle.search.specs.Answer.{found_of, Searched}
-use Rattle.search.proofs.RunLaws.{cells_are, holds_any}
+use Rattle.search.proofs.RunLaws.{cells_are}
 
 -- ---- what the runs keep in range
 deck_steady : (deck : Deck) → InRange deck → NonEmpty deck.area → Steady (problem deck)
@@ -46,14 +45,10 @@ pub steady : {columns : List ℤ} {n : ℕ} {v h : List ℤ} {area : Rect} → P
 steady p = subst Steady (sym (prepared_problem p)) (deck_steady p.deck p.range p.full)
 
 -- ---- a search
-pub searched : (P : Pricing) (Q : Problem) (rounds : ℕ) (s : List ℤ) (o t : List ℕ) (st : Running) → Numbered o
-    → Holds P (run Q rounds) 0 (cells_in s o) t st → (before after : List ℤ) (r : Found) → r ≡ found_of (search_of (cells_in s o) [] st)
-    → after ≡ padded (length before) (pos 0) (cells_in s (take (st.tail - st.head) (drop st.head o))) → Searched Q rounds before after r
-searched P Q rounds s o t st numbered holds before after r found written = record {
-  found = found ∙ ap found_of (holds_any Q P rounds 0 (cells_in s o) t st holds);
-  cells =
-      written
-      ∙ ap (padded (length before) (pos 0))
-      (sym (order_numbers s o t st.head (st.tail - st.head) (omega (arith, numbered.long, holds.in_turn, holds.ends))))
-      ∙ ap (λ (l : List Order.Cell). padded (length before) (pos 0) (all_numbers l)) (cells_are Q P rounds 0 (cells_in s o) t st holds);
+pub searched : (P : Pricing) (Q : Problem) (rounds : ℕ) (l : Live) (st : Running) → Holds P (run Q rounds) 0 l st
+    → (before after : List ℤ) (r : Found) → r ≡ found_of (search_of l.entries st)
+    → after ≡ padded (length before) (pos 0) (all_numbers (map entry_cell l.entries)) → Searched Q rounds before after r
+searched P Q rounds l st holds before after r found written = record {
+  found = found ∙ ap found_of holds.is;
+  cells = written ∙ ap (λ (cs : List Order.Cell). padded (length before) (pos 0) (all_numbers cs)) (cells_are Q P rounds 0 l st holds);
 }

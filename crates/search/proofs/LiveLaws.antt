@@ -4,10 +4,9 @@ use mathlib.Core.Path.{◌≡◌, refl, sym, ap, ◌∙◌}
 use mathlib.Core.Bool.{Bool, true, false, cond, not, ◌&&◌}
 use mathlib.Core.Logic.{◌⊎◌, inr, ⊎_elim}
 use mathlib.Core.List.{List, [], ◌∷◌, map, Memᴰ, Pairwise}
-use Prim.Native.Nat.{ℕ, ◌+◌, ◌-◌, ◌≤◌}
+use Prim.Native.Nat.{◌-◌}
 use native.Mathlib.Omega.{arith}
 use lib.Dec.{T}
-use lib.IntN.{ℤ}
 use Rattle.numbers.specs.Lists.{keep, insert_by}
 use Rattle.numbers.proofs.Truth.{test, holds, fails}
 use Rattle.numbers.proofs.Members.{insert_by_sorted, insert_by_cases}
@@ -21,28 +20,27 @@ use Rattle.query.proofs.Best.{best_of_nil, best_of_cons}
 use Rattle.query.proofs.KeyOrder.{cell_before_strict}
 use Rattle.deck.specs.Objects.{Pricing}
 use Rattle.problem.specs.declared.Spot.{Spot}
-use Rattle.slots.specs.Slot.{Entry, entry_cell}
-use Rattle.cells.specs.Entries.{entries, entry_before}
-use Rattle.cells.specs.Steps.{EntriesInOrder}
+use Rattle.slots.specs.declared.Entry.{Entry}
+use Rattle.slots.specs.Slot.{entry_cell}
+use Rattle.cells.specs.Entries.{entry_before}
+use Rattle.cells.specs.Live.{Live, with_entry}
 use Rattle.search.specs.Corners.{corner_costs, improved, best_corner}
 use Rattle.search.specs.LiveEntries.{with_live, Added}
 use Rattle.problem.specs.ObjectProblem.{object_rules, object_problem, priced_of, spot_of}
-use Rattle.cells.proofs.SpaceLaws.{keep_insert_in, keep_insert_out, keep_agree, cells_insert, insert_in_order}
+use Rattle.cells.proofs.SpaceLaws.{keep_insert_in, keep_insert_out, keep_agree, cells_insert}
 
 -- ---- one more entry, if it is live
-module _ (G : Grid) (best : Priced) (e : Entry) (head tail : ℕ) (s : List ℤ) (t : List ℕ) where
-  pub added_none : (r : Bool) → r ≡ is_live G best (entry_cell e) → r ≡ false → Added G best e head tail s t s t head
+module _ (G : Grid) (best : Priced) (e : Entry) (l : Live) where
+  pub added_none : (r : Bool) → r ≡ is_live G best (entry_cell e) → r ≡ false → Added G best e l l
   unfolding with_live
-  added_none r f g = let dead : is_live G best (entry_cell e) ≡ false = sym f ∙ g in record { down = omega arith; by_one = omega arith; entries_are = rw dead }
+  added_none r f g = let dead : is_live G best (entry_cell e) ≡ false = sym f ∙ g in record { by_one = omega arith; entries_are = rw dead }
 
-  pub added_one : (s' : List ℤ) (t' : List ℕ) (r : Bool) → r ≡ is_live G best (entry_cell e) → r ≡ true → 1 ≤ head → head ≤ tail
-      → entries s' t' (head - 1) (tail - head + 1) ≡ insert_by entry_before e (entries s t head (tail - head))
-      → Added G best e head tail s t s' t' (head - 1)
-  unfolding with_live
-  added_one s' t' r f g h k q =
+  pub added_one : (r : Bool) → r ≡ is_live G best (entry_cell e) → r ≡ true → (l' : Live) → l' ≡ with_entry e l → Added G best e l l'
+  unfolding with_live with_entry
+  added_one r f g l' q =
       let live : is_live G best (entry_cell e) ≡ true = sym f ∙ g in
-      let count : tail - (head - 1) ≡ tail - head + 1 = omega arith in
-      record { down = omega arith; by_one = omega arith; entries_are = rw (live, count) q }
+      let free : l'.free ≡ l.free - 1 = ap (λ (x : Live). x.free) q in
+      record { by_one = omega arith; entries_are = ap (λ (x : Live). x.entries) q ∙ sym (rw live) }
 
 and_right : (b : Bool) → b ≡ b && true
 and_right true = refl
@@ -101,14 +99,6 @@ module _ (G : Grid) (best : Priced) where
       keep_agree (λ c. precedes (cell_key c) (priced_key best)) (is_live G best) cs
       (λ c m. live_precedes G best c (holds (can_cut G c.rect) (h c m)) (precedes (cell_key c) (priced_key best)) refl)
 
-  with_in_order : (e : Entry) (es : List Entry) → EntriesInOrder es → EntriesInOrder (with_live G best e es)
-  unfolding with_live
-  with_in_order e es order = go (is_live G best (entry_cell e))
-    where
-      go : (b : Bool) → EntriesInOrder (cond b (insert_by entry_before e es) es)
-      go true = insert_in_order e es order
-      go false = order
-
   pub with_cases : (e : Entry) (es : List Entry) {f : Entry} → Memᴰ f (with_live G best e es) → (f ≡ e) ⊎ Memᴰ f es
   unfolding with_live
   with_cases e es {f} = go (is_live G best (entry_cell e))
@@ -116,11 +106,6 @@ module _ (G : Grid) (best : Priced) where
       go : (b : Bool) → Memᴰ f (cond b (insert_by entry_before e es) es) → (f ≡ e) ⊎ Memᴰ f es
       go true m = insert_by_cases entry_before e es m
       go false m = inr m
-
--- entries in order are so with one more
-pub added_in_order : (G : Grid) (best : Priced) (e : Entry) (head tail : ℕ) (s s' : List ℤ) (t t' : List ℕ) (r : ℕ)
-    → Added G best e head tail s t s' t' r → EntriesInOrder (entries s t head (tail - head)) → EntriesInOrder (entries s' t' r (tail - r))
-added_in_order G best e head tail s s' t t' r added order = rw added.entries_are (with_in_order G best e (entries s t head (tail - head)) order)
 
 pub single : (G : Grid) (best : Priced) (x : Query.Cell) → with_cell G best x [] ≡ keep (is_live G best) (x ∷ [])
 unfolding with_cell keep insert_by

@@ -1,6 +1,6 @@
 -- Places, cells and their figures as the steps of the search compute them in signed 64-bit words.
 -- Assumes nothing.
-use mathlib.Core.Path.{◌≡◌, refl, sym, ◌∙◌}
+use mathlib.Core.Path.{◌≡◌, sym, ◌∙◌}
 use mathlib.Core.Bool.{Bool, true, false, cond}
 use mathlib.Core.List.{List}
 use Prim.Native.Nat.{ℕ, ◌+◌, ◌*◌, ◌^◌, ◌≤◌, ◌<◌, max}
@@ -10,9 +10,8 @@ use Rattle.numbers.specs.Integer.{half_up}
 use Rattle.numbers.proofs.WordTests.{back, fitting}
 use Rattle.query.specs.Place.{Rect}
 use Rattle.query.specs.Bound.{span}
-use Rattle.query.specs.Cut.{low_corner, high_corner}
 use Rattle.query.specs.Range.{RectInRange, cost_limit, load_limit, travel_limit}
-use Rattle.query.specs.Order.{precedes, better}
+use Rattle.query.specs.Order.{Key, precedes, priced_key, better}
 use Rattle.deck.specs.declared.Rect as Deck
 use Rattle.deck.specs.Rectangle.{rect_of}
 use Rattle.deck.specs.Objects.{Pricing}
@@ -20,29 +19,18 @@ use Rattle.deck.specs.ObjectColumns.{pricing_in}
 use Rattle.reach.specs.Columns.{Priceable}
 use Rattle.pricing.specs.ObjectFigures.{load_of, BoundInRange}
 use Rattle.pricing.proofs.TurnLaws.{cost_most}
-use Rattle.cuts.specs.declared.Cut.{Cut}
-use Rattle.slots.specs.declared.Cell.{Cell}
+use Rattle.slots.specs.declared.Entry.{Entry}
 use Rattle.slots.specs.declared.Costs.{Costs}
-use Rattle.cells.specs.Entries.{key_of}
-use Rattle.cells.proofs.Keys.{KeyFits, key_back}
 use Rattle.prepare.proofs.Coordinates.{near_back}
 use Rattle.problem.specs.declared.Spot.{Spot}
 use Rattle.problem.specs.ObjectProblem.{priced_of, spot_of, rect_in, bound_of, spot_at}
-use Rattle.problem.proofs.Coordinates.{spot_back}
-use Rattle.search.specs.Corners.{corner_costs, cell_for, CostsInRange, improved, best_corner}
-use Rattle.cuts.specs.CutRecord.{axis_of}
-use Rattle.search.specs.CutCell.{CutInRange}
+use Rattle.search.specs.Corners.{corner_costs, entry_for, CostsInRange, improved, best_corner}
 
 -- ---- the better of two
-better_is : (p best : Spot)
-    → better (priced_of p) (priced_of best) ≡ precedes (key_of (pos p.cost) p.x p.y) (key_of (pos best.cost) best.x best.y)
+pub spot_better : (p best : Spot) (r : Bool) (k l : Key) → k ≡ priced_key (priced_of p) → l ≡ priced_key (priced_of best)
+    → r ≡ precedes k l → r ≡ better (priced_of p) (priced_of best)
 unfolding better
-better_is p best = refl
-
-pub spot_better : (p best : Spot) (r : Bool) → KeyFits (pos p.cost) p.x p.y → KeyFits (pos best.cost) best.x best.y
-    → r ≡ precedes (key_of (back (pos p.cost)) (back p.x) (back p.y)) (key_of (back (pos best.cost)) (back best.x) (back best.y))
-    → r ≡ better (priced_of p) (priced_of best)
-spot_better p best r g h e = rw (better_is p best) (rw (key_back (pos p.cost) p.x p.y g, key_back (pos best.cost) best.x best.y h) at e)
+spot_better p best r k l f g e = e ∙ (λ i. precedes (f i) (g i))
 
 pub improve_taken : (best p : Spot) (r : Bool) → r ≡ better (priced_of p) (priced_of best) → r ≡ true → p ≡ improved best p
 unfolding improved
@@ -79,27 +67,9 @@ pub bound_is : (P : Pricing) (r : Rect) (k : Costs) (s l : ℕ) (b : ℤ) → k 
 unfolding bound_of
 bound_is P r k s l b costs e f g = rw (costs, e, f) at g
 
-pub cell_back : (P : Pricing) (r : Deck.Rect) (b : ℤ) → mag b < 2 ^ 63 → b ≡ bound_of P (rect_of r)
-    → ◌≡◌ {A = Cell} (record { rect = r; bound = back b }) (cell_for P (rect_of r))
-cell_back P r b f e = λ i. record { rect = r; bound = (fitting b f ∙ e) i }
-
--- ---- the new corners
-module _ (P : Pricing) (q : Rect) (cut : Cut) (r : Spot) (h : CutInRange q cut) where
-  pub low_across : cut.across ≡ true → r ≡ spot_of P (record { x = back cut.at; y = back q.ylo })
-      → r ≡ spot_of P (low_corner (axis_of cut.across) cut.at q)
-  low_across t e = rw t (spot_back P cut.at q.ylo r h.at_range h.ranged.low_corner_law.y_range e)
-
-  pub low_deep : cut.across ≡ false → r ≡ spot_of P (record { x = back q.xlo; y = back cut.at })
-      → r ≡ spot_of P (low_corner (axis_of cut.across) cut.at q)
-  low_deep t e = rw t (spot_back P q.xlo cut.at r h.ranged.low_corner_law.x_range h.at_range e)
-
-  pub high_across : cut.across ≡ true → r ≡ spot_of P (record { x = back cut.at; y = back q.yhi })
-      → r ≡ spot_of P (high_corner (axis_of cut.across) cut.at q)
-  high_across t e = rw t (spot_back P cut.at q.yhi r h.at_range h.ranged.high_corner_law.y_range e)
-
-  pub high_deep : cut.across ≡ false → r ≡ spot_of P (record { x = back q.xhi; y = back cut.at })
-      → r ≡ spot_of P (high_corner (axis_of cut.across) cut.at q)
-  high_deep t e = rw t (spot_back P q.xhi cut.at r h.ranged.high_corner_law.x_range h.at_range e)
+pub entry_back : (P : Pricing) (r : Deck.Rect) (b : ℤ) → mag b < 2 ^ 63 → b ≡ bound_of P (rect_of r)
+    → (k : Costs) → k ≡ corner_costs P (rect_of r) → ◌≡◌ {A = Entry} (record { cell = record { rect = r; bound = back b }; costs = k }) (entry_for P (rect_of r))
+entry_back P r b f e k costs = λ i. record { cell = record { rect = r; bound = (fitting b f ∙ e) i }; costs = costs i }
 
 -- ---- the corners of a cell
 pub cost_of_lem : (r : Spot) (x y : ℤ) {cost k : ℕ} → r ≡ spot_at x y cost → cost ≤ k → r.cost ≤ k
@@ -139,5 +109,5 @@ best_limit r k best h e =
     let up-to-two = improved_limit one (spot_at r.xhi r.ylo k.c10) cost_limit up-to-one h.corner_10 in
     rw e (improved_limit two (spot_at r.xhi r.yhi k.c11) cost_limit up-to-two h.corner_11)
 
-pub cell_range : (P : Pricing) (r : Rect) (c : Cell) → c ≡ cell_for P r → RectInRange r → RectInRange (rect_in c)
-cell_range P r c e h = rw e h
+pub entry_range : (P : Pricing) (r : Rect) (e : Entry) → e ≡ entry_for P r → RectInRange r → RectInRange (rect_in e.cell)
+entry_range P r e q h = rw q h

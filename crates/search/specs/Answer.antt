@@ -1,6 +1,6 @@
 -- What a search answers at its end, and the room that it asks for.
 -- Assumes nothing.
-use Rattle.std.specs.Prelude.{ℕ, ◌-◌, ◌≤◌, ◌≡◌, Bool, true, false, List, [], ◌∷◌, ℤ, pos, length}
+use Rattle.std.specs.Prelude.{ℕ, ◌≤◌, ◌≡◌, Bool, true, false, List, [], ◌∷◌, ℤ, pos, length}
 use Rattle.numbers.specs.Padded.{padded}
 use Rattle.query.specs.Problem.{Problem}
 use Rattle.query.specs.Order as Query
@@ -10,15 +10,13 @@ use Rattle.query.specs.Space.{all_numbers}
 use Rattle.query.specs.Range.{cost_limit, rounds_limit}
 use Rattle.search.specs.declared.run.Running.{Running}
 use Rattle.search.specs.declared.run.Found.{Found}
-use Rattle.cells.specs.Entries.{entries}
+use Rattle.cells.specs.Live.{Live}
 use Rattle.cells.specs.Steps.{EntriesInOrder}
 
--- a state whose cells are in order
-pub record Answerable (s : List ℤ) (st : Running) : Type 0 where
-  pub in_turn : st.head ≤ st.tail
-  pub ends : st.tail ≤ 1001
+-- live entries in order, and a best cost in range
+pub record Answerable (l : Live) (st : Running) : Type 0 where
   pub cost_limit_lem : st.best.cost ≤ cost_limit
-  pub in_order : EntriesInOrder (entries s [] st.head (st.tail - st.head))
+  pub in_order : EntriesInOrder l.entries
 
 abbrev pub is_done : List Query.Cell → Bool
 is_done [] = true

@@ -9,6 +9,7 @@ use Rattle.deck.specs.Rectangle.{rect_record}
 use Rattle.pricing.specs.ObjectFigures.{cost_of}
 use Rattle.slots.specs.declared.Cell.{Cell}
 use Rattle.slots.specs.declared.Costs.{Costs}
+use Rattle.slots.specs.declared.Entry.{Entry}
 use Rattle.problem.specs.ObjectProblem.{bound_of, priced_of, spot_at}
 use Rattle.problem.specs.declared.Spot.{Spot}
 
@@ -23,6 +24,9 @@ corner_costs P r = record {
 
 abbrev pub cell_for : Pricing → Rect → Cell
 cell_for P r = record { rect = rect_record r; bound = bound_of P r }
+
+abbrev pub entry_for : Pricing → Rect → Entry
+entry_for P r = record { cell = cell_for P r; costs = corner_costs P r }
 
 -- the better of two
 unfoldable pub improved : Spot → Spot → Spot

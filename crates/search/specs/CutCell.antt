@@ -1,10 +1,9 @@
 -- What a cut makes of a cell, as the code has it.
 -- Assumes nothing.
-use Rattle.std.specs.Prelude.{ℕ, ◌≤◌, ◌≡◌, Bool, true, false, T, nat_abs}
-use Rattle.query.specs.Place.{Rect}
+use Rattle.std.specs.Prelude.{ℕ, ◌≡◌, Bool, true, false, T, ℤ}
+use Rattle.query.specs.Place.{Rect, Axis}
 use Rattle.query.specs.Grid.{Grid}
 use Rattle.query.specs.Cut.{can_cut, cut_before, cut_after, low_corner, high_corner}
-use Rattle.query.specs.Range.{RectInRange, coordinate_limit}
 use Rattle.deck.specs.Objects.{Pricing}
 use Rattle.pricing.specs.ObjectFigures.{cost_of}
 use Rattle.cuts.specs.declared.Cut.{Cut}
@@ -13,7 +12,9 @@ use Rattle.slots.specs.declared.Costs.{Costs}
 use Rattle.reach.specs.Columns.{Ranged}
 use Rattle.problem.specs.ObjectProblem.{bound_of, spot_of}
 use Rattle.search.specs.declared.halves.Halves.{Halves}
-use Rattle.search.specs.Corners.{corner_costs, cell_for}
+use Rattle.search.specs.Corners.{corner_costs, entry_for}
+use Rattle.search.specs.declared.halves.Part.{Part}
+use Rattle.search.specs.declared.halves.Part.TheVariants.{Before, Behind}
 
 -- the costs of the corners of its parts, from those of the cell and of the new corners
 abbrev pub first_costs_of : Bool → Costs → ℕ → ℕ → Costs
@@ -24,6 +25,16 @@ abbrev pub second_costs_of : Bool → Costs → ℕ → ℕ → Costs
 second_costs_of true k low high = record { c00 = low; c01 = high; c10 = k.c10; c11 = k.c11 }
 second_costs_of false k low high = record { c00 = low; c01 = k.c01; c10 = high; c11 = k.c11 }
 
+-- of the part before a cut, and of the one behind it
+abbrev pub part_costs : Part → Bool → Costs → ℕ → ℕ → Costs
+part_costs Before = first_costs_of
+part_costs Behind = second_costs_of
+
+-- the part of a cell before a cut, and the one behind it
+abbrev pub cut_part : Part → Axis → ℤ → Rect → Rect
+cut_part Before = cut_before
+cut_part Behind = cut_after
+
 -- what a cut makes of a cell
 unfoldable pub halves_of : Pricing → Cut → Rect → Halves
 unfolding cost_of bound_of
@@ -32,10 +43,8 @@ halves_of P cut r =
     record {
       low = spot_of P (low_corner axis cut.at r);
       high = spot_of P (high_corner axis cut.at r);
-      first = cell_for P (cut_before axis cut.at r);
-      first_costs = corner_costs P (cut_before axis cut.at r);
-      second = cell_for P (cut_after axis cut.at r);
-      second_costs = corner_costs P (cut_after axis cut.at r);
+      first = entry_for P (cut_before axis cut.at r);
+      second = entry_for P (cut_after axis cut.at r);
     }
 
 -- a rectangle that is cut, and its corners' costs
@@ -43,8 +52,3 @@ pub record Cutting (P : Pricing) (G : Grid) (r : Rect) (k : Costs) : Type 0 wher
   pub ranged : Ranged r
   pub can_cut_lem : T (can_cut G r)
   pub costs : k ≡ corner_costs P r
-
--- a rectangle whose edges and cut line are in range
-pub record CutInRange (r : Rect) (cut : Cut) : Type 0 where
-  pub ranged : RectInRange r
-  pub at_range : nat_abs cut.at ≤ coordinate_limit

@@ -1,7 +1,7 @@
--- A search while the code runs it: the search of document 01 that its state holds, and what a round asks.
+-- A search while the code runs it: the search of document 01 that its live entries and its state hold, and what a round asks.
 -- Assumes nothing.
-use Rattle.std.specs.Prelude.{ℕ, ◌-◌, ◌≤◌, ◌<◌, ◌≡◌, T, ℤ}
-use mathlib.Core.List.{List, map, Memᴰ}
+use Rattle.std.specs.Prelude.{ℕ, ◌≤◌, ◌<◌, ◌≡◌, T}
+use mathlib.Core.List.{List, ◌∷◌, map, Memᴰ}
 use Rattle.query.specs.Grid.{Grid}
 use Rattle.query.specs.Problem.{Problem}
 use Rattle.query.specs.Cut.{can_cut}
@@ -12,39 +12,31 @@ use Rattle.deck.specs.Objects.{Pricing}
 use Rattle.reach.specs.Columns.{Ranged}
 use Rattle.problem.specs.ObjectProblem.{priced_of, rect_in}
 use Rattle.search.specs.declared.run.Running.{Running}
-use Rattle.slots.specs.Slot.{Entry, entry_cell, cell_at}
-use Rattle.cells.specs.Entries.{entries}
+use Rattle.slots.specs.declared.Entry.{Entry}
+use Rattle.slots.specs.Slot.{entry_cell}
+use Rattle.cells.specs.Live.{Live}
 use Rattle.cells.specs.Steps.{EntriesInOrder}
 use Rattle.search.specs.LiveEntries.{Costed}
 
--- the search that a state and the work space hold
-unfoldable pub search_of : List ℤ → List ℕ → Running → Search
-unfolding entries
-search_of s t st = record {
-  best = priced_of st.best;
-  live = map entry_cell (entries s t st.head (st.tail - st.head));
-  cuts = st.cuts;
-}
+-- the search that live entries and a state hold
+unfoldable pub search_of : List Entry → Running → Search
+search_of es st = record { best = priced_of st.best; live = map entry_cell es; cuts = st.cuts }
 
--- what a round asks
-pub record Takeable (P : Pricing) (G : Grid) (s : List ℤ) (t : List ℕ) (st : Running) : Type 0 where
-  pub some : st.head < st.tail
-  pub room : 1 ≤ st.head
-  pub ends : st.tail ≤ 1001
+-- what a round asks of the entry that it takes, and of those that are left
+pub record Takeable (P : Pricing) (G : Grid) (e : Entry) (l : Live) (st : Running) : Type 0 where
+  pub room : 2 ≤ l.free
   pub few : st.cuts < rounds_limit
   pub cost_limit_lem : st.best.cost ≤ cost_limit
-  pub ranged : Ranged (rect_in (cell_at s st.head))
-  pub can_cut_lem : (e : Entry) → Memᴰ e (entries s t st.head (st.tail - st.head)) → T (can_cut G (entry_cell e).rect)
-  pub costed : Costed P (entries s t st.head (st.tail - st.head))
-  pub in_order : EntriesInOrder (entries s t st.head (st.tail - st.head))
+  pub ranged : Ranged (rect_in e.cell)
+  pub can_cut_lem : (f : Entry) → Memᴰ f (e ∷ l.entries) → T (can_cut G (entry_cell f).rect)
+  pub costed : Costed P (e ∷ l.entries)
+  pub in_order : EntriesInOrder (e ∷ l.entries)
 
--- a state and a work space that hold a search, with the lowest head
-pub record Holds (P : Pricing) (search : Search) (lowest : ℕ) (s : List ℤ) (t : List ℕ) (st : Running) : Type 0 where
-  pub is : search_of s t st ≡ search
-  pub costed : Costed P (entries s t st.head (st.tail - st.head))
-  pub low_head : lowest ≤ st.head
-  pub in_turn : st.head ≤ st.tail
-  pub ends : st.tail ≤ 1001
+-- live entries and a state that hold a search, with so many slots free at least
+pub record Holds (P : Pricing) (search : Search) (lowest : ℕ) (l : Live) (st : Running) : Type 0 where
+  pub is : search_of l.entries st ≡ search
+  pub costed : Costed P l.entries
+  pub low_free : lowest ≤ l.free
 
 -- what is known of the cells and the best place of every run
 pub record Steady (Q : Problem) : Type 0 where

@@ -1,31 +1,53 @@
-// The better of two places, cells with their bounds, and the two halves that a cut makes of a cell.
+// The better of two places, entries with their bounds, and the two halves that a cut makes of a cell.
 ghost use Rattle.std.specs.Prelude.{◌≡◌, ◌≤◌};
-ghost use Rattle.query.specs.Cut.{low_corner, high_corner, cut_before, cut_after};
+ghost use Rattle.query.specs.Order.{priced_key};
 ghost use Rattle.query.specs.Range.{cost_limit};
 ghost use Rattle.deck.specs.Rectangle.{rect_of, rect_record};
 ghost use Rattle.deck.specs.ObjectColumns.{pricing_in};
 ghost use Rattle.reach.specs.Columns.{Priceable, Ranged};
 ghost use Rattle.lines.specs.LineRecord.{Lined, grid_of};
 ghost use Rattle.cuts.specs.CutRecord.{axis_of, cut_record};
-ghost use Rattle.problem.specs.ObjectProblem.{spot_of};
-ghost use Rattle.search.specs.Corners.{corner_costs, cell_for, improved};
-ghost use Rattle.search.specs.CutCell.{first_costs_of, second_costs_of, halves_of, Cutting, CutInRange};
+ghost use Rattle.problem.specs.ObjectProblem.{priced_of};
+ghost use Rattle.cells.specs.Entries.{query_key};
+ghost use Rattle.search.specs.Corners.{corner_costs, entry_for, improved};
+ghost use Rattle.search.specs.CutCell.{cut_part, part_costs, halves_of, Cutting};
 
+use cells::Key;
 use cuts::Cut;
-use deck::Rect;
+use deck::{Place, Rect};
 use limits::COLUMNS;
 use problem::Spot;
-use slots::{Cell, Costs};
+use slots::{Cell, Costs, Entry};
 
 // What a cut makes of a cell: its two new corners, and its two parts with the costs of their corners.
 #[derive(Clone, Copy)]
 pub struct Halves {
     pub low: Spot,
     pub high: Spot,
-    pub first: Cell,
-    pub first_costs: Costs,
-    pub second: Cell,
-    pub second_costs: Costs,
+    pub first: Entry,
+    pub second: Entry,
+}
+
+// The two parts of a cell that is cut: the one before the cut, and the one behind it.
+#[derive(Clone, Copy)]
+enum Part {
+    Before,
+    Behind,
+}
+
+// The key of a place: its cost, and the place by which equal costs are told apart.
+pub(crate) fn spot_key(spot: Spot) -> Key
+    requires { spot.cost ≤ cost_limit }
+    ensures { query_key result ≡ priced_key (priced_of spot) }
+{
+    let at = Place {
+        x: spot.x,
+        y: spot.y,
+    };
+    Key {
+        figure: spot.cost as i64,
+        at,
+    }
 }
 
 // The better of two places.
@@ -33,112 +55,65 @@ pub(crate) fn improve(best: Spot, p: Spot) -> Spot
     requires { (best.cost ≤ cost_limit) × (p.cost ≤ cost_limit) }
     ensures { result ≡ improved best p }
 {
-    if cells::precedes(p.cost as i64, p.x, p.y, best.cost as i64, best.x, best.y) {
+    if spot_key(p).precedes(spot_key(best)) {
         return p;
     }
     best
 }
 
-// A cell with its bound, from the costs of its corners.
-pub(crate) fn bounded(columns: &[i32; COLUMNS], n: usize, rect: Rect, k: Costs) -> Cell
+// A cell with its bound and the costs of its corners, from these costs.
+pub(crate) fn bounded(columns: &[i32; COLUMNS], n: usize, rect: Rect, k: Costs) -> Entry
     requires { Priceable columns.now n × Ranged (rect_of rect) × (k ≡ corner_costs (pricing_in columns.now n) (rect_of rect)) }
-    ensures { result ≡ cell_for (pricing_in columns.now n) (rect_of rect) }
+    ensures { result ≡ entry_for (pricing_in columns.now n) (rect_of rect) }
 {
     let load = pricing::load(columns, n, rect);
     let span = pricing::span(columns, rect);
     let bound = pricing::bound(k.c00, k.c01, k.c10, k.c11, span, load);
-    Cell { rect, bound }
+    let cell = Cell { rect, bound };
+    Entry { cell, costs: k }
 }
 
-// The new corner that is the low corner of the part behind the cut.
-fn low_corner(columns: &[i32; COLUMNS], n: usize, rect: Rect, cut: Cut) -> Spot
-    requires { Priceable columns.now n × CutInRange (rect_of rect) cut }
-    ensures { result ≡ spot_of (pricing_in columns.now n) (low_corner (axis_of cut.across) cut.at (rect_of rect)) }
+// A part of a cell that is cut.
+fn rect_part(rect: Rect, cut: Cut, part: Part) -> Rect
+    ensures { result ≡ rect_record (cut_part part (axis_of cut.across) cut.at (rect_of rect)) }
 {
-    if cut.across {
-        return problem::priced(columns, n, cut.at, rect.ylo);
+    let mut r = rect;
+    match (part, cut.across) {
+        (Part::Before, true) => r.xhi = cut.at,
+        (Part::Before, false) => r.yhi = cut.at,
+        (Part::Behind, true) => r.xlo = cut.at,
+        (Part::Behind, false) => r.ylo = cut.at,
     }
-    problem::priced(columns, n, rect.xlo, cut.at)
+    r
 }
 
-// The new corner that is the high corner of the part before the cut.
-fn high_corner(columns: &[i32; COLUMNS], n: usize, rect: Rect, cut: Cut) -> Spot
-    requires { Priceable columns.now n × CutInRange (rect_of rect) cut }
-    ensures { result ≡ spot_of (pricing_in columns.now n) (high_corner (axis_of cut.across) cut.at (rect_of rect)) }
+// The costs of the corners of a part, from those of the cell and of the two new corners.
+fn costs_part(k: Costs, across: bool, part: Part, low: u64, high: u64) -> Costs
+    ensures { result ≡ part_costs part across k low high }
 {
-    if cut.across {
-        return problem::priced(columns, n, cut.at, rect.yhi);
+    let mut costs = k;
+    match (part, across) {
+        (Part::Before, true) => {
+            costs.c10 = low;
+            costs.c11 = high;
+        }
+        (Part::Before, false) => {
+            costs.c01 = low;
+            costs.c11 = high;
+        }
+        (Part::Behind, true) => {
+            costs.c00 = low;
+            costs.c01 = high;
+        }
+        (Part::Behind, false) => {
+            costs.c00 = low;
+            costs.c10 = high;
+        }
     }
-    problem::priced(columns, n, rect.xhi, cut.at)
+    costs
 }
 
-// The costs of the corners of the part before a cut, from those of the cell and of the new corners.
-fn costs_before(across: bool, k: Costs, low: u64, high: u64) -> Costs
-    ensures { result ≡ first_costs_of across k low high }
-{
-    if across {
-        return Costs {
-            c00: k.c00,
-            c01: k.c01,
-            c10: low,
-            c11: high,
-        };
-    }
-    Costs {
-        c00: k.c00,
-        c01: low,
-        c10: k.c10,
-        c11: high,
-    }
-}
-
-// Those of the part behind it.
-fn costs_behind(across: bool, k: Costs, low: u64, high: u64) -> Costs
-    ensures { result ≡ second_costs_of across k low high }
-{
-    if across {
-        return Costs {
-            c00: low,
-            c01: high,
-            c10: k.c10,
-            c11: k.c11,
-        };
-    }
-    Costs {
-        c00: low,
-        c01: k.c01,
-        c10: high,
-        c11: k.c11,
-    }
-}
-
-// The part of a cell before a cut.
-fn rect_before(rect: Rect, cut: Cut) -> Rect
-    ensures { result ≡ rect_record (cut_before (axis_of cut.across) cut.at (rect_of rect)) }
-{
-    let mut part = rect;
-    if cut.across {
-        part.xhi = cut.at;
-    } else {
-        part.yhi = cut.at;
-    }
-    part
-}
-
-// The part behind it.
-fn rect_behind(rect: Rect, cut: Cut) -> Rect
-    ensures { result ≡ rect_record (cut_after (axis_of cut.across) cut.at (rect_of rect)) }
-{
-    let mut part = rect;
-    if cut.across {
-        part.xlo = cut.at;
-    } else {
-        part.ylo = cut.at;
-    }
-    part
-}
-
-// What the cut of a cell makes of it.
+// What the cut of a cell makes of it. The new corners are the low corner of the part behind the cut and the high one of the part before.
 pub(crate) fn halve<'a>(
     columns: &'a [i32; COLUMNS],
     n: usize,
@@ -154,18 +129,18 @@ pub(crate) fn halve<'a>(
         (rect_of rect) }
 {
     let cut = cuts::find_cut(v, h, rect);
-    let low = low_corner(columns, n, rect, cut);
-    let high = high_corner(columns, n, rect, cut);
-    let first_costs = costs_before(cut.across, k, low.cost, high.cost);
-    let second_costs = costs_behind(cut.across, k, low.cost, high.cost);
-    let first = bounded(columns, n, rect_before(rect, cut), first_costs);
-    let second = bounded(columns, n, rect_behind(rect, cut), second_costs);
+    let before = rect_part(rect, cut, Part::Before);
+    let behind = rect_part(rect, cut, Part::Behind);
+    let low = problem::priced(columns, n, behind.xlo, behind.ylo);
+    let high = problem::priced(columns, n, before.xhi, before.yhi);
+    let first_costs = costs_part(k, cut.across, Part::Before, low.cost, high.cost);
+    let second_costs = costs_part(k, cut.across, Part::Behind, low.cost, high.cost);
+    let first = bounded(columns, n, before, first_costs);
+    let second = bounded(columns, n, behind, second_costs);
     Halves {
         low,
         high,
         first,
-        first_costs,
         second,
-        second_costs,
     }
 }

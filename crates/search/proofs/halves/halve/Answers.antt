@@ -1,53 +1,70 @@
 -- What `search::halves::halve` owes.
 use mathlib.Core.Path.{sym, ap, subst, ◌∙◌}
-use Rattle.deck.specs.declared.Rect as Deck
 use Rattle.deck.specs.ObjectColumns.{pricing_in}
 use Rattle.deck.specs.Rectangle.{rect_of}
 use Rattle.reach.specs.Columns.{Ranged}
 use Rattle.cuts.specs.declared.Cut.{Cut}
-use Rattle.search.specs.Corners.{corner_costs, cell_for}
+use Rattle.search.specs.Corners.{corner_costs, entry_for}
 use Rattle.search.specs.CutCell.{halves_of}
-use Rattle.search.proofs.CutParts.{cut_range, parts_ranged, first_costs_is, second_costs_is, halves_are}
+use Rattle.search.proofs.CutParts.{parts_ranged, first_costs_is, second_costs_is, halves_are, new_low, new_high, back_in_range}
 use Rattle.search.proofs.halves.halve.Goals as goal
 
--- the cut is in range
-pub low_corner-low-requires : goal.low_corner-low-requires
-low_corner-low-requires c =
+-- the new corners are in range
+pub priced-low-requires : goal.priced-low-requires
+priced-low-requires c =
     let p = c.requires.2 in
-    (c.requires.0, record { ranged = p.ranged.range; at_range = cut_range _ _ p.can_cut_lem _ c.find_cut-cut.ensures p.ranged })
+    let behind = c.rect_part-behind.result in
+    let e = sym (ap rect_of c.rect_part-behind.ensures) in
+    let part = (subst Ranged e (parts_ranged _ _ p.can_cut_lem _ c.find_cut-cut.ensures p.ranged).1).range in
+    (c.requires.0, back_in_range behind.xlo behind.ylo part.low_corner_law.x_range part.low_corner_law.y_range)
 
-pub high_corner-high-requires : goal.high_corner-high-requires
-high_corner-high-requires c =
+pub priced-high-requires : goal.priced-high-requires
+priced-high-requires c =
     let p = c.requires.2 in
-    (c.requires.0, record { ranged = p.ranged.range; at_range = cut_range _ _ p.can_cut_lem _ c.find_cut-cut.ensures p.ranged })
+    let before = c.rect_part-before.result in
+    let e = sym (ap rect_of c.rect_part-before.ensures) in
+    let part = (subst Ranged e (parts_ranged _ _ p.can_cut_lem _ c.find_cut-cut.ensures p.ranged).0).range in
+    (c.requires.0, back_in_range before.xhi before.yhi part.high_corner_law.x_range part.high_corner_law.y_range)
 
 -- and so are the parts
 pub bounded-first-requires : goal.bounded-first-requires
 bounded-first-requires c =
     let p = c.requires.2 in
     let cut = c.find_cut-cut.result in
-    let e = sym (ap rect_of c.rect_before.ensures) in
-    let costs = first_costs_is _ _ _ p.costs cut _ _ c.low_corner-low.ensures c.high_corner-high.ensures _ c.costs_before-first_costs.ensures in
-    (c.requires.0, subst Ranged e (parts_ranged _ _ p.can_cut_lem _ c.find_cut-cut.ensures p.ranged).0, costs ∙ ap (corner_costs _) e)
+    let r = rect_of c.args.rect in
+    let P = pricing_in c.args.columns.now c.args.n in
+    let ranged = parts_ranged _ _ p.can_cut_lem _ c.find_cut-cut.ensures p.ranged in
+    let before = sym (ap rect_of c.rect_part-before.ensures) in
+    let behind = sym (ap rect_of c.rect_part-behind.ensures) in
+    let low = new_low P r cut _ (sym behind) (subst Ranged behind ranged.1).range _ c.priced-low.ensures in
+    let high = new_high P r cut _ (sym before) (subst Ranged before ranged.0).range _ c.priced-high.ensures in
+    let costs = first_costs_is P r _ p.costs cut _ _ low high _ c.costs_part-first_costs.ensures in
+    (c.requires.0, subst Ranged before ranged.0, costs ∙ ap (corner_costs P) before)
 
 pub bounded-second-requires : goal.bounded-second-requires
 bounded-second-requires c =
     let p = c.requires.2 in
     let cut = c.find_cut-cut.result in
-    let e = sym (ap rect_of c.rect_behind.ensures) in
-    let costs = second_costs_is _ _ _ p.costs cut _ _ c.low_corner-low.ensures c.high_corner-high.ensures _ c.costs_behind-second_costs.ensures in
-    (c.requires.0, subst Ranged e (parts_ranged _ _ p.can_cut_lem _ c.find_cut-cut.ensures p.ranged).1, costs ∙ ap (corner_costs _) e)
+    let r = rect_of c.args.rect in
+    let P = pricing_in c.args.columns.now c.args.n in
+    let ranged = parts_ranged _ _ p.can_cut_lem _ c.find_cut-cut.ensures p.ranged in
+    let before = sym (ap rect_of c.rect_part-before.ensures) in
+    let behind = sym (ap rect_of c.rect_part-behind.ensures) in
+    let low = new_low P r cut _ (sym behind) (subst Ranged behind ranged.1).range _ c.priced-low.ensures in
+    let high = new_high P r cut _ (sym before) (subst Ranged before ranged.0).range _ c.priced-high.ensures in
+    let costs = second_costs_is P r _ p.costs cut _ _ low high _ c.costs_part-second_costs.ensures in
+    (c.requires.0, subst Ranged behind ranged.1, costs ∙ ap (corner_costs P) behind)
 
 pub returns : goal.returns
 returns c =
     let p = c.requires.2 in
     let cut = c.find_cut-cut.result in
-    let pricing = pricing_in c.args.columns.now c.args.n in
-    let low = c.low_corner-low.ensures in
-    let high = c.high_corner-high.ensures in
-    let first = c.bounded-first.ensures ∙ ap (λ (r : Deck.Rect). cell_for pricing (rect_of r)) c.rect_before.ensures in
-    let second = c.bounded-second.ensures ∙ ap (λ (r : Deck.Rect). cell_for pricing (rect_of r)) c.rect_behind.ensures in
-    let first_costs = first_costs_is _ _ _ p.costs cut _ _ low high _ c.costs_before-first_costs.ensures in
-    let second_costs = second_costs_is _ _ _ p.costs cut _ _ low high _ c.costs_behind-second_costs.ensures in
-    halves_are pricing _ cut _ _ _ _ _ _ low high first first_costs second second_costs
-    ∙ ap (λ (x : Cut). halves_of pricing x (rect_of c.args.rect)) c.find_cut-cut.ensures
+    let r = rect_of c.args.rect in
+    let P = pricing_in c.args.columns.now c.args.n in
+    let ranged = parts_ranged _ _ p.can_cut_lem _ c.find_cut-cut.ensures p.ranged in
+    let before = sym (ap rect_of c.rect_part-before.ensures) in
+    let behind = sym (ap rect_of c.rect_part-behind.ensures) in
+    let low = new_low P r cut _ (sym behind) (subst Ranged behind ranged.1).range _ c.priced-low.ensures in
+    let high = new_high P r cut _ (sym before) (subst Ranged before ranged.0).range _ c.priced-high.ensures in
+    halves_are P r _ p.costs cut _ _ low high _ _ (c.bounded-first.ensures ∙ ap (entry_for P) (sym before)) (c.bounded-second.ensures ∙ ap (entry_for P) (sym behind))
+    ∙ ap (λ (x : Cut). halves_of P x r) c.find_cut-cut.ensures

@@ -5,4 +5,4 @@ use Rattle.search.proofs.run.answer.Goals as goal
 
 pub returns : goal.returns
 returns c =
-    answer_is _ _ c.requires.0 c.low_of-low.result (omega arith) (omega arith) c.low_of-low.type_inv c.low_of-low.ensures
+    answer_is c.args.live.now _ c.requires _ c.low_of-low.result c.is_empty.ensures (omega arith) (omega arith) c.low_of-low.type_inv c.low_of-low.ensures

@@ -1,13 +1,10 @@
 -- What `search::run::is_live` owes.
 use mathlib.Core.Path.{◌≡◌, ap, ◌∙◌}
-use native.Mathlib.Omega.{arith}
-use lib.IntN.{pos}
 use Rattle.query.specs.Order.{precedes, cell_key, priced_key}
 use Rattle.cuts.proofs.CutRecordLaws.{cut_record_found}
 use Rattle.cuts.specs.declared.Cut.{Cut}
 use Rattle.problem.specs.ObjectProblem.{priced_of}
 use Rattle.slots.specs.Slot.{query_cell}
-use Rattle.cells.proofs.Keys.{cell_precedes}
 use Rattle.search.proofs.LiveLaws.{live_behind, live_cut}
 use Rattle.search.proofs.run.is_live.Goals as goal
 
@@ -15,18 +12,14 @@ pub returns-then-precedes : goal.returns-then-precedes
 returns-then-precedes c =
     let a = c.args in
     let compared : c.precedes.result ≡ precedes (cell_key (query_cell a.c)) (priced_key (priced_of a.best)) =
-    cell_precedes a.c (pos a.best.cost) a.best.x a.best.y c.precedes.result
-    (record { figure_fits = omega arith; x_fits = omega arith; y_fits = omega arith })
-    (record { figure_fits = omega (arith, c.requires.2); x_fits = omega arith; y_fits = omega arith }) c.precedes.ensures in
-    ap (λ (x : Cut). x.found) c.find_cut-cut.ensures
+    c.precedes.ensures ∙ (λ i. precedes (c.of_cell.ensures i) (c.spot_key.ensures i)) in
+    ap (λ (x : Cut). x.found) c.find_cut.ensures
     ∙ cut_record_found _ _
     ∙ live_cut _ (priced_of a.best) (query_cell a.c) _ compared c.if-precedes.true
 
-pub returns : goal.returns
-returns c =
+pub returns-else-precedes : goal.returns-else-precedes
+returns-else-precedes c =
     let a = c.args in
     let compared : c.precedes.result ≡ precedes (cell_key (query_cell a.c)) (priced_key (priced_of a.best)) =
-    cell_precedes a.c (pos a.best.cost) a.best.x a.best.y c.precedes.result
-    (record { figure_fits = omega arith; x_fits = omega arith; y_fits = omega arith })
-    (record { figure_fits = omega (arith, c.requires.2); x_fits = omega arith; y_fits = omega arith }) c.precedes.ensures in
-    live_behind _ (priced_of a.best) (query_cell a.c) _ compared c.if-precedes.false
+    c.precedes.ensures ∙ (λ i. precedes (c.of_cell.ensures i) (c.spot_key.ensures i)) in
+    c.if-precedes.false ∙ live_behind _ (priced_of a.best) (query_cell a.c) _ compared c.if-precedes.false

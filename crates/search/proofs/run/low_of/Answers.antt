@@ -1,15 +1,13 @@
 -- What `search::run::low_of` owes.
+use mathlib.Core.Path.{sym, ◌∙◌}
 use native.Mathlib.Omega.{arith}
-use Rattle.search.proofs.RunLaws.{low_high, low_taken, low_left}
+use Rattle.search.proofs.RunLaws.{low_high, low_first}
 use Rattle.search.proofs.run.low_of.Goals as goal
 
-pub returns-then-st-head : goal.returns-then-st-head
-returns-then-st-head c = low_high _ _ c.requires.0 c.if-st-head.true
+pub returns-in-None : goal.returns-in-None
+returns-in-None c = low_high c.args.live.now _ c.requires (sym c.in-None.is ∙ c.first.ensures)
 
-pub returns-then-first-high : goal.returns-then-first-high
-returns-then-first-high c =
-    low_taken _ _ c.requires.0 c.cell_at-first.result c.cell_at-first.ensures (omega arith) c.if-st-head.false c.if-first-high.true
-
-pub returns : goal.returns
-returns c =
-    low_left _ _ c.requires.0 c.cell_at-first.result c.cell_at-first.ensures (omega arith) c.if-st-head.false c.if-first-high.false
+pub returns-in-Some : goal.returns-in-Some
+returns-in-Some c =
+    let e = c.in-Some.first in
+    low_first c.args.live.now _ c.requires e (sym c.in-Some.is ∙ c.first.ensures) (omega arith) c.min.result c.min.type_inv c.min.ensures.value
