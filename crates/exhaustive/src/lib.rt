@@ -55,6 +55,7 @@ pub struct Crossings<'a> {
 }
 
 impl<'a> Crossings<'a> {
+    // Of parts that may be lent for different times.
     pub fn new(
         objects: &'a Objects,
         lines: NumberedLines<'a>,
