@@ -61,9 +61,6 @@ fault_joined n (l ∷ ls) ms =
 pub record Passed (first : ℕ) (lines : List JobLine) (i : ℕ) : Type 0 where
   pub is : first_fault first lines ≡ first_fault (first + i) (drop i lines)
 
-pub none_passed : (first : ℕ) (lines : List JobLine) → Passed first lines 0
-none_passed first lines = let e : first + 0 ≡ first = omega arith in record { is = rw e }
-
 pub all_passed : {first : ℕ} {lines : List JobLine} {i : ℕ} → Passed first lines i → length lines ≤ i → none ≡ first_fault first lines
 all_passed {first} {lines} {i} passed h = sym (passed.is ∙ rw (drop_of_length-le lines h, fault_none))
 

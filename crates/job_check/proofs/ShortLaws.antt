@@ -7,7 +7,7 @@ use mathlib.Core.Option.{Option, none, some, none-ne-some}
 use mathlib.Core.Logic.{⊎_elim}
 use Prim.Native.Nat.{ℕ, ◌≤◌, ◌<◌}
 use native.Mathlib.Omega.{arith}
-use borrow.Author.Tests.{lt-ltb, le-ltb, le-leb, lt-leb}
+use borrow.Author.Tests.{le-leb, lt-leb}
 use lib.Dec.{T, ltb, leb, leb→le, ltb→lt, nltb→le}
 use lib.IntN.{ℤ, pos, nat_abs}
 use mir.Syntax.{w64}
@@ -34,14 +34,6 @@ short_word f e = e ∙ ap short (back_is f)
 pub natural_is : (n : ℕ) → ltb n 1000000000 ≡ short (pos n)
 unfolding short
 natural_is n = refl
-
-natural_short : (n : ℕ) → n < 1000000000 → short (pos n) ≡ true
-unfolding short
-natural_short n h = lt-ltb n 1000000000 h
-
-natural_long : (n : ℕ) → 1000000000 ≤ n → short (pos n) ≡ false
-unfolding short
-natural_long n h = le-ltb n 1000000000 h
 
 -- ---- two tests, the second only where the first holds
 pub both_on : {r s t u : Bool} → r ≡ s → t ≡ u → r ≡ true → t ≡ s && u

@@ -106,6 +106,7 @@ fn post_lines(xs: &[i64], ys: &[i64], first: u64) -> Result<(), Refusal>
     requires { (length xs.now ≤ 512) × (first ≤ 1000) }
     ensures { checked_as result ≡ first_fault first (map post_line (take (length xs.now) (places xs.now ys.now))) }
 {
+    // kept: the number of the line goes on from the lines before, so an index by `enumerate` would be added to it in each turn
     let mut line = first;
     for (x, y) in xs.iter().zip(ys) {
         post_line(Place { x: *x, y: *y }, line)?;
@@ -120,6 +121,7 @@ fn stop_lines(xs: &[i64], ys: &[i64], visits: &[u64], first: u64) -> Result<(), 
     ensures { checked_as result
         ≡ first_fault first (map stop_line (take (length xs.now) (stops_of (places xs.now ys.now) visits.now))) }
 {
+    // kept: the number of the line, as in `post_lines`
     let mut line = first;
     for ((x, y), v) in xs.iter().zip(ys).zip(visits) {
         let stop = Stop {
