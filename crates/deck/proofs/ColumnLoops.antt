@@ -7,7 +7,7 @@ use native.Mathlib.Omega.{arith}
 use lib.IntN.{ℤ}
 use lib.ListN.{take}
 use lib.Seq.{take-take}
-use Rattle.std.proofs.Common.{Iter, Option, Some, None, Bor}
+use Rattle.std.proofs.Common.{Iter, Option, Bor}
 use Rattle.std.proofs.iter.Yields.{fronts}
 use Rattle.std.proofs.lemmas.Iterator.{YieldsList, YieldsList-from_slice, YieldsList-from_zip, zips}
 use Rattle.std.specs.declared.iter.Zip.{Zip}
