@@ -1,21 +1,18 @@
 -- Which number of an answer's record in the code is which of documents 01 and 02. All of them differ, so that no two can be exchanged.
 -- Assumes nothing.
-use Rattle.std.specs.Prelude.{◌≡◌, pos}
+use Rattle.std.specs.Prelude.{◌≡◌, pos, Ok}
 use Rattle.query.specs.Figures.{done, stopped}
 use Rattle.query.specs.Marked.{at, report}
 use Rattle.query.specs.Rows.{needs}
 use Rattle.report.specs.declared.State.TheVariants.{Done, Stopped}
-use Rattle.calls.specs.declared.Answer.TheVariants as Answered
-use Rattle.calls.specs.declared.Cheapest.TheVariants as Cheapest
-use Rattle.calls.specs.declared.Estimated.TheVariants as Estimated
 use Rattle.calls.specs.Answers.{gives, report_answer, cheapest_answer, estimated_answer}
 
 pub record AnswerRows : Type 0 where
-  pub report_done : report_answer (Answered.Report
+  pub report_done : report_answer (Ok
       (record { state = Done; x = pos 1; y = pos 2; high = 3; low = pos 4; before = 5; rounds = 6 }))
       ≡ gives (report done (at 1 2) 3 (pos 4) 5 6)
-  pub report_stopped : report_answer (Answered.Report
+  pub report_stopped : report_answer (Ok
       (record { state = Stopped; x = pos 1; y = pos 2; high = 3; low = pos 4; before = 5; rounds = 6 }))
       ≡ gives (report stopped (at 1 2) 3 (pos 4) 5 6)
-  pub exhaustive : cheapest_answer (Cheapest.At (record { x = pos 1; y = pos 2; cost = 3 })) ≡ gives (record { at = at 1 2; cost = 3 })
-  pub estimate : estimated_answer (Estimated.Needs (record { across = 1; deep = 2; limit = 3; cells = 4 })) ≡ gives (needs 1 2 3 4)
+  pub exhaustive : cheapest_answer (Ok (record { at = record { x = pos 1; y = pos 2 }; cost = 3 })) ≡ gives (record { at = at 1 2; cost = 3 })
+  pub estimate : estimated_answer (Ok (record { across = 1; deep = 2; limit = 3; cells = 4 })) ≡ gives (needs 1 2 3 4)

@@ -1,3 +1,4 @@
+pub mod TextIn
 pub mod Answers
 pub mod Call
 pub mod Entry

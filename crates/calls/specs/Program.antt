@@ -1,10 +1,8 @@
 -- Document 01, "Job and report": what the program prints.
 -- Assumes nothing.
-use Rattle.std.specs.Prelude.{ℕ, List, length, replicate}
-use Rattle.numbers.specs.Padded.{padded}
+use Rattle.std.specs.Prelude.{ℕ, List, replicate}
 use Rattle.query.specs.Figures.{Figures}
 use Rattle.report.specs.Text.{report_text, refusal_text}
-use Rattle.calls.specs.declared.Text.{Text}
 use Rattle.calls.specs.Answers.{AnswerOf, gives, refuses}
 use Rattle.calls.specs.Call.{output_size, report_call, own_space}
 
@@ -18,8 +16,3 @@ text_of (refuses number line) = refusal_text number line
 unfoldable pub answer_text : List ℕ → List ℕ
 unfolding report_call text_of
 answer_text job = text_of (report_call job own_space (replicate output_size 0)).answer
-
--- a text as the code holds it
-unfoldable pub text_record : List ℕ → Text
-unfolding padded
-text_record text = record { length = length text; bytes = padded output_size 0 text }

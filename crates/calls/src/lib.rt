@@ -1,24 +1,12 @@
-// What the calls of the siting tool answer. specs/ defines each call, and the customer's demands of them; proofs/ proves these.
+// What the calls of the siting tool give where they refuse nothing. specs/ defines each call, and the customer's demands of them; proofs/
+// proves these.
 #![tactic(auto)]
 
+ghost use Rattle.std.specs.Prelude.{◌≡◌, ◌≤◌, take, length};
+ghost use Rattle.calls.specs.TextIn.{TextIn};
+
 use limits::REPORT_BYTES;
-use problem::Spot;
-use refusal::Refusal;
-use report::Report;
-
-// Each answer is either a report, itself done or stopped, or one refusal.
-#[derive(Clone, Copy)]
-pub enum Answer {
-    Report(Report),
-    Refused(Refusal),
-}
-
-// The place and the cost of the cheapest crossing of lines, or one refusal.
-#[derive(Clone, Copy)]
-pub enum Cheapest {
-    At(Spot),
-    Refused(Refusal),
-}
+use std::marker::Model;
 
 // What a job needs: the gaps across and deep, the cut limit, and the cells that suffice.
 #[derive(Clone, Copy)]
@@ -29,23 +17,38 @@ pub struct Estimate {
     pub cells: u64,
 }
 
-// What a job needs, or one refusal.
-#[derive(Clone, Copy)]
-pub enum Estimated {
-    Needs(Estimate),
-    Refused(Refusal),
-}
-
-// The number of bytes that a job was written in, or one refusal.
-#[derive(Clone, Copy)]
-pub enum Written {
-    Bytes(usize),
-    Refused(Refusal),
-}
-
-// A text: the first `length` bytes; the others are 0.
+// A text of at most REPORT_BYTES bytes: the first `length` of `bytes`; the others are 0.
+// kept: a rule of the project, no heap, asks for a buffer with a length beside it in place of a String
 #[derive(Drop)]
 pub struct Text {
-    pub length: usize,
-    pub bytes: [u8; REPORT_BYTES],
+    length: usize,
+    bytes: [u8; REPORT_BYTES],
+}
+
+impl Model for Text {
+    ghost use Rattle.std.specs.Prelude.{ℕ, List, take};
+    ghost use Rattle.calls.specs.TextIn.{TextIn};
+
+    ghost Value = { List ℕ };
+
+    ghost view = { λ t. take t.length t.bytes };
+
+    ghost invariant = { λ t. TextIn t.bytes t.length };
+}
+
+impl Text {
+    // The text in the first `length` bytes.
+    pub fn new(bytes: [u8; REPORT_BYTES], length: usize) -> Text
+        requires { TextIn bytes length }
+        ensures { result ≡ take length bytes }
+    {
+        Text { length, bytes }
+    }
+
+    pub fn as_bytes(&self) -> &[u8]
+        ensures whole { result.now ≡ self.now }
+        ensures short { length result.now ≤ 128 }
+    {
+        &self.bytes[..self.length]
+    }
 }

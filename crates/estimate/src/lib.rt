@@ -6,9 +6,8 @@ ghost use Rattle.calls.specs.Answers.{estimate_numbers, estimated_answer};
 ghost use Rattle.calls.specs.EstimateCall.{estimate_call};
 ghost use Rattle.estimate.specs.LineCounts.{LineCounts, estimate_by};
 
-use calls::{Estimate, Estimated};
-use job::Outcome;
-use limits::{COLUMNS, LINES};
+use calls::Estimate;
+use refusal::Refusal;
 
 // The estimate by the number of vertical lines, that of horizontal ones, and the rounds.
 pub fn of_lines(nv: usize, nh: usize, rounds: u64) -> Estimate
@@ -19,7 +18,7 @@ pub fn of_lines(nv: usize, nh: usize, rounds: u64) -> Estimate
     let deep = lines::gaps(nh);
     let product = across * deep;
     let most = rounds + 1;
-    let cells = if most < product { most } else { product };
+    let cells = most.min(product);
     Estimate {
         across,
         deep,
@@ -29,16 +28,14 @@ pub fn of_lines(nv: usize, nh: usize, rounds: u64) -> Estimate
 }
 
 // The estimate of a job, or the refusal of the job.
-pub fn of_job(job: &[u8]) -> Estimated
+pub fn of_job(job: &[u8]) -> Result<Estimate, Refusal>
     ensures { estimated_answer result ≡ estimate_call job.now }
 {
-    let mut columns = [0i32; COLUMNS];
-    let mut v = [0i64; LINES];
-    let mut h = [0i64; LINES];
-    let p = prepare::of_job(job, &mut columns, &mut v, &mut h);
-    let outcome = p.outcome;
-    match outcome {
-        Outcome::Accepted(rounds) => Estimated::Needs(of_lines(p.nv, p.nh, rounds)),
-        Outcome::Refused(why) => Estimated::Refused(why),
-    }
+    let given = prepare::of_job(job)?;
+    let problem = &given.problem;
+    Ok(of_lines(
+        problem.vertical.len(),
+        problem.horizontal.len(),
+        given.rounds,
+    ))
 }

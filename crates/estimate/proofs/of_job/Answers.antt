@@ -1,13 +1,19 @@
 -- What `estimate::of_job` owes.
+use mathlib.Core.Path.{sym, ap, ◌∙◌}
+use Rattle.job.proofs.PartLaws.{handed}
+use Rattle.prepare.specs.ProblemRecord.{given_by}
 use Rattle.estimate.proofs.EstimateLaws.{job_counts, estimate_given, estimate_refused}
 use Rattle.estimate.proofs.of_job.Goals as goal
 
+pub returns-in_err-given : goal.returns-in_err-given
+returns-in_err-given c =
+    rw (handed _ c.from_residual.ensures.1) (estimate_refused _ _ (ap given_by (sym c.in_err-given.was) ∙ c.of_job.ensures))
+
 pub of_lines-requires : goal.of_lines-requires
-of_lines-requires c = job_counts _ _ c.of_job-p.ensures _ c.in-Accepted.is
+of_lines-requires c =
+    rw (c.len.ensures, c.len-2.ensures) (job_counts _ c.in_ok-given.given (ap given_by (sym c.in_ok-given.was) ∙ c.of_job.ensures))
 
-pub returns-in-Accepted : goal.returns-in-Accepted
-returns-in-Accepted c =
-    estimate_given _ _ c.of_job-p.ensures _ c.in-Accepted.is _ c.of_lines.ensures
-
-pub returns-in-Refused : goal.returns-in-Refused
-returns-in-Refused c = estimate_refused _ _ c.of_job-p.ensures _ c.in-Refused.is
+pub returns : goal.returns
+returns c =
+    let needs = rw (c.len.ensures, c.len-2.ensures) at c.of_lines.ensures in
+    estimate_given _ c.in_ok-given.given (ap given_by (sym c.in_ok-given.was) ∙ c.of_job.ensures) c.of_lines.result needs
