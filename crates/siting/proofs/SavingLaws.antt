@@ -11,25 +11,26 @@ use Rattle.deck.specs.declared.Deck.{Deck}
 use Rattle.refusal.specs.declared.Refusal.{Refusal}
 use Rattle.refusal.specs.declared.Refusal.TheVariants.{ShortOutput}
 use Rattle.job.specs.Format.{Result, refused, accepted, read_text, read_job}
-use Rattle.job.specs.JobRecord.{job_record}
+use Rattle.job.specs.JobRecord.{job_result}
 use Rattle.job.specs.declared.Job as Held
+use Rattle.std.specs.Prelude as Std
 use Rattle.job.specs.File.{file_text}
 use Rattle.job_check.specs.LineFaults.{refusal_in, checked_as}
-use Rattle.job_check.specs.declared.Checked.{Checked}
-use Rattle.job_check.specs.declared.Checked.TheVariants.{Fine, Refused}
+use Rattle.std.specs.Prelude.{Ok, Err}
 use Rattle.job_check.proofs.FileFaults.{FileIs, file_is}
 use Rattle.write.specs.Written.{Overwrote}
 use Rattle.calls.specs.Answers.{gives, refusal, read_answer}
-use Rattle.calls.specs.ReadCall.{Read, read_as, read_call}
+use Rattle.calls.specs.ReadCall.{Read, read_as, read_deck, read_call}
 use Rattle.calls.specs.WriteCall.{write_call}
 use Rattle.calls.proofs.SavingLaw.{file_refused, file_short, file_written}
 
 -- ---- read
-pub read_answers : (job : List ℕ) (j : Held.Job) → j ≡ job_record (read_job job) → record { answer = read_answer j.outcome; deck = j.deck } ≡ read_call job
-unfolding read_call read_as job_record
-read_answers job j e = ap (λ (k : Held.Job). record { answer = read_answer k.outcome; deck = k.deck }) e ∙ go (read_job job)
+pub read_answers : (job : List ℕ) (r : Std.Result Held.Job Refusal) → r ≡ job_result (read_job job) →
+    record { answer = read_answer r; deck = read_deck r } ≡ read_call job
+unfolding read_call read_as job_result
+read_answers job r e = ap (λ (x : Std.Result Held.Job Refusal). record { answer = read_answer x; deck = read_deck x }) e ∙ go (read_job job)
   where
-    go : (r : Result) → ◌≡◌ {A = Read} (record { answer = read_answer (job_record r).outcome; deck = (job_record r).deck }) (read_as r)
+    go : (q : Result) → ◌≡◌ {A = Read} (record { answer = read_answer (job_result q); deck = read_deck (job_result q) }) (read_as q)
     go (refused why) = refl
     go (accepted job) = refl
 
@@ -38,11 +39,11 @@ refusal_is : (r : Result) (why : Refusal) → some why ≡ refusal_in r → r �
 refusal_is (refused other) why e = cc
 refusal_is (accepted job) why e = absurd (let z : ◌≡◌ {A = ℕ} 0 1 = cc in omega arith)
 
-module _ (deck : Deck) (rounds : ℕ) {r : Checked} (e : checked_as r ≡ refusal_in (read_text (file_text deck rounds))) where
-  pub write_refused : (out : List ℕ) (why : Refusal) → r ≡ Refused why → record { answer = refusal why; out = out } ≡ write_call deck rounds out
+module _ (deck : Deck) (rounds : ℕ) {r : Std.Result (Unit {0}) Refusal} (e : checked_as r ≡ refusal_in (read_text (file_text deck rounds))) where
+  pub write_refused : (out : List ℕ) (why : Refusal) → r ≡ Err why → record { answer = refusal why; out = out } ≡ write_call deck rounds out
   write_refused out why p = sym (file_refused deck rounds out why (refusal_is (read_text (file_text deck rounds)) why (sym (ap checked_as p) ∙ e)))
 
-  module _ (sized : Sized deck) (p : r ≡ Fine) where
+  module _ (sized : Sized deck) {u : Unit {0}} (p : r ≡ Ok u) where
     pub file_fine : FileIs deck rounds sized
     file_fine = file_is deck rounds sized (sym e ∙ ap checked_as p)
 

@@ -26,7 +26,8 @@ use Rattle.query.proofs.SpaceLaws.{space_law}
 use Rattle.query.proofs.Ranges.{figure_limits}
 use Rattle.query.proofs.FigureRanges.{run_in_range}
 use Rattle.job.specs.Format.{Job, accepted, read_job}
-use Rattle.job.specs.declared.Outcome.TheVariants.{Accepted}
+use Rattle.std.specs.Prelude.{Ok, Err}
+use Rattle.std.specs.Prelude as Std
 use Rattle.job.proofs.ReadDeck.{Spelt, spelt_range}
 use Rattle.refusal.specs.declared.Refusal.{Refusal}
 use Rattle.refusal.specs.declared.Refusal.TheVariants.{SmallSpace, ShortOutput}
@@ -35,7 +36,7 @@ use Rattle.deck.specs.ObjectColumns.{pricing_in}
 use Rattle.pricing.specs.ObjectFigures.{before_of, Figure}
 use Rattle.pricing.proofs.ObjectLaws.{before_law}
 use Rattle.prepare.specs.declared.Parts.{Parts}
-use Rattle.prepare.specs.ProblemRecord.{problem_record, given_by, given_for}
+use Rattle.prepare.specs.ProblemRecord.{problem_record, problem_by, given_by, given_for}
 use Rattle.prepare.proofs.JobProblem.{spelt, rounds_same, rounds_limit_lem, before_same, problem_same}
 use Rattle.problem.specs.Prepared.{problem_of, Prepared}
 use Rattle.problem.proofs.DeckProblem.{prepared_pricing, prepared_problem, made_prepared}
@@ -47,15 +48,13 @@ use Rattle.report.specs.declared.State.{State}
 use Rattle.report.proofs.Fits.{report_fits}
 use Rattle.search.specs.Answer.{is_done, found_of, Room, Searched}
 use Rattle.search.specs.declared.run.Found.{Found}
-use Rattle.calls.specs.declared.Answer.TheVariants as Answered
 use Rattle.calls.specs.declared.Estimate as Held
 use Rattle.calls.specs.Answers.{gives, estimate_numbers}
 use Rattle.calls.specs.Call.{Left, turned_down, reported, answered, report_call}
 use Rattle.calls.proofs.Demands.{more_rounds, call_of, small_answer, short_answer, report_answer_lem}
 use Rattle.estimate.specs.LineCounts.{LineCounts, estimate_by}
 use Rattle.estimate.proofs.EstimateLaws.{deck_estimate, job_counts}
-use Rattle.siting.specs.declared.Response.{Response}
-use Rattle.siting.specs.Response.{state_for, Solved, refused_response, Responded}
+use Rattle.siting.specs.Response.{state_for, Solved, Responded}
 
 -- ---- solve
 state_is : (cells : List Cell) → report_state (state_for (is_done cells)) ≡ Figures.state_of cells
@@ -105,14 +104,14 @@ module _ {columns : List ℤ} {count : ℕ} {v h : List ℤ} {area : Rect} (prep
   }
 
 -- ---- respond
-pub respond_refused : (call : Left) (cells : List ℤ) (out : List ℕ) (why : Refusal) → call ≡ turned_down why cells out → (r : Response) →
-    r ≡ refused_response why → Responded call out cells out r
+pub respond_refused : (call : Left) (cells : List ℤ) (out : List ℕ) (why : Refusal) → call ≡ turned_down why cells out →
+    Responded call out cells out (Err why)
 unfolding overwritten
-respond_refused call cells out why e r f = subst (Responded call out cells out) (sym f) (record {
+respond_refused call cells out why e = record {
   left = sym e;
   filled = record { number = refl; content = refl };
   few = omega arith;
-})
+}
 
 reported_is : (job : Job) (cells cells' : List ℤ) (out out' : List ℕ) (r : Report) (text : List ℕ) → report_figures r ≡ figures job.deck job.rounds →
     cells' ≡ space job.deck job.rounds (length cells) → text ≡ report_text (figures job.deck job.rounds) → out' ≡ overwritten text out →
@@ -121,10 +120,10 @@ unfolding reported
 reported_is job cells cells' out out' r text e f g h = rw (h, g, f, e)
 
 -- ---- an accepted job that was prepared
-module _ (bytes : List ℕ) {p : Parts} {columns v h : List ℤ} (e : given_by p columns v h ≡ given_for (read_job bytes)) {rounds : ℕ}
-    (o : p.outcome ≡ Accepted rounds) where
+module _ (bytes : List ℕ) {r : Std.Result Parts Refusal} (columns v h : List ℤ) (e : given_by r columns v h ≡ given_for (read_job bytes)) {p : Parts}
+    (o : r ≡ Ok p) where
   abbrev pub spells : Spelt bytes
-  spells = spelt bytes p e rounds o
+  spells = spelt bytes r columns v h e p o
 
   abbrev deck : Query.Deck
   deck = spells.job.deck
@@ -132,8 +131,8 @@ module _ (bytes : List ℕ) {p : Parts} {columns v h : List ℤ} (e : given_by p
   abbrev range : InRange deck
   range = spelt_range spells
 
-  pub made : (given_by p columns v h).problem ≡ problem_record deck
-  made = problem_same bytes p e rounds o
+  pub made : problem_by p columns v h ≡ problem_record deck
+  made = problem_same bytes r columns v h e p o
 
   abbrev pub prepared : Prepared columns p.count (take p.nv v) (take p.nh h) p.area
   prepared = made_prepared deck range spells.allowed.area_full _ made
@@ -142,7 +141,7 @@ module _ (bytes : List ℕ) {p : Parts} {columns v h : List ℤ} (e : given_by p
   held = problem_of columns p.count (take p.nv v) (take p.nh h) p.area
 
   paid : p.before ≡ before deck
-  paid = before_same bytes p e rounds o
+  paid = before_same bytes r columns v h e p o
 
   -- what the exhaustive search asks of what is paid before
   pub before_figure_lem : Figure (before_of (pricing_in columns p.count)) cost_limit p.before
@@ -151,23 +150,23 @@ module _ (bytes : List ℕ) {p : Parts} {columns v h : List ℤ} (e : given_by p
     within = rw paid (figure_limits deck range).before_limit;
   }
 
-  pub counted : LineCounts p.nv p.nh rounds
-  counted = job_counts bytes p e rounds o
+  pub counted : LineCounts p.nv p.nh p.rounds
+  counted = job_counts bytes r columns v h e p o
 
   -- what is answered is what the call answers
-  call_is : (cells : List ℤ) (out : List ℕ) → answered (accepted (record { deck = deck; rounds = rounds })) cells out ≡ report_call bytes cells out
+  call_is : (cells : List ℤ) (out : List ℕ) → answered (accepted (record { deck = deck; rounds = p.rounds })) cells out ≡ report_call bytes cells out
   call_is cells out =
-      ap (λ (n : ℕ). answered (accepted (record { deck = deck; rounds = n })) cells out) (rounds_same bytes p e rounds o)
+      ap (λ (n : ℕ). answered (accepted (record { deck = deck; rounds = n })) cells out) (rounds_same bytes r columns v h e p o)
       ∙ sym (call_of bytes cells out (accepted spells.job) spells.read)
 
   -- refusals 7 and 8, and the room that a search has without them
-  module _ (needs : Held.Estimate) (f : estimate_numbers needs ≡ estimate_by p.nv p.nh rounds) where
-    space_is : 5 * needs.cells ≡ space_needed deck rounds
+  module _ (needs : Held.Estimate) (f : estimate_numbers needs ≡ estimate_by p.nv p.nh p.rounds) where
+    space_is : 5 * needs.cells ≡ space_needed deck p.rounds
     unfolding Estimate.estimate
-    space_is = ap (λ (x : Estimate.Estimate). 5 * x.cells) (f ∙ deck_estimate deck _ made rounds)
+    space_is = ap (λ (n : Estimate.Estimate). 5 * n.cells) (f ∙ deck_estimate deck _ made p.rounds)
 
     pub few_cells : needs.cells ≤ 1001
-    few_cells = omega (arith, space_is, needs_most deck rounds, rounds_limit_lem bytes p e rounds o)
+    few_cells = omega (arith, space_is, needs_most deck p.rounds, rounds_limit_lem bytes r columns v h e p o)
 
     pub small : (cells : List ℤ) (out : List ℕ) → length cells < 5 * needs.cells → report_call bytes cells out ≡ turned_down SmallSpace cells out
     small cells out g = sym (call_is cells out) ∙ small_answer _ cells out (omega (arith, space_is))
@@ -176,33 +175,33 @@ module _ (bytes : List ℕ) {p : Parts} {columns v h : List ℤ} (e : given_by p
         report_call bytes cells out ≡ turned_down ShortOutput cells out
     short cells out g k = sym (call_is cells out) ∙ short_answer _ cells out (omega (arith, space_is)) k
 
-    pub room : (lent : ℕ) → 5 * needs.cells ≤ lent → Room held rounds lent
+    pub room : (lent : ℕ) → 5 * needs.cells ≤ lent → Room held p.rounds lent
     room lent g = record {
-      rounds_limit_lem = rounds_limit_lem bytes p e rounds o;
-      room = subst (λ (q : Problem). length (all_numbers (run q rounds).live) ≤ lent) (sym (prepared_problem prepared))
-          (omega (arith, space_is, (space_law deck rounds).numbers));
+      rounds_limit_lem = rounds_limit_lem bytes r columns v h e p o;
+      room = subst (λ (q : Problem). length (all_numbers (run q p.rounds).live) ≤ lent) (sym (prepared_problem prepared))
+          (omega (arith, space_is, (space_law deck p.rounds).numbers));
     }
 
-    module _ (cells cells' : List ℤ) (r : Report) (s : Solved held p.before rounds cells cells' r) where
-      solved_figures : report_figures r ≡ figures deck rounds
+    module _ (cells cells' : List ℤ) (x : Report) (s : Solved held p.before p.rounds cells cells' x) where
+      solved_figures : report_figures x ≡ figures deck p.rounds
       unfolding figures
-      solved_figures = s.report ∙ ap₂ (λ (b : ℕ) (q : Problem). figures_of b (run q rounds)) paid (prepared_problem prepared)
+      solved_figures = s.report ∙ ap₂ (λ (b : ℕ) (q : Problem). figures_of b (run q p.rounds)) paid (prepared_problem prepared)
 
-      solved_cells : cells' ≡ space deck rounds (length cells)
+      solved_cells : cells' ≡ space deck p.rounds (length cells)
       unfolding space
-      solved_cells = s.cells ∙ ap (λ (q : Problem). padded (length cells) (pos 0) (all_numbers (run q rounds).live)) (prepared_problem prepared)
+      solved_cells = s.cells ∙ ap (λ (q : Problem). padded (length cells) (pos 0) (all_numbers (run q p.rounds).live)) (prepared_problem prepared)
 
-      pub report_limits : FiguresInRange 1000 (report_figures r)
+      pub report_limits : FiguresInRange 1000 (report_figures x)
       report_limits = subst (FiguresInRange 1000) (sym solved_figures)
-          (more_rounds (run_in_range deck range spells.allowed.area_full rounds).figures_range (rounds_limit_lem bytes p e rounds o))
+          (more_rounds (run_in_range deck range spells.allowed.area_full p.rounds).figures_range (rounds_limit_lem bytes r columns v h e p o))
 
       pub respond_reported : (out out' : List ℕ) (m : ℕ) → 5 * needs.cells ≤ length cells → 128 ≤ length out →
-          Overwrote out (report_text (report_figures r)) out' m →
-          Responded (report_call bytes cells out) out cells' out' (record { answer = Answered.Report r; bytes = m })
+          Overwrote out (report_text (report_figures x)) out' m →
+          Responded (report_call bytes cells out) out cells' out' (Ok (record { report = x; bytes = m }))
       respond_reported out out' m g k w = record {
         left =
-            reported_is _ cells cells' out out' r (report_text (report_figures r)) solved_figures solved_cells (ap report_text solved_figures) w.content
+            reported_is _ cells cells' out out' x (report_text (report_figures x)) solved_figures solved_cells (ap report_text solved_figures) w.content
             ∙ sym (report_answer_lem _ cells out (omega (arith, space_is)) k) ∙ call_is cells out;
         filled = w;
-        few = omega (arith, w.number, report_fits.report_fits (report_figures r) report_limits);
+        few = omega (arith, w.number, report_fits.report_fits (report_figures x) report_limits);
       }

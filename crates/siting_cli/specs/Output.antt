@@ -2,7 +2,14 @@
 -- Assumes nothing.
 use Rattle.std.specs.Prelude.{ℕ, List, take, Option, IfSome}
 use Rattle.std.specs.Io.KnownBytes.{Appends}
+use Rattle.siting_cli.specs.declared.Filled.{Filled}
+use Rattle.siting_cli.specs.declared.Filled.TheVariants.{Whole, Part}
 use Rattle.calls.specs.Program.{answer_text}
+
+-- how many bytes were read
+abbrev pub count_in : Filled → ℕ
+count_in (Whole n) = n
+count_in (Part n) = n
 
 -- the text for all bytes of the input
 abbrev pub AnswersAll : Option (List ℕ) → Option (List ℕ) → Option (List ℕ) → Type 0

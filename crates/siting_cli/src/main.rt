@@ -1,63 +1,75 @@
 // Reads a job from standard input and prints its report, or why there is none.
 #![tactic(auto)]
 
-ghost use Rattle.std.specs.Prelude.{◌≡◌, ◌≢◌, ◌≤◌, IsTrue, length, take};
+ghost use Rattle.std.specs.Prelude.{◌≡◌, ◌≢◌, ◌≤◌, ℕ, Err, OnOk, length, take};
 ghost use Rattle.std.specs.Io.KnownBytes.{Consumes, IsAtEnd};
-ghost use Rattle.siting_cli.specs.Output.{AnswersAll, AnswersPart};
+ghost use Rattle.siting_cli.specs.declared.Failure.TheVariants.{Writing};
+ghost use Rattle.siting_cli.specs.declared.Filled.TheVariants.{Whole};
+ghost use Rattle.siting_cli.specs.Output.{count_in, AnswersAll, AnswersPart};
 
+use limits::JOB_BYTES;
 use std::io::{Read, Write};
 
-// How many bytes were read, and whether no read failed.
+// How many bytes were read: all that there are, or that fit; or only a part of them, since a read failed.
 #[derive(Clone, Copy)]
-struct Filled {
-    count: usize,
-    whole: bool,
+enum Filled {
+    Whole(usize),
+    Part(usize),
 }
 
-// Whether no read failed, and whether all was written.
+// What went wrong: a read failed, and what was read before is answered in full; or a write failed.
 #[derive(Clone, Copy)]
-struct Answered {
-    whole: bool,
-    written: bool,
+enum Failure {
+    Reading,
+    Writing,
+}
+
+impl Filled {
+    fn count(self) -> usize
+        ensures { result ≡ count_in self }
+    {
+        match self {
+            Filled::Whole(count) => count,
+            Filled::Part(count) => count,
+        }
+    }
 }
 
 // Reads until `buf` is full, the input ends or a read fails. The bytes that were read are the first ones of `buf`.
 fn read_full<R: Read>(input: &mut R, buf: &mut [u8]) -> Filled
-    ensures bound { result.count ≤ length buf.new }
+    ensures bound { count_in result ≤ length buf.new }
     ensures same { length buf.new ≡ length buf.old }
-    ensures bytes { Consumes (R.remaining input.old) (R.remaining input.new) (take result.count buf.new) }
-    ensures end { IsTrue result.whole → result.count ≢ length buf.new → IsAtEnd (R.remaining input.new) }
+    ensures bytes { Consumes (R.remaining input.old) (R.remaining input.new) (take (count_in result) buf.new) }
+    ensures end { (n : ℕ) → result ≡ Whole n → n ≢ length buf.new → IsAtEnd (R.remaining input.new) }
 {
     let mut count = 0;
     while count < buf.len() {
         match input.read(&mut buf[count..]) {
-            Ok(0) => return Filled { count, whole: true },
+            Ok(0) => return Filled::Whole(count),
             Ok(n) => count += n,
-            Err(_) => return Filled {
-                count,
-                whole: false,
-            },
+            Err(_) => return Filled::Part(count),
         }
     }
-    Filled { count, whole: true }
+    Filled::Whole(count)
 }
 
 // Writes what the program prints for an input. A read that fails counts as the end of the input.
-fn answer<R: Read, W: Write>(input: &mut R, output: &mut W) -> Answered
-    ensures whole { IsTrue result.whole → IsTrue result.written
-        → AnswersAll (R.remaining input.old) (W.contents output.old) (W.contents output.new) }
-    ensures part { IsTrue result.written
+fn answer<R: Read, W: Write>(input: &mut R, output: &mut W) -> Result<(), Failure>
+    ensures whole { OnOk result (AnswersAll (R.remaining input.old) (W.contents output.old) (W.contents output.new)) }
+    ensures part { result ≢ Err Writing
         → AnswersPart (R.remaining input.old) (W.contents output.old) (W.contents output.new) }
 {
     // one byte more than a job may have, so that a longer one is refused
-    let mut job = [0u8; 16385];
+    let mut job = [0u8; JOB_BYTES + 1];
     let filled = read_full(input, &mut job);
-    let text = siting::answer_text(&job[..filled.count]);
-    let bytes = text.bytes;
-    let written = output.write_all(&bytes[..text.length]).is_ok();
-    Answered {
-        whole: filled.whole,
-        written,
+    let text = siting::answer_text(&job[..filled.count()]);
+    match output.write_all(text.as_bytes()) {
+        Ok(_) => {}
+        Err(_) => return Err(Failure::Writing),
+    }
+    match filled {
+        Filled::Whole(_) => Ok(()),
+        Filled::Part(_) => Err(Failure::Reading),
     }
 }
 

@@ -1,15 +1,17 @@
 -- What `siting::answer_text` owes.
-use Rattle.siting.proofs.EntryLaws.{text_report, text_refused}
-use native.Mathlib.Omega.{arith}
-use Rattle.report.proofs.Fits.{report_fits}
+use mathlib.Core.Path.{subst, ◌∙◌}
+use Rattle.siting.specs.Response.{Responded}
+use Rattle.siting.proofs.EntryLaws.{report_in, text_report, refusal_in_text, text_refused}
 use Rattle.siting.proofs.answer_text.Goals as goal
 
-pub returns-in-Report : goal.returns-in-Report
-returns-in-Report c = record { whole = text_report _ _ _ _ c.respond-given.ensures _ c.in-Report.is; short = c.respond-given.ensures.few }
+pub new-requires : goal.new-requires
+new-requires c = report_in _ _ _ _ (subst (Responded _ _ _ _) c.in-Ok.is c.respond.ensures)
 
-pub returns-in-Refused : goal.returns-in-Refused
-returns-in-Refused c = record {
-  whole = text_refused _ _ _ _ c.respond-given.ensures _
-      c.in-Refused.is _ _ c.write_refusal-length.ensures;
-  short = omega (arith, c.write_refusal-length.ensures.number, report_fits.refusal_longest c.in-Refused.why);
-}
+pub new-requires-in-Err : goal.new-requires-in-Err
+new-requires-in-Err c = refusal_in_text _ _ _ _ (subst (Responded _ _ _ _) c.in-Err.is c.respond.ensures) _ _ c.write_refusal-length.ensures
+
+pub returns-in-Ok-clause-whole : goal.returns-in-Ok-clause-whole
+returns-in-Ok-clause-whole c = c.new.ensures ∙ text_report _ _ _ _ (subst (Responded _ _ _ _) c.in-Ok.is c.respond.ensures)
+
+pub returns-in-Err-clause-whole : goal.returns-in-Err-clause-whole
+returns-in-Err-clause-whole c = c.new-in-Err.ensures ∙ text_refused _ _ _ _ (subst (Responded _ _ _ _) c.in-Err.is c.respond.ensures) _ _ c.write_refusal-length.ensures

@@ -1,10 +1,11 @@
 -- What `siting::siting_report` owes.
+use mathlib.Core.Path.{subst}
+use Rattle.siting.specs.Response.{Responded}
 use Rattle.siting.proofs.EntryLaws.{entry_report, entry_refused}
 use Rattle.siting.proofs.siting_report.Goals as goal
 
-pub returns-in-Report : goal.returns-in-Report
-returns-in-Report c = entry_report _ _ _ _ _ c.respond-given.ensures _ c.in-Report.is
+pub returns-in-Ok : goal.returns-in-Ok
+returns-in-Ok c = entry_report _ _ _ _ _ (subst (Responded _ _ _ _) c.in-Ok.is c.respond.ensures)
 
-pub returns-in-Refused : goal.returns-in-Refused
-returns-in-Refused c = entry_refused _ _ _ _ _ c.respond-given.ensures _ c.in-Refused.is _
-    c.number_of.ensures
+pub returns-in-Err : goal.returns-in-Err
+returns-in-Err c = entry_refused _ _ _ _ _ (subst (Responded _ _ _ _) c.in-Err.is c.respond.ensures) _ c.number_of.ensures
