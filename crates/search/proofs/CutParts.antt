@@ -1,52 +1,38 @@
 -- A cut cell as the code makes its parts: the rectangles, new corners and corner costs are those of document 01, and stay in range.
 -- Assumes nothing.
-use mathlib.Core.Path.{◌≡◌, refl, ap, ◌∙◌}
-use mathlib.Core.Bool.{Bool, true, false}
+use mathlib.Core.Path.{◌≡◌, refl, sym, ap, subst, ◌∙◌}
 use Prim.Native.Nat.{◌≤◌}
 use native.Mathlib.Omega.{arith}
 use lib.Dec.{T}
 use lib.IntN.{ℤ, nat_abs}
 use lib.Signed.{◌<ℤ◌}
+use Rattle.std.specs.Prelude.{Option, Some, IsSome, is_some}
 use Rattle.numbers.proofs.WordTests.{back}
-use Rattle.prepare.proofs.Coordinates.{near_back}
-use Rattle.problem.proofs.Coordinates.{spot_back}
+use Rattle.problem.proofs.Coordinates.{spot_back, near_places}
 use Rattle.numbers.proofs.Truth.{holds}
 use Rattle.numbers.proofs.Integer.{order, abs_range}
 use Rattle.query.specs.Place.{Place, Rect, corner, Axis, x_axis, y_axis, low_edge, high_edge}
 use Rattle.query.specs.Grid.{Grid}
-use Rattle.query.specs.Cut.{can_cut, cut_line, cut_before, cut_after, low_corner, high_corner}
+use Rattle.query.specs.Cut.{Line, can_cut, cut_line, cut_before, cut_after, low_corner, high_corner}
 use Rattle.query.specs.Range.{PlaceInRange, RectInRange}
 use Rattle.query.proofs.CutLaws.{cut_law}
+use Rattle.deck.specs.declared.Rect as Deck
+use Rattle.deck.specs.Rectangle.{rect_of, rect_record}
 use Rattle.deck.specs.Objects.{Pricing}
 use Rattle.reach.specs.Columns.{Ranged}
 use Rattle.pricing.specs.ObjectFigures.{cost_of}
-use Rattle.cuts.specs.CutRecord.{axis_of, is_x, cut_at, cut_record}
+use Rattle.cuts.specs.CutRecord.{axis_of, axis_record, cut_at, cut_record}
 use Rattle.cuts.specs.declared.Cut.{Cut}
-use Rattle.cuts.proofs.CutRecordLaws.{cut_record_cut}
+use Rattle.cuts.proofs.CutRecordLaws.{cut_record_found, cut_record_cut}
 use Rattle.slots.specs.declared.Entry.{Entry}
 use Rattle.slots.specs.declared.Costs.{Costs}
 use Rattle.problem.specs.declared.Spot.{Spot}
 use Rattle.problem.specs.ObjectProblem.{spot_of}
 use Rattle.search.specs.declared.halves.Halves.{Halves}
+use Rattle.search.specs.declared.halves.Part.{Part}
+use Rattle.search.specs.declared.halves.Part.TheVariants.{Before, Behind}
 use Rattle.search.specs.Corners.{corner_costs, entry_for}
-use Rattle.search.specs.CutCell.{first_costs_of, second_costs_of, halves_of}
-
--- ---- by axis
-pub axis_is : (axis : Axis) → axis_of (is_x axis) ≡ axis
-axis_is x_axis = refl
-axis_is y_axis = refl
-
-first_costs_are : (P : Pricing) (b : Bool) (v : ℤ) (r : Rect)
-    → first_costs_of b (corner_costs P r) (cost_of P (low_corner (axis_of b) v r)) (cost_of P (high_corner (axis_of b) v r))
-    ≡ corner_costs P (cut_before (axis_of b) v r)
-first_costs_are P true v r = refl
-first_costs_are P false v r = refl
-
-second_costs_are : (P : Pricing) (b : Bool) (v : ℤ) (r : Rect)
-    → second_costs_of b (corner_costs P r) (cost_of P (low_corner (axis_of b) v r)) (cost_of P (high_corner (axis_of b) v r))
-    ≡ corner_costs P (cut_after (axis_of b) v r)
-second_costs_are P true v r = refl
-second_costs_are P false v r = refl
+use Rattle.search.specs.CutCell.{cut_part, part_costs, halves_of, Cutting}
 
 -- ---- ranges
 middle_range : (lo v hi : ℤ) → nat_abs lo ≤ 20000 → nat_abs hi ≤ 20000 → lo <ℤ v → v <ℤ hi → nat_abs v ≤ 20000
@@ -81,26 +67,15 @@ parts_range y_axis v r h n lo hi =
       },
     )
 
--- ---- a cut that is the record of a grid's
-module _ (G : Grid) (r : Rect) (can : T (can_cut G r)) (cut : Cut) (e : cut ≡ cut_record G r) where
-  pub cut_is : cut ≡ cut_at (is_x (cut_line G r).axis) (cut_line G r).at
-  cut_is = e ∙ cut_record_cut G r (holds (can_cut G r) can)
+-- ---- the parts of a cell that is cut
+-- the costs of their corners, and where the new corners are
+part_costs_are : (P : Pricing) (part : Part) (axis : Axis) (v : ℤ) (r : Rect)
+    → part_costs part axis (corner_costs P r) (cost_of P (low_corner axis v r)) (cost_of P (high_corner axis v r)) ≡ corner_costs P (cut_part part axis v r)
+part_costs_are P Before x_axis v r = refl
+part_costs_are P Before y_axis v r = refl
+part_costs_are P Behind x_axis v r = refl
+part_costs_are P Behind y_axis v r = refl
 
-  module _ (h : Ranged r) where
-    at_line : nat_abs (cut_line G r).at ≤ 20000
-    at_line = let i = ((cut_law G r).cut_line_holds can).is_inside in line_range (cut_line G r).axis (cut_line G r).at r h.range i.above i.below
-
-    pub cut_range : nat_abs cut.at ≤ 20000
-    cut_range = rw cut_is at_line
-
-    -- both parts are in range
-    pub parts_ranged : Ranged (cut_before (axis_of cut.across) cut.at r) × Ranged (cut_after (axis_of cut.across) cut.at r)
-    parts_ranged =
-        let i = ((cut_law G r).cut_line_holds can).is_inside in
-        rw (cut_is, axis_is (cut_line G r).axis) (parts_range (cut_line G r).axis (cut_line G r).at r h at_line i.above i.below)
-
--- ---- the parts as the code makes them
--- the new corners are corners of the parts
 low_is_corner : (axis : Axis) (v : ℤ) (r : Rect) → corner (cut_after axis v r) ≡ low_corner axis v r
 low_is_corner x_axis v r = refl
 low_is_corner y_axis v r = refl
@@ -110,36 +85,97 @@ high_is_corner : (axis : Axis) (v : ℤ) (r : Rect)
 high_is_corner x_axis v r = refl
 high_is_corner y_axis v r = refl
 
-module _ (P : Pricing) (r : Rect) (k : Costs) (costs : k ≡ corner_costs P r) (cut : Cut) (low high : Spot)
-    (low_is : low ≡ spot_of P (low_corner (axis_of cut.across) cut.at r)) (high_is : high ≡ spot_of P (high_corner (axis_of cut.across) cut.at r)) where
-  pub first_costs_is : (l : Costs) → l ≡ first_costs_of cut.across k low.cost high.cost → l ≡ corner_costs P (cut_before (axis_of cut.across) cut.at r)
-  first_costs_is l e = (rw (costs, low_is, high_is) at e) ∙ first_costs_are P cut.across cut.at r
+axis_back : (axis : Axis) → axis_of (axis_record axis) ≡ axis
+axis_back x_axis = refl
+axis_back y_axis = refl
 
-  pub second_costs_is : (l : Costs) → l ≡ second_costs_of cut.across k low.cost high.cost → l ≡ corner_costs P (cut_after (axis_of cut.across) cut.at r)
-  second_costs_is l e = (rw (costs, low_is, high_is) at e) ∙ second_costs_are P cut.across cut.at r
+-- both are in range
+pub halved_ranged : (G : Grid) (r : Rect) → T (can_cut G r) → Ranged r → (part : Part) → Ranged (cut_part part (cut_line G r).axis (cut_line G r).at r)
+halved_ranged G r can h = go
+  where
+    line : Line
+    line = cut_line G r
 
-  pub halves_are : (first second : Entry) → first ≡ entry_for P (cut_before (axis_of cut.across) cut.at r)
-      → second ≡ entry_for P (cut_after (axis_of cut.across) cut.at r)
-      → ◌≡◌ {A = Halves} (record { low = low; high = high; first = first; second = second }) (halves_of P cut r)
+    both : Ranged (cut_before line.axis line.at r) × Ranged (cut_after line.axis line.at r)
+    both =
+        let i = ((cut_law G r).cut_line_holds can).is_inside in
+        parts_range line.axis line.at r h (line_range line.axis line.at r h.range i.above i.below) i.above i.below
+
+    go : (part : Part) → Ranged (cut_part part line.axis line.at r)
+    go Before = both.0
+    go Behind = both.1
+
+-- ---- as the code makes them
+module _ (P : Pricing) (G : Grid) (r : Rect) (k : Costs) (h : Cutting P G r k) where
+  abbrev line : Line
+  line = cut_line G r
+
+  -- a part, and whether a rectangle of the code is one
+  abbrev part_of : Part → Rect
+  part_of part = cut_part part line.axis line.at r
+
+  abbrev IsPart : Part → Deck.Rect → Type 0
+  IsPart part p = rect_of p ≡ part_of part
+
+  pub part_ranged : (part : Part) (p : Deck.Rect) → IsPart part p → Ranged (rect_of p)
+  part_ranged part p e = subst Ranged (sym e) (halved_ranged G r h.can_cut_lem h.ranged part)
+
+  pub cut_there : (o : Option Cut) → o ≡ cut_record G r → IsSome o
+  cut_there o e = ap is_some e ∙ cut_record_found G r ∙ holds (can_cut G r) h.can_cut_lem
+
+  -- the parts at the cut that is found
+  module _ (o : Option Cut) (found : o ≡ cut_record G r) (cut : Cut) (is : o ≡ Some cut) where
+    cut_is : cut ≡ cut_at (axis_record line.axis) line.at
+    cut_is =
+        let same : Some cut ≡ Some (cut_at (axis_record line.axis) line.at) = sym is ∙ found ∙ cut_record_cut G r (holds (can_cut G r) h.can_cut_lem) in
+        cc
+
+    axis_is : axis_of cut.axis ≡ line.axis
+    axis_is = ap (λ (c : Cut). axis_of c.axis) cut_is ∙ axis_back line.axis
+
+    pub part_is : (part : Part) (p : Deck.Rect) → p ≡ rect_record (cut_part part (axis_of cut.axis) cut.at r) → IsPart part p
+    part_is part p e = ap rect_of e ∙ (λ i. cut_part part (axis_is i) (cut_is i).at r)
+
+    pub costs_are : (low high : Spot) → low ≡ spot_of P (low_corner line.axis line.at r) → high ≡ spot_of P (high_corner line.axis line.at r)
+        → (part : Part) (l : Costs) → l ≡ part_costs part (axis_of cut.axis) k low.cost high.cost
+        → (p : Deck.Rect) → IsPart part p → l ≡ corner_costs P (rect_of p)
+    costs_are low high f g part l e p is_part =
+        e
+        ∙ (λ i. part_costs part (axis_is i) (h.costs i) (f i).cost (g i).cost)
+        ∙ part_costs_are P part line.axis line.at r
+        ∙ ap (corner_costs P) (sym is_part)
+
+  -- a corner of a part, priced, is a new corner of the cut
+  pub low_place : (p : Deck.Rect) → IsPart Behind p → PlaceInRange (record { x = back p.xlo; y = back p.ylo })
+  low_place p e = let range = (part_ranged Behind p e).range.low_corner_law in near_places p.xlo p.ylo range.x_range range.y_range
+
+  pub new_low : (p : Deck.Rect) → IsPart Behind p → (spot : Spot) → spot ≡ spot_of P (record { x = back p.xlo; y = back p.ylo })
+      → spot ≡ spot_of P (low_corner line.axis line.at r)
+  new_low p e spot q =
+      let range = (part_ranged Behind p e).range.low_corner_law in
+      spot_back P p.xlo p.ylo spot range.x_range range.y_range q
+      ∙ ap (λ (s : Rect). spot_of P (corner s)) e
+      ∙ ap (spot_of P) (low_is_corner line.axis line.at r)
+
+  pub high_place : (p : Deck.Rect) → IsPart Before p → PlaceInRange (record { x = back p.xhi; y = back p.yhi })
+  high_place p e = let range = (part_ranged Before p e).range.high_corner_law in near_places p.xhi p.yhi range.x_range range.y_range
+
+  pub new_high : (p : Deck.Rect) → IsPart Before p → (spot : Spot) → spot ≡ spot_of P (record { x = back p.xhi; y = back p.yhi })
+      → spot ≡ spot_of P (high_corner line.axis line.at r)
+  new_high p e spot q =
+      let range = (part_ranged Before p e).range.high_corner_law in
+      spot_back P p.xhi p.yhi spot range.x_range range.y_range q
+      ∙ ap (λ (s : Rect). spot_of P (record { x = s.xhi; y = s.yhi })) e
+      ∙ ap (spot_of P) (high_is_corner line.axis line.at r)
+
+  pub halves_are : (low high : Spot) → low ≡ spot_of P (low_corner line.axis line.at r) → high ≡ spot_of P (high_corner line.axis line.at r)
+      → (before behind : Deck.Rect) → IsPart Before before → IsPart Behind behind → (first second : Entry) → first ≡ entry_for P (rect_of before)
+      → second ≡ entry_for P (rect_of behind)
+      → ◌≡◌ {A = Halves} (record { low = low; high = high; first = first; second = second }) (halves_of P line r)
   unfolding halves_of
-  halves_are first second a b = λ i. record { low = low_is i; high = high_is i; first = a i; second = b i }
-
--- a corner of a part, priced, is a new corner of the cut
-module _ (P : Pricing) (r : Rect) (cut : Cut) (part : Rect) where
-  pub new_low : part ≡ cut_after (axis_of cut.across) cut.at r → RectInRange part → (spot : Spot)
-      → spot ≡ spot_of P (record { x = back part.xlo; y = back part.ylo }) → spot ≡ spot_of P (low_corner (axis_of cut.across) cut.at r)
-  new_low e h spot q =
-      spot_back P part.xlo part.ylo spot h.low_corner_law.x_range h.low_corner_law.y_range q
-      ∙ ap (λ (p : Rect). spot_of P (corner p)) e
-      ∙ ap (spot_of P) (low_is_corner (axis_of cut.across) cut.at r)
-
-  pub new_high : part ≡ cut_before (axis_of cut.across) cut.at r → RectInRange part → (spot : Spot)
-      → spot ≡ spot_of P (record { x = back part.xhi; y = back part.yhi }) → spot ≡ spot_of P (high_corner (axis_of cut.across) cut.at r)
-  new_high e h spot q =
-      spot_back P part.xhi part.yhi spot h.high_corner_law.x_range h.high_corner_law.y_range q
-      ∙ ap (λ (p : Rect). spot_of P (record { x = p.xhi; y = p.yhi })) e
-      ∙ ap (spot_of P) (high_is_corner (axis_of cut.across) cut.at r)
-
--- a place of numbers that were read back is in range
-pub back_in_range : (x y : ℤ) → nat_abs x ≤ 20000 → nat_abs y ≤ 20000 → PlaceInRange (record { x = back x; y = back y })
-back_in_range x y h g = rw (near_back x h, near_back y g) (record { x_range = h; y_range = g })
+  halves_are low high f g before behind a b first second c d = λ i. record {
+    low = f i;
+    high = g i;
+    first = (c ∙ ap (entry_for P) a) i;
+    second = (d ∙ ap (entry_for P) b) i;
+  }

@@ -24,7 +24,7 @@ use Rattle.slots.specs.declared.Entry.{Entry}
 use Rattle.slots.specs.Slot.{entry_cell}
 use Rattle.cells.specs.Entries.{entry_before}
 use Rattle.cells.specs.Live.{Live, with_entry}
-use Rattle.search.specs.Corners.{corner_costs, improved, best_corner}
+use Rattle.search.specs.Corners.{priced_corners, improved, best_corner}
 use Rattle.search.specs.LiveEntries.{with_live, Added}
 use Rattle.problem.specs.ObjectProblem.{object_rules, object_problem, priced_of, spot_of}
 use Rattle.cells.proofs.SpaceLaws.{keep_insert_in, keep_insert_out, keep_agree, cells_insert}
@@ -132,7 +132,7 @@ module _ (P : Pricing) (G : Grid) where
       ∙ best_more (improved best (spot_of P p)) q []
       ∙ best_of_nil (object_rules P G) (priced_of (improved (improved best (spot_of P p)) (spot_of P q)))
 
-  pub start_best_lem : (area : Rect) → priced_of (best_corner area (corner_costs P area)) ≡ start_best (object_problem P G area)
+  pub start_best_lem : (area : Rect) → priced_of (best_corner (priced_corners P area)) ≡ start_best (object_problem P G area)
   unfolding start_best other_corners best_corner
   start_best_lem area =
       let c₁ = spot_of P (corner area) in

@@ -23,28 +23,29 @@ use Rattle.query.specs.Range.{RectInRange, cost_limit}
 use Rattle.query.specs.Search.{Search, is_live, cell_of, best_of, start_best, start, cells_after, best_after, round_on, round}
 use Rattle.query.proofs.CellsAfter.{after_is}
 use Rattle.deck.specs.Objects.{Pricing}
-use Rattle.deck.specs.ObjectColumns.{pricing_in}
-use Rattle.reach.specs.Columns.{Priceable, Ranged}
+use Rattle.reach.specs.Columns.{Ranged}
+use Rattle.reach.specs.Held.{pricing_of_objects}
+use Rattle.reach.specs.declared.columns.Objects.{Objects}
 use Rattle.pricing.proofs.TurnLaws.{cost_most}
-use Rattle.cuts.specs.CutRecord.{axis_of, is_x, cut_at, cut_record}
-use Rattle.cuts.specs.declared.Cut.{Cut}
 use Rattle.slots.specs.declared.Cell.{Cell}
 use Rattle.slots.specs.declared.Costs.{Costs}
 use Rattle.problem.specs.declared.Spot.{Spot}
 use Rattle.search.specs.declared.halves.Halves.{Halves}
+use Rattle.search.specs.declared.halves.Part.TheVariants.{Before, Behind}
+use Rattle.search.specs.declared.run.Corners.{Corners}
 use Rattle.search.specs.declared.run.Running.{Running}
 use Rattle.slots.specs.declared.Entry.{Entry}
 use Rattle.slots.specs.Slot.{query_cell, entry_cell}
 use Rattle.cells.specs.Steps.{EntriesInOrder}
 use Rattle.cells.specs.Live.{Live, none_live, comes_before, leading}
-use Rattle.search.specs.Corners.{corner_costs, entry_for, improved, best_corner}
+use Rattle.search.specs.Corners.{priced_corners, corner_costs, entry_for, improved, best_corner}
 use Rattle.search.specs.CutCell.{halves_of, Cutting}
 use Rattle.search.specs.LiveEntries.{with_live, Added, Costed}
 use Rattle.search.specs.Running.{Takeable, search_of, Holds}
 use Rattle.problem.specs.ObjectProblem.{object_rules, object_problem, priced_of, rect_in}
 use Rattle.cells.proofs.SpaceLaws.{cells_keep, cells_in_order}
 use Rattle.search.proofs.StepLaws.{improved_limit}
-use Rattle.search.proofs.CutParts.{axis_is, cut_is, parts_ranged}
+use Rattle.search.proofs.CutParts.{halved_ranged}
 use Rattle.search.proofs.LiveLaws.{with_cell, keep_two, map_with, keep_live, with_cases, single, best_two, start_best_lem}
 
 -- ---- a start
@@ -57,10 +58,10 @@ start_is : (Q : Problem)
 unfolding start
 start_is Q = refl
 
-pub started : (P : Pricing) (G : Grid) (e : Entry) (area : Rect) (k : Costs) (best : Spot) (l : Live) → k ≡ corner_costs P area
-    → best ≡ best_corner area k → e ≡ entry_for P area → Added G (priced_of best) e none_live l
+pub started : (P : Pricing) (G : Grid) (e : Entry) (area : Rect) (k : Corners) (best : Spot) (l : Live) → k ≡ priced_corners P area
+    → best ≡ best_corner k → e ≡ entry_for P area → Added G (priced_of best) e none_live l
     → Holds P (start (object_problem P G area)) 1000 l (record { best = best; cuts = 0 })
-started P G e area k best l costs best-is entry added = record {
+started P G e area k best l corners best-is entry added = record {
   is = is;
   costed = record { each = costed };
   low_free = omega (arith, added.by_one);
@@ -70,7 +71,7 @@ started P G e area k best l costs best-is entry added = record {
     Q = object_problem P G area
 
     bests : priced_of best ≡ start_best Q
-    bests = ap priced_of (best-is ∙ ap (best_corner area) costs) ∙ start_best_lem P G area
+    bests = ap priced_of (best-is ∙ ap best_corner corners) ∙ start_best_lem P G area
 
     cells : map entry_cell l.entries ≡ keep (is_live G (start_best Q)) (cell_of Q.rules area ∷ [])
     cells =
@@ -108,11 +109,11 @@ module _ (P : Pricing) (G : Grid) (c : Cell) (can : T (can_cut G (rect_in c))) w
   abbrev R : Rules
   R = object_rules P G
 
-  abbrev halves : Halves
-  halves = halves_of P (cut_record G (rect_in c)) (rect_in c)
-
   abbrev line : Line
   line = cut_line G (rect_in c)
+
+  abbrev halves : Halves
+  halves = halves_of P line (rect_in c)
 
   abbrev first : Query.Cell
   first = cell_of R (cut_before line.axis line.at (rect_in c))
@@ -120,16 +121,13 @@ module _ (P : Pricing) (G : Grid) (c : Cell) (can : T (can_cut G (rect_in c))) w
   abbrev second : Query.Cell
   second = cell_of R (cut_after line.axis line.at (rect_in c))
 
-  cut : cut_record G (rect_in c) ≡ cut_at (is_x line.axis) line.at
-  cut = cut_is G (rect_in c) can (cut_record G (rect_in c)) refl
-
   first_cell : entry_cell halves.first ≡ first
   unfolding halves_of
-  first_cell = rw (cut, axis_is line.axis)
+  first_cell = refl
 
   second_cell : entry_cell halves.second ≡ second
   unfolding halves_of
-  second_cell = rw (cut, axis_is line.axis)
+  second_cell = refl
 
   first_costed : halves.first.costs ≡ corner_costs P (rect_in halves.first.cell)
   unfolding halves_of
@@ -146,7 +144,7 @@ module _ (P : Pricing) (G : Grid) (c : Cell) (can : T (can_cut G (rect_in c))) w
   best_after_lem : (best : Spot) → priced_of (best_with best halves) ≡ best_after R (priced_of best) (query_cell c)
   unfolding halves_of
   best_after_lem best =
-      rw (best_after_is (priced_of best), cut, axis_is line.axis)
+      rw (best_after_is (priced_of best))
       (sym (best_two P G best (low_corner line.axis line.at (rect_in c)) (high_corner line.axis line.at (rect_in c))))
 
   module _ (k : Costs) (rest : List Entry) (best : Spot) (order : EntriesInOrder rest)
@@ -201,15 +199,15 @@ module _ (P : Pricing) (G : Grid) (c : Cell) (can : T (can_cut G (rect_in c))) w
       }
 
 -- ---- what the steps of a round ask of its cut
-pub halves_limit : {columns : List ℤ} {n : ℕ} → Priceable columns n → (hv : Halves) (cut : Cut) (r : Rect) → hv ≡ halves_of (pricing_in columns n) cut r
+pub halves_limit : (o : Objects) (hv : Halves) (line : Line) (r : Rect) → hv ≡ halves_of (pricing_of_objects o) line r
     → (hv.low.cost ≤ cost_limit) × (hv.high.cost ≤ cost_limit)
 unfolding halves_of
-halves_limit h hv cut r e = rw e (cost_most h (low_corner (axis_of cut.across) cut.at r), cost_most h (high_corner (axis_of cut.across) cut.at r))
+halves_limit o hv line r e = rw e (cost_most o.priceable (low_corner line.axis line.at r), cost_most o.priceable (high_corner line.axis line.at r))
 
-pub halves_ranged : (P : Pricing) (hv : Halves) (G : Grid) (r : Rect) → T (can_cut G r) → Ranged r → hv ≡ halves_of P (cut_record G r) r
+pub halves_ranged : (P : Pricing) (hv : Halves) (G : Grid) (r : Rect) → T (can_cut G r) → Ranged r → hv ≡ halves_of P (cut_line G r) r
     → RectInRange (rect_in hv.first.cell) × RectInRange (rect_in hv.second.cell)
 unfolding halves_of
-halves_ranged P hv G r can h e = let both = parts_ranged G r can (cut_record G r) refl h in rw e (both.0.range, both.1.range)
+halves_ranged P hv G r can h e = let part = halved_ranged G r can h in rw e ((part Before).range, (part Behind).range)
 
 pub limit_of : (r best p : Spot) → r ≡ improved best p → best.cost ≤ cost_limit → p.cost ≤ cost_limit → r.cost ≤ cost_limit
 limit_of r best p e h g = rw e (improved_limit best p cost_limit h g)
@@ -227,7 +225,7 @@ module _ (P : Pricing) (G : Grid) (e : Entry) (l : Live) (st : Running) (h : Tak
   cutting = record { ranged = h.ranged; can_cut_lem = h.can_cut_lem e (Memᴰ.head refl); costs = h.costed.each e (Memᴰ.head refl) }
 
   abbrev halved : Halves
-  halved = halves_of P (cut_record G (rect_in e.cell)) (rect_in e.cell)
+  halved = halves_of P (cut_line G (rect_in e.cell)) (rect_in e.cell)
 
   abbrev new_best : Spot
   new_best = best_with st.best halved

@@ -11,7 +11,6 @@ use native.Mathlib.Numerals.{add-one}
 use native.Mathlib.Omega.{arith}
 use lib.Dec.{T}
 use lib.IntN.{ℤ, pos}
-use lib.ListN.{length, length-map}
 use lib.Signed.{mag, lt_z, ◌≤ℤ◌}
 use Rattle.std.specs.Prelude.{None, Some}
 use Rattle.std.specs.Int.{int_min}
@@ -24,11 +23,11 @@ use Rattle.query.specs.Order as Query
 use Rattle.query.specs.Order.{precedes, priced_key, cell_key, cell_before}
 use Rattle.query.specs.Search.{Search, is_live, start, round_on, round, run}
 use Rattle.query.specs.Figures as Figures
-use Rattle.query.specs.Space.{all_numbers}
+use Rattle.query.specs.Range.{cost_limit}
 use Rattle.query.proofs.SearchLaws.{run_in_order, partition_law}
 use Rattle.query.proofs.Counts.{cuts_most}
-use Rattle.query.proofs.SpaceLaws.{all_numbers_length}
 use Rattle.deck.specs.Objects.{Pricing}
+use Rattle.reach.specs.Columns.{Ranged}
 use Rattle.slots.specs.declared.Entry.{Entry}
 use Rattle.search.specs.declared.run.Running.{Running}
 use Rattle.search.specs.declared.run.Found.{Found}
@@ -36,7 +35,7 @@ use Rattle.slots.specs.Slot.{entry_cell}
 use Rattle.cells.specs.Steps.{EntriesInOrder}
 use Rattle.cells.specs.Live.{Live, first_of, rest_of, without_first}
 use Rattle.search.specs.LiveEntries.{Costed}
-use Rattle.search.specs.Running.{search_of, Takeable, Holds, Steady}
+use Rattle.search.specs.Running.{search_of, Takeable, Holds}
 use Rattle.search.specs.Answer.{Answerable, is_done, found_of}
 use Rattle.problem.specs.ObjectProblem.{priced_of}
 use Rattle.numbers.proofs.WordTests.{back, fitting}
@@ -108,6 +107,11 @@ stays Q k (suc m) h e =
     (λ (l : k < suc m). ap (round Q.rules) (stays Q k m (omega arith) e) ∙ ap (round_on Q.rules (run Q k)) e) (eq-or-lt_of_le h)
 
 -- ---- live entries and a state that hold a run
+-- what is known of the cells and the best place of every run
+pub record Steady (Q : Problem) : Type 0 where
+  pub ranged : (n : ℕ) (c : Query.Cell) → Memᴰ c (run Q n).live → Ranged c.rect
+  pub cost_limit_lem : (n : ℕ) → (run Q n).best.cost ≤ cost_limit
+
 module _ (Q : Problem) (P : Pricing) (n lowest : ℕ) (l : Live) (st : Running) (h : Holds P (run Q n) lowest l st) where
   pub cells_are : map entry_cell l.entries ≡ (run Q n).live
   cells_are = ap (λ (x : Search). x.live) (sym (search_is l.entries st) ∙ h.is)
@@ -134,9 +138,6 @@ module _ (Q : Problem) (P : Pricing) (n lowest : ℕ) (l : Live) (st : Running) 
 
   pub finished : (m : ℕ) → n ≡ m → Holds P (run Q m) 0 l st
   finished m e = holds_as h (ap (run Q) e) (omega arith)
-
-  pub cell_count : 5 * length l.entries ≡ length (all_numbers (run Q n).live)
-  cell_count = omega (arith, all_numbers_length (run Q n).live, ap length (sym cells_are), length-map l.entries entry_cell)
 
   ordered : EntriesInOrder l.entries
   ordered = (cells_in_order l.entries).0 (subst (Pairwise (λ c d. T (not (cell_before d c)))) (sym cells_are) (run_in_order Q n))
@@ -252,16 +253,7 @@ module _ (l : Live) (st : Running) (h : Answerable l st) where
   done_of [] = refl
   done_of (x ∷ es) = refl
 
-  pub answer_is : (d : Bool) (low' : ℤ) → d ≡ not (non_empty l.entries) → mag st.best.x < 2 ^ 63 → mag st.best.y < 2 ^ 63 → mag low' < 2 ^ 63 → low' ≡ low
-      → ◌≡◌ {A = Found}
-      (record { done = d; x = back st.best.x; y = back st.best.y; high = st.best.cost; low = back low'; cuts = st.cuts })
-      (found_of (search_of l.entries st))
+  pub answer_is : (d : Bool) (low' : ℤ) → d ≡ not (non_empty l.entries) → mag low' < 2 ^ 63 → low' ≡ low
+      → ◌≡◌ {A = Found} (record { done = d; best = st.best; low = back low'; cuts = st.cuts }) (found_of (search_of l.entries st))
   unfolding found_of search_of
-  answer_is d low' t fx fy fl e = λ i. record {
-    done = (t ∙ done_of l.entries) i;
-    x = fitting st.best.x fx i;
-    y = fitting st.best.y fy i;
-    high = st.best.cost;
-    low = (fitting low' fl ∙ e) i;
-    cuts = st.cuts;
-  }
+  answer_is d low' t fl e = λ i. record { done = (t ∙ done_of l.entries) i; best = st.best; low = (fitting low' fl ∙ e) i; cuts = st.cuts }

@@ -1,30 +1,33 @@
 -- Places, cells and their figures as the steps of the search compute them in signed 64-bit words.
 -- Assumes nothing.
-use mathlib.Core.Path.{◌≡◌, sym, ◌∙◌}
+use mathlib.Core.Path.{◌≡◌, sym, ap, ◌∙◌}
 use mathlib.Core.Bool.{Bool, true, false, cond}
-use mathlib.Core.List.{List}
 use Prim.Native.Nat.{ℕ, ◌+◌, ◌*◌, ◌^◌, ◌≤◌, ◌<◌, max}
 use lib.IntN.{ℤ, pos, ◌-ℤ◌}
 use lib.Signed.{mag}
 use Rattle.numbers.specs.Integer.{half_up}
 use Rattle.numbers.proofs.WordTests.{back, fitting}
 use Rattle.query.specs.Place.{Rect}
+use Rattle.query.specs.Deck as Query
 use Rattle.query.specs.Bound.{span}
 use Rattle.query.specs.Range.{RectInRange, cost_limit, load_limit, travel_limit}
 use Rattle.query.specs.Order.{Key, precedes, priced_key, better}
 use Rattle.deck.specs.declared.Rect as Deck
 use Rattle.deck.specs.Rectangle.{rect_of}
 use Rattle.deck.specs.Objects.{Pricing}
-use Rattle.deck.specs.ObjectColumns.{pricing_in}
-use Rattle.reach.specs.Columns.{Priceable}
+use Rattle.deck.specs.declared.AxisCosts.{AxisCosts}
+use Rattle.deck.specs.DeckOf.{held_axis}
+use Rattle.deck.specs.ObjectColumns.{axis_in}
+use Rattle.reach.specs.Held.{pricing_of_objects, AxisOf}
+use Rattle.reach.specs.declared.columns.Objects.{Objects}
 use Rattle.pricing.specs.ObjectFigures.{load_of, BoundInRange}
 use Rattle.pricing.proofs.TurnLaws.{cost_most}
 use Rattle.slots.specs.declared.Entry.{Entry}
 use Rattle.slots.specs.declared.Costs.{Costs}
-use Rattle.prepare.proofs.Coordinates.{near_back}
 use Rattle.problem.specs.declared.Spot.{Spot}
-use Rattle.problem.specs.ObjectProblem.{priced_of, spot_of, rect_in, bound_of, spot_at}
-use Rattle.search.specs.Corners.{corner_costs, entry_for, CostsInRange, improved, best_corner}
+use Rattle.problem.specs.ObjectProblem.{priced_of, rect_in, bound_of}
+use Rattle.search.specs.declared.run.Corners.{Corners}
+use Rattle.search.specs.Corners.{priced_corners, costs_of, corner_costs, entry_for, CostsInRange, improved, best_corner}
 
 -- ---- the better of two
 pub spot_better : (p best : Spot) (r : Bool) (k l : Key) → k ≡ priced_key (priced_of p) → l ≡ priced_key (priced_of best)
@@ -49,8 +52,17 @@ improved_limit best p k h g = go (better (priced_of p) (priced_of best))
     go false = h
 
 -- ---- the bound of a cell
-pub costs_limit : {columns : List ℤ} {n : ℕ} → Priceable columns n → (r : Rect) (k : Costs) → k ≡ corner_costs (pricing_in columns n) r → CostsInRange k
-costs_limit h r k e = rw e (record { corner_00 = cost_most h _; corner_01 = cost_most h _; corner_10 = cost_most h _; corner_11 = cost_most h _ })
+pub costs_limit : (o : Objects) (r : Rect) (k : Costs) → k ≡ corner_costs (pricing_of_objects o) r → CostsInRange k
+costs_limit o r k e =
+    rw e (record {
+      corner_00 = cost_most o.priceable _;
+      corner_01 = cost_most o.priceable _;
+      corner_10 = cost_most o.priceable _;
+      corner_11 = cost_most o.priceable _;
+    })
+
+pub corners_limit : (o : Objects) (r : Rect) (k : Corners) → k ≡ priced_corners (pricing_of_objects o) r → CostsInRange (costs_of k)
+corners_limit o r k e = costs_limit o r (costs_of k) (ap costs_of e)
 
 pub bound_range : {k : Costs} {s l : ℕ} → CostsInRange k → s ≤ travel_limit → l ≤ load_limit → BoundInRange k.c00 k.c01 k.c10 k.c11 s l
 bound_range h g f = record {
@@ -62,52 +74,32 @@ bound_range h g f = record {
   load_limit_lem = f;
 }
 
-pub bound_is : (P : Pricing) (r : Rect) (k : Costs) (s l : ℕ) (b : ℤ) → k ≡ corner_costs P r → s ≡ span P.axis r → l ≡ load_of P r
-    → b ≡ half_up (pos (max (k.c00 + k.c11) (k.c01 + k.c10)) -ℤ pos (s * l)) → b ≡ bound_of P r
+pub bound_is : (o : Objects) (axis : AxisCosts) (r : Rect) (k : Costs) (s l : ℕ) (b : ℤ) → k ≡ corner_costs (pricing_of_objects o) r
+    → AxisOf (axis_in o.columns) axis → s ≡ span (held_axis axis) r → l ≡ load_of (pricing_of_objects o) r
+    → b ≡ half_up (pos (max (k.c00 + k.c11) (k.c01 + k.c10)) -ℤ pos (s * l)) → b ≡ bound_of (pricing_of_objects o) r
 unfolding bound_of
-bound_is P r k s l b costs e f g = rw (costs, e, f) at g
+bound_is o axis r k s l b costs held e f g = let same : s ≡ span (axis_in o.columns) r = e ∙ ap (λ (a : Query.AxisCosts). span a r) held.is in rw (costs, same, f) at g
 
 pub entry_back : (P : Pricing) (r : Deck.Rect) (b : ℤ) → mag b < 2 ^ 63 → b ≡ bound_of P (rect_of r)
     → (k : Costs) → k ≡ corner_costs P (rect_of r) → ◌≡◌ {A = Entry} (record { cell = record { rect = r; bound = back b }; costs = k }) (entry_for P (rect_of r))
 entry_back P r b f e k costs = λ i. record { cell = record { rect = r; bound = (fitting b f ∙ e) i }; costs = costs i }
 
--- ---- the corners of a cell
-pub cost_of_lem : (r : Spot) (x y : ℤ) {cost k : ℕ} → r ≡ spot_at x y cost → cost ≤ k → r.cost ≤ k
-cost_of_lem r x y e h = rw e h
+-- ---- the best of four
+module _ (k : Corners) (h : CostsInRange (costs_of k)) where
+  pub best_two_limit : (improved k.c00 k.c01).cost ≤ cost_limit
+  best_two_limit = improved_limit k.c00 k.c01 cost_limit h.corner_00 h.corner_01
 
-pub corner_costs_lem : (P : Pricing) (r : Rect) → RectInRange r → (a b c d : Spot) → a ≡ spot_of P (record { x = back r.xlo; y = back r.ylo })
-    → b ≡ spot_of P (record { x = back r.xlo; y = back r.yhi }) → c ≡ spot_of P (record { x = back r.xhi; y = back r.ylo })
-    → d ≡ spot_of P (record { x = back r.xhi; y = back r.yhi })
-    → ◌≡◌ {A = Costs} (record { c00 = a.cost; c01 = b.cost; c10 = c.cost; c11 = d.cost }) (corner_costs P r)
-corner_costs_lem P r h a b c d ea eb ec ed = rw (
-  ea,
-  eb,
-  ec,
-  ed,
-  near_back r.xlo h.low_corner_law.x_range,
-  near_back r.ylo h.low_corner_law.y_range,
-  near_back r.xhi h.high_corner_law.x_range,
-  near_back r.yhi h.high_corner_law.y_range,
-)
+  pub best_three_limit : (improved (improved k.c00 k.c01) k.c10).cost ≤ cost_limit
+  best_three_limit = improved_limit (improved k.c00 k.c01) k.c10 cost_limit best_two_limit h.corner_10
 
-pub best_corner_is : (r : Rect) (k : Costs) → mag r.xlo < 2 ^ 63 → mag r.ylo < 2 ^ 63 → mag r.xhi < 2 ^ 63 → mag r.yhi < 2 ^ 63
-    → (p₀₀ p₀₁ p₁₀ p₁₁ one two three : Spot) → p₀₀ ≡ spot_at (back r.xlo) (back r.ylo) k.c00 → p₀₁ ≡ spot_at (back r.xlo) (back r.yhi) k.c01
-    → p₁₀ ≡ spot_at (back r.xhi) (back r.ylo) k.c10 → p₁₁ ≡ spot_at (back r.xhi) (back r.yhi) k.c11
-    → one ≡ improved p₀₀ p₀₁ → two ≡ improved one p₁₀ → three ≡ improved two p₁₁ → three ≡ best_corner r k
+  pub best_limit : (best_corner k).cost ≤ cost_limit
+  unfolding best_corner
+  best_limit = improved_limit (improved (improved k.c00 k.c01) k.c10) k.c11 cost_limit best_three_limit h.corner_11
+
+pub best_corner_is : (k : Corners) (one two three : Spot) → one ≡ improved k.c00 k.c01 → two ≡ improved one k.c10 → three ≡ improved two k.c11 → three ≡ best_corner k
 unfolding best_corner
-best_corner_is r k f₀ f₁ f₂ f₃ p₀₀ p₀₁ p₁₀ p₁₁ one two three e₀₀ e₀₁ e₁₀ e₁₁ a b d = rw
-    (d, b, a, e₀₀, e₀₁, e₁₀, e₁₁, fitting r.xlo f₀, fitting r.ylo f₁, fitting r.xhi f₂, fitting r.yhi f₃)
+best_corner_is k one two three a b d = rw (d, b, a)
 
 -- ---- what a start asks of the area's cell
-pub best_limit : (r : Rect) (k : Costs) (best : Spot) → CostsInRange k → best ≡ best_corner r k → best.cost ≤ cost_limit
-unfolding best_corner
-best_limit r k best h e =
-    let p₀₀ = spot_at r.xlo r.ylo k.c00 in
-    let one = improved p₀₀ (spot_at r.xlo r.yhi k.c01) in
-    let two = improved one (spot_at r.xhi r.ylo k.c10) in
-    let up-to-one = improved_limit p₀₀ (spot_at r.xlo r.yhi k.c01) cost_limit h.corner_00 h.corner_01 in
-    let up-to-two = improved_limit one (spot_at r.xhi r.ylo k.c10) cost_limit up-to-one h.corner_10 in
-    rw e (improved_limit two (spot_at r.xhi r.yhi k.c11) cost_limit up-to-two h.corner_11)
-
 pub entry_range : (P : Pricing) (r : Rect) (e : Entry) → e ≡ entry_for P r → RectInRange r → RectInRange (rect_in e.cell)
 entry_range P r e q h = rw q h

@@ -1,15 +1,15 @@
--- What a search answers at its end, and the room that it asks for.
+-- What a search answers at its end.
 -- Assumes nothing.
-use Rattle.std.specs.Prelude.{ℕ, ◌≤◌, ◌≡◌, Bool, true, false, List, [], ◌∷◌, ℤ, pos, length}
-use Rattle.numbers.specs.Padded.{padded}
+use Rattle.std.specs.Prelude.{ℕ, ◌≤◌, ◌≡◌, Bool, true, false, List, [], ◌∷◌, map}
 use Rattle.query.specs.Problem.{Problem}
 use Rattle.query.specs.Order as Query
 use Rattle.query.specs.Search.{Search, run}
 use Rattle.query.specs.Figures as Figures
-use Rattle.query.specs.Space.{all_numbers}
-use Rattle.query.specs.Range.{cost_limit, rounds_limit}
+use Rattle.query.specs.Range.{cost_limit}
+use Rattle.problem.specs.ObjectProblem.{spot_at}
 use Rattle.search.specs.declared.run.Running.{Running}
 use Rattle.search.specs.declared.run.Found.{Found}
+use Rattle.slots.specs.Slot.{entry_cell}
 use Rattle.cells.specs.Live.{Live}
 use Rattle.cells.specs.Steps.{EntriesInOrder}
 
@@ -26,19 +26,12 @@ unfoldable pub found_of : Search → Found
 unfolding Figures.low
 found_of s = record {
   done = is_done s.live;
-  x = s.best.at.x;
-  y = s.best.at.y;
-  high = Figures.high s;
+  best = spot_at s.best.at.x s.best.at.y (Figures.high s);
   low = Figures.low s;
   cuts = s.cuts;
 }
 
--- rounds of a job, and room for the cells that are live after them
-pub record Room (Q : Problem) (rounds lent : ℕ) : Type 0 where
-  pub rounds_limit_lem : rounds ≤ rounds_limit
-  pub room : length (all_numbers (run Q rounds).live) ≤ lent
-
--- the answer, and what the cell space then holds
-pub record Searched (Q : Problem) (rounds : ℕ) (before after : List ℤ) (r : Found) : Type 0 where
+-- the answer, and the cells that are then live
+pub record Searched (Q : Problem) (rounds : ℕ) (l : Live) (r : Found) : Type 0 where
   pub found : r ≡ found_of (run Q rounds)
-  pub cells : after ≡ padded (length before) (pos 0) (all_numbers (run Q rounds).live)
+  pub cells : map entry_cell l.entries ≡ (run Q rounds).live

@@ -1,27 +1,35 @@
 -- Cells with the costs of their corners, and the better of two places, as the code has them.
 -- Assumes nothing.
 use Rattle.std.specs.Prelude.{◌≤◌, cond}
-use Rattle.query.specs.Place.{Rect}
+use Rattle.query.specs.Place.{Rect, corner}
 use Rattle.query.specs.Order.{better}
 use Rattle.query.specs.Range.{cost_limit}
 use Rattle.deck.specs.Objects.{Pricing}
 use Rattle.deck.specs.Rectangle.{rect_record}
-use Rattle.pricing.specs.ObjectFigures.{cost_of}
 use Rattle.slots.specs.declared.Cell.{Cell}
 use Rattle.slots.specs.declared.Costs.{Costs}
 use Rattle.slots.specs.declared.Entry.{Entry}
-use Rattle.problem.specs.ObjectProblem.{bound_of, priced_of, spot_at}
+use Rattle.problem.specs.ObjectProblem.{bound_of, priced_of, spot_of}
 use Rattle.problem.specs.declared.Spot.{Spot}
+use Rattle.search.specs.declared.run.Corners.{Corners}
 
--- the costs of the corners of a rectangle, and its cell
-abbrev pub corner_costs : Pricing → Rect → Costs
-corner_costs P r = record {
-  c00 = cost_of P (record { x = r.xlo; y = r.ylo });
-  c01 = cost_of P (record { x = r.xlo; y = r.yhi });
-  c10 = cost_of P (record { x = r.xhi; y = r.ylo });
-  c11 = cost_of P (record { x = r.xhi; y = r.yhi });
+-- the corners of a rectangle, priced
+abbrev pub priced_corners : Pricing → Rect → Corners
+priced_corners P r = record {
+  c00 = spot_of P (corner r);
+  c01 = spot_of P (record { x = r.xlo; y = r.yhi });
+  c10 = spot_of P (record { x = r.xhi; y = r.ylo });
+  c11 = spot_of P (record { x = r.xhi; y = r.yhi });
 }
 
+-- their costs
+abbrev pub costs_of : Corners → Costs
+costs_of k = record { c00 = k.c00.cost; c01 = k.c01.cost; c10 = k.c10.cost; c11 = k.c11.cost }
+
+abbrev pub corner_costs : Pricing → Rect → Costs
+corner_costs P r = costs_of (priced_corners P r)
+
+-- the cell of a rectangle, and its entry
 abbrev pub cell_for : Pricing → Rect → Cell
 cell_for P r = record { rect = rect_record r; bound = bound_of P r }
 
@@ -39,8 +47,7 @@ pub record CostsInRange (k : Costs) : Type 0 where
   pub corner_10 : k.c10 ≤ cost_limit
   pub corner_11 : k.c11 ≤ cost_limit
 
--- the best of a rectangle's corners, of which the costs are k
-unfoldable pub best_corner : Rect → Costs → Spot
+-- the best of a rectangle's corners
+unfoldable pub best_corner : Corners → Spot
 unfolding improved
-best_corner r k = improved (improved (improved (spot_at r.xlo r.ylo k.c00) (spot_at r.xlo r.yhi k.c01))
-    (spot_at r.xhi r.ylo k.c10)) (spot_at r.xhi r.yhi k.c11)
+best_corner k = improved (improved (improved k.c00 k.c01) k.c10) k.c11

@@ -3,10 +3,8 @@
 use Rattle.std.specs.Prelude.{ℕ, ◌≤◌, ◌<◌, ◌≡◌, T}
 use mathlib.Core.List.{List, ◌∷◌, map, Memᴰ}
 use Rattle.query.specs.Grid.{Grid}
-use Rattle.query.specs.Problem.{Problem}
 use Rattle.query.specs.Cut.{can_cut}
-use Rattle.query.specs.Order as Query
-use Rattle.query.specs.Search.{Search, run}
+use Rattle.query.specs.Search.{Search}
 use Rattle.query.specs.Range.{cost_limit, rounds_limit}
 use Rattle.deck.specs.Objects.{Pricing}
 use Rattle.reach.specs.Columns.{Ranged}
@@ -37,8 +35,3 @@ pub record Holds (P : Pricing) (search : Search) (lowest : ℕ) (l : Live) (st :
   pub is : search_of l.entries st ≡ search
   pub costed : Costed P l.entries
   pub low_free : lowest ≤ l.free
-
--- what is known of the cells and the best place of every run
-pub record Steady (Q : Problem) : Type 0 where
-  pub ranged : (n : ℕ) (c : Query.Cell) → Memᴰ c (run Q n).live → Ranged c.rect
-  pub cost_limit_lem : (n : ℕ) → (run Q n).best.cost ≤ cost_limit

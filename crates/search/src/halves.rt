@@ -1,22 +1,24 @@
 // The better of two places, entries with their bounds, and the two halves that a cut makes of a cell.
 ghost use Rattle.std.specs.Prelude.{◌≡◌, ◌≤◌};
+ghost use Rattle.query.specs.Cut.{cut_line};
 ghost use Rattle.query.specs.Order.{priced_key};
-ghost use Rattle.query.specs.Range.{cost_limit};
+ghost use Rattle.query.specs.Range.{cost_limit, RectInRange};
 ghost use Rattle.deck.specs.Rectangle.{rect_of, rect_record};
-ghost use Rattle.deck.specs.ObjectColumns.{pricing_in};
-ghost use Rattle.reach.specs.Columns.{Priceable, Ranged};
-ghost use Rattle.lines.specs.LineRecord.{Lined, grid_of};
+ghost use Rattle.reach.specs.Columns.{Ranged};
+ghost use Rattle.reach.specs.Held.{pricing_of_objects};
 ghost use Rattle.cuts.specs.CutRecord.{axis_of, cut_record};
 ghost use Rattle.problem.specs.ObjectProblem.{priced_of};
+ghost use Rattle.problem.specs.Prepared.{problem_of};
 ghost use Rattle.cells.specs.Entries.{query_key};
 ghost use Rattle.search.specs.Corners.{corner_costs, entry_for, improved};
 ghost use Rattle.search.specs.CutCell.{cut_part, part_costs, halves_of, Cutting};
 
 use cells::Key;
-use cuts::Cut;
+use cuts::{Axis, Cut};
 use deck::{Place, Rect};
-use limits::COLUMNS;
+use prepare::Problem;
 use problem::Spot;
+use reach::Objects;
 use slots::{Cell, Costs, Entry};
 
 // What a cut makes of a cell: its two new corners, and its two parts with the costs of their corners.
@@ -40,13 +42,9 @@ pub(crate) fn spot_key(spot: Spot) -> Key
     requires { spot.cost ≤ cost_limit }
     ensures { query_key result ≡ priced_key (priced_of spot) }
 {
-    let at = Place {
-        x: spot.x,
-        y: spot.y,
-    };
     Key {
         figure: spot.cost as i64,
-        at,
+        at: spot.at,
     }
 }
 
@@ -62,50 +60,58 @@ pub(crate) fn improve(best: Spot, p: Spot) -> Spot
 }
 
 // A cell with its bound and the costs of its corners, from these costs.
-pub(crate) fn bounded(columns: &[i32; COLUMNS], n: usize, rect: Rect, k: Costs) -> Entry
-    requires { Priceable columns.now n × Ranged (rect_of rect) × (k ≡ corner_costs (pricing_in columns.now n) (rect_of rect)) }
-    ensures { result ≡ entry_for (pricing_in columns.now n) (rect_of rect) }
+pub(crate) fn bounded(objects: &Objects, rect: Rect, k: Costs) -> Entry
+    requires { Ranged (rect_of rect) × (k ≡ corner_costs (pricing_of_objects objects.now) (rect_of rect)) }
+    ensures { result ≡ entry_for (pricing_of_objects objects.now) (rect_of rect) }
 {
-    let load = pricing::load(columns, n, rect);
-    let span = pricing::span(columns, rect);
-    let bound = pricing::bound(k.c00, k.c01, k.c10, k.c11, span, load);
+    let load = pricing::load(objects, rect);
+    let span = pricing::span(objects.axis(), rect);
+    let bound = pricing::bound(k, span, load);
     let cell = Cell { rect, bound };
     Entry { cell, costs: k }
 }
 
+// Where a cell is cut, if it can be.
+pub(crate) fn cut_of(problem: &Problem, rect: Rect) -> Option<Cut>
+    requires { RectInRange (rect_of rect) }
+    ensures { result ≡ cut_record (problem_of problem.now).rules.grid (rect_of rect) }
+{
+    cuts::find_cut(problem.vertical.as_slice(), problem.horizontal.as_slice(), rect)
+}
+
 // A part of a cell that is cut.
 fn rect_part(rect: Rect, cut: Cut, part: Part) -> Rect
-    ensures { result ≡ rect_record (cut_part part (axis_of cut.across) cut.at (rect_of rect)) }
+    ensures { result ≡ rect_record (cut_part part (axis_of cut.axis) cut.at (rect_of rect)) }
 {
     let mut r = rect;
-    match (part, cut.across) {
-        (Part::Before, true) => r.xhi = cut.at,
-        (Part::Before, false) => r.yhi = cut.at,
-        (Part::Behind, true) => r.xlo = cut.at,
-        (Part::Behind, false) => r.ylo = cut.at,
+    match (part, cut.axis) {
+        (Part::Before, Axis::X) => r.xhi = cut.at,
+        (Part::Before, Axis::Y) => r.yhi = cut.at,
+        (Part::Behind, Axis::X) => r.xlo = cut.at,
+        (Part::Behind, Axis::Y) => r.ylo = cut.at,
     }
     r
 }
 
 // The costs of the corners of a part, from those of the cell and of the two new corners.
-fn costs_part(k: Costs, across: bool, part: Part, low: u64, high: u64) -> Costs
-    ensures { result ≡ part_costs part across k low high }
+fn costs_part(k: Costs, axis: Axis, part: Part, low: u64, high: u64) -> Costs
+    ensures { result ≡ part_costs part (axis_of axis) k low high }
 {
     let mut costs = k;
-    match (part, across) {
-        (Part::Before, true) => {
+    match (part, axis) {
+        (Part::Before, Axis::X) => {
             costs.c10 = low;
             costs.c11 = high;
         }
-        (Part::Before, false) => {
+        (Part::Before, Axis::Y) => {
             costs.c01 = low;
             costs.c11 = high;
         }
-        (Part::Behind, true) => {
+        (Part::Behind, Axis::X) => {
             costs.c00 = low;
             costs.c01 = high;
         }
-        (Part::Behind, false) => {
+        (Part::Behind, Axis::Y) => {
             costs.c00 = low;
             costs.c10 = high;
         }
@@ -114,29 +120,30 @@ fn costs_part(k: Costs, across: bool, part: Part, low: u64, high: u64) -> Costs
 }
 
 // What the cut of a cell makes of it. The new corners are the low corner of the part behind the cut and the high one of the part before.
-pub(crate) fn halve<'a>(
-    columns: &'a [i32; COLUMNS],
-    n: usize,
-    v: &'a [i64],
-    h: &'a [i64],
-    rect: Rect,
-    k: Costs,
-) -> Halves
-    requires { Priceable columns.now n × Lined v.now h.now
-        × Cutting (pricing_in columns.now n) (grid_of v.now h.now) (rect_of rect) k }
+pub(crate) fn halve(problem: &Problem, rect: Rect, k: Costs) -> Halves
+    requires { Cutting (pricing_of_objects problem.now.objects) (problem_of problem.now).rules.grid (rect_of rect) k }
     ensures { result
-        ≡ halves_of (pricing_in columns.now n) (cut_record (grid_of v.now h.now) (rect_of rect))
-        (rect_of rect) }
+        ≡ halves_of (pricing_of_objects problem.now.objects)
+        (cut_line (problem_of problem.now).rules.grid (rect_of rect)) (rect_of rect) }
 {
-    let cut = cuts::find_cut(v, h, rect);
+    let cut = cut_of(problem, rect).unwrap();
     let before = rect_part(rect, cut, Part::Before);
     let behind = rect_part(rect, cut, Part::Behind);
-    let low = problem::priced(columns, n, behind.xlo, behind.ylo);
-    let high = problem::priced(columns, n, before.xhi, before.yhi);
-    let first_costs = costs_part(k, cut.across, Part::Before, low.cost, high.cost);
-    let second_costs = costs_part(k, cut.across, Part::Behind, low.cost, high.cost);
-    let first = bounded(columns, n, before, first_costs);
-    let second = bounded(columns, n, behind, second_costs);
+    let low_corner = Place {
+        x: behind.xlo,
+        y: behind.ylo,
+    };
+    let high_corner = Place {
+        x: before.xhi,
+        y: before.yhi,
+    };
+    let objects = &problem.objects;
+    let low = problem::priced(objects, low_corner);
+    let high = problem::priced(objects, high_corner);
+    let first_costs = costs_part(k, cut.axis, Part::Before, low.cost, high.cost);
+    let second_costs = costs_part(k, cut.axis, Part::Behind, low.cost, high.cost);
+    let first = bounded(objects, before, first_costs);
+    let second = bounded(objects, behind, second_costs);
     Halves {
         low,
         high,

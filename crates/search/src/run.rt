@@ -1,26 +1,25 @@
 // The search by cells: its start, its rounds and what it answers.
-ghost use Rattle.std.specs.Prelude.{◌≡◌, ◌∷◌, ◌-◌, ◌≤◌, length};
+ghost use Rattle.std.specs.Prelude.{◌≡◌, ◌∷◌, ◌-◌, ◌≤◌};
 ghost use Rattle.query.specs.Search as Search;
-ghost use Rattle.query.specs.Range.{cost_limit, RectInRange};
+ghost use Rattle.query.specs.Range.{cost_limit, rounds_limit, RectInRange};
 ghost use Rattle.query.specs.Figures as Figures;
 ghost use Rattle.deck.specs.Rectangle.{rect_of};
-ghost use Rattle.deck.specs.ObjectColumns.{pricing_in};
-ghost use Rattle.reach.specs.Columns.{Priceable, Ranged};
-ghost use Rattle.lines.specs.LineRecord.{Lined, grid_of};
+ghost use Rattle.reach.specs.Held.{pricing_of_objects};
 ghost use Rattle.slots.specs.Slot.{query_cell};
 ghost use Rattle.cells.specs.Live.{none_live};
-ghost use Rattle.search.specs.Corners.{corner_costs, CostsInRange, best_corner};
+ghost use Rattle.search.specs.Corners.{priced_corners, costs_of, CostsInRange, best_corner};
 ghost use Rattle.search.specs.LiveEntries.{Addable, Added};
-ghost use Rattle.search.specs.Running.{search_of, Takeable, Holds, Steady};
-ghost use Rattle.search.specs.Answer.{Answerable, found_of, Room, Searched};
-ghost use Rattle.problem.specs.ObjectProblem.{object_rules, priced_of, rect_in};
+ghost use Rattle.search.specs.Running.{search_of, Takeable, Holds};
+ghost use Rattle.search.specs.Answer.{Answerable, found_of, Searched};
+ghost use Rattle.problem.specs.ObjectProblem.{priced_of, rect_in};
 ghost use Rattle.problem.specs.Prepared.{problem_of, Prepared};
 
-use crate::halves::{bounded, halve, improve, spot_key};
+use crate::halves::{bounded, cut_of, halve, improve, spot_key};
 use cells::{Key, LiveCells};
-use deck::Rect;
-use limits::COLUMNS;
+use deck::{Place, Rect};
+use prepare::Problem;
 use problem::Spot;
+use reach::Objects;
 use slots::{Cell, Costs, Entry};
 
 // What a search holds while it runs, beside its live cells: the best place so far and the cuts made.
@@ -30,131 +29,122 @@ pub struct Running {
     pub cuts: u64,
 }
 
-// What a search answers.
+// What a search has found when it ends: whether no cell is live, the best place, the low figure and the cuts made.
 #[derive(Clone, Copy)]
 pub struct Found {
     pub done: bool,
-    pub x: i64,
-    pub y: i64,
-    pub high: u64,
+    pub best: Spot,
     pub low: i64,
     pub cuts: u64,
 }
 
+// The corners of a rectangle, priced: c00 at (xlo, ylo), c01 at (xlo, yhi), c10 at (xhi, ylo), c11 at (xhi, yhi).
+#[derive(Clone, Copy)]
+struct Corners {
+    c00: Spot,
+    c01: Spot,
+    c10: Spot,
+    c11: Spot,
+}
+
+impl Corners {
+    fn of(objects: &Objects, r: Rect) -> Corners
+        requires { RectInRange (rect_of r) }
+        ensures { result ≡ priced_corners (pricing_of_objects objects.now) (rect_of r) }
+    {
+        let front = Place { x: r.xlo, y: r.ylo };
+        let left = Place { x: r.xlo, y: r.yhi };
+        let right = Place { x: r.xhi, y: r.ylo };
+        let back = Place { x: r.xhi, y: r.yhi };
+        Corners {
+            c00: problem::priced(objects, front),
+            c01: problem::priced(objects, left),
+            c10: problem::priced(objects, right),
+            c11: problem::priced(objects, back),
+        }
+    }
+
+    fn costs(&self) -> Costs
+        ensures { result ≡ costs_of self.now }
+    {
+        Costs {
+            c00: self.c00.cost,
+            c01: self.c01.cost,
+            c10: self.c10.cost,
+            c11: self.c11.cost,
+        }
+    }
+
+    fn best(&self) -> Spot
+        requires { CostsInRange (costs_of self.now) }
+        ensures { result ≡ best_corner self.now }
+    {
+        improve(improve(improve(self.c00, self.c01), self.c10), self.c11)
+    }
+}
+
 // Whether a cell is live: it comes before the best place and can be cut.
-fn is_live<'a>(v: &'a [i64], h: &'a [i64], c: Cell, best: Spot) -> bool
-    requires { Lined v.now h.now × RectInRange (rect_in c) × (best.cost ≤ cost_limit) }
-    ensures { result ≡ Search.is_live (grid_of v.now h.now) (priced_of best) (query_cell c) }
+fn is_live(problem: &Problem, c: Cell, best: Spot) -> bool
+    requires { RectInRange (rect_in c) × (best.cost ≤ cost_limit) }
+    ensures { result ≡ Search.is_live (problem_of problem.now).rules.grid (priced_of best) (query_cell c) }
 {
-    Key::of_cell(c).precedes(spot_key(best)) && cuts::find_cut(v, h, c.rect).found
+    Key::of_cell(c).precedes(spot_key(best)) && cut_of(problem, c.rect).is_some()
 }
 
 // One more entry among the live ones, if its cell is live.
-fn add<'a>(v: &'a [i64], h: &'a [i64], live: &mut LiveCells, entry: Entry, best: Spot)
-    requires { Lined v.now h.now × Addable live.old entry best }
-    ensures { Added (grid_of v.now h.now) (priced_of best) entry live.old live.new }
+fn add(problem: &Problem, live: &mut LiveCells, entry: Entry, best: Spot)
+    requires { Addable live.old entry best }
+    ensures { Added (problem_of problem.now).rules.grid (priced_of best) entry live.old
+        live.new }
 {
-    if is_live(v, h, entry.cell, best) {
+    if is_live(problem, entry.cell, best) {
         live.insert(entry);
     }
 }
 
 // A round: an entry is cut that was the first of the live ones. The best place and the live cells are brought up to date.
-fn round<'a>(
-    columns: &'a [i32; COLUMNS],
-    n: usize,
-    v: &'a [i64],
-    h: &'a [i64],
-    live: &mut LiveCells,
-    entry: Entry,
-    st: Running,
-) -> Running
-    requires { Priceable columns.now n × Lined v.now h.now
-        × Takeable (pricing_in columns.now n) (grid_of v.now h.now) entry live.old st }
-    ensures { Holds (pricing_in columns.now n)
-        (Search.round (object_rules (pricing_in columns.now n) (grid_of v.now h.now))
-        (search_of (entry ∷ live.old.entries) st)) (live.old.free - 2) live.new result }
+fn round(problem: &Problem, live: &mut LiveCells, entry: Entry, st: Running) -> Running
+    requires { Takeable (pricing_of_objects problem.now.objects) (problem_of problem.now).rules.grid entry live.old st }
+    ensures { Holds (pricing_of_objects problem.now.objects)
+        (Search.round (problem_of problem.now).rules (search_of (entry ∷ live.old.entries) st))
+        (live.old.free - 2) live.new result }
 {
-    let halves = halve(columns, n, v, h, entry.cell.rect, entry.costs);
+    let halves = halve(problem, entry.cell.rect, entry.costs);
     let best = improve(improve(st.best, halves.low), halves.high);
     live.trim(spot_key(best));
-    add(v, h, live, halves.second, best);
-    add(v, h, live, halves.first, best);
+    add(problem, live, halves.second, best);
+    add(problem, live, halves.first, best);
     Running {
         best,
         cuts: st.cuts + 1,
     }
 }
 
-// The costs of the corners of a rectangle.
-fn corners(columns: &[i32; COLUMNS], n: usize, rect: Rect) -> Costs
-    requires { Priceable columns.now n × RectInRange (rect_of rect) }
-    ensures { result ≡ corner_costs (pricing_in columns.now n) (rect_of rect) }
+// The start of a search.
+fn start(problem: &Problem, live: &mut LiveCells) -> Running
+    requires { Prepared problem.now × (live.old ≡ none_live) }
+    ensures { Holds (pricing_of_objects problem.now.objects) (Search.start (problem_of problem.now)) 1000
+        live.new result }
 {
-    let front = problem::priced(columns, n, rect.xlo, rect.ylo);
-    let left = problem::priced(columns, n, rect.xlo, rect.yhi);
-    let right = problem::priced(columns, n, rect.xhi, rect.ylo);
-    let back = problem::priced(columns, n, rect.xhi, rect.yhi);
-    Costs {
-        c00: front.cost,
-        c01: left.cost,
-        c10: right.cost,
-        c11: back.cost,
-    }
-}
-
-// The best of the corners of a rectangle.
-fn best_corner(rect: Rect, k: Costs) -> Spot
-    requires { CostsInRange k }
-    ensures { result ≡ best_corner (rect_of rect) k }
-{
-    let front = problem::place(rect.xlo, rect.ylo, k.c00);
-    let left = problem::place(rect.xlo, rect.yhi, k.c01);
-    let right = problem::place(rect.xhi, rect.ylo, k.c10);
-    let back = problem::place(rect.xhi, rect.yhi, k.c11);
-    improve(improve(improve(front, left), right), back)
-}
-
-// The start of a search of an area.
-fn start<'a>(
-    columns: &'a [i32; COLUMNS],
-    n: usize,
-    v: &'a [i64],
-    h: &'a [i64],
-    live: &mut LiveCells,
-    area: Rect,
-) -> Running
-    requires { Priceable columns.now n × Lined v.now h.now × Ranged (rect_of area) × (live.old ≡ none_live) }
-    ensures { Holds (pricing_in columns.now n)
-        (Search.start (problem_of columns.now n v.now h.now area)) 1000 live.new result }
-{
-    let k = corners(columns, n, area);
-    let best = best_corner(area, k);
-    add(v, h, live, bounded(columns, n, area, k), best);
+    let corners = Corners::of(&problem.objects, problem.area);
+    let best = corners.best();
+    let entry = bounded(&problem.objects, problem.area, corners.costs());
+    add(problem, live, entry, best);
     Running { best, cuts: 0 }
 }
 
-// A search of an area: its start, and its rounds while a cell is live, at most so many.
-fn run_of<'a>(
-    columns: &'a [i32; COLUMNS],
-    n: usize,
-    v: &'a [i64],
-    h: &'a [i64],
-    live: &mut LiveCells,
-    area: Rect,
-    rounds: u64,
-) -> Running
-    requires { Priceable columns.now n × Lined v.now h.now × Ranged (rect_of area) × (rounds ≤ 1000)
-        × Steady (problem_of columns.now n v.now h.now area) × (live.old ≡ none_live) }
-    ensures { Holds (pricing_in columns.now n)
-        (Search.run (problem_of columns.now n v.now h.now area) rounds) 0 live.new result }
+// A search: its start, and its rounds while a cell is live, at most so many.
+fn run_of(problem: &Problem, rounds: u64, live: &mut LiveCells) -> Running
+    requires { Prepared problem.now × (rounds ≤ rounds_limit) × (live.old ≡ none_live) }
+    ensures { Holds (pricing_of_objects problem.now.objects) (Search.run (problem_of problem.now) rounds) 0
+        live.new result }
 {
-    let mut st = start(columns, n, v, h, live, area);
+    let mut st = start(problem, live);
     for _k in 0..rounds {
         let Some(entry) = live.pop_first() else {
             return st;
         };
-        st = round(columns, n, v, h, live, entry, st);
+        st = round(problem, live, entry, st);
     }
     st
 }
@@ -177,54 +167,19 @@ fn answer(live: &LiveCells, st: Running) -> Found
     requires { Answerable live.now st }
     ensures { result ≡ found_of (search_of live.now.entries st) }
 {
-    let low = low_of(live, st);
-    let best = st.best;
     Found {
         done: live.is_empty(),
-        x: best.x,
-        y: best.y,
-        high: best.cost,
-        low,
+        best: st.best,
+        low: low_of(live, st),
         cuts: st.cuts,
     }
 }
 
-// A search with the live cells that it is lent: none when it begins. Not inlined, so that what they were made of is gone from the stack.
-#[inline(never)]
-fn search_with<'a>(
-    columns: &'a [i32; COLUMNS],
-    n: usize,
-    v: &'a [i64],
-    h: &'a [i64],
-    area: Rect,
-    rounds: u64,
-    live: &mut LiveCells,
-    cells: &mut [i64],
-) -> Found
-    requires { Prepared columns.now n v.now h.now area
-        × Room (problem_of columns.now n v.now h.now area) rounds (length cells.old) × (live.old ≡ none_live) }
-    ensures { Searched (problem_of columns.now n v.now h.now area) rounds cells.old
-        cells.new result }
+// The search of a deck's problem, for at most so many rounds: its answer. It begins with no live cell, and leaves those that are live.
+pub fn search(problem: &Problem, rounds: u64, live: &mut LiveCells) -> Found
+    requires { Prepared problem.now × (rounds ≤ rounds_limit) × (live.old ≡ none_live) }
+    ensures { Searched (problem_of problem.now) rounds live.new result }
 {
-    let st = run_of(columns, n, v, h, live, area, rounds);
-    live.write_out(cells);
+    let st = run_of(problem, rounds, live);
     answer(live, st)
-}
-
-// The search of a deck's problem, for at most so many rounds: its answer, with its live cells in the cell space.
-pub fn search<'a>(
-    columns: &'a [i32; COLUMNS],
-    n: usize,
-    v: &'a [i64],
-    h: &'a [i64],
-    area: Rect,
-    rounds: u64,
-    cells: &mut [i64],
-) -> Found
-    requires { Prepared columns.now n v.now h.now area
-        × Room (problem_of columns.now n v.now h.now area) rounds (length cells.old) }
-    ensures { Searched (problem_of columns.now n v.now h.now area) rounds cells.old
-        cells.new result }
-{
-    search_with(columns, n, v, h, area, rounds, &mut LiveCells::new(), cells)
 }
