@@ -36,6 +36,7 @@ use Rattle.prepare.proofs.Coordinates.{near_back, rect_back}
 use Rattle.problem.specs.ObjectProblem.{bound_of}
 use Rattle.problem.proofs.Coordinates.{near_places}
 use Rattle.problem.proofs.DeckProblem.{bound_law, prepared_pricing, prepared_grid}
+use Rattle.std.specs.Prelude.{Option, None}
 use Rattle.trial.specs.Opened.{Whole, opened_record}
 use Rattle.trial.specs.Trial.{on_job, minus_one, least}
 use Rattle.trial.specs.declared.opened.Opened.{Opened}
@@ -145,8 +146,8 @@ module _ (which k : ℕ) (w : which ≤ 4) where
   kernel_is : (r : Result) → on_deck r ≡ kernel_sum which k r
   kernel_is r = rw (le-ltb 4 which w)
 
-  pub kernel_refused : (bytes : List ℕ) (o : Opened) → o ≡ opened_record (read_job bytes) → o.accepted ≡ false → minus_one ≡ kernel_sum which k (read_job bytes)
-  kernel_refused bytes o e f = open_refused bytes o e _ _ f ∙ kernel_is (read_job bytes)
+  pub kernel_refused : (bytes : List ℕ) (r : Option Opened) → r ≡ opened_record (read_job bytes) → r ≡ None → minus_one ≡ kernel_sum which k (read_job bytes)
+  kernel_refused bytes r e f = open_refused bytes r e _ _ f ∙ kernel_is (read_job bytes)
 
   module _ {bytes : List ℕ} (s : Spelt bytes) where
     sum_is : cond (ltb 100000 k) minus_one (pos (sum_to (turn s.job.deck which) k)) ≡ kernel_sum which k (read_job bytes)

@@ -18,6 +18,7 @@ ghost use Rattle.kernels.specs.Sums.{sum_to, Sampled, TurnRect, place_at, rect_a
 use deck::{Deck, Rect};
 use limits::COLUMNS;
 use trial::opened;
+use trial::NO_FIGURE;
 use trial::opened::Opened;
 
 // A number of -20,000 to 20,000 for each turn.
@@ -144,24 +145,13 @@ fn sum_of(o: Opened, which: u64, k: u64) -> u64
 {
     let p = o.problem;
     let n = p.count;
-    if which == 0 {
-        return costs(&p.columns, n, k);
+    match which {
+        0 => costs(&p.columns, n, k),
+        1 => loads(&p.columns, n, k),
+        2 => bounds(&p.columns, n, k),
+        3 => cuts(&p.v[..p.nv], &p.h[..p.nh], k),
+        _ => nears(o.deck, k),
     }
-    if which == 1 {
-        return loads(&p.columns, n, k);
-    }
-    if which == 2 {
-        return bounds(&p.columns, n, k);
-    }
-    if which == 3 {
-        let nv = p.nv;
-        let nh = p.nh;
-        let v: &[i64] = &p.v;
-        let h: &[i64] = &p.h;
-        return cuts(&v[..nv], &h[..nh], k);
-    }
-    let d = o.deck;
-    nears(d, k)
 }
 
 // The sum of a kernel over k turns; -1 where the job is refused or k is above 100,000. The least number where there is no such kernel.
@@ -169,12 +159,11 @@ pub fn kernel_sum(job: &[u8], which: u64, k: u64) -> i64
     ensures { result ≡ kernel_sum which k (read_job job.now) }
 {
     if 4 < which {
-        return -9223372036854775808;
+        return NO_FIGURE;
     }
-    let o = opened::open_job(job);
-    if !o.accepted {
+    let Some(o) = opened::open_job(job) else {
         return -1;
-    }
+    };
     if 100000 < k {
         return -1;
     }

@@ -16,7 +16,7 @@ use Rattle.query.specs.Place.{Rect, Axis, x_axis, y_axis}
 use Rattle.query.specs.Lines.{lines}
 use Rattle.query.specs.Grid.{grid}
 use Rattle.query.specs.Cut.{can_cut, cut_line}
-use Rattle.job.specs.Format.{Result, refused, accepted, read_job}
+use Rattle.job.specs.Format.{Job, Result, refused, accepted, read_job}
 use Rattle.deck.specs.DeckOf.{deck_of}
 use Rattle.numbers.proofs.Padded.{padded_front}
 use Rattle.lines.proofs.DeckLines.{lines_in_order}
@@ -25,21 +25,24 @@ use Rattle.prepare.specs.ProblemRecord.{problem_record}
 use Rattle.cuts.specs.CutRecord.{axis_of, cut_at, is_x, cut_record}
 use Rattle.cuts.specs.declared.Cut.{Cut}
 use Rattle.cuts.proofs.CutRecordLaws.{cut_record_found, cut_record_cut}
-use Rattle.trial.specs.Opened.{opened_record, rect_allowed}
+use Rattle.trial.specs.Opened.{rect_allowed}
 use Rattle.trial.specs.Trial.{minus_one, least, axis_number, cut_axis_figure, cut_line_figure, Written, lines_written}
 use Rattle.trial.specs.declared.opened.Opened.{Opened}
 use Rattle.job.proofs.ReadDeck.{Spelt, spelt_range}
-use Rattle.trial.proofs.OpenLaws.{open_deck, open_problem, on_job_lem, inside}
+use Rattle.trial.proofs.OpenLaws.{Open, open_deck, open_problem, on_job_lem, inside}
 
 -- ---- the answers
 axis_number_lem : (axis : Axis) → axis_number axis ≡ cond (is_x axis) (pos 1) (pos 2)
 axis_number_lem x_axis = refl
 axis_number_lem y_axis = refl
 
-module _ {bytes : List ℕ} {o : Opened} (e : o ≡ opened_record (read_job bytes)) (s : Spelt bytes) (rect : Rect) (on : rect_allowed rect ≡ true) {cut : Cut}
+module _ {bytes : List ℕ} {o : Opened} (w : Open bytes o) (rect : Rect) (on : rect_allowed rect ≡ true) {cut : Cut}
     (found : cut ≡ cut_record (grid (deck_of o.deck)) rect) where
+  abbrev s : Spelt bytes
+  s = w.job
+
   cut_is : cut ≡ cut_record (grid s.job.deck) rect
-  cut_is = found ∙ rw (open_deck bytes o e s)
+  cut_is = found ∙ rw (open_deck w)
 
   can_cut_lem : {t : Bool} → cut.found ≡ t → can_cut (grid s.job.deck) rect ≡ t
   can_cut_lem g = sym (ap (λ (c : Cut). c.found) cut_is ∙ cut_record_found (grid s.job.deck) rect) ∙ g
@@ -81,38 +84,40 @@ written_of out ls =
     cond (ltb (length out) (length ls)) (record { result = minus_one; out = out })
     (record { result = pos (length ls); out = ls ++ drop (length ls) out })
 
-module _ {bytes : List ℕ} (s : Spelt bytes) (across : Bool) where
+module _ {bytes : List ℕ} {o : Opened} (w : Open bytes o) (across : Bool) where
+  abbrev job : Job
+  job = w.job.job
+
   abbrev ls : List ℤ
-  ls = lines s.job.deck (axis_of across)
+  ls = lines job.deck (axis_of across)
 
   pub few_lines : length ls ≤ 514
-  few_lines = (lines_in_order s.job.deck (axis_of across) (spelt_range s).most_stops).few
+  few_lines = (lines_in_order job.deck (axis_of across) (spelt_range w.job).most_stops).few
 
-  module _ {o : Opened} (e : o ≡ opened_record (read_job bytes)) where
-    pub vertical_number : across ≡ true → o.problem.nv ≡ length ls
-    unfolding problem_record
-    vertical_number on = ap (λ (p : Problem). p.nv) (open_problem bytes o e s) ∙ rw on
+  pub vertical_number : across ≡ true → o.problem.nv ≡ length ls
+  unfolding problem_record
+  vertical_number on = ap (λ (p : Problem). p.nv) (open_problem w) ∙ rw on
 
-    pub horizontal_number : across ≡ false → o.problem.nh ≡ length ls
-    unfolding problem_record
-    horizontal_number off = ap (λ (p : Problem). p.nh) (open_problem bytes o e s) ∙ rw off
+  pub horizontal_number : across ≡ false → o.problem.nh ≡ length ls
+  unfolding problem_record
+  horizontal_number off = ap (λ (p : Problem). p.nh) (open_problem w) ∙ rw off
 
-    pub vertical_lines : {n : ℕ} → across ≡ true → n ≡ length ls → take n o.problem.v ≡ ls
-    unfolding problem_record
-    vertical_lines {n} on k =
-        ap (λ (p : Problem). take n p.v) (open_problem bytes o e s)
-        ∙ rw (k, on) (padded_front 514 (pos 0) (lines s.job.deck x_axis))
+  pub vertical_lines : {n : ℕ} → across ≡ true → n ≡ length ls → take n o.problem.v ≡ ls
+  unfolding problem_record
+  vertical_lines {n} on k =
+      ap (λ (p : Problem). take n p.v) (open_problem w)
+      ∙ rw (k, on) (padded_front 514 (pos 0) (lines job.deck x_axis))
 
-    pub horizontal_lines : {n : ℕ} → across ≡ false → n ≡ length ls → take n o.problem.h ≡ ls
-    unfolding problem_record
-    horizontal_lines {n} off k =
-        ap (λ (p : Problem). take n p.h) (open_problem bytes o e s)
-        ∙ rw (k, off) (padded_front 514 (pos 0) (lines s.job.deck y_axis))
+  pub horizontal_lines : {n : ℕ} → across ≡ false → n ≡ length ls → take n o.problem.h ≡ ls
+  unfolding problem_record
+  horizontal_lines {n} off k =
+      ap (λ (p : Problem). take n p.h) (open_problem w)
+      ∙ rw (k, off) (padded_front 514 (pos 0) (lines job.deck y_axis))
 
   -- n of them, written out
   module _ {n : ℕ} (count : n ≡ length ls) (out : List ℤ) where
     written : written_of out ls ≡ lines_written across out (read_job bytes)
-    written = on_job_lem (record { result = minus_one; out = out }) (λ job. written_of out (lines job.deck (axis_of across))) s
+    written = on_job_lem (record { result = minus_one; out = out }) (λ job. written_of out (lines job.deck (axis_of across))) w.job
 
     pub written_none : length out < n → record { result = minus_one; out = out } ≡ lines_written across out (read_job bytes)
     written_none h = rw (lt-ltb (length out) (length ls) (omega (arith, count))) at written

@@ -31,20 +31,23 @@ use Rattle.pricing.specs.ObjectFigures.{cost_of, load_of, Figure}
 use Rattle.pricing.proofs.ObjectLaws.{cost_law, load_law}
 use Rattle.problem.specs.ObjectProblem.{bound_of}
 use Rattle.problem.proofs.DeckProblem.{bound_law, prepared_priceable, prepared_pricing}
-use Rattle.trial.specs.Opened.{opened_record, place_in_range, rect_allowed}
+use Rattle.trial.specs.Opened.{place_in_range, rect_allowed}
 use Rattle.trial.specs.Trial.{minus_one, least, before_figure, near_figure, cost_figure, load_figure, bound_figure}
 use Rattle.trial.specs.declared.opened.Opened.{Opened}
 use Rattle.job.proofs.ReadDeck.{Spelt, spelt_range}
-use Rattle.trial.proofs.OpenLaws.{prepared, open_deck, open_held, open_whole, on_job_lem, inside}
+use Rattle.trial.proofs.OpenLaws.{Open, prepared, open_deck, open_held, open_whole, on_job_lem, inside}
 
 -- a figure as a signed word
 figure_word : {figure n : ℕ} → Figure figure cost_limit n → to_z w64 n ≡ pos figure
 figure_word {figure} {n} fig = to_z_pos w64 n (omega (arith, fig.within)) ∙ ap pos fig.is
 
 -- ---- the answers
-module _ {bytes : List ℕ} {o : Opened} (e : o ≡ opened_record (read_job bytes)) (s : Spelt bytes) where
+module _ {bytes : List ℕ} {o : Opened} (w : Open bytes o) where
+  abbrev s : Spelt bytes
+  s = w.job
+
   pricing_is : pricing_in o.problem.columns o.problem.count ≡ pricing_of s.job.deck
-  pricing_is = prepared_pricing (prepared (open_whole bytes o e s)) ∙ ap pricing_of (open_deck bytes o e s)
+  pricing_is = prepared_pricing (prepared (open_whole w)) ∙ ap pricing_of (open_deck w)
 
   pub cost_answer : (at : Place) {n : ℕ} → place_in_range at ≡ true → Figure (cost_of (pricing_in o.problem.columns o.problem.count) at) cost_limit n →
       to_z w64 n ≡ cost_figure at (read_job bytes)
@@ -67,7 +70,7 @@ module _ {bytes : List ℕ} {o : Opened} (e : o ≡ opened_record (read_job byte
   -- ---- from the record
   held_before : o.deck.before ≡ before s.job.deck
   unfolding deck_record
-  held_before = ap (λ (d : Deck). d.before) (open_held bytes o e s)
+  held_before = ap (λ (d : Deck). d.before) (open_held w)
 
   pub before_small : o.deck.before ≤ cost_limit
   before_small = rw held_before (figure_limits s.job.deck (spelt_range s)).before_limit
@@ -76,11 +79,11 @@ module _ {bytes : List ℕ} {o : Opened} (e : o ≡ opened_record (read_job byte
   before_answer = figure_word (record { is = held_before; within = before_small }) ∙ on_job_lem minus_one (λ job. pos (before job.deck)) s
 
   pub open_priceable : Priceable o.problem.columns o.problem.count
-  open_priceable = prepared_priceable (prepared (open_whole bytes o e s))
+  open_priceable = prepared_priceable (prepared (open_whole w))
 
   count_is : o.deck.stops ≡ length s.job.deck.stops
   unfolding deck_record
-  count_is = ap (λ (d : Deck). d.stops) (open_held bytes o e s)
+  count_is = ap (λ (d : Deck). d.stops) (open_held w)
 
   pub few_stops : o.deck.stops ≤ 512
   few_stops = omega (arith, count_is, (spelt_range s).most_stops)
@@ -88,12 +91,12 @@ module _ {bytes : List ℕ} {o : Opened} (e : o ≡ opened_record (read_job byte
   near_at_lem : (i : ℕ) → i < o.deck.stops → get_or o.deck.near i 0 ≡ get_or (map (near s.job.deck) s.job.deck.stops) i 0
   unfolding deck_record
   near_at_lem i h =
-      ap (λ (d : Deck). get_or d.near i 0) (open_held bytes o e s)
+      ap (λ (d : Deck). get_or d.near i 0) (open_held w)
       ∙ padded_at 512 0 (map (near s.job.deck) s.job.deck.stops) i
       (omega (arith, length-map s.job.deck.stops (near s.job.deck), count_is))
 
   pub near_small : (i : ℕ) → i < o.deck.stops → get_or o.deck.near i 0 ≤ 720000
-  near_small i h = (sound_nears (open_whole bytes o e s).sound).range i h
+  near_small i h = (sound_nears (open_whole w).sound).range i h
 
   near_figure_lem : (i : ℕ) →
       cond (ltb i (length s.job.deck.stops)) (pos (get_or (map (near s.job.deck) s.job.deck.stops) i 0)) minus_one ≡ near_figure i (read_job bytes)

@@ -73,6 +73,10 @@ natural_near : (z : ℤ) (r : Result) → lt_z z (pos 0) ≡ false → near_figu
 natural_near (pos i) r e = refl
 natural_near (negsuc i) r e = differ e
 
+pub near_refused : (z : ℤ) (r : Result) → minus_one ≡ near_figure (nat_abs z) r → minus_one ≡ near_at z r
+near_refused (pos i) r e = e
+near_refused (negsuc i) r e = refl
+
 module _ {z : ℤ} (f : SFits w64 z) where
   pub near_negative : (r : Result) → lt_z (back z) (pos 0) ≡ true → minus_one ≡ near_at z r
   near_negative r e = negative_none z r (rw (back_is f) at e)

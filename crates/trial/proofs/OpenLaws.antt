@@ -7,18 +7,24 @@ use Prim.Native.Nat.{ℕ, ◌≤◌}
 use native.Mathlib.Omega.{arith}
 use lib.IntN.{ℤ}
 use lib.ListN.{take}
+use Rattle.std.specs.Prelude.{Ok, Err, Option, Some, None}
+use Rattle.std.specs.Prelude as Std
+use Rattle.std.specs.Result.{result_ok}
+use Rattle.refusal.specs.declared.Refusal.{Refusal}
 use Rattle.job.specs.Format.{Job, Result, refused, accepted, read_job}
-use Rattle.job.specs.JobRecord.{job_record}
+use Rattle.job.specs.JobRecord.{job_result}
 use Rattle.job.specs.declared.Job as Held
-use Rattle.job.specs.declared.Outcome.{Outcome}
-use Rattle.job.specs.declared.Outcome.TheVariants.{Accepted}
 use Rattle.job.proofs.JobLaws.{most_rounds}
 use Rattle.job.proofs.Meaning.{accepted_job}
 use Rattle.deck.specs.DeckOf.{deck_of, deck_record}
 use Rattle.deck.specs.Sound.{Sound}
-use Rattle.job.proofs.ReadDeck.{differ, is_accepted, Spelt, read_accepted, read_deck, read_rounds, read_deck_of, read_sound}
+use Rattle.deck.proofs.DeckLaws.{held_deck}
+use Rattle.deck.proofs.SoundLaws.{record_sound}
+use Rattle.job.proofs.ReadDeck.{Spelt, spelt_range}
+use Rattle.job.proofs.ReadDeck.{read_accepted, read_deck, read_rounds}
 use Rattle.prepare.specs.declared.Parts.{Parts}
-use Rattle.prepare.specs.ProblemRecord.{problem_record, Given, given_by, given_for}
+use Rattle.prepare.specs.ProblemRecord.{problem_record, problem_by, given_by, given_for}
+use Rattle.prepare.proofs.JobProblem.{spelt, problem_same, given_refused}
 use Rattle.problem.specs.Prepared.{Prepared}
 use Rattle.problem.proofs.DeckProblem.{made_prepared}
 use Rattle.trial.specs.Opened.{Whole, opened_deck, opened_record}
@@ -26,26 +32,40 @@ use Rattle.trial.specs.Trial.{on_job}
 use Rattle.trial.specs.declared.opened.Opened.{Opened}
 
 -- an accepted job has at most 1,000 rounds
-pub rounds_read : (bytes : List ℕ) (j : Held.Job) (e : j ≡ job_record (read_job bytes)) (rounds : ℕ) (f : j.outcome ≡ Accepted rounds) →
-    (rounds ≤ 1000) × (rounds ≡ (read_accepted bytes j e rounds f).job.rounds)
-rounds_read bytes j e rounds f =
-    let s = read_accepted bytes j e rounds f in
-    let g = read_rounds bytes j e rounds f s in
+pub rounds_read : (bytes : List ℕ) (r : Std.Result Held.Job Refusal) (e : r ≡ job_result (read_job bytes)) (j : Held.Job) (f : r ≡ Ok j) →
+    (j.rounds ≤ 1000) × (j.rounds ≡ (read_accepted bytes j (sym f ∙ e)).job.rounds)
+rounds_read bytes r e j f =
+    let s = read_accepted bytes j (sym f ∙ e) in
+    let g = read_rounds bytes j (sym f ∙ e) s in
     (omega (arith, g, most_rounds s.allowed.writable), g)
 
--- a job that was read, and what preparing it gives
-opened_is : (r : Result) →
-    record { accepted = is_accepted (given_for r).outcome; deck = (job_record r).deck; problem = (given_for r).problem } ≡ opened_record r
-unfolding opened_record opened_deck given_for job_record
-opened_is (refused why) = refl
-opened_is (accepted job) = refl
+-- ---- an `Ok` as an `Option`
+pub ok_none : {A E : Type 0} (r : Std.Result A E) → result_ok r ≡ None → (why : E) × (r ≡ Err why)
+ok_none (Ok a) e = cc
+ok_none (Err why) e = (why, refl)
 
-pub opened : (bytes : List ℕ) (j : Held.Job) → j ≡ job_record (read_job bytes) → (p : Parts) {columns v h : List ℤ} →
-    given_by p columns v h ≡ given_for (read_job bytes) → {k : Outcome} → p.outcome ≡ k →
-    record { accepted = is_accepted k; deck = j.deck; problem = (given_by p columns v h).problem } ≡ opened_record (read_job bytes)
-opened bytes j e p f g =
-    (λ i. record { accepted = is_accepted ((sym g ∙ ap (λ (x : Given). x.outcome) f) i); deck = (e i).deck; problem = (f i).problem })
-    ∙ opened_is (read_job bytes)
+pub ok_some : {A E : Type 0} (r : Std.Result A E) (a : A) → result_ok r ≡ Some a → r ≡ Ok a
+ok_some (Ok b) a e = cc
+ok_some (Err why) a e = cc
+
+-- ---- a job that was read, and what preparing it gives
+module _ (bytes : List ℕ) (q : Std.Result Parts Refusal) (columns v h : List ℤ) (f : given_by q columns v h ≡ given_for (read_job bytes)) where
+  pub unprepared : (why : Refusal) → q ≡ Err why → None ≡ opened_record (read_job bytes)
+  unfolding opened_record
+  unprepared why o = sym (ap opened_record (given_refused bytes q columns v h f why o))
+
+  module _ (p : Parts) (o : q ≡ Ok p) (r : Std.Result Held.Job Refusal) (e : r ≡ job_result (read_job bytes)) where
+    pub read_too : (why : Refusal) → r ≡ Err why → ⊥
+    unfolding job_result
+    read_too why g = let same = e ∙ ap job_result (spelt bytes q columns v h f p o).read in cc
+
+    pub opened : (j : Held.Job) → r ≡ Ok j → Some (record { deck = j.deck; problem = problem_by p columns v h }) ≡ opened_record (read_job bytes)
+    unfolding opened_record opened_deck
+    opened j g =
+        let s = spelt bytes q columns v h f p o in
+        let deck = read_deck bytes j (sym g ∙ e) s in
+        let problem = problem_same bytes q columns v h f p o in
+        (λ i. Some (record { deck = deck i; problem = problem i })) ∙ sym (ap opened_record s.read)
 
 -- ---- a deck in range with its problem: it is prepared, and its deck is the one held
 abbrev pub prepared : {o : Opened} → Whole o →
@@ -53,47 +73,45 @@ abbrev pub prepared : {o : Opened} → Whole o →
 prepared {o} w = made_prepared (deck_of o.deck) w.sound.range w.sound.full o.problem w.problem_is
 
 -- ---- what `open_job` answers
-module _ (bytes : List ℕ) (o : Opened) (e : o ≡ opened_record (read_job bytes)) where
-  pub open_accepted : o.accepted ≡ true → Spelt bytes
+-- what was opened of an accepted job
+pub record Open (bytes : List ℕ) (o : Opened) : Type 0 where
+  pub job : Spelt bytes
+  pub is : o ≡ opened_deck job.job.deck
+
+module _ (bytes : List ℕ) (r : Option Opened) (e : r ≡ opened_record (read_job bytes)) where
+  pub open_accepted : (o : Opened) → r ≡ Some o → Open bytes o
   unfolding opened_record
-  open_accepted f = go (read_job bytes) refl e
+  open_accepted o f = go (read_job bytes) refl e
     where
-      go : (r : Result) → read_job bytes ≡ r → o ≡ opened_record r → Spelt bytes
-      go (refused why) p q = differ (sym f ∙ ap (λ (k : Opened). k.accepted) q)
-      go (accepted job) p q = record { job = job; read = p; allowed = ((accepted_job bytes job).0 p).2 }
+      go : (q : Result) → read_job bytes ≡ q → r ≡ opened_record q → Open bytes o
+      go (refused why) p g = cc
+      go (accepted job) p g = record { job = record { job = job; read = p; allowed = ((accepted_job bytes job).0 p).2 }; is = cc }
 
-  module _ (s : Spelt bytes) where
-    open_record : o ≡ opened_deck s.job.deck
-    unfolding opened_record
-    open_record = e ∙ ap opened_record s.read
-
-    pub open_held : o.deck ≡ deck_record s.job.deck
-    unfolding opened_deck
-    open_held = ap (λ (k : Opened). k.deck) open_record
-
-    deck_read : o.deck ≡ (job_record (read_job bytes)).deck
-    deck_read = open_held ∙ sym (read_deck bytes (job_record (read_job bytes)) refl s)
-
-    pub open_deck : deck_of o.deck ≡ s.job.deck
-    open_deck = ap deck_of deck_read ∙ read_deck_of s (job_record (read_job bytes)) refl
-
-    pub open_problem : o.problem ≡ problem_record s.job.deck
-    unfolding opened_deck
-    open_problem = ap (λ (k : Opened). k.problem) open_record
-
-    pub open_whole : Whole o
-    open_whole = record {
-      sound = subst Sound (sym deck_read) (read_sound s (job_record (read_job bytes)) refl);
-      problem_is = open_problem ∙ ap problem_record (sym open_deck);
-    }
-
-  pub open_refused : {A : Type 0} (none : A) (f : Job → A) → o.accepted ≡ false → none ≡ on_job none f (read_job bytes)
-  unfolding opened_record opened_deck
+  pub open_refused : {A : Type 0} (none : A) (f : Job → A) → r ≡ None → none ≡ on_job none f (read_job bytes)
+  unfolding opened_record
   open_refused none f g = go (read_job bytes) refl e
     where
-      go : (r : Result) → read_job bytes ≡ r → o ≡ opened_record r → none ≡ on_job none f r
-      go (refused why) p q = refl
-      go (accepted job) p q = differ (sym (ap (λ (k : Opened). k.accepted) q) ∙ g)
+      go : (q : Result) → read_job bytes ≡ q → r ≡ opened_record q → none ≡ on_job none f q
+      go (refused why) p h = refl
+      go (accepted job) p h = cc
+
+module _ {bytes : List ℕ} {o : Opened} (w : Open bytes o) where
+  pub open_held : o.deck ≡ deck_record w.job.job.deck
+  unfolding opened_deck
+  open_held = ap (λ (k : Opened). k.deck) w.is
+
+  pub open_deck : deck_of o.deck ≡ w.job.job.deck
+  open_deck = ap deck_of open_held ∙ held_deck w.job.job.deck
+
+  pub open_problem : o.problem ≡ problem_record w.job.job.deck
+  unfolding opened_deck
+  open_problem = ap (λ (k : Opened). k.problem) w.is
+
+  pub open_whole : Whole o
+  open_whole = record {
+    sound = subst Sound (sym open_held) (record_sound w.job.job.deck (spelt_range w.job) w.job.allowed.area_full);
+    problem_is = open_problem ∙ ap problem_record (sym open_deck);
+  }
 
 -- a figure of the job, where the place or rectangle is allowed and where it is not
 pub on_job_lem : {A : Type 0} {bytes : List ℕ} (none : A) (f : Job → A) (s : Spelt bytes) → f s.job ≡ on_job none f (read_job bytes)

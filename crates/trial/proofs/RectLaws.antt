@@ -1,6 +1,6 @@
 -- A rectangle that is allowed, and its numbers as machine words.
 -- Assumes nothing.
-use mathlib.Core.Path.{◌≡◌, sym, ap, ◌∙◌}
+use mathlib.Core.Path.{◌≡◌, refl, sym, ap, ◌∙◌}
 use mathlib.Core.Bool.{Bool, true, false, ◌&&◌}
 use mathlib.Core.Logic.{◌↔◌}
 use lib.Dec.{T}
@@ -15,6 +15,8 @@ use Rattle.job_line.specs.Kinds.{coordinates, in_range}
 use Rattle.job.proofs.RangeLaws.{coordinate_range}
 use Rattle.numbers.proofs.WordTests.{back, back_is}
 use Rattle.reach.specs.Columns.{Ranged}
+use Rattle.deck.specs.Rectangle.{rect_of}
+use Rattle.deck.specs.declared.Rect as Held
 use Rattle.trial.specs.Opened.{place_in_range, rect_allowed}
 
 -- the test holds of the places that are in range, and of no others
@@ -49,30 +51,6 @@ rect_range r =
       λ h. four.1 (h.range.low_corner_law, (h.range.high_corner_law, (h.full.across, h.full.deep))),
     )
 
--- ---- the test of a rectangle, part by part
-module _ (r : Rect) where
-  abbrev low_test : Bool
-  low_test = place_in_range (corner r)
-
-  abbrev high_test : Bool
-  high_test = place_in_range (record { x = r.xhi; y = r.yhi })
-
-  pub low_off : low_test ≡ false → false ≡ rect_allowed r
-  unfolding rect_allowed
-  low_off a = rw a
-
-  pub high_off : low_test ≡ true → high_test ≡ false → false ≡ rect_allowed r
-  unfolding rect_allowed
-  high_off a b = rw (a, b)
-
-  pub across_off : low_test ≡ true → high_test ≡ true → le_z r.xlo r.xhi ≡ false → false ≡ rect_allowed r
-  unfolding rect_allowed
-  across_off a b c = rw (a, b, c)
-
-  pub deep_on : low_test ≡ true → high_test ≡ true → le_z r.xlo r.xhi ≡ true → le_z r.ylo r.yhi ≡ rect_allowed r
-  unfolding rect_allowed
-  deep_on a b c = rw (a, b, c)
-
 -- ---- numbers as 64 bits hold them
 pub place_held : {x y : ℤ} → SFits w64 x → SFits w64 y → ◌≡◌ {A = Place} (record { x = back x; y = back y }) (record { x = x; y = y })
 place_held f g = rw (back_is f, back_is g)
@@ -84,3 +62,23 @@ rect_held f g h k = rw (back_is f, back_is g, back_is h, back_is k)
 pub tested_place : {x y : ℤ} {r t : Bool} → SFits w64 x → SFits w64 y → r ≡ place_in_range (record { x = back x; y = back y }) → r ≡ t →
     place_in_range (record { x = x; y = y }) ≡ t
 tested_place f g e t = sym (e ∙ ap place_in_range (place_held f g)) ∙ t
+
+-- ---- tests that are joined by `&&`, as the code joins them
+pub and_then : (a b : Bool) → a ≡ true → b ≡ a && b
+and_then a b e = rw e
+
+pub and_else : (a b : Bool) → a ≡ false → a ≡ a && b
+and_else a b e = rw e
+
+grouped : (a b c d : Bool) → ((a && b) && c) && d ≡ a && (b && (c && d))
+grouped true true c d = refl
+grouped true false c d = refl
+grouped false b c d = refl
+
+pub rect_tests : (r : Held.Rect) → SFits w64 r.xlo → SFits w64 r.ylo → SFits w64 r.xhi → SFits w64 r.yhi → {low corners across : Bool} →
+    low ≡ place_in_range (record { x = back r.xlo; y = back r.ylo }) →
+    corners ≡ low && place_in_range (record { x = back r.xhi; y = back r.yhi }) → across ≡ corners && le_z (back r.xlo) (back r.xhi) →
+    across && le_z (back r.ylo) (back r.yhi) ≡ rect_allowed (rect_of r)
+unfolding rect_allowed
+rect_tests r f g h k low corners across = rw (across, corners, low, back_is f, back_is g, back_is h, back_is k) 
+    (grouped (place_in_range (record { x = r.xlo; y = r.ylo })) (place_in_range (record { x = r.xhi; y = r.yhi })) (le_z r.xlo r.xhi) (le_z r.ylo r.yhi))

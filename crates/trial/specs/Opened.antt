@@ -1,24 +1,24 @@
 -- A job that was read, with the problem of its deck, as the code holds it; and what is asked of a place or rectangle that is priced.
 -- Assumes nothing.
-use Rattle.std.specs.Prelude.{◌≡◌, Bool, true, false, ◌&&◌}
+use Rattle.std.specs.Prelude.{◌≡◌, Bool, ◌&&◌, Option, None, Some}
 use Rattle.std.specs.Int.Signed.{le_z}
 use Rattle.query.specs.Place.{Place, Rect, corner}
 use Rattle.query.specs.Deck as Query
 use Rattle.job_line.specs.Kinds.{coordinates, in_range}
 use Rattle.job.specs.Format.{Result, refused, accepted}
-use Rattle.deck.specs.DeckOf.{deck_of, deck_record, empty_deck}
+use Rattle.deck.specs.DeckOf.{deck_of, deck_record}
 use Rattle.deck.specs.Sound.{Sound}
-use Rattle.prepare.specs.ProblemRecord.{problem_record, no_problem}
+use Rattle.prepare.specs.ProblemRecord.{problem_record}
 use Rattle.trial.specs.declared.opened.Opened.{Opened}
 
 unfoldable pub opened_deck : Query.Deck → Opened
 unfolding deck_record problem_record
-opened_deck deck = record { accepted = true; deck = deck_record deck; problem = problem_record deck }
+opened_deck deck = record { deck = deck_record deck; problem = problem_record deck }
 
-unfoldable pub opened_record : Result → Opened
+unfoldable pub opened_record : Result → Option Opened
 unfolding opened_deck
-opened_record (refused why) = record { accepted = false; deck = deck_record empty_deck; problem = no_problem }
-opened_record (accepted job) = opened_deck job.deck
+opened_record (refused why) = None
+opened_record (accepted job) = Some (opened_deck job.deck)
 
 -- a sound record, and the problem of its deck
 pub record Whole (o : Opened) : Type 0 where

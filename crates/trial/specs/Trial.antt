@@ -1,6 +1,6 @@
 -- What each function for tests answers, of a job's bytes: a figure of the deck that they spell.
 -- Assumes nothing.
-use Rattle.std.specs.Prelude.{ℕ, Bool, cond, ◌&&◌, List, [], ◌∷◌, map, ◌++◌, ltb, ℤ, pos, negsuc, length, get_or, drop}
+use Rattle.std.specs.Prelude.{ℕ, Bool, cond, ◌&&◌, List, [], ◌∷◌, map, ◌++◌, ltb, ℤ, pos, negsuc, length, get_or, drop, Option, None, Some}
 use Rattle.query.specs.Place.{Place, Rect, corner, Axis, x_axis, y_axis}
 use Rattle.query.specs.Travel.{near}
 use Rattle.query.specs.Cost.{cost, before}
@@ -26,6 +26,11 @@ minus_one = negsuc 0
 -- the least number of 64 bits: no figure
 abbrev pub least : ℤ
 least = negsuc 9223372036854775807
+
+-- a figure, or what stands for one that there is not
+abbrev pub figure_or : ℤ → Option ℤ → ℤ
+figure_or none (Some z) = z
+figure_or none None = none
 
 -- the number and the line of a refusal
 abbrev pub refusal_numbers : Refusal → List ℤ

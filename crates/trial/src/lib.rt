@@ -4,16 +4,18 @@
 
 pub mod opened;
 
-ghost use Rattle.std.specs.Prelude.{◌≡◌, ◌++◌, ◌≤◌, length, get_or, drop};
+ghost use Rattle.std.specs.Prelude.{◌≡◌, ◌≤◌, get_or};
 ghost use Rattle.refusal.specs.Refusal.{line_of};
 ghost use Rattle.job.specs.Format.{read_job};
 ghost use Rattle.deck.specs.Rectangle.{rect_of};
 ghost use Rattle.trial.specs.Trial.{
   least,
+  minus_one,
+  figure_or,
   refusal_numbers,
   reading_numbers,
   before_figure,
-  near_figure,
+  near_at,
   cost_figure,
   load_figure,
   bound_figure,
@@ -24,8 +26,13 @@ ghost use Rattle.trial.specs.Trial.{
 };
 
 use deck::Rect;
-use job::Outcome;
 use refusal::Refusal;
+
+// Stands for a figure that there is not.
+pub const NO_FIGURE: i64 = i64::MIN;
+
+// Stands for a figure that is no number below 0, where the job is refused, or the place or rectangle is out of range or empty.
+const REFUSED: i64 = -1;
 
 // ---- reading
 
@@ -34,13 +41,11 @@ pub fn refusal_figure(why: Refusal, which: u64) -> i64
     requires { line_of why ≤ 16385 }
     ensures { result ≡ get_or (refusal_numbers why) which least }
 {
-    if which == 0 {
-        return refusal::number_of(why) as i64;
+    match which {
+        0 => refusal::number_of(why) as i64,
+        1 => refusal::line_of(why) as i64,
+        _ => NO_FIGURE,
     }
-    if which == 1 {
-        return refusal::line_of(why) as i64;
-    }
-    -9223372036854775808
 }
 
 // Of what reading a job gives: the number of the refusal and its line, both 0 for an accepted job; the rounds, -1 for a refused job.
@@ -48,179 +53,119 @@ pub fn refusal_figure(why: Refusal, which: u64) -> i64
 pub fn trial_reading(job: &[u8], which: u64) -> i64
     ensures { result ≡ get_or (reading_numbers (read_job job.now)) which least }
 {
-    let j = job::read(job);
-    let outcome = j.outcome;
-    match outcome {
-        Outcome::Accepted(rounds) => {
-            if which < 2 {
-                return 0;
-            }
-            if which == 2 {
-                return rounds as i64;
-            }
-            -9223372036854775808
-        }
-        Outcome::Refused(why) => {
-            if which == 2 {
-                return -1;
-            }
-            refusal_figure(why, which)
-        }
+    match job::read(job) {
+        Ok(j) => match which {
+            0 => 0,
+            1 => 0,
+            2 => j.rounds as i64,
+            _ => NO_FIGURE,
+        },
+        Err(why) => match which {
+            2 => REFUSED,
+            _ => refusal_figure(why, which),
+        },
     }
 }
 
-// ---- figures of a job's deck
+// ---- figures of a job's deck, none where the job is refused, or what it is asked of is out of range or empty
 
-// What all stops pay with the posts that there are, from the record; -1 where the job is refused.
-fn before(job: &[u8]) -> i64
-    ensures { result ≡ before_figure (read_job job.now) }
+// What all stops pay with the posts that there are, from the record.
+fn before(job: &[u8]) -> Option<i64>
+    ensures { figure_or minus_one result ≡ before_figure (read_job job.now) }
 {
-    let o = opened::open_job(job);
-    if !o.accepted {
-        return -1;
-    }
-    o.deck.before as i64
+    let o = opened::open_job(job)?;
+    Some(o.deck.before as i64)
 }
 
-// The near of stop `i`, counted from 0, from the record; -1 where there is none.
-fn near(job: &[u8], i: usize) -> i64
-    ensures { result ≡ near_figure i (read_job job.now) }
+// The near of stop `i`, counted from 0, from the record.
+fn near(job: &[u8], i: i64) -> Option<i64>
+    ensures { figure_or minus_one result ≡ near_at i (read_job job.now) }
 {
-    let o = opened::open_job(job);
-    if !o.accepted {
-        return -1;
+    let o = opened::open_job(job)?;
+    if i < 0 {
+        return None;
     }
-    let near = o.deck.near;
-    if i < o.deck.stops { near[i] as i64 } else { -1 }
+    let i = i as usize;
+    if i < o.deck.stops { Some(o.deck.near[i] as i64) } else { None }
 }
 
-// The cost of a place; -1 where the job is refused or the place is out of range.
-fn cost(job: &[u8], x: i64, y: i64) -> i64
-    ensures { result ≡ cost_figure (record { x = x; y = y }) (read_job job.now) }
+// The cost of a place.
+fn cost(job: &[u8], x: i64, y: i64) -> Option<i64>
+    ensures { figure_or minus_one result ≡ cost_figure (record { x = x; y = y }) (read_job job.now) }
 {
-    let o = opened::open_job(job);
-    if !o.accepted {
-        return -1;
-    }
+    let o = opened::open_job(job)?;
     if !opened::place_in_range(x, y) {
-        return -1;
+        return None;
     }
-    let p = o.problem;
-    let n = p.count;
-    pricing::cost(&p.columns, n, x, y) as i64
+    Some(pricing::cost(&o.problem.columns, o.problem.count, x, y) as i64)
 }
 
-// The load of a rectangle; -1 where the job is refused, or the rectangle is out of range or empty.
-fn load(job: &[u8], rect: Rect) -> i64
-    ensures { result ≡ load_figure (rect_of rect) (read_job job.now) }
+// The load of a rectangle.
+fn load(job: &[u8], rect: Rect) -> Option<i64>
+    ensures { figure_or minus_one result ≡ load_figure (rect_of rect) (read_job job.now) }
 {
-    let o = opened::open_job(job);
-    if !o.accepted {
-        return -1;
-    }
+    let o = opened::open_job(job)?;
     if !opened::rect_allowed(rect) {
-        return -1;
+        return None;
     }
-    let p = o.problem;
-    let n = p.count;
-    pricing::load(&p.columns, n, rect) as i64
+    Some(pricing::load(&o.problem.columns, o.problem.count, rect) as i64)
 }
 
-// The bound of a rectangle; the least number where the job is refused, or the rectangle is out of range or empty.
-fn bound(job: &[u8], rect: Rect) -> i64
-    ensures { result ≡ bound_figure (rect_of rect) (read_job job.now) }
+// The bound of a rectangle.
+fn bound(job: &[u8], rect: Rect) -> Option<i64>
+    ensures { figure_or least result ≡ bound_figure (rect_of rect) (read_job job.now) }
 {
-    let o = opened::open_job(job);
-    if !o.accepted {
-        return -9223372036854775808;
-    }
+    let o = opened::open_job(job)?;
     if !opened::rect_allowed(rect) {
-        return -9223372036854775808;
+        return None;
     }
-    let p = o.problem;
-    let n = p.count;
-    opened::bound_in(&p.columns, n, rect)
+    Some(opened::bound_in(&o.problem.columns, o.problem.count, rect))
 }
 
-// 1 for a cut at an x, 2 for one at a y, 0 for none; -1 where the job is refused, or the rectangle is out of range or empty.
-fn cut_axis(job: &[u8], rect: Rect) -> i64
-    ensures { result ≡ cut_axis_figure (rect_of rect) (read_job job.now) }
+// 1 for a cut at an x, 2 for one at a y, 0 for none.
+fn cut_axis(job: &[u8], rect: Rect) -> Option<i64>
+    ensures { figure_or minus_one result ≡ cut_axis_figure (rect_of rect) (read_job job.now) }
 {
-    let o = opened::open_job(job);
-    if !o.accepted {
-        return -1;
-    }
+    let o = opened::open_job(job)?;
     if !opened::rect_allowed(rect) {
-        return -1;
+        return None;
     }
-    let cut = opened::cut_of(o, rect);
+    let cut = opened::cut_of(&o, rect);
     if !cut.found {
-        return 0;
+        return Some(0);
     }
-    if cut.across { 1 } else { 2 }
+    Some(if cut.across { 1 } else { 2 })
 }
 
-// The line of the cut; the least number where there is none.
-fn cut_line(job: &[u8], rect: Rect) -> i64
-    ensures { result ≡ cut_line_figure (rect_of rect) (read_job job.now) }
+// The line of the cut, and none also where there is no cut.
+fn cut_line(job: &[u8], rect: Rect) -> Option<i64>
+    ensures { figure_or least result ≡ cut_line_figure (rect_of rect) (read_job job.now) }
 {
-    let o = opened::open_job(job);
-    if !o.accepted {
-        return -9223372036854775808;
-    }
+    let o = opened::open_job(job)?;
     if !opened::rect_allowed(rect) {
-        return -9223372036854775808;
+        return None;
     }
-    let cut = opened::cut_of(o, rect);
-    if !cut.found {
-        return -9223372036854775808;
-    }
-    cut.at
+    let cut = opened::cut_of(&o, rect);
+    if cut.found { Some(cut.at) } else { None }
 }
 
 // A figure of the job's deck: before, the near of stop `xlo`, the cost of (`xlo`, `ylo`); of the rectangle the load, the bound, the axis
-// and the line of the cut. The least number behind them.
+// and the line of the cut. In place of one that there is not, -1, or the least number for the bound and the line. The least number behind
+// them.
 pub fn trial_figure(job: &[u8], which: u64, xlo: i64, ylo: i64, xhi: i64, yhi: i64) -> i64
     ensures { result
         ≡ get_or (deck_figures (record { xlo = xlo; ylo = ylo; xhi = xhi; yhi = yhi }) (read_job job.now)) which least }
 {
     let rect = Rect { xlo, ylo, xhi, yhi };
-    if which == 0 {
-        return before(job);
-    }
-    if which == 1 {
-        if xlo < 0 {
-            return -1;
-        }
-        return near(job, xlo as usize);
-    }
-    if which == 2 {
-        return cost(job, xlo, ylo);
-    }
-    if which == 3 {
-        return load(job, rect);
-    }
-    if which == 4 {
-        return bound(job, rect);
-    }
-    if which == 5 {
-        return cut_axis(job, rect);
-    }
-    if which == 6 {
-        return cut_line(job, rect);
-    }
-    -9223372036854775808
-}
-
-// Puts some lines in front of `out`.
-fn put_lines(out: &mut [i64], ls: &[i64])
-    requires { length ls.now ≤ length out.old }
-    ensures { out.new ≡ ls.now ++ drop (length ls.now) out.old }
-{
-    let mut i: usize = 0;
-    while i < ls.len() {
-        out[i] = ls[i];
-        i += 1;
+    match which {
+        0 => before(job).unwrap_or(REFUSED),
+        1 => near(job, xlo).unwrap_or(REFUSED),
+        2 => cost(job, xlo, ylo).unwrap_or(REFUSED),
+        3 => load(job, rect).unwrap_or(REFUSED),
+        4 => bound(job, rect).unwrap_or(NO_FIGURE),
+        5 => cut_axis(job, rect).unwrap_or(REFUSED),
+        6 => cut_line(job, rect).unwrap_or(NO_FIGURE),
+        _ => NO_FIGURE,
     }
 }
 
@@ -228,21 +173,15 @@ fn put_lines(out: &mut [i64], ls: &[i64])
 pub fn trial_lines(job: &[u8], across: bool, out: &mut [i64]) -> i64
     ensures { record { result = result; out = out.new } ≡ lines_written across out.old (read_job job.now) }
 {
-    let o = opened::open_job(job);
-    if !o.accepted {
-        return -1;
-    }
-    let p = o.problem;
-    let n = if across { p.nv } else { p.nh };
+    let Some(o) = opened::open_job(job) else {
+        return REFUSED;
+    };
+    let p = &o.problem;
+    let lines: &[i64] = if across { &p.v[..p.nv] } else { &p.h[..p.nh] };
+    let n = lines.len();
     if out.len() < n {
-        return -1;
+        return REFUSED;
     }
-    if across {
-        let v: &[i64] = &p.v;
-        put_lines(out, &v[..n]);
-    } else {
-        let h: &[i64] = &p.h;
-        put_lines(out, &h[..n]);
-    }
+    out[..n].copy_from_slice(lines);
     n as i64
 }

@@ -13,50 +13,37 @@ ghost use Rattle.trial.specs.Opened.{Whole, opened_record, place_in_range, rect_
 
 use cuts::Cut;
 use deck::{Deck, Rect};
-use job::Outcome;
 use limits::{COLUMNS, LEAST_COORDINATE, LINES, MOST_COORDINATE};
 use prepare::Problem;
 
-// A job that was read, and the problem of its deck; one of zeros where it is refused.
+// The deck of a job that was read, and its problem.
 #[derive(Drop)]
 pub struct Opened {
-    pub accepted: bool,
     pub deck: Deck,
     pub problem: Problem,
 }
 
-pub fn open_job(bytes: &[u8]) -> Opened
+// None where the job is refused.
+pub fn open_job(bytes: &[u8]) -> Option<Opened>
     ensures { result ≡ opened_record (read_job bytes.now) }
 {
     let mut columns = [0i32; COLUMNS];
     let mut v = [0i64; LINES];
     let mut h = [0i64; LINES];
-    let p = prepare::of_job(bytes, &mut columns, &mut v, &mut h);
-    let j = job::read(bytes);
-    let deck = j.deck;
-    let area = p.area;
-    let problem = Problem {
-        area,
-        count: p.count,
-        columns,
-        nv: p.nv,
-        v,
-        nh: p.nh,
-        h,
-    };
-    let outcome = p.outcome;
-    match outcome {
-        Outcome::Accepted(_) => Opened {
-            accepted: true,
-            deck,
-            problem,
+    let p = prepare::of_job(bytes, &mut columns, &mut v, &mut h).ok()?;
+    let j = job::read(bytes).ok()?;
+    Some(Opened {
+        deck: j.deck,
+        problem: Problem {
+            area: p.area,
+            count: p.count,
+            columns,
+            nv: p.nv,
+            v,
+            nh: p.nh,
+            h,
         },
-        Outcome::Refused(_) => Opened {
-            accepted: false,
-            deck,
-            problem,
-        },
-    }
+    })
 }
 
 // ---- ranges
@@ -64,37 +51,22 @@ pub fn open_job(bytes: &[u8]) -> Opened
 fn coordinate_in_range(v: i64) -> bool
     ensures { result ≡ in_range coordinates v }
 {
-    if LEAST_COORDINATE <= v {
-        v <= MOST_COORDINATE
-    } else {
-        false
-    }
+    LEAST_COORDINATE <= v && v <= MOST_COORDINATE
 }
 
 pub fn place_in_range(x: i64, y: i64) -> bool
     ensures { result ≡ place_in_range (record { x = x; y = y }) }
 {
-    if coordinate_in_range(x) {
-        coordinate_in_range(y)
-    } else {
-        false
-    }
+    coordinate_in_range(x) && coordinate_in_range(y)
 }
 
 pub fn rect_allowed(rect: Rect) -> bool
     ensures { result ≡ rect_allowed (rect_of rect) }
 {
-    if !place_in_range(rect.xlo, rect.ylo) {
-        return false;
-    }
-    if !place_in_range(rect.xhi, rect.yhi) {
-        return false;
-    }
-    if rect.xlo <= rect.xhi {
-        rect.ylo <= rect.yhi
-    } else {
-        false
-    }
+    place_in_range(rect.xlo, rect.ylo)
+        && place_in_range(rect.xhi, rect.yhi)
+        && rect.xlo <= rect.xhi
+        && rect.ylo <= rect.yhi
 }
 
 // ---- figures of a problem
@@ -111,14 +83,10 @@ pub fn bound_in(columns: &[i32; COLUMNS], n: usize, rect: Rect) -> i64
     pricing::bound(c00, c01, c10, c11, pricing::span(columns, rect), load)
 }
 
-pub fn cut_of(o: Opened, rect: Rect) -> Cut
-    requires { Whole o × Ranged (rect_of rect) }
-    ensures { result ≡ cut_record (grid (deck_of o.deck)) (rect_of rect) }
+pub fn cut_of(o: &Opened, rect: Rect) -> Cut
+    requires { Whole o.now × Ranged (rect_of rect) }
+    ensures { result ≡ cut_record (grid (deck_of o.now.deck)) (rect_of rect) }
 {
-    let p = o.problem;
-    let nv = p.nv;
-    let nh = p.nh;
-    let v: &[i64] = &p.v;
-    let h: &[i64] = &p.h;
-    cuts::find_cut(&v[..nv], &h[..nh], rect)
+    let p = &o.problem;
+    cuts::find_cut(&p.v[..p.nv], &p.h[..p.nh], rect)
 }

@@ -28,9 +28,8 @@ use Rattle.report.specs.declared.Report.{Report}
 use Rattle.prepare.proofs.Coordinates.{near_back}
 use Rattle.problem.specs.ObjectProblem.{priced_of}
 use Rattle.problem.specs.declared.Spot.{Spot}
-use Rattle.calls.specs.declared.Answer.{Answer}
-use Rattle.calls.specs.declared.Answer.TheVariants as Answered
-use Rattle.calls.specs.declared.Cheapest.{Cheapest}
+use Rattle.std.specs.Prelude.{Ok, Err}
+use Rattle.std.specs.Prelude as Std
 use Rattle.calls.specs.Answers.{AnswerOf, gives, refusal, report_answer, cheapest_answer}
 use Rattle.calls.specs.Call.{Left, report_call}
 use Rattle.calls.specs.CheapestCall.{exhaustive_call}
@@ -49,7 +48,7 @@ line_few _ job cells out (small_space j e h) = omega arith
 line_few _ job cells out (short_output j e h k) = omega arith
 
 -- ---- the answer of the call, by its case
-module _ (job : List ℕ) (cells : List ℤ) (out : List ℕ) (answer : Answer) (cells' : List ℤ) (out' : List ℕ) (e : record {
+module _ (job : List ℕ) (cells : List ℤ) (out : List ℕ) (answer : Std.Result Report Refusal) (cells' : List ℤ) (out' : List ℕ) (e : record {
   answer = report_answer answer;
   cells = cells';
   out = out';
@@ -63,14 +62,14 @@ module _ (job : List ℕ) (cells : List ℤ) (out : List ℕ) (answer : Answer) 
   answer_is = sym (ap (λ (l : Left). l.answer) e)
 
   -- the report's figures are in range
-  pub limits : (r : Report) → answer ≡ Answered.Report r → FiguresInRange 1000 (report_figures r)
+  pub limits : (r : Report) → answer ≡ Ok r → FiguresInRange 1000 (report_figures r)
   limits r a =
       let f = answer_is ∙ ap report_answer a in
       let (j, ok) = accepted_one job cells out (report_figures r) f in
       subst (FiguresInRange 1000) (figures_are job cells out j (report_figures r) ok f) (job_limits j ((read_exactly job j).0 ok.read).1)
 
   -- the line of a refusal is small
-  pub report_line : (why : Refusal) → answer ≡ Answered.Refused why → line_of why ≤ 16385
+  pub report_line : (why : Refusal) → answer ≡ Err why → line_of why ≤ 16385
   report_line why a = line_few why job cells out (((demands job cells out).demand_1.refused_exactly why).0 (answer_is ∙ ap report_answer a))
 
 -- ---- the numbers of a report
@@ -97,7 +96,7 @@ no_number why (suc (suc (suc (suc (suc zero))))) h = refl
 no_number why (suc (suc (suc (suc (suc (suc zero)))))) h = refl
 no_number why (suc (suc (suc (suc (suc (suc (suc which))))))) h = absurd (omega arith)
 
-module _ {answer : Answer} (why : Refusal) (a : answer ≡ Answered.Refused why) (which : ℕ) where
+module _ {answer : Std.Result Report Refusal} (why : Refusal) (a : answer ≡ Err why) (which : ℕ) where
   pub no_answer_number : which < 7 → least ≡ get_or (answer_numbers (report_answer answer)) which least
   no_answer_number h = rw a (no_number why which h)
 
@@ -125,9 +124,9 @@ module _ (r : Report) (h : FiguresInRange 1000 (report_figures r)) (which : ℕ)
   rounds_figure e = number_at (report_numbers (report_figures r)) which 6 _ e (to_z_pos w64 r.rounds (omega (arith, h.rounds_limit_lem)))
 
 -- ---- the call `exhaustive`
-module _ (job : List ℕ) (answer : Cheapest) (e : cheapest_answer answer ≡ exhaustive_call job) where
+module _ (job : List ℕ) (answer : Std.Result Spot Refusal) (e : cheapest_answer answer ≡ exhaustive_call job) where
   -- the cheapest crossing is a place of the area, and its cost that of a place
-  pub spot_limits : (s : Spot) → answer ≡ Cheapest.At s → PlaceInRange (priced_of s).at × (s.cost ≤ cost_limit)
+  pub spot_limits : (s : Spot) → answer ≡ Ok s → PlaceInRange (priced_of s).at × (s.cost ≤ cost_limit)
   spot_limits s a = go (read_job job) refl
     where
       found : exhaustive_call job ≡ gives (priced_of s)
@@ -151,7 +150,7 @@ module _ (job : List ℕ) (answer : Cheapest) (e : cheapest_answer answer ≡ ex
             ),
           )
 
-  pub exhaustive_line : (why : Refusal) → answer ≡ Cheapest.Refused why → line_of why ≤ 16385
+  pub exhaustive_line : (why : Refusal) → answer ≡ Err why → line_of why ≤ 16385
   exhaustive_line why a = condition_line job why (((exhaustive_call_law job).refused_exactly why).0 (sym e ∙ ap cheapest_answer a))
 
 spot_zero : (s : Priced) (k : ℕ) → k < 2 → pos 0 ≡ get_or (spot_numbers s) (suc (suc (suc k))) least
@@ -183,7 +182,7 @@ no_spot why (suc zero) h = refl
 no_spot why (suc (suc zero)) h = refl
 no_spot why (suc (suc (suc which))) h = absurd (omega arith)
 
-module _ {answer : Cheapest} (why : Refusal) (a : answer ≡ Cheapest.Refused why) (which : ℕ) where
+module _ {answer : Std.Result Spot Refusal} (why : Refusal) (a : answer ≡ Err why) (which : ℕ) where
   pub no_cheapest_number : which < 3 → least ≡ get_or (cheapest_numbers (cheapest_answer answer)) which least
   no_cheapest_number h = rw a (no_spot why which h)
 

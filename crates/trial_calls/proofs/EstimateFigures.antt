@@ -14,7 +14,8 @@ use Rattle.refusal.specs.Refusal.{line_of}
 use Rattle.refusal.specs.declared.Refusal.{Refusal}
 use Rattle.job.proofs.RefusalLaws.{condition_line}
 use Rattle.calls.specs.declared.Estimate as Held
-use Rattle.calls.specs.declared.Estimated.{Estimated}
+use Rattle.std.specs.Prelude.{Ok, Err}
+use Rattle.std.specs.Prelude as Std
 use Rattle.calls.specs.Answers.{refusal, estimate_numbers, estimated_answer}
 use Rattle.calls.specs.EstimateCall.{estimate_call}
 use Rattle.calls.proofs.EstimateCall.{estimate_call_law}
@@ -24,13 +25,13 @@ use Rattle.trial.proofs.NumberLaws.{number_at}
 use Rattle.trial_calls.specs.Estimates.{SmallEstimate, needs_numbers, estimated_numbers}
 
 -- ---- the answer of the call, by its case
-module _ (job : List ℕ) (answer : Estimated) (e : estimated_answer answer ≡ estimate_call job) where
-  pub estimate_small : (n : Held.Estimate) → answer ≡ Estimated.Needs n → SmallEstimate (estimate_numbers n)
+module _ (job : List ℕ) (answer : Std.Result Held.Estimate Refusal) (e : estimated_answer answer ≡ estimate_call job) where
+  pub estimate_small : (n : Held.Estimate) → answer ≡ Ok n → SmallEstimate (estimate_numbers n)
   estimate_small n a =
       let (across, deep, limit, cells) = given_small job (estimate_numbers n) (sym e ∙ ap estimated_answer a) in
       record { across = omega arith; deep = omega arith; limit = omega arith; cells = omega arith }
 
-  pub estimate_line : (why : Refusal) → answer ≡ Estimated.Refused why → line_of why ≤ 16385
+  pub estimate_line : (why : Refusal) → answer ≡ Err why → line_of why ≤ 16385
   estimate_line why a = condition_line job why (((estimate_call_law job).refused_exactly why).0 (sym e ∙ ap estimated_answer a))
 
 -- ---- the numbers of an estimate
@@ -68,7 +69,7 @@ no_needs_below why (suc (suc zero)) h = refl
 no_needs_below why (suc (suc (suc zero))) h = refl
 no_needs_below why (suc (suc (suc (suc which)))) h = absurd (omega arith)
 
-module _ {answer : Estimated} (why : Refusal) (a : answer ≡ Estimated.Refused why) (which : ℕ) where
+module _ {answer : Std.Result Held.Estimate Refusal} (why : Refusal) (a : answer ≡ Err why) (which : ℕ) where
   pub no_estimate_number : which < 4 → least ≡ get_or (estimated_numbers (estimated_answer answer)) which least
   no_estimate_number h = rw a (no_needs_below why which h)
 

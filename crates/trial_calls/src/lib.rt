@@ -15,9 +15,9 @@ ghost use Rattle.calls.specs.CheapestCall.{exhaustive_call};
 ghost use Rattle.trial.specs.Trial.{least};
 ghost use Rattle.trial_calls.specs.Calls.{called, state_number, report_numbers, figure_for, spot_numbers, cheapest_figure};
 
-use calls::{Answer, Cheapest};
 use problem::Spot;
 use report::{Report, State};
+use trial::NO_FIGURE;
 
 fn state_number(state: State) -> i64
     ensures { result ≡ state_number (report_state state) }
@@ -33,32 +33,17 @@ fn figure(r: Report, which: u64) -> i64
     requires { FiguresInRange 1000 (report_figures r) }
     ensures { result ≡ get_or (report_numbers (report_figures r)) which least }
 {
-    if which == 0 {
-        let state = r.state;
-        return state_number(state);
+    match which {
+        0 => state_number(r.state),
+        1 => r.x,
+        2 => r.y,
+        3 => r.high as i64,
+        4 => r.low,
+        5 => r.before as i64,
+        6 => r.rounds as i64,
+        7 | 8 => 0,
+        _ => NO_FIGURE,
     }
-    if which == 1 {
-        return r.x;
-    }
-    if which == 2 {
-        return r.y;
-    }
-    if which == 3 {
-        return r.high as i64;
-    }
-    if which == 4 {
-        return r.low;
-    }
-    if which == 5 {
-        return r.before as i64;
-    }
-    if which == 6 {
-        return r.rounds as i64;
-    }
-    if which < 9 {
-        return 0;
-    }
-    -9223372036854775808
 }
 
 // Of the report call's answer: state, x, y, high, low, before, rounds, the number of the refusal and its line (0 for a report). The least
@@ -67,12 +52,11 @@ pub fn trial_report(job: &[u8], cells: &mut [i64], out: &mut [u8], which: u64) -
     ensures { record { result = result; cells = cells.new; out = out.new }
         ≡ called (figure_for which) (report_call job.now cells.old out.old) }
 {
-    let answer = siting::report(job, cells, out);
-    match answer {
-        Answer::Report(r) => figure(r, which),
-        Answer::Refused(why) => {
+    match siting::report(job, cells, out) {
+        Ok(r) => figure(r, which),
+        Err(why) => {
             if which < 7 {
-                return -9223372036854775808;
+                return NO_FIGURE;
             }
             trial::refusal_figure(why, which - 7)
         }
@@ -84,19 +68,13 @@ fn spot_figure(s: Spot, which: u64) -> i64
     requires { PlaceInRange (priced_of s).at × (s.cost ≤ cost_limit) }
     ensures { result ≡ get_or (spot_numbers (priced_of s)) which least }
 {
-    if which == 0 {
-        return s.x;
+    match which {
+        0 => s.x,
+        1 => s.y,
+        2 => s.cost as i64,
+        3 | 4 => 0,
+        _ => NO_FIGURE,
     }
-    if which == 1 {
-        return s.y;
-    }
-    if which == 2 {
-        return s.cost as i64;
-    }
-    if which < 5 {
-        return 0;
-    }
-    -9223372036854775808
 }
 
 // Of the exhaustive call's answer: x, y, the cost, the number of the refusal and its line (0 for none). The least number where there is no
@@ -104,12 +82,11 @@ fn spot_figure(s: Spot, which: u64) -> i64
 pub fn trial_exhaustive(job: &[u8], which: u64) -> i64
     ensures { result ≡ cheapest_figure which (exhaustive_call job.now) }
 {
-    let answer = siting::exhaustive(job);
-    match answer {
-        Cheapest::At(s) => spot_figure(s, which),
-        Cheapest::Refused(why) => {
+    match siting::exhaustive(job) {
+        Ok(s) => spot_figure(s, which),
+        Err(why) => {
             if which < 3 {
-                return -9223372036854775808;
+                return NO_FIGURE;
             }
             trial::refusal_figure(why, which - 3)
         }

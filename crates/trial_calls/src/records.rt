@@ -1,38 +1,18 @@
 // The calls `siting::read` and `siting::write`, for the tests and benchmarks from Rust. A deck's record is two lists of numbers: 1,156
 // coordinates, of the area, the posts' x and y, the stops' x and y; and 1,029 others, the axis costs, the counts of posts and stops, the
 // visits, near and before.
-ghost use Rattle.std.specs.Prelude.{◌≡◌, ◌+◌, ◌≤◌, length, get_or, drop};
-ghost use Rattle.std.proofs.Math.Seq.{paste};
+ghost use Rattle.std.specs.Prelude.{◌≡◌, ◌≤◌, length, get_or};
 ghost use Rattle.calls.specs.Answers.{gives};
 ghost use Rattle.trial_calls.specs.Records.{coordinates_of, naturals_of, deck_from, count_figure, trial_read, trial_write};
 
-use calls::Written;
 use deck::{AxisCosts, Deck};
-use job::Outcome;
 use limits::{POSTS, STOPS};
+use trial::NO_FIGURE;
 
-// n numbers from a place of a list on, copied to a place of another.
-fn copy(from: &[i64], start: usize, to: &mut [i64], at: usize, n: usize)
-    requires { (start + n ≤ length from.now) × (at + n ≤ length to.old) }
-    ensures { to.new ≡ paste to.old at (drop start from.now) n }
-{
-    let mut i: usize = 0;
-    while i < n {
-        to[at + i] = from[start + i];
-        i += 1;
-    }
-}
+// How long the two lists are.
+const COORDINATES: usize = 1156;
 
-fn copy_naturals(from: &[u64], start: usize, to: &mut [u64], at: usize, n: usize)
-    requires { (start + n ≤ length from.now) × (at + n ≤ length to.old) }
-    ensures { to.new ≡ paste to.old at (drop start from.now) n }
-{
-    let mut i: usize = 0;
-    while i < n {
-        to[at + i] = from[start + i];
-        i += 1;
-    }
-}
+const NATURALS: usize = 1029;
 
 // The record that has these numbers.
 fn deck_from(coordinates: &[i64], naturals: &[u64]) -> Deck
@@ -45,12 +25,12 @@ fn deck_from(coordinates: &[i64], naturals: &[u64]) -> Deck
     let mut stop_y = [0i64; STOPS];
     let mut visits = [0u64; STOPS];
     let mut near = [0u64; STOPS];
-    copy(coordinates, 4, &mut post_x, 0, POSTS);
-    copy(coordinates, 68, &mut post_y, 0, POSTS);
-    copy(coordinates, 132, &mut stop_x, 0, STOPS);
-    copy(coordinates, 644, &mut stop_y, 0, STOPS);
-    copy_naturals(naturals, 4, &mut visits, 0, STOPS);
-    copy_naturals(naturals, 516, &mut near, 0, STOPS);
+    post_x.copy_from_slice(&coordinates[4..68]);
+    post_y.copy_from_slice(&coordinates[68..132]);
+    stop_x.copy_from_slice(&coordinates[132..644]);
+    stop_y.copy_from_slice(&coordinates[644..1156]);
+    visits.copy_from_slice(&naturals[4..516]);
+    near.copy_from_slice(&naturals[516..1028]);
     Deck {
         axis: AxisCosts {
             a: naturals[0],
@@ -73,34 +53,24 @@ fn deck_from(coordinates: &[i64], naturals: &[u64]) -> Deck
 }
 
 // The numbers of a record.
-fn put_coordinates(deck: Deck, coordinates: &mut [i64])
+fn put_coordinates(deck: &Deck, coordinates: &mut [i64])
     requires { length coordinates.old ≡ 1156 }
-    ensures { coordinates.new ≡ coordinates_of deck }
+    ensures { coordinates.new ≡ coordinates_of deck.now }
 {
-    let xlo = deck.xlo;
-    let ylo = deck.ylo;
-    let xhi = deck.xhi;
-    let yhi = deck.yhi;
-    coordinates[0] = xlo;
-    coordinates[1] = ylo;
-    coordinates[2] = xhi;
-    coordinates[3] = yhi;
-    copy(&deck.post_x, 0, coordinates, 4, POSTS);
-    copy(&deck.post_y, 0, coordinates, 68, POSTS);
-    copy(&deck.stop_x, 0, coordinates, 132, STOPS);
-    copy(&deck.stop_y, 0, coordinates, 644, STOPS);
+    coordinates[..4].copy_from_slice(&[deck.xlo, deck.ylo, deck.xhi, deck.yhi]);
+    coordinates[4..68].copy_from_slice(&deck.post_x);
+    coordinates[68..132].copy_from_slice(&deck.post_y);
+    coordinates[132..644].copy_from_slice(&deck.stop_x);
+    coordinates[644..].copy_from_slice(&deck.stop_y);
 }
 
-fn put_naturals(deck: Deck, naturals: &mut [u64])
+fn put_naturals(deck: &Deck, naturals: &mut [u64])
     requires { length naturals.old ≡ 1029 }
-    ensures { naturals.new ≡ naturals_of deck }
+    ensures { naturals.new ≡ naturals_of deck.now }
 {
-    naturals[0] = deck.axis.a;
-    naturals[1] = deck.axis.b;
-    naturals[2] = deck.posts as u64;
-    naturals[3] = deck.stops as u64;
-    copy_naturals(&deck.visits, 0, naturals, 4, STOPS);
-    copy_naturals(&deck.near, 0, naturals, 516, STOPS);
+    naturals[..4].copy_from_slice(&[deck.axis.a, deck.axis.b, deck.posts as u64, deck.stops as u64]);
+    naturals[4..516].copy_from_slice(&deck.visits);
+    naturals[516..1028].copy_from_slice(&deck.near);
     naturals[1028] = deck.before;
 }
 
@@ -109,37 +79,37 @@ fn count_figure(n: u64, which: u64) -> i64
     requires { n ≤ 20000 }
     ensures { result ≡ count_figure which (gives n) }
 {
-    if which == 0 {
-        return n as i64;
+    match which {
+        0 => n as i64,
+        1 | 2 => 0,
+        _ => NO_FIGURE,
     }
-    if which < 3 {
-        return 0;
-    }
-    -9223372036854775808
 }
 
 // Of the reading call's answer: the rounds, the number of the refusal and its line (0 for none); the least number where there is no such
-// figure. The record's numbers are put into the two lists. The least number, and nothing put, where they are not as long as a record's.
+// figure. The record's numbers are put into the two lists, zeros for a refusal. The least number, and nothing put, where they are not as
+// long as a record's.
 pub fn trial_read(job: &[u8], coordinates: &mut [i64], naturals: &mut [u64], which: u64) -> i64
     ensures { record { result = result; coordinates = coordinates.new; naturals = naturals.new }
         ≡ trial_read job.now coordinates.old naturals.old which }
 {
-    if coordinates.len() != 1156 {
-        return -9223372036854775808;
+    if coordinates.len() != COORDINATES {
+        return NO_FIGURE;
     }
-    if naturals.len() != 1029 {
-        return -9223372036854775808;
+    if naturals.len() != NATURALS {
+        return NO_FIGURE;
     }
-    let j = siting::read(job);
-    let outcome = j.outcome;
-    let deck = j.deck;
-    put_coordinates(deck, coordinates);
-    put_naturals(deck, naturals);
-    match outcome {
-        Outcome::Accepted(rounds) => count_figure(rounds, which),
-        Outcome::Refused(why) => {
+    match siting::read(job) {
+        Ok(j) => {
+            put_coordinates(&j.deck, coordinates);
+            put_naturals(&j.deck, naturals);
+            count_figure(j.rounds, which)
+        }
+        Err(why) => {
+            coordinates.fill(0);
+            naturals.fill(0);
             if which == 0 {
-                return -9223372036854775808;
+                return NO_FIGURE;
             }
             trial::refusal_figure(why, which - 1)
         }
@@ -158,18 +128,17 @@ pub fn trial_write(
     ensures { record { result = result; out = out.new }
         ≡ trial_write coordinates.now naturals.now rounds out.old which }
 {
-    if coordinates.len() != 1156 {
-        return -9223372036854775808;
+    if coordinates.len() != COORDINATES {
+        return NO_FIGURE;
     }
-    if naturals.len() != 1029 {
-        return -9223372036854775808;
+    if naturals.len() != NATURALS {
+        return NO_FIGURE;
     }
-    let answer = siting::write(deck_from(coordinates, naturals), rounds, out);
-    match answer {
-        Written::Bytes(bytes) => count_figure(bytes as u64, which),
-        Written::Refused(why) => {
+    match siting::write(deck_from(coordinates, naturals), rounds, out) {
+        Ok(bytes) => count_figure(bytes as u64, which),
+        Err(why) => {
             if which == 0 {
-                return -9223372036854775808;
+                return NO_FIGURE;
             }
             trial::refusal_figure(why, which - 1)
         }

@@ -3,7 +3,7 @@ use Rattle.trial_calls.proofs.CallLaws.{spot_limits, exhaustive_line}
 use Rattle.trial_calls.proofs.trial_exhaustive.Goals as goal
 
 pub spot_figure-requires : goal.spot_figure-requires
-spot_figure-requires c = spot_limits _ _ c.exhaustive-answer.ensures _ c.in-At.is
+spot_figure-requires c = spot_limits _ _ c.exhaustive.ensures _ c.in-Ok.is
 
 pub refusal_figure-requires : goal.refusal_figure-requires
-refusal_figure-requires c = exhaustive_line _ _ c.exhaustive-answer.ensures _ c.in-Refused.is
+refusal_figure-requires c = exhaustive_line _ _ c.exhaustive.ensures _ c.in-Err.is

@@ -3,7 +3,7 @@ use Rattle.trial_calls.proofs.CallLaws.{limits, report_line}
 use Rattle.trial_calls.proofs.trial_report.Goals as goal
 
 pub figure-requires : goal.figure-requires
-figure-requires c = limits _ _ _ _ _ _ c.report-answer.ensures _ c.in-Report.is
+figure-requires c = limits _ _ _ _ _ _ c.report.ensures _ c.in-Ok.is
 
 pub refusal_figure-requires : goal.refusal_figure-requires
-refusal_figure-requires c = report_line _ _ _ _ _ _ c.report-answer.ensures _ c.in-Refused.is
+refusal_figure-requires c = report_line _ _ _ _ _ _ c.report.ensures _ c.in-Err.is

@@ -1,4 +1,5 @@
 -- What `trial::opened::coordinate_in_range` owes.
+use mathlib.Core.Path.{◌∙◌}
 use native.Mathlib.Omega.{arith}
 use lib.IntN.{pos, negsuc}
 use Rattle.job_line.specs.Kinds.{in_range}
@@ -14,5 +15,6 @@ returns-then-v-ge-LEAST_COORDINATE c =
 pub returns-else-v-ge-LEAST_COORDINATE : goal.returns-else-v-ge-LEAST_COORDINATE
 unfolding in_range
 returns-else-v-ge-LEAST_COORDINATE c =
-    between_off {lo = negsuc 19999} {hi = pos 20000} (record { sfits = omega arith }) (record { sfits = omega arith }) c.ranges.v
+    c.if-v-ge-LEAST_COORDINATE.false
+    ∙ between_off {lo = negsuc 19999} {hi = pos 20000} (record { sfits = omega arith }) (record { sfits = omega arith }) c.ranges.v
     c.if-v-ge-LEAST_COORDINATE.false

@@ -1,4 +1,5 @@
 -- What `trial::opened::cut_of` owes.
+use native.Mathlib.Omega.{arith}
 use mathlib.Core.Path.{ap, ◌∙◌}
 use Rattle.query.specs.Grid.{Grid}
 use Rattle.deck.specs.Rectangle.{rect_of}
@@ -8,15 +9,16 @@ use Rattle.problem.proofs.DeckProblem.{prepared_lined, prepared_grid}
 use Rattle.trial.proofs.OpenLaws.{prepared}
 use Rattle.trial.proofs.opened.cut_of.Goals as goal
 
-pub slice_bounds-find_cut-end : goal.slice_bounds-find_cut-end
-slice_bounds-find_cut-end c = vertical_taken _ _ c.requires.0.problem_is
+pub shared_ref_as_front-find_cut : goal.shared_ref_as_front-find_cut
+shared_ref_as_front-find_cut c =
+    omega (arith, vertical_taken _ _ c.requires.0.problem_is, (prepared_lined (prepared c.requires.0)).across.few)
 
-pub slice_bounds-find_cut-end-2 : goal.slice_bounds-find_cut-end-2
-slice_bounds-find_cut-end-2 c = horizontal_taken _ _ c.requires.0.problem_is
+pub shared_ref_as_front-find_cut-2 : goal.shared_ref_as_front-find_cut-2
+shared_ref_as_front-find_cut-2 c =
+    omega (arith, horizontal_taken _ _ c.requires.0.problem_is, (prepared_lined (prepared c.requires.0)).deep.few)
 
 pub find_cut-requires : goal.find_cut-requires
-find_cut-requires c =
-    (prepared_lined (prepared c.requires.0), c.requires.1.range)
+find_cut-requires c = (prepared_lined (prepared c.requires.0), c.requires.1.range)
 
 pub returns : goal.returns
 returns c =

@@ -3,7 +3,7 @@ use Rattle.trial_calls.proofs.EstimateFigures.{estimate_small, estimate_line}
 use Rattle.trial_calls.proofs.estimates.trial_estimate.Goals as goal
 
 pub needs_figure-requires : goal.needs_figure-requires
-needs_figure-requires c = estimate_small _ _ c.estimate-answer.ensures _ c.in-Needs.is
+needs_figure-requires c = estimate_small _ _ c.estimate.ensures _ c.in-Ok.is
 
 pub refusal_figure-requires : goal.refusal_figure-requires
-refusal_figure-requires c = estimate_line _ _ c.estimate-answer.ensures _ c.in-Refused.is
+refusal_figure-requires c = estimate_line _ _ c.estimate.ensures _ c.in-Err.is

@@ -8,19 +8,17 @@ use Rattle.trial_calls.proofs.records.trial_write.Goals as goal
 
 pub count_figure-requires : goal.count_figure-requires
 count_figure-requires c =
-    bytes_few c.args.coordinates.now c.args.naturals.now c.args.rounds _ _ c.deck_from.ensures c.write-answer.result _
-    c.write-answer.ensures c.if-coordinates-ne1156.false c.if-naturals-ne1029.false _
-    c.in-Bytes.is
+    bytes_few c.args.coordinates.now c.args.naturals.now c.args.rounds _ _ c.deck_from.ensures c.write.result _ c.write.ensures
+    c.if-coordinates-ne-COORDINATES.false c.if-naturals-ne-NATURALS.false _ c.in-Ok.is
 
 pub refusal_figure-requires : goal.refusal_figure-requires
 refusal_figure-requires c =
-    write_line c.args.coordinates.now c.args.naturals.now c.args.rounds _ _ c.deck_from.ensures c.write-answer.result _
-    c.write-answer.ensures c.if-coordinates-ne1156.false c.if-naturals-ne1029.false _
-    c.in-Refused.is
+    write_line c.args.coordinates.now c.args.naturals.now c.args.rounds _ _ c.deck_from.ensures c.write.result _ c.write.ensures
+    c.if-coordinates-ne-COORDINATES.false c.if-naturals-ne-NATURALS.false _ c.in-Err.is
 
 pub returns-else-which-eq0 : goal.returns-else-which-eq0
 returns-else-which-eq0 c =
-    write_is c.args.coordinates.now c.args.naturals.now c.args.rounds _ _ c.deck_from.ensures c.write-answer.result _
-    c.write-answer.ensures c.if-coordinates-ne1156.false c.if-naturals-ne1029.false c.args.which
+    write_is c.args.coordinates.now c.args.naturals.now c.args.rounds _ _ c.deck_from.ensures c.write.result _ c.write.ensures
+    c.if-coordinates-ne-COORDINATES.false c.if-naturals-ne-NATURALS.false c.args.which
     (to_z-of_z w64 _ (record { sfits = c.refusal_figure.type_inv }) ∙ c.refusal_figure.ensures
-    ∙ refusal_count c.in-Refused.why (ap written_answer c.in-Refused.is) c.args.which c.if-which-eq0.false)
+    ∙ refusal_count c.in-Err.why (ap written_answer c.in-Err.is) c.args.which c.if-which-eq0.false)
