@@ -76,7 +76,11 @@ pub(crate) fn cut_of(problem: &Problem, rect: Rect) -> Option<Cut>
     requires { RectInRange (rect_of rect) }
     ensures { result ≡ cut_record (problem_of problem.now).rules.grid (rect_of rect) }
 {
-    cuts::find_cut(problem.vertical.as_slice(), problem.horizontal.as_slice(), rect)
+    cuts::find_cut(
+        problem.vertical.as_slice(),
+        problem.horizontal.as_slice(),
+        rect,
+    )
 }
 
 // A part of a cell that is cut.
