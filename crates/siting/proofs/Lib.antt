@@ -1,4 +1,3 @@
 pub mod SolveLaws
 pub mod EntryLaws
-pub mod ExhaustiveLaws
 pub mod SavingLaws
