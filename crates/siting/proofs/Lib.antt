@@ -1,3 +1,4 @@
 pub mod SolveLaws
 pub mod EntryLaws
+pub mod ExhaustiveLaws
 pub mod SavingLaws

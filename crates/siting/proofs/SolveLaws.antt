@@ -123,6 +123,14 @@ respond_refused call cells out why e = record {
   few = omega arith;
 }
 
+alone : {call : Left} {cells : List ℤ} {out out' : List ℕ} {r : Std.Result Response Refusal} → Responded call out cells out' r →
+    RespondedAlone call out out' r
+alone {call} {cells} {out} {out'} {r} s =
+    subst (λ (z : List ℤ). Responded call out z out' r) (ap (λ (left : Left). left.cells) s.left) s
+
+pub refused_alone : (call : Left) (out : List ℕ) (why : Refusal) → call ≡ turned_down why own_space out → RespondedAlone call out out (Err why)
+refused_alone call out why e = alone (respond_refused call own_space out why e)
+
 reported_is : (job : Job) (cells cells' : List ℤ) (out out' : List ℕ) (r : Report) (text : List ℕ) → report_figures r ≡ figures job.deck job.rounds →
     cells' ≡ space job.deck job.rounds (length cells) → text ≡ report_text (figures job.deck job.rounds) → out' ≡ overwritten text out →
     record { answer = gives (report_figures r); cells = cells'; out = out' } ≡ reported job cells out
@@ -222,14 +230,19 @@ module _ (bytes : List ℕ) (g : Given) (e : given_by (Ok g) ≡ given_for (read
           few = omega (arith, k.text.number, report_fits.report_fits (report_figures x.report) (report_limits l x.report k.solved));
         }
 
-    pub responded : (l : Live) (out' : List ℕ) (r : Std.Result Response Refusal) → Answered g out l out' r →
+    responded : (l : Live) (out' : List ℕ) (r : Std.Result Response Refusal) → Answered g out l out' r →
         Responded (report_call bytes cells out) out (cells_after l cells r) out' r
     responded l out' (Ok x) k = reporting l out' x k
     responded l out' (Err why) k = lacking out' why k
 
+  pub responded_in : (cells : List ℤ) (out : List ℕ) → Fits g (length cells) → (l : Live) (cells' : List ℤ) (out' : List ℕ)
+      (r : Std.Result Response Refusal) → Answered g out l out' r → cells' ≡ cells_after l cells r →
+      Responded (report_call bytes cells out) out cells' out' r
+  responded_in cells out fit l cells' out' r k after =
+      subst (λ (z : List ℤ). Responded (report_call bytes cells out) out z out' r) (sym after)
+      (responded cells out (omega (arith, fit.enough, needed_is)) l out' r k)
+
   -- that of a call with a cell space of its own
   pub responded_alone : (l : Live) (out out' : List ℕ) (r : Std.Result Response Refusal) → Answered g out l out' r →
       RespondedAlone (report_call bytes own_space out) out out' r
-  responded_alone l out out' r k =
-      let own = responded own_space out (omega (arith, needed_most, length-replicate 5005 (pos 0))) l out' r k in
-      subst (λ (cells : List ℤ). Responded (report_call bytes own_space out) out cells out' r) (ap (λ (left : Left). left.cells) own.left) own
+  responded_alone l out out' r k = alone (responded own_space out (omega (arith, needed_most, length-replicate 5005 (pos 0))) l out' r k)

@@ -3,10 +3,11 @@
 
 ghost use Rattle.std.specs.Prelude.{◌≤◌, ◌≡◌, length};
 ghost use Rattle.query.specs.Range.{rounds_limit};
-ghost use Rattle.calls.specs.Answers.{report_answer, estimated_answer, read_answer, written_answer};
+ghost use Rattle.calls.specs.Answers.{report_answer, cheapest_answer, estimated_answer, read_answer, written_answer};
 ghost use Rattle.calls.specs.Call.{report_call, own_space};
 ghost use Rattle.calls.specs.Entry.{entry};
 ghost use Rattle.calls.specs.Program.{answer_text};
+ghost use Rattle.calls.specs.CheapestCall.{exhaustive_call};
 ghost use Rattle.calls.specs.EstimateCall.{estimate_call};
 ghost use Rattle.calls.specs.ReadCall.{read_deck, read_call};
 ghost use Rattle.calls.specs.WriteCall.{write_call};
@@ -20,6 +21,7 @@ use deck::Deck;
 use job::Job;
 use limits::{CELL_NUMBERS, REPORT_BYTES};
 use prepare::{Given, Problem};
+use problem::Spot;
 use refusal::Refusal;
 use report::{Report, State};
 use search::run;
@@ -134,6 +136,14 @@ pub fn siting_report(job: &[u8], out: &mut [u8]) -> i64
         Ok(response) => response.bytes as i64,
         Err(why) => -(refusal::number_of(why) as i64),
     }
+}
+
+// The cheapest crossing of lines, the earliest among equals, or the refusal of the job. Its rounds are not used.
+pub fn exhaustive(job: &[u8]) -> Result<Spot, Refusal>
+    ensures { cheapest_answer result ≡ exhaustive_call job.now }
+{
+    let given = prepare::of_job(job)?;
+    Ok(exhaustive::cheapest(&given.problem, given.before))
 }
 
 // What the job needs, or the refusal of the job. No place is priced.
