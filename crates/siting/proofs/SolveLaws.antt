@@ -58,7 +58,7 @@ use Rattle.calls.proofs.Demands.{more_rounds, call_of, small_answer, short_answe
 use Rattle.estimate.specs.LineCounts.{estimate_by}
 use Rattle.estimate.proofs.EstimateLaws.{deck_estimate}
 use Rattle.siting.specs.declared.Response.{Response}
-use Rattle.siting.specs.Response.{state_for, Solved, Fits, Lacking, Reported, Answered, cells_after, Responded, RespondedAlone}
+use Rattle.siting.specs.Response.{state_for, Solved, Fits, Lacking, Reported, Answered, cells_after, AnsweredIn, AnsweredAlone, Responded, RespondedAlone}
 
 -- ---- solve
 state_is : (cells : List Cell) → report_state (state_for (is_done cells)) ≡ Figures.state_of cells
@@ -235,14 +235,14 @@ module _ (bytes : List ℕ) (g : Given) (e : given_by (Ok g) ≡ given_for (read
     responded l out' (Ok x) k = reporting l out' x k
     responded l out' (Err why) k = lacking out' why k
 
-  pub responded_in : (cells : List ℤ) (out : List ℕ) → Fits g (length cells) → (l : Live) (cells' : List ℤ) (out' : List ℕ)
-      (r : Std.Result Response Refusal) → Answered g out l out' r → cells' ≡ cells_after l cells r →
-      Responded (report_call bytes cells out) out cells' out' r
-  responded_in cells out fit l cells' out' r k after =
-      subst (λ (z : List ℤ). Responded (report_call bytes cells out) out z out' r) (sym after)
-      (responded cells out (omega (arith, fit.enough, needed_is)) l out' r k)
+  pub responded_in : (cells : List ℤ) (out : List ℕ) → Fits g (length cells) → (cells' : List ℤ) (out' : List ℕ) (r : Std.Result Response Refusal) →
+      AnsweredIn g cells out cells' out' r → Responded (report_call bytes cells out) out cells' out' r
+  responded_in cells out fit cells' out' r k =
+      subst (λ (z : List ℤ). Responded (report_call bytes cells out) out z out' r) (sym k.cells_are)
+      (responded cells out (omega (arith, fit.enough, needed_is)) k.live out' r k.answered)
 
   -- that of a call with a cell space of its own
-  pub responded_alone : (l : Live) (out out' : List ℕ) (r : Std.Result Response Refusal) → Answered g out l out' r →
+  pub responded_alone : (out out' : List ℕ) (r : Std.Result Response Refusal) → AnsweredAlone g out out' r →
       RespondedAlone (report_call bytes own_space out) out out' r
-  responded_alone l out out' r k = alone (responded own_space out (omega (arith, needed_most, length-replicate 5005 (pos 0))) l out' r k)
+  responded_alone out out' r k =
+      alone (responded own_space out (omega (arith, needed_most, length-replicate 5005 (pos 0))) k.live out' r k.answered)

@@ -70,6 +70,16 @@ abbrev pub cells_after : Live → List ℤ → Std.Result Response Refusal → L
 cells_after l cells (Ok r) = padded (length cells) (pos 0) (all_numbers (map entry_cell l.entries))
 cells_after l cells (Err why) = cells
 
+-- the same with the live cells in the cell space, and with live cells that nobody sees
+pub record AnsweredIn (g : Given) (cells : List ℤ) (out : List ℕ) (cells' : List ℤ) (out' : List ℕ) (r : Std.Result Response Refusal) : Type 0 where
+  pub live : Live
+  pub answered : Answered g out live out' r
+  pub cells_are : cells' ≡ cells_after live cells r
+
+pub record AnsweredAlone (g : Given) (out out' : List ℕ) (r : Std.Result Response Refusal) : Type 0 where
+  pub live : Live
+  pub answered : Answered g out live out' r
+
 -- ---- the call
 -- the text that is written, and how many bytes it has
 abbrev pub text_written : Std.Result Response Refusal → List ℕ

@@ -13,7 +13,7 @@ ghost use Rattle.calls.specs.ReadCall.{read_deck, read_call};
 ghost use Rattle.calls.specs.WriteCall.{write_call};
 ghost use Rattle.cells.specs.Live.{none_live};
 ghost use Rattle.problem.specs.Prepared.{problem_of, Prepared};
-ghost use Rattle.siting.specs.Response.{state_for, Solved, OfJob, Fits, Answered, cells_after, Responded, RespondedAlone};
+ghost use Rattle.siting.specs.Response.{state_for, Solved, OfJob, Fits, Answered, AnsweredIn, AnsweredAlone, Responded, RespondedAlone};
 
 use calls::{Estimate, Text};
 use cells::LiveCells;
@@ -59,8 +59,6 @@ fn solve(problem: &Problem, before: u64, rounds: u64, live: &mut LiveCells) -> R
 }
 
 // The report of what a job gives, with its text in the output, or refusal 8, which comes before any place is priced.
-// Not inlined, so that the live cells and the problem stand once on the stack.
-#[inline(never)]
 fn respond_to(given: &Given, live: &mut LiveCells, out: &mut [u8]) -> Result<Response, Refusal>
     requires { OfJob given.now × (live.old ≡ none_live) }
     ensures { Answered given.now out.old live.new out.new result }
@@ -73,21 +71,25 @@ fn respond_to(given: &Given, live: &mut LiveCells, out: &mut [u8]) -> Result<Res
     Ok(Response { report, bytes })
 }
 
-// The same, with the live cells in the cell space. Not inlined, as `respond_to`.
+// The same, with the live cells in the cell space. Not inlined, so that they are not on the stack while a job is read.
 #[inline(never)]
-fn respond_in(
-    given: &Given,
-    cells: &mut [i64],
-    live: &mut LiveCells,
-    out: &mut [u8],
-) -> Result<Response, Refusal>
-    requires { OfJob given.now × Fits given.now (length cells.old) × (live.old ≡ none_live) }
-    ensures answered { Answered given.now out.old live.new out.new result }
-    ensures cells { cells.new ≡ cells_after live.new cells.old result }
+fn respond_in(given: &Given, cells: &mut [i64], out: &mut [u8]) -> Result<Response, Refusal>
+    requires { OfJob given.now × Fits given.now (length cells.old) }
+    ensures { AnsweredIn given.now cells.old out.old cells.new out.new result }
 {
-    let response = respond_to(given, live, out)?;
+    let mut live = LiveCells::new();
+    let response = respond_to(given, &mut live, out)?;
     live.write_out(cells);
     Ok(response)
+}
+
+// The same, with live cells that nobody sees. Not inlined, as `respond_in`.
+#[inline(never)]
+fn respond_without(given: &Given, out: &mut [u8]) -> Result<Response, Refusal>
+    requires { OfJob given.now }
+    ensures { AnsweredAlone given.now out.old out.new result }
+{
+    respond_to(given, &mut LiveCells::new(), out)
 }
 
 // What the call below answers. Refusals 7 and 8 come before any place is priced. A refusal leaves the cell space and the output as they
@@ -106,17 +108,15 @@ fn respond(job: &[u8], cells: &mut [i64], out: &mut [u8]) -> Result<Response, Re
     if (cells.len() as u64) < CELL_NUMBERS as u64 * needs.cells {
         return Err(Refusal::SmallSpace);
     }
-    respond_in(&given, cells, &mut LiveCells::new(), out)
+    respond_in(&given, cells, out)
 }
 
 // What the C entry and the program answer, as if with a cell space of their own, which is enough for every job.
-// Not inlined, so that what a job gives is gone from the stack of the callers.
-#[inline(never)]
 fn respond_alone(job: &[u8], out: &mut [u8]) -> Result<Response, Refusal>
     ensures { RespondedAlone (report_call job.now own_space out.old) out.old out.new result }
 {
     let given = prepare::of_job(job)?;
-    respond_to(&given, &mut LiveCells::new(), out)
+    respond_without(&given, out)
 }
 
 // The report of a job, with its text in the output and its live cells in the cell space, or the refusal that applies first.

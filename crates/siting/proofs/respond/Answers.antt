@@ -33,15 +33,11 @@ pub respond_in-requires : goal.respond_in-requires
 respond_in-requires c =
     let needs = rw (c.len.ensures, c.len-2.ensures) at c.of_lines-needs.ensures in
     let given = ap given_by (sym c.in_ok-given.was) ∙ c.of_job.ensures in
-    (
-      record { job = _; given = given },
-      fits _ c.in_ok-given.given given c.of_lines-needs.result needs _ (omega (arith, c.if-cells-needs.false)),
-      c.new.ensures,
-    )
+    (record { job = _; given = given }, fits _ c.in_ok-given.given given c.of_lines-needs.result needs _ (omega (arith, c.if-cells-needs.false)))
 
 pub returns : goal.returns
 returns c =
     let needs = rw (c.len.ensures, c.len-2.ensures) at c.of_lines-needs.ensures in
     let given = ap given_by (sym c.in_ok-given.was) ∙ c.of_job.ensures in
     let fit = fits _ c.in_ok-given.given given c.of_lines-needs.result needs _ (omega (arith, c.if-cells-needs.false)) in
-    responded_in _ c.in_ok-given.given given _ _ fit _ _ _ _ c.respond_in.ensures.answered c.respond_in.ensures.cells
+    responded_in _ c.in_ok-given.given given _ _ fit _ _ _ c.respond_in.ensures
