@@ -59,6 +59,8 @@ fn solve(problem: &Problem, before: u64, rounds: u64, live: &mut LiveCells) -> R
 }
 
 // The report of what a job gives, with its text in the output, or refusal 8, which comes before any place is priced.
+// Not inlined: where it is, the compiler keeps more than two of the live cells on the stack of its caller.
+#[inline(never)]
 fn respond_to(given: &Given, live: &mut LiveCells, out: &mut [u8]) -> Result<Response, Refusal>
     requires { OfJob given.now × (live.old ≡ none_live) }
     ensures { Answered given.now out.old live.new out.new result }
@@ -83,9 +85,9 @@ fn respond_in(given: &Given, cells: &mut [i64], out: &mut [u8]) -> Result<Respon
     Ok(response)
 }
 
-// The same, with live cells that nobody sees. Not inlined, as `respond_in`.
+// The same for a caller with no cell space. Not inlined, as `respond_in`.
 #[inline(never)]
-fn respond_without(given: &Given, out: &mut [u8]) -> Result<Response, Refusal>
+fn respond_without_cells(given: &Given, out: &mut [u8]) -> Result<Response, Refusal>
     requires { OfJob given.now }
     ensures { AnsweredAlone given.now out.old out.new result }
 {
@@ -116,7 +118,7 @@ fn respond_alone(job: &[u8], out: &mut [u8]) -> Result<Response, Refusal>
     ensures { RespondedAlone (report_call job.now own_space out.old) out.old out.new result }
 {
     let given = prepare::of_job(job)?;
-    respond_without(&given, out)
+    respond_without_cells(&given, out)
 }
 
 // The report of a job, with its text in the output and its live cells in the cell space, or the refusal that applies first.

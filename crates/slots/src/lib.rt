@@ -135,8 +135,8 @@ pub fn put_entry(
     put_costs(costs, slot, entry.costs);
 }
 
-// The number of each slot at its own place. Always inlined, as `Slots::new`.
-#[inline(always)]
+// The number of each slot at its own place. Not inlined, so that its array is gone from the stack when a search runs.
+#[inline(never)]
 pub fn numbers() -> [u16; CELLS]
     ensures { result ≡ slot_numbers }
 {
@@ -144,8 +144,7 @@ pub fn numbers() -> [u16; CELLS]
 }
 
 impl Slots {
-    // Slots of zeros. Always inlined, since each call that returns so large a struct keeps one more of it on the stack.
-    #[inline(always)]
+    // Slots of zeros. Without `inline(never)`, since a call that returns so large a struct keeps one more of it on the stack.
     pub fn new() -> Self
         ensures { result ≡ replicate 1001 no_entry }
     {

@@ -13,4 +13,4 @@ returns-in_err-given c =
     rw (handed _ c.from_residual.ensures.1) (refused_alone _ _ _ (refused_call _ _ _ _ refused))
 
 pub returns : goal.returns
-returns c = responded_alone _ c.in_ok-given.given (ap given_by (sym c.in_ok-given.was) ∙ c.of_job.ensures) _ _ _ c.respond_without.ensures
+returns c = responded_alone _ c.in_ok-given.given (ap given_by (sym c.in_ok-given.was) ∙ c.of_job.ensures) _ _ _ c.respond_without_cells.ensures
