@@ -1,7 +1,7 @@
--- What `kernels::near_at` owes.
+-- What `kernels::Near::at` owes.
 use mathlib.Core.Path.{◌≡◌, ap}
 use mathlib.Core.List.{List, map}
-use Prim.Native.Nat.{ℕ, ◌%◌}
+use Prim.Native.Nat.{ℕ, ◌%◌, ◌≤◌}
 use native.Mathlib.Omega.{arith}
 use lib.ListN.{get_or}
 use Rattle.numbers.specs.Padded.{padded}
@@ -9,11 +9,11 @@ use Rattle.query.specs.Travel.{near}
 use Rattle.deck.specs.DeckOf.{deck_of}
 use Rattle.deck.proofs.DeckLaws.{costs_range, stops_range, posts_range}
 use Rattle.deck.proofs.SoundLaws.{found_nears, sound_columns, sound_posts, sound_limit}
-use Rattle.kernels.proofs.near_at.Goals as goal
+use Rattle.kernels.proofs.NearKernel.at.Goals as goal
 
 pub nears_of-near-requires : goal.nears_of-near-requires
 nears_of-near-requires c =
-    let sound = c.requires in
+    let sound = c.requires.sound in
     let columns = sound_columns sound in (
       costs_range _ columns sound.range,
       posts_range _ columns sound.range,
@@ -24,9 +24,11 @@ nears_of-near-requires c =
 pub returns : goal.returns
 returns c =
     let i = c.args.t % 512 in
-    let found : c.nears_of-near.result ≡ padded 512 0 (map (near (deck_of c.args.deck)) (deck_of c.args.deck).stops) =
-    found_nears _ (sound_columns c.requires) c.nears_of-near.ensures in
+    let deck = deck_of c.args.o.now.deck in
+    let found : c.nears_of-near.result ≡ padded 512 0 (map (near deck) deck.stops) =
+    found_nears _ (sound_columns c.requires.sound) c.nears_of-near.ensures in
+    let most : get_or c.nears_of-near.result i 0 ≤ 720000 = rw found (sound_limit c.requires.sound i) in
     record {
       is = ap (λ (l : List ℕ). get_or l i 0) found;
-      within = rw found (sound_limit c.requires i);
+      within = omega (arith, most);
     }
