@@ -1,18 +1,12 @@
 -- The calls `report` and `exhaustive` as the tests see them: what their answers carry, as numbers.
 -- Assumes nothing.
-use Prim.Native.Nat.{ℕ, zero, suc, ◌-◌, ◌≤◌, ◌<◌}
+use Prim.Native.Nat.{ℕ, ◌≤◌}
 use mathlib.Core.Path.{◌≡◌, refl, sym, ap, subst, ◌∙◌}
 use mathlib.Core.List.{List}
 use native.Mathlib.Omega.{arith}
-use lib.IntN.{ℤ, pos}
-use lib.ListN.{get_or}
-use mir.Syntax.{w64}
-use mir.Val.{to_z, of_z}
-use mir.ValLaws.{to_z-of_z, to_z_pos}
-use Rattle.numbers.proofs.Words.{word_fits}
+use lib.IntN.{ℤ}
 use Rattle.query.specs.Place.{In}
 use Rattle.query.specs.Order.{Priced}
-use Rattle.query.specs.Figures.{Figures}
 use Rattle.query.specs.Problem.{problem}
 use Rattle.query.specs.Exhaustive as Query
 use Rattle.query.proofs.Ranges.{figure_limits}
@@ -25,21 +19,17 @@ use Rattle.job.proofs.RefusalLaws.{condition_line}
 use Rattle.report.specs.Report.{report_figures}
 use Rattle.query.specs.Range.{PlaceInRange, FiguresInRange, cost_limit}
 use Rattle.report.specs.declared.Report.{Report}
-use Rattle.prepare.proofs.Coordinates.{near_back}
 use Rattle.problem.specs.ObjectProblem.{priced_of}
 use Rattle.problem.specs.declared.Spot.{Spot}
 use Rattle.std.specs.Prelude.{Ok, Err}
 use Rattle.std.specs.Prelude as Std
-use Rattle.calls.specs.Answers.{AnswerOf, gives, refusal, report_answer, cheapest_answer}
+use Rattle.calls.specs.Answers.{gives, report_answer, cheapest_answer}
 use Rattle.calls.specs.Call.{Left, report_call}
 use Rattle.calls.specs.CheapestCall.{exhaustive_call}
 use Rattle.calls.specs.Demands.{Applies, in_reading, small_space, short_output}
 use Rattle.calls.proofs.AnswerLaws.{same_given, not_refused}
 use Rattle.calls.proofs.Demands.{job_limits, read_exactly, accepted_one, figures_are, demands}
 use Rattle.calls.proofs.ExhaustiveCall.{exhaustive_call_law}
-use Rattle.trial.specs.Trial.{least, refusal_numbers}
-use Rattle.trial.proofs.NumberLaws.{number_at}
-use Rattle.trial_calls.specs.Calls.{called, report_numbers, answer_numbers, spot_numbers, cheapest_numbers}
 
 -- ---- the line of a refusal
 line_few : (why : Refusal) (job : List ℕ) (cells : List ℤ) (out : List ℕ) → Applies job cells out why → line_of why ≤ 16385

@@ -1,28 +1,20 @@
 -- The call `estimate` as the tests see it: what its answer carries, as numbers.
 -- Assumes nothing.
-use Prim.Native.Nat.{ℕ, zero, suc, ◌-◌, ◌≤◌, ◌<◌}
-use mathlib.Core.Path.{◌≡◌, refl, sym, ap, ◌∙◌}
+use Prim.Native.Nat.{ℕ, ◌≤◌}
+use mathlib.Core.Path.{◌≡◌, sym, ap, ◌∙◌}
 use mathlib.Core.List.{List}
 use native.Mathlib.Omega.{arith}
-use lib.IntN.{pos}
-use lib.ListN.{get_or}
-use mir.Syntax.{w64}
-use mir.Val.{to_z}
-use mir.ValLaws.{to_z_pos}
-use Rattle.query.specs.Estimate.{Estimate}
 use Rattle.refusal.specs.Refusal.{line_of}
 use Rattle.refusal.specs.declared.Refusal.{Refusal}
 use Rattle.job.proofs.RefusalLaws.{condition_line}
 use Rattle.calls.specs.declared.Estimate as Held
 use Rattle.std.specs.Prelude.{Ok, Err}
 use Rattle.std.specs.Prelude as Std
-use Rattle.calls.specs.Answers.{refusal, estimate_numbers, estimated_answer}
+use Rattle.calls.specs.Answers.{estimate_numbers, estimated_answer}
 use Rattle.calls.specs.EstimateCall.{estimate_call}
 use Rattle.calls.proofs.EstimateCall.{estimate_call_law}
 use Rattle.estimate.proofs.EstimateLaws.{given_small}
-use Rattle.trial.specs.Trial.{least, refusal_numbers}
-use Rattle.trial.proofs.NumberLaws.{number_at}
-use Rattle.trial_calls.specs.Estimates.{SmallEstimate, needs_numbers, estimated_numbers}
+use Rattle.trial_calls.specs.Estimates.{SmallEstimate}
 
 -- ---- the answer of the call, by its case
 module _ (job : List ℕ) (answer : Std.Result Held.Estimate Refusal) (e : estimated_answer answer ≡ estimate_call job) where

@@ -1,18 +1,15 @@
 -- The calls `read` and `write` as the tests see them: a record's numbers in two lists, and what the answers carry.
 -- Assumes nothing.
-use Prim.Native.Nat.{ℕ, zero, suc, ◌+◌, ◌-◌, ◌≤◌, ◌<◌}
+use Prim.Native.Nat.{ℕ, suc, ◌+◌, ◌-◌, ◌≤◌}
 use mathlib.Core.Path.{◌≡◌, refl, sym, ap, ◌∙◌}
-use mathlib.Core.Bool.{Bool, true, false, cond}
+use mathlib.Core.Bool.{Bool, true, cond}
 use mathlib.Core.Logic.{◌≢◌}
 use mathlib.Core.List.{List, [], ◌∷◌, ◌++◌, append-nil, append_assoc}
 use native.Mathlib.Omega.{arith}
 use lib.IntN.{ℤ, pos}
 use lib.ListN.{length, length-append, get_or, take, drop, set, replicate, length-set, length-drop, drop_of_length-le, replicate}
 use lib.Seq.{take_all, take_at, drop_at, take-suc-set, length-take-le}
-use mir.Syntax.{w64}
-use mir.Val.{to_z}
-use mir.ValLaws.{to_z_pos}
-use borrow.Author.Tests.{eq-eqb, ne_eqb}
+use borrow.Author.Tests.{eq-eqb}
 use Rattle.deck.specs.DeckOf.{Sized, deck_record, empty_deck}
 use Rattle.deck.specs.declared.Deck.{Deck}
 use Rattle.refusal.specs.Refusal.{number_of, line_of}
@@ -24,7 +21,7 @@ use borrow.Rule.Slice.PartMut.{put_mid}
 use Rattle.job.specs.declared.Job as Held
 use Rattle.job.proofs.JobLaws.{most_rounds}
 use Rattle.job.proofs.RefusalLaws.{condition_line}
-use Rattle.calls.specs.Answers.{AnswerOf, gives, refusal, read_answer, written_answer}
+use Rattle.calls.specs.Answers.{AnswerOf, refusal, read_answer, written_answer}
 use Rattle.calls.specs.ReadCall.{Read, read_deck, read_call}
 use Rattle.calls.specs.WriteCall.{Saved, write_call}
 use Rattle.calls.specs.SavingLaw.{WriteLaw}
@@ -123,8 +120,6 @@ module _ (zs : List ℤ) (ns : List ℕ) where
   as_long : length zs ≡ 1156 → length ns ≡ 1029 → is_record zs ns ≡ true
   as_long h k = rw (eq-eqb (length zs) 1156 h, eq-eqb (length ns) 1029 k)
 
-  module _ (job : List ℕ) (which : ℕ) where
-  module _ (rounds : ℕ) (out : List ℕ) (which : ℕ) where
 -- ---- the numbers of the record that counts for a refusal
 zero_coordinates : replicate 1156 (pos 0) ≡ coordinates_of (deck_record empty_deck)
 unfolding deck_record
