@@ -25,12 +25,11 @@ use Rattle.prepare.specs.declared.Given.{Given}
 use Rattle.prepare.specs.ProblemRecord.{parts_in, problem_record, given_by, given_for}
 use Rattle.prepare.proofs.JobProblem.{spelt, problem_same, given_refused}
 use Rattle.lines.specs.LineRecord.{grid_of}
-use Rattle.query.specs.Deck as Query
 use Rattle.query.specs.Grid.{grid}
 use Rattle.deck.specs.Objects.{pricing_of}
-use Rattle.deck.specs.ObjectColumns.{pricing_in}
 use Rattle.reach.specs.Held.{pricing_of_objects}
-use Rattle.reach.proofs.RecordLaws.{made_pricing}
+use Rattle.problem.specs.Prepared.{Prepared}
+use Rattle.problem.proofs.DeckProblem.{made_prepared, prepared_pricing, prepared_grid}
 use Rattle.trial.specs.Opened.{Whole, OpenedParts, parts_of, opened_deck, opened_record}
 use Rattle.trial.specs.Trial.{on_job}
 use Rattle.trial.specs.declared.opened.Opened.{Opened}
@@ -76,16 +75,14 @@ module _ (bytes : List ℕ) (q : Std.Result Given Refusal) (f : given_by q ≡ g
 
 -- ---- the objects and the lines of a problem are those of the deck that is held
 module _ {o : Opened} (w : Whole o) where
-  abbrev deck : Query.Deck
-  deck = deck_of o.deck
+  abbrev prepared : Prepared o.problem
+  prepared = made_prepared (deck_of o.deck) w.sound.range w.sound.full o.problem w.problem_is
 
-  pub whole_pricing : pricing_of_objects o.problem.objects ≡ pricing_of deck
-  unfolding problem_record
-  whole_pricing = (λ i. pricing_in (w.problem_is i).columns (w.problem_is i).count) ∙ made_pricing deck w.sound.range
+  pub whole_pricing : pricing_of_objects o.problem.objects ≡ pricing_of (deck_of o.deck)
+  whole_pricing = prepared_pricing prepared
 
-  pub whole_grid : grid_of o.problem.vertical o.problem.horizontal ≡ grid deck
-  unfolding problem_record grid
-  whole_grid = λ i. grid_of (w.problem_is i).vertical (w.problem_is i).horizontal
+  pub whole_grid : grid_of o.problem.vertical o.problem.horizontal ≡ grid (deck_of o.deck)
+  whole_grid = prepared_grid prepared
 
 -- ---- what `open_job` answers
 some_none : {P : Type 0} {k : OpenedParts} → Some k ≡ None → P

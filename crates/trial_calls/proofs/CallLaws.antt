@@ -73,7 +73,7 @@ module _ (job : List ℕ) (answer : Std.Result Spot Refusal) (e : cheapest_answe
           let range = allowed_in_range j ((read_exactly job j).0 g).1 in
           let law = (exhaustive_call_law job).law j g in
           let same : Query.exhaustive (problem j.deck) ≡ priced_of s = same_given _ _ (sym ((exhaustive_call_law job).given j g) ∙ found) in
-          let place = point_in_range j.deck.area (record { x = s.x; y = s.y }) range.area
+          let place = point_in_range j.deck.area (priced_of s).at range.area
           (subst (λ (p : Priced). In j.deck.area p.at) same law.in_area) in (
             place,
             omega (
