@@ -66,14 +66,14 @@ state_is [] = refl
 state_is (c ∷ cs) = refl
 
 found_report : (Q : Problem) (n : ℕ) (f : Found) (state : State) (b : ℕ) → f ≡ found_of (run Q n) → state ≡ state_for f.done → report_figures (record {
-      state = state;
-      x = f.best.at.x;
-      y = f.best.at.y;
-      high = f.best.cost;
-      low = f.low;
-      before = b;
-      rounds = f.cuts;
-    }) ≡ figures_of b (run Q n)
+  state = state;
+  x = f.best.at.x;
+  y = f.best.at.y;
+  high = f.best.cost;
+  low = f.low;
+  before = b;
+  rounds = f.cuts;
+}) ≡ figures_of b (run Q n)
 unfolding figures_of found_of
 found_report Q n f state b e s = rw (s, e, state_is (run Q n).live)
 
