@@ -116,7 +116,8 @@ module _ (which k : ℕ) (w : which ≤ 4) where
   kernel_is : (r : Result) → on_deck r ≡ kernel_sum which k r
   kernel_is r = rw (le-ltb 4 which w)
 
-  pub kernel_refused : (bytes : List ℕ) (r : Option Opened) → option_map parts_of r ≡ opened_record (read_job bytes) → r ≡ None → minus_one ≡ kernel_sum which k (read_job bytes)
+  pub kernel_refused : (bytes : List ℕ) (r : Option Opened) → option_map parts_of r ≡ opened_record (read_job bytes) → r ≡ None → minus_one ≡
+      kernel_sum which k (read_job bytes)
   kernel_refused bytes r e f = open_refused bytes r e _ _ f ∙ kernel_is (read_job bytes)
 
   module _ {bytes : List ℕ} (s : Spelt bytes) where
