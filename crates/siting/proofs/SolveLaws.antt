@@ -45,7 +45,7 @@ use Rattle.problem.specs.Prepared.{problem_of, Prepared}
 use Rattle.problem.proofs.DeckProblem.{prepared_pricing, prepared_problem, made_prepared}
 use Rattle.report.specs.Report.{report_state, report_figures}
 use Rattle.report.specs.Text.{report_text}
-use Rattle.write.specs.Written.{overwritten, Overwrote}
+use Rattle.write.specs.Written.{overwritten}
 use Rattle.report.specs.declared.Report.{Report}
 use Rattle.report.specs.declared.State.{State}
 use Rattle.report.proofs.Fits.{report_fits}

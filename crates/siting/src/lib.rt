@@ -102,11 +102,9 @@ fn respond(job: &[u8], cells: &mut [i64], out: &mut [u8]) -> Result<Response, Re
 {
     let given = prepare::of_job(job)?;
     let problem = &given.problem;
-    let needs = estimate::of_lines(
-        problem.vertical.len(),
-        problem.horizontal.len(),
-        given.rounds,
-    );
+    let vertical = problem.vertical.len();
+    let horizontal = problem.horizontal.len();
+    let needs = estimate::of_lines(vertical, horizontal, given.rounds);
     if (cells.len() as u64) < CELL_NUMBERS as u64 * needs.cells {
         return Err(Refusal::SmallSpace);
     }
@@ -144,8 +142,8 @@ pub fn siting_report(job: &[u8], out: &mut [u8]) -> i64
 pub fn exhaustive(job: &[u8]) -> Result<Spot, Refusal>
     ensures { cheapest_answer result ≡ exhaustive_call job.now }
 {
-    let given = prepare::of_job(job)?;
-    Ok(exhaustive::cheapest(&given.problem, given.before))
+    let prepared = prepare::of_job(job)?;
+    Ok(exhaustive::cheapest(&prepared.problem, prepared.before))
 }
 
 // What the job needs, or the refusal of the job. No place is priced.

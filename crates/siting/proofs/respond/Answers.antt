@@ -1,5 +1,5 @@
 -- What `siting::respond` owes.
-use mathlib.Core.Path.{sym, ap, subst, ◌∙◌}
+use mathlib.Core.Path.{sym, ap, ◌∙◌}
 use native.Mathlib.Omega.{arith}
 use Rattle.job.proofs.PartLaws.{handed}
 use Rattle.calls.proofs.Demands.{refused_call}
@@ -16,28 +16,22 @@ returns-in_err-given c =
 
 pub of_lines-needs-requires : goal.of_lines-needs-requires
 of_lines-needs-requires c =
-    rw (c.len.ensures, c.len-2.ensures) (job_counts _ c.in_ok-given.given (ap given_by (sym c.in_ok-given.was) ∙ c.of_job.ensures))
+    rw (c.len-vertical.ensures, c.len-horizontal.ensures) (job_counts _ c.in_ok-given.given (ap given_by (sym c.in_ok-given.was) ∙ c.of_job.ensures))
 
 pub overflow_mul-needs : goal.overflow_mul-needs
 overflow_mul-needs c =
-    let needs = rw (c.len.ensures, c.len-2.ensures) at c.of_lines-needs.ensures in
+    let needs = rw (c.len-vertical.ensures, c.len-horizontal.ensures) at c.of_lines-needs.ensures in
     omega (arith, few_cells _ c.in_ok-given.given (ap given_by (sym c.in_ok-given.was) ∙ c.of_job.ensures) c.of_lines-needs.result needs)
 
 pub returns-then-cells-needs : goal.returns-then-cells-needs
 returns-then-cells-needs c =
-    let needs = rw (c.len.ensures, c.len-2.ensures) at c.of_lines-needs.ensures in
+    let needs = rw (c.len-vertical.ensures, c.len-horizontal.ensures) at c.of_lines-needs.ensures in
     let given = ap given_by (sym c.in_ok-given.was) ∙ c.of_job.ensures in
     respond_refused _ _ _ _ (small _ c.in_ok-given.given given c.of_lines-needs.result needs _ _ (omega (arith, c.if-cells-needs.true)))
 
-pub respond_in-requires : goal.respond_in-requires
-respond_in-requires c =
-    let needs = rw (c.len.ensures, c.len-2.ensures) at c.of_lines-needs.ensures in
-    let given = ap given_by (sym c.in_ok-given.was) ∙ c.of_job.ensures in
-    (record { job = _; given = given }, fits _ c.in_ok-given.given given c.of_lines-needs.result needs _ (omega (arith, c.if-cells-needs.false)))
-
 pub returns : goal.returns
 returns c =
-    let needs = rw (c.len.ensures, c.len-2.ensures) at c.of_lines-needs.ensures in
+    let needs = rw (c.len-vertical.ensures, c.len-horizontal.ensures) at c.of_lines-needs.ensures in
     let given = ap given_by (sym c.in_ok-given.was) ∙ c.of_job.ensures in
     let fit = fits _ c.in_ok-given.given given c.of_lines-needs.result needs _ (omega (arith, c.if-cells-needs.false)) in
     responded_in _ c.in_ok-given.given given _ _ fit _ _ _ c.respond_in.ensures
