@@ -71,7 +71,8 @@ cells_after l cells (Ok r) = padded (length cells) (pos 0) (all_numbers (map ent
 cells_after l cells (Err why) = cells
 
 -- the same with the live cells in the cell space, and with live cells that nobody sees
-pub record AnsweredIn (g : Given) (cells : List ℤ) (out : List ℕ) (cells' : List ℤ) (out' : List ℕ) (r : Std.Result Response Refusal) : Type 0 where
+pub record AnsweredIn (g : Given) (cells : List ℤ) (out : List ℕ) (cells' : List ℤ) (out' : List ℕ) (r : Std.Result Response Refusal)
+    : Type 0 where
   pub live : Live
   pub answered : Answered g out live out' r
   pub cells_are : cells' ≡ cells_after live cells r

@@ -14,4 +14,5 @@ pub returns-in-Ok-clause-whole : goal.returns-in-Ok-clause-whole
 returns-in-Ok-clause-whole c = c.new.ensures ∙ text_report _ _ _ _ (subst (Responded _ _ _ _) c.in-Ok.is c.respond_alone.ensures)
 
 pub returns-in-Err-clause-whole : goal.returns-in-Err-clause-whole
-returns-in-Err-clause-whole c = c.new-in-Err.ensures ∙ text_refused _ _ _ _ (subst (Responded _ _ _ _) c.in-Err.is c.respond_alone.ensures) _ _ c.write_refusal-length.ensures
+returns-in-Err-clause-whole c =
+    c.new-in-Err.ensures ∙ text_refused _ _ _ _ (subst (Responded _ _ _ _) c.in-Err.is c.respond_alone.ensures) _ _ c.write_refusal-length.ensures
