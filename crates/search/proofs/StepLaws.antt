@@ -83,7 +83,7 @@ bound_is o axis r k s l b costs held e f g = let same : s ≡ span (axis_in o.co
 
 pub entry_back : (P : Pricing) (r : Deck.Rect) (b : ℤ) → mag b < 2 ^ 63 → b ≡ bound_of P (rect_of r)
     → (k : Costs) → k ≡ corner_costs P (rect_of r) → ◌≡◌ {A = Entry} (record { cell = record { rect = r; bound = back b }; costs = k })
-        (entry_for P (rect_of r))
+    (entry_for P (rect_of r))
 entry_back P r b f e k costs = λ i. record { cell = record { rect = r; bound = (fitting b f ∙ e) i }; costs = costs i }
 
 -- ---- the best of four
