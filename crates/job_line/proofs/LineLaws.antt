@@ -4,7 +4,7 @@ use mathlib.Core.Path.{◌≡◌, refl, sym, ap, ◌∙◌}
 use mathlib.Core.Bool.{Bool, true, false, cond, ◌&&◌}
 use mathlib.Core.List.{List, [], ◌∷◌, ◌++◌}
 use mathlib.Core.Option.{Option, none, some, bind}
-use Prim.Native.Nat.{ℕ, ◌<◌, ◌^◌}
+use Prim.Native.Nat.{ℕ, ◌+◌, ◌<◌, ◌^◌}
 use native.Mathlib.Omega.{arith}
 use lib.Dec.{T, eqb}
 use lib.IntN.{ℤ, pos, negsuc, nat_abs}
@@ -20,8 +20,8 @@ use Rattle.text.specs.Numeral.{number}
 use Rattle.text.specs.TextReading.{starts_with, behind}
 use Rattle.job_line.specs.Form.{byte, key, field}
 use Rattle.job_line.specs.Kinds.{Range, Row, end_of, numbers, form_of, in_ranges}
-use Rattle.job_line.specs.OneLine.{fault, got, line}
-use Rattle.job_line.specs.Reading.{KeyAt, FieldAt, NextLine, reading_of, LineAt}
+use Rattle.job_line.specs.OneLine.{Reading, fault, got, line, line_result}
+use Rattle.job_line.specs.Reading.{KeyAt, FieldAt, NextLine, reading_of, in_64_bits, LineAt}
 use Rattle.job_line.specs.declared.Unread.{Unread}
 use Rattle.refusal.specs.declared.Refusal.{Refusal}
 use Rattle.refusal.specs.declared.Refusal.TheVariants.{Malformed, OutOfRange}
@@ -199,3 +199,34 @@ module _ {row : Row} {unread : Unread} where
   pub last_natural : (ns : List ℤ) (z : ℤ) {m : ℕ} {rest : List ℕ} → T (non_neg z) → LineAt row unread (got (ns ++ (z ∷ [])) m rest) →
       LineAt row unread (got (ns ++ (pos (nat_abs z) ∷ [])) m rest)
   last_natural ns z t l = rw (pos-nat_abs z t) l
+
+-- ---- the number of the next line
+-- which 64 bits hold, where this line is not the last that they can count
+exact : (row : Row) (n : ℕ) (bs : List ℕ) → n + 1 < 2 ^ 64 → in_64_bits (line row n bs) ≡ line row n bs
+unfolding line
+exact row n bs h = go (form_of row bs)
+  where
+    either : (t : Bool) (ns : List ℤ) (rest : List ℕ) →
+        in_64_bits (cond t (got ns (n + 1) rest) (fault (OutOfRange n))) ≡ cond t (got ns (n + 1) rest) (fault (OutOfRange n))
+    either true ns rest = ap (λ m. got ns m rest) (omega arith)
+    either false ns rest = refl
+
+    go : (o : Option (List ℤ × List ℕ)) → in_64_bits (line_result row n o) ≡ line_result row n o
+    go none = refl
+    go (some r) = either (in_ranges row.ranges r.0) r.0 r.1
+
+pub line_at_is : {row : Row} {unread : Unread} {r : Reading (List ℤ)} → LineAt row unread r → unread.line + 1 < 2 ^ 64 → r ≡ line row unread.line unread.text.now
+line_at_is {row} {unread} line_at h = line_at.is ∙ exact row unread.line unread.text.now h
+
+-- it is one more
+pub line_counts : (row : Row) (n : ℕ) (bs : List ℕ) {ns : List ℤ} {m : ℕ} {rest : List ℕ} → got ns m rest ≡ line row n bs → m ≡ n + 1
+unfolding line
+line_counts row n bs {ns} {m} {rest} e = go (form_of row bs) e
+  where
+    either : (t : Bool) (ms : List ℤ) (more : List ℕ) → got ns m rest ≡ cond t (got ms (n + 1) more) (fault (OutOfRange n)) → m ≡ n + 1
+    either true ms more e = cc
+    either false ms more e = absurd (let z : ◌≡◌ {A = ℕ} 0 1 = cc in omega arith)
+
+    go : (o : Option (List ℤ × List ℕ)) → got ns m rest ≡ line_result row n o → m ≡ n + 1
+    go none e = absurd (let z : ◌≡◌ {A = ℕ} 0 1 = cc in omega arith)
+    go (some r) e = either (in_ranges row.ranges r.0) r.0 r.1 e

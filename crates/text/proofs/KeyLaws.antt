@@ -65,10 +65,11 @@ byte_missing b bs e = go (starts_with (b ∷ []) bs) refl e
     go true q e = absurd (let z : ◌≡◌ {A = ℕ} 0 1 = cc in omega arith)
     go false q e = q
 
-pub byte_is_some : (b : ℕ) (bs : List ℕ) (r : Option (Bor (List ℕ))) → option_copied r ≡ behind (b ∷ []) bs → is_some r ≡ starts_with (b ∷ []) bs
-byte_is_some b bs r e = go (starts_with (b ∷ []) bs) r e
+-- whether the text is there
+pub behind_is_some : (key bs : List ℕ) (r : Option (Bor (List ℕ))) → option_copied r ≡ behind key bs → is_some r ≡ starts_with key bs
+behind_is_some key bs r e = go (starts_with key bs) r e
   where
-    go : (t : Bool) (r : Option (Bor (List ℕ))) → option_copied r ≡ cond t (Some (drop 1 bs)) None → is_some r ≡ t
+    go : (t : Bool) (r : Option (Bor (List ℕ))) → option_copied r ≡ cond t (Some (drop (length key) bs)) None → is_some r ≡ t
     go true None e = absurd (let z : ◌≡◌ {A = ℕ} 0 1 = cc in omega arith)
     go true (Some x) e = refl
     go false None e = refl
