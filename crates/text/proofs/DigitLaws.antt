@@ -16,7 +16,7 @@ use lib.ListN.{length, get_or, drop, take, length-drop}
 use lib.Seq.{drop-drop, take-suc, get_or-drop, take_all}
 use Rattle.std.specs.Prelude.{Option, Some, None}
 use Rattle.std.specs.Borrow.{Bor}
-use Rattle.numbers.proofs.Truth.{cond-true, and_right}
+use Rattle.numbers.proofs.Truth.{cond_ind, cond-true, and_right}
 use Rattle.text.specs.Ascii.{is_digit, zero_digit}
 use Rattle.text.specs.Numeral.{digits, value_of, natural}
 use Rattle.text.specs.TextReading.{starts_with, first_digit, FirstDigit, FirstDigits}
@@ -89,7 +89,6 @@ first_at : (s : List ℕ) (at : ℕ) → get_or (drop at s) 0 0 ≡ get_or s at 
 first_at s at = get_or-drop at s 0 0 ∙ ap (λ n. get_or s n 0) (add-zero at)
 
 pub record Scanned (bs : List ℕ) (count value : ℕ) (rest : List ℕ) : Type 0 where
-  pub rest_is : rest ≡ drop count bs
   pub left : drop count (digits bs) ≡ digits rest
   pub enough : count ≤ length (digits bs)
   pub value_is : value ≡ value_of (take count (digits bs))
@@ -98,17 +97,17 @@ pub record Scanned (bs : List ℕ) (count value : ℕ) (rest : List ℕ) : Type 
 module _ {bs : List ℕ} where
   pub scanned_none : Scanned bs 0 0 bs
   unfolding value_of
-  scanned_none = record { rest_is = refl; left = refl; enough = omega arith; value_is = refl; below = lit< tt }
+  scanned_none = record { left = refl; enough = omega arith; value_is = refl; below = lit< tt }
 
   module _ {count value : ℕ} {rest : List ℕ} (m : Scanned bs count value rest) where
-    pub scanned_stop : FirstDigit rest None → count ≤ 10 → FirstDigits bs count value rest
-    scanned_stop digit most = record { count_is = omega (arith, none, m.enough); value_is = m.value_is; below = m.below; rest_is = m.rest_is }
+    pub scanned_stop : FirstDigit rest None → count ≤ 10 → FirstDigits bs count value
+    scanned_stop digit most = record { count_is = omega (arith, none, m.enough); value_is = m.value_is; below = m.below }
       where
         none : length (digits bs) - count ≡ 0
         none = sym (length-drop count (digits bs)) ∙ ap length (m.left ∙ digit_stop digit)
 
-    pub scanned_ten : 10 ≤ count → count ≤ 10 → FirstDigits bs count value rest
-    scanned_ten g h = record { count_is = omega (arith, m.enough); value_is = m.value_is; below = m.below; rest_is = m.rest_is }
+    pub scanned_ten : 10 ≤ count → count ≤ 10 → FirstDigits bs count value
+    scanned_ten g h = record { count_is = omega (arith, m.enough); value_is = m.value_is; below = m.below }
 
     pub scanned_small : count ≤ 10 → value < 10 ^ 10
     scanned_small h = omega (arith, m.below, pow-le-pow_right {n = 10} (omega arith) h)
@@ -122,7 +121,6 @@ module _ {bs : List ℕ} where
 
       pub scanned_more : Scanned bs (count + 1) (value * 10 + d) others.now
       scanned_more = record {
-        rest_is = sym (ap (drop 1) there.is) ∙ ap (drop 1) m.rest_is ∙ drop-drop 1 count bs;
         left = sym (drop-drop 1 count ds) ∙ ap (drop 1) more;
         enough = omega (arith, longer);
         value_is = worth;
@@ -148,6 +146,11 @@ module _ {bs : List ℕ} where
 abbrev number_then : ℕ → List ℕ → Text.Option (ℤ × List ℕ)
 number_then n rest = some (pos n, rest)
 
+digits_short : (bs : List ℕ) → length (digits bs) ≤ length bs
+unfolding digits
+digits_short [] = omega arith
+digits_short (b ∷ bs) = cond_ind (λ (ds : List ℕ). length ds ≤ suc (length bs)) (is_digit b) (λ t. omega (arith, digits_short bs)) (λ t. omega arith)
+
 digits_first : (bs : List ℕ) → 1 ≤ length (digits bs) → get_or (digits bs) 0 0 ≡ get_or bs 0 0
 unfolding digits
 digits_first [] h = refl
@@ -162,7 +165,7 @@ unfolding starts_with
 starts_zero [] = refl
 starts_zero (b ∷ bs) = starts_byte 48 b bs
 
-module _ {bs : List ℕ} {count value : ℕ} {rest : List ℕ} (run : FirstDigits bs count value rest) where
+module _ {bs : List ℕ} {count value : ℕ} (run : FirstDigits bs count value) where
   few : count < 1 → length (digits bs) < 1
   few h = omega (arith, run.count_is)
 
@@ -184,7 +187,7 @@ module _ {bs : List ℕ} {count value : ℕ} {rest : List ℕ} (run : FirstDigit
     worth : value ≡ value_of (digits bs)
     worth = run.value_is ∙ ap value_of (take_all count (digits bs) (omega (arith, all)))
 
-    natural_is : natural bs ≡ cond (eqb count 1 || not (starts_with (zero_digit ∷ []) bs)) (number_then value rest) none
+    natural_is : natural bs ≡ cond (eqb count 1 || not (starts_with (zero_digit ∷ []) bs)) (number_then value (drop count bs)) none
     unfolding natural
     natural_is =
         rw (
@@ -193,23 +196,25 @@ module _ {bs : List ℕ} {count value : ℕ} {rest : List ℕ} (run : FirstDigit
           starts_zero bs,
           ← digits_first bs (omega (arith, all)),
           worth,
-          run.rest_is,
           all,
         )
 
     pub natural_zero : 1 < count → starts_with (zero_digit ∷ []) bs ≡ true → none ≡ natural bs
     natural_zero h e = rw (natural_is, ne_eqb count 1 (λ e. omega arith), e)
 
+    pub after_digits : count ≤ length bs
+    after_digits = omega (arith, digits_short bs, all)
+
     pub natural_small : value < 10 ^ 9
     natural_small = omega (arith, run.below, pow-le-pow_right {n = 10} (omega arith) high)
 
     -- a run of digits with no leading zero save in `0` itself
-    pub natural_one : count ≤ 1 → number_then value rest ≡ natural bs
+    pub natural_one : count ≤ 1 → number_then value (drop count bs) ≡ natural bs
     natural_one h = rw (natural_is, eq-eqb count 1 (omega arith)) refl
 
-    pub natural_more : starts_with (zero_digit ∷ []) bs ≡ false → number_then value rest ≡ natural bs
+    pub natural_more : starts_with (zero_digit ∷ []) bs ≡ false → number_then value (drop count bs) ≡ natural bs
     natural_more e = rw (natural_is, e) (go (eqb count 1))
       where
-        go : (t : Bool) → number_then value rest ≡ cond (t || true) (number_then value rest) none
+        go : (t : Bool) → number_then value (drop count bs) ≡ cond (t || true) (number_then value (drop count bs)) none
         go true = refl
         go false = refl

@@ -26,12 +26,11 @@ first_digit (b ∷ bs) = cond (is_digit b) (Some (b - 48, bs)) None
 pub record FirstDigit (text : List ℕ) (r : Option (ℕ × Bor (List ℕ))) : Type 0 where
   pub is : option_map (λ p. (p.0, p.1.now)) r ≡ first_digit text
 
--- how many digits a text starts with, ten at most, the number that they spell, and the text after them
-pub record FirstDigits (text : List ℕ) (count value : ℕ) (rest : List ℕ) : Type 0 where
+-- how many digits a text starts with, ten at most, and the number that they spell
+pub record FirstDigits (text : List ℕ) (count value : ℕ) : Type 0 where
   pub count_is : count ≡ min 10 (length (digits text))
   pub value_is : value ≡ value_of (take count (digits text))
   pub below : value < 10 ^ count
-  pub rest_is : rest ≡ drop count text
 
 -- an answer as the definitions have it: the number and the text after it
 abbrev pub natural_read : Option (ℕ × Bor (List ℕ)) → Text.Option (ℤ × List ℕ)

@@ -5,12 +5,11 @@ ghost use Rattle.std.specs.Prelude.{◌≡◌, ◌^◌, ◌<◌, ◌∷◌, [], 
 ghost use Rattle.text.specs.Numeral.{natural, negative, number};
 ghost use Rattle.text.specs.TextReading.{behind, FirstDigit, FirstDigits, natural_read, number_read};
 
-// The first ten digits, or all where there are fewer: how many, the number that they spell, and the text after them.
+// The first ten digits, or all where there are fewer: how many, and the number that they spell.
 #[derive(Clone, Copy)]
-struct DigitRun<'a> {
+struct DigitRun {
     count: usize,
     value: u64,
-    rest: &'a [u8],
 }
 
 // The text after the byte `b`.
@@ -41,23 +40,19 @@ fn digit(text: &[u8]) -> Option<(u64, &[u8])>
 }
 
 // The digits that a text starts with, ten of them at most.
-fn digits(text: &[u8]) -> DigitRun<'_>
-    ensures { FirstDigits text.now result.count result.value result.rest.now }
+fn digits(text: &[u8]) -> DigitRun
+    ensures { FirstDigits text.now result.count result.value }
 {
     let mut value: u64 = 0;
     let mut rest = text;
     for count in 0..10 {
         let Some((d, others)) = digit(rest) else {
-            return DigitRun { count, value, rest };
+            return DigitRun { count, value };
         };
         value = value * 10 + d;
         rest = others;
     }
-    DigitRun {
-        count: 10,
-        value,
-        rest,
-    }
+    DigitRun { count: 10, value }
 }
 
 // A number of 1 to 9 digits with no leading zero save in `0` itself.
@@ -73,7 +68,8 @@ fn natural(text: &[u8]) -> Option<(u64, &[u8])>
     if 1 < count && after_byte(text, b'0').is_some() {
         return None;
     }
-    Some((run.value, run.rest))
+    let (_, rest) = text.split_at(count);
+    Some((run.value, rest))
 }
 
 // What follows a `-`: a number, and not `0`.
