@@ -76,12 +76,12 @@ wrote_both {before} {a = a} {b = b} v w = record {
   text = w.text ∙ rw (v.text, v.next) (append before.out.now before.at a b (ap length (sym v.text) ∙ v.size));
 }
 
--- all of a text, from the start on
-pub wrote_front : {before after : Writer} {out : List ℕ} (text : List ℕ) → before.out.now ≡ out → before.at ≡ 0 → Wrote before text after →
-    Overwrote out text after.out.now after.at
-wrote_front text o z w = record {
-  number = w.next ∙ rw z (zero-add (length text));
-  content = w.text ∙ rw (o, z) (written_front _ text);
+-- all of a text, from the start of a slice on, and what is left there
+pub wrote_front : {before after : Writer} {out left : List ℕ} {count : ℕ} (text : List ℕ) → Wrote before text after → before.out.now ≡ out → before.at ≡ 0 →
+    left ≡ after.out.now → count ≡ after.at → Overwrote out text left count
+wrote_front text w o z l n = record {
+  number = n ∙ w.next ∙ rw z (zero-add (length text));
+  content = l ∙ w.text ∙ rw (o, z) (written_front _ text);
 }
 
 -- two parts behind what was written
