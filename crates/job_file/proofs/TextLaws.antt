@@ -138,6 +138,9 @@ pub spelled_pos : (n : ℕ) → spell_int (pos n) ≡ spell_nat n
 unfolding spell_int
 spelled_pos n = refl
 
+pub nat_text : (n end : ℕ) → number_text (pos n) end ≡ spell_nat n ++ (end ∷ [])
+nat_text n end = ap (λ (l : List ℕ). l ++ (end ∷ [])) (spelled_pos n)
+
 pub length_number : (z : ℤ) (end : ℕ) → length (number_text z end) ≡ length (spell_int z) + 1
 length_number z end = length-append (spell_int z) (end ∷ [])
 
