@@ -181,7 +181,8 @@ module _ (k kind : Kind) {unread : Unread} (low : unread.line ≤ 900) where
       pub line_small : i ≤ 512 → left.line + 1 < 2 ^ 64
       line_small h = omega (arith, f.line_is, start_is)
 
-      pub list_read : {put : Put} {most : ℕ} {old new : Deck} → count ≤ i → i ≤ count → count ≤ most → new ≡ put old f.lines → ListAt (counted_lines k kind) put most unread old new (Ok left)
+      pub list_read : {put : Put} {most : ℕ} {old new : Deck} → count ≤ i → i ≤ count → count ≤ most → new ≡ put old f.lines → ListAt
+          (counted_lines k kind) put most unread old new (Ok left)
       list_read g h few e = record {
         lines = f.lines;
         is = all_read f g ∙ counted_at count_at;

@@ -215,7 +215,8 @@ exact row n bs h = go (form_of row bs)
     go none = refl
     go (some r) = either (in_ranges row.ranges r.0) r.0 r.1
 
-pub line_at_is : {row : Row} {unread : Unread} {r : Reading (List ℤ)} → LineAt row unread r → unread.line + 1 < 2 ^ 64 → r ≡ line row unread.line unread.text.now
+pub line_at_is : {row : Row} {unread : Unread} {r : Reading (List ℤ)} → LineAt row unread r → unread.line + 1 < 2 ^ 64 → r ≡ line row unread.line
+    unread.text.now
 line_at_is {row} {unread} line_at h = line_at.is ∙ exact row unread.line unread.text.now h
 
 -- it is one more

@@ -153,6 +153,7 @@ fn sum_turns<K: Kernel>(o: &Opened, k: u64) -> u64
 }
 
 // The sum by the kernel's number.
+// kept: the number comes from a C function, and here it picks the type whose kernel is summed.
 fn sum_of(o: &Opened, which: u64, k: u64) -> u64
     requires { Whole o.now × (which ≤ 4) × (k ≤ 100000) }
     ensures { Figure (sum_to (turn (deck_of o.now.deck) which) k) (100000 * cost_limit) result }

@@ -62,7 +62,8 @@ fn put_place(w: &mut Writer, x: i64, y: i64)
 
 fn put_costs(w: &mut Writer, high: u64, low: i64, before: u64)
     requires { HasRoom w.old 80 }
-    ensures { Wrote w.old (bytes "\nhigh=" ++ spell_nat high ++ bytes "\nlow=" ++ spell_int low ++ bytes "\nbefore=" ++ spell_nat before) w.new }
+    ensures { Wrote w.old (bytes "\nhigh=" ++ spell_nat high ++ bytes "\nlow=" ++ spell_int low ++ bytes "\nbefore="
+        ++ spell_nat before) w.new }
 {
     put_key(w, b"\nhigh=", high);
     put_key(w, b"\nlow=", low);

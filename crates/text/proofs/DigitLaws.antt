@@ -57,7 +57,13 @@ digit_there {bs} {d} {rest} digit = go bs digit.is
         either : (t : Bool) → is_digit b ≡ t → read d rest.now ≡ cond t (read (b - 48) bs) None → Digit (b ∷ bs) d rest.now
         either true q e =
             let p : ◌≡◌ {A = ℕ × List ℕ} (d, rest.now) (b - 48, bs) = cc in
-            record { first = b; is = ap (λ l. b ∷ l) (sym (ap (λ (r : ℕ × List ℕ). r.1) p)); is_digit_lem = subst T (sym q) tt; value = ap (λ (r : ℕ × List ℕ). r.0) p }
+            record {
+              first = b;
+              is = ap (λ l. b ∷ l) (sym (ap (λ (r : ℕ × List ℕ). r.1) p));
+              is_digit_lem = subst T (sym q) tt;
+              value = ap
+                  (λ (r : ℕ × List ℕ). r.0) p;
+            }
         either false q e = absurd (let z : ◌≡◌ {A = ℕ} 0 1 = cc in omega arith)
 
 digit_stop : {bs : List ℕ} → FirstDigit bs None → digits bs ≡ []

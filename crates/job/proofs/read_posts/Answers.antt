@@ -4,7 +4,19 @@ use borrow.Author.Rules.{rules}
 use Rattle.text.specs.Ascii.{bytes}
 use Rattle.job_line.specs.Kinds.{posts, post}
 use Rattle.job.proofs.RangeLaws.{count_range}
-use Rattle.job.proofs.PartLaws.{handed, filled_none, filled_more, posts_none, posts_more, posts_all, counted_in, line_small, list_no_count, list_read, list_refused}
+use Rattle.job.proofs.PartLaws.{
+  handed,
+  filled_none,
+  filled_more,
+  posts_none,
+  posts_more,
+  posts_all,
+  counted_in,
+  line_small,
+  list_no_count,
+  list_read,
+  list_refused,
+}
 use Rattle.job.proofs.read_posts.Goals as goal
 
 pub returns-in_err-count : goal.returns-in_err-count
@@ -19,7 +31,8 @@ pub returns-in_err-post : goal.returns-in_err-post
 unfolding bytes
 returns-in_err-post c =
     rw (handed _ c.from_residual-in_err-post.ensures.1)
-    (list_refused posts post c.requires.0 _ c.in_ok-count.ensures c.loop-i.invariant.1 c.loop-i-test.true (omega (arith, c.loop-i.invariant.0, c.loop-i-test.true))
+    (list_refused posts post c.requires.0 _ c.in_ok-count.ensures c.loop-i.invariant.1 c.loop-i-test.true
+    (omega (arith, c.loop-i.invariant.0, c.loop-i-test.true))
     c.in_err-post.ensures)
 
 pub loop-i-preserved : goal.loop-i-preserved

@@ -4,7 +4,19 @@ use borrow.Author.Rules.{rules}
 use Rattle.text.specs.Ascii.{bytes}
 use Rattle.job_line.specs.Kinds.{stops, stop}
 use Rattle.job.proofs.RangeLaws.{count_range}
-use Rattle.job.proofs.PartLaws.{handed, filled_none, filled_more, stops_none, stops_more, stops_all, counted_in, line_small, list_no_count, list_read, list_refused}
+use Rattle.job.proofs.PartLaws.{
+  handed,
+  filled_none,
+  filled_more,
+  stops_none,
+  stops_more,
+  stops_all,
+  counted_in,
+  line_small,
+  list_no_count,
+  list_read,
+  list_refused,
+}
 use Rattle.job.proofs.read_stops.Goals as goal
 
 pub returns-in_err-count : goal.returns-in_err-count
@@ -19,7 +31,8 @@ pub returns-in_err-stop : goal.returns-in_err-stop
 unfolding bytes
 returns-in_err-stop c =
     rw (handed _ c.from_residual-in_err-stop.ensures.1)
-    (list_refused stops stop c.requires.0 _ c.in_ok-count.ensures c.loop-i.invariant.1 c.loop-i-test.true (omega (arith, c.loop-i.invariant.0, c.loop-i-test.true))
+    (list_refused stops stop c.requires.0 _ c.in_ok-count.ensures c.loop-i.invariant.1 c.loop-i-test.true
+    (omega (arith, c.loop-i.invariant.0, c.loop-i-test.true))
     c.in_err-stop.ensures)
 
 pub loop-i-preserved : goal.loop-i-preserved

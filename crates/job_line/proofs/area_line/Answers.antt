@@ -17,12 +17,14 @@ returns-in_err-xlo c =
 pub returns-in_err-ylo : goal.returns-in_err-ylo
 unfolding bytes
 returns-in_err-ylo c =
-    malformed _ _ (key_then_none c.in_ok-unread.ensures (number_then_none c.in_ok-xlo.ensures (no_number c.in_err-ylo.ensures))) c.from_residual-in_err-ylo.ensures.1
+    malformed _ _ (key_then_none c.in_ok-unread.ensures (number_then_none c.in_ok-xlo.ensures (no_number c.in_err-ylo.ensures)))
+    c.from_residual-in_err-ylo.ensures.1
 
 pub returns-in_err-xhi : goal.returns-in_err-xhi
 unfolding bytes
 returns-in_err-xhi c =
-    malformed _ _ (key_then_none c.in_ok-unread.ensures (number_then_none c.in_ok-xlo.ensures (number_then_none c.in_ok-ylo.ensures (no_number c.in_err-xhi.ensures)))) c.from_residual-in_err-xhi.ensures.1
+    malformed _ _ (key_then_none c.in_ok-unread.ensures
+    (number_then_none c.in_ok-xlo.ensures (number_then_none c.in_ok-ylo.ensures (no_number c.in_err-xhi.ensures)))) c.from_residual-in_err-xhi.ensures.1
 
 pub returns-in_err-yhi : goal.returns-in_err-yhi
 unfolding bytes

@@ -19,7 +19,8 @@ returns-in_err-x_cost c =
 pub returns-in_err-y_cost : goal.returns-in_err-y_cost
 unfolding bytes
 returns-in_err-y_cost c =
-    malformed _ _ (key_then_none c.in_ok-unread.ensures (number_then_none c.in_ok-x_cost.ensures (no_number c.in_err-y_cost.ensures))) c.from_residual-in_err-y_cost.ensures.1
+    malformed _ _ (key_then_none c.in_ok-unread.ensures (number_then_none c.in_ok-x_cost.ensures (no_number c.in_err-y_cost.ensures)))
+    c.from_residual-in_err-y_cost.ensures.1
 
 pub returns-then-x_cost-lt0 : goal.returns-then-x_cost-lt0
 unfolding bytes

@@ -24,12 +24,14 @@ returns-in_err-y c =
 pub returns-in_err-visits : goal.returns-in_err-visits
 unfolding bytes
 returns-in_err-visits c =
-    malformed _ _ (key_then_none c.in_ok-unread.ensures (number_then_none c.in_ok-x.ensures (number_then_none c.in_ok-y.ensures (no_number c.in_err-visits.ensures)))) c.from_residual-in_err-visits.ensures.1
+    malformed _ _ (key_then_none c.in_ok-unread.ensures
+    (number_then_none c.in_ok-x.ensures (number_then_none c.in_ok-y.ensures (no_number c.in_err-visits.ensures)))) c.from_residual-in_err-visits.ensures.1
 
 pub returns-then-not-stop_in_range : goal.returns-then-not-stop_in_range
 unfolding bytes
 returns-then-not-stop_in_range c =
-    out_of_range (key_then c.in_ok-unread.ensures (number_then_more c.in_ok-x.ensures (number_then_more c.in_ok-y.ensures (last_number c.in_ok-visits.ensures))))
+    out_of_range (key_then c.in_ok-unread.ensures
+    (number_then_more c.in_ok-x.ensures (number_then_more c.in_ok-y.ensures (last_number c.in_ok-visits.ensures))))
     (sym c.stop_in_range.ensures ∙ c.if-not-stop_in_range.true)
 
 pub overflow_cast-visits : goal.overflow_cast-visits
