@@ -92,9 +92,9 @@ pub fn write_refusal(out: &mut [u8], why: Refusal) -> usize
 {
     let number = refusal::number_of(why);
     let line = refusal::line_of(why);
-    let mut w = Writer::new(out);
-    put_key(&mut w, b"refused=", number);
-    put_key(&mut w, b"\nline=", line);
-    w.put(b"\n");
-    w.len()
+    let mut lines = Writer::new(out);
+    put_key(&mut lines, b"refused=", number);
+    put_key(&mut lines, b"\nline=", line);
+    lines.put(b"\n");
+    lines.len()
 }

@@ -17,7 +17,8 @@ use Rattle.deck.specs.declared.Deck.{Deck}
 use Rattle.deck.specs.DeckOf.{held_axis}
 use Rattle.job.specs.File.{file_text}
 use Rattle.job_file.specs.Texts.{place_text, axis_text, post_texts, stop_texts}
-use Rattle.job_file.proofs.FileLaws.{count_part, front₁, front₂, front₃, front₄, front₅, front₆, front₇, front₈, file_parts, Fronts, fronts, part_room}
+use Rattle.job_file.proofs.FileLaws.{count_part, front₁, front₂, front₃, front₄, front₅, front₆, front₇, front₈, file_parts, Fronts,
+fronts, part_room}
 use Rattle.job_file.proofs.TextLaws.{posts_front, stops_front}
 use Rattle.job_file.proofs.put_file.Goals as goal
 
@@ -34,6 +35,10 @@ record Held (deck : Deck) : Type 0 where
   yhi : SFits w64 deck.yhi
   posts : deck.posts ≤ length deck.post_x
   stops : deck.stops ≤ length deck.stop_x
+
+held : {deck : Deck} → SFits w64 deck.xlo → SFits w64 deck.ylo → SFits w64 deck.xhi → SFits w64 deck.yhi → deck.posts ≤ length deck.post_x
+    → deck.stops ≤ length deck.stop_x → Held deck
+held a b c d m n = record { xlo = a; ylo = b; xhi = c; yhi = d; posts = m; stops = n }
 
 abbrev front_posts : Deck → List ℕ
 front_posts deck = post_texts (take deck.posts deck.post_x) (take deck.posts deck.post_y) (length (take deck.posts deck.post_x))
@@ -90,8 +95,7 @@ put-requires c =
 pub put_place-requires : goal.put_place-requires
 unfolding bytes
 put_place-requires c =
-    let f : Held c.args.deck.now = record
-    { xlo = search rules; ylo = search rules; xhi = search rules; yhi = search rules; posts = search rules; stops = search rules } in
+    let f : Held c.args.deck.now = held (search rules) (search rules) (search rules) (search rules) (search rules) (search rules) in
     let r : Fronts c.args.deck.now (length c.args.out.now) = fronts c.args.deck.now c.args.rounds c.requires.2 in
     rw (to_z-of_z w64 c.args.deck.now.xlo f.xlo, to_z-of_z w64 c.args.deck.now.ylo f.ylo)
     (part_room _ (place_text c.args.deck.now.xlo c.args.deck.now.ylo comma) (start c.new-w.result c.new-w.ensures.place c.new-w.ensures.content)
@@ -100,8 +104,7 @@ put_place-requires c =
 pub put_place-requires-2 : goal.put_place-requires-2
 unfolding bytes
 put_place-requires-2 c =
-    let f : Held c.args.deck.now = record
-    { xlo = search rules; ylo = search rules; xhi = search rules; yhi = search rules; posts = search rules; stops = search rules } in
+    let f : Held c.args.deck.now = held (search rules) (search rules) (search rules) (search rules) (search rules) (search rules) in
     let r : Fronts c.args.deck.now (length c.args.out.now) = fronts c.args.deck.now c.args.rounds c.requires.2 in
     rw (to_z-of_z w64 c.args.deck.now.xhi f.xhi, to_z-of_z w64 c.args.deck.now.yhi f.yhi)
     (part_room _ (place_text c.args.deck.now.xhi c.args.deck.now.yhi newline) (start c.new-w.result c.new-w.ensures.place c.new-w.ensures.content)
@@ -110,8 +113,7 @@ put_place-requires-2 c =
 pub put_axis-requires : goal.put_axis-requires
 unfolding bytes
 put_axis-requires c =
-    let f : Held c.args.deck.now = record
-    { xlo = search rules; ylo = search rules; xhi = search rules; yhi = search rules; posts = search rules; stops = search rules } in
+    let f : Held c.args.deck.now = held (search rules) (search rules) (search rules) (search rules) (search rules) (search rules) in
     let r : Fronts c.args.deck.now (length c.args.out.now) = fronts c.args.deck.now c.args.rounds c.requires.2 in
     part_room _ (axis_text (held_axis c.args.deck.now.axis)) (start c.new-w.result c.new-w.ensures.place c.new-w.ensures.content)
     (wrote₃ c.args.rounds f c.put.ensures c.put_place.ensures c.put_place-2.ensures) r.four
@@ -119,8 +121,7 @@ put_axis-requires c =
 pub put_count-requires : goal.put_count-requires
 unfolding bytes
 put_count-requires c =
-    let f : Held c.args.deck.now = record
-    { xlo = search rules; ylo = search rules; xhi = search rules; yhi = search rules; posts = search rules; stops = search rules } in
+    let f : Held c.args.deck.now = held (search rules) (search rules) (search rules) (search rules) (search rules) (search rules) in
     let r : Fronts c.args.deck.now (length c.args.out.now) = fronts c.args.deck.now c.args.rounds c.requires.2 in
     part_room _ (count_part (bytes "posts=") c.args.deck.now.posts) (start c.new-w.result c.new-w.ensures.place c.new-w.ensures.content)
     (wrote₄ c.args.rounds f c.put.ensures c.put_place.ensures c.put_place-2.ensures c.put_axis.ensures) r.five
@@ -128,49 +129,45 @@ put_count-requires c =
 pub put_posts-requires : goal.put_posts-requires
 unfolding bytes
 put_posts-requires c =
-    let f : Held c.args.deck.now = record
-    { xlo = search rules; ylo = search rules; xhi = search rules; yhi = search rules; posts = search rules; stops = search rules } in
+    let f : Held c.args.deck.now = held (search rules) (search rules) (search rules) (search rules) (search rules) (search rules) in
     let r : Fronts c.args.deck.now (length c.args.out.now) = fronts c.args.deck.now c.args.rounds c.requires.2 in
     rw (posts_front c.args.deck.now.posts c.args.deck.now.post_x c.args.deck.now.post_y f.posts)
-    (part_room _ (post_texts c.args.deck.now.post_x c.args.deck.now.post_y c.args.deck.now.posts)
-    (start c.new-w.result c.new-w.ensures.place c.new-w.ensures.content)
+    (part_room _ (post_texts c.args.deck.now.post_x c.args.deck.now.post_y c.args.deck.now.posts) (start c.new-w.result
+    c.new-w.ensures.place c.new-w.ensures.content)
     (wrote₅ c.args.rounds f c.put.ensures c.put_place.ensures c.put_place-2.ensures c.put_axis.ensures c.put_count.ensures) r.six)
 
 pub put_count-requires-2 : goal.put_count-requires-2
 unfolding bytes
 put_count-requires-2 c =
-    let f : Held c.args.deck.now = record
-    { xlo = search rules; ylo = search rules; xhi = search rules; yhi = search rules; posts = search rules; stops = search rules } in
+    let f : Held c.args.deck.now = held (search rules) (search rules) (search rules) (search rules) (search rules) (search rules) in
     let r : Fronts c.args.deck.now (length c.args.out.now) = fronts c.args.deck.now c.args.rounds c.requires.2 in
     part_room _ (count_part (bytes "stops=") c.args.deck.now.stops) (start c.new-w.result c.new-w.ensures.place c.new-w.ensures.content)
-    (wrote₆ c.args.rounds f c.put.ensures c.put_place.ensures c.put_place-2.ensures c.put_axis.ensures c.put_count.ensures c.put_posts.ensures) r.seven
+    (wrote₆ c.args.rounds f c.put.ensures c.put_place.ensures c.put_place-2.ensures c.put_axis.ensures c.put_count.ensures
+    c.put_posts.ensures) r.seven
 
 pub put_stops-requires : goal.put_stops-requires
 unfolding bytes
 put_stops-requires c =
-    let f : Held c.args.deck.now = record
-    { xlo = search rules; ylo = search rules; xhi = search rules; yhi = search rules; posts = search rules; stops = search rules } in
+    let f : Held c.args.deck.now = held (search rules) (search rules) (search rules) (search rules) (search rules) (search rules) in
     let r : Fronts c.args.deck.now (length c.args.out.now) = fronts c.args.deck.now c.args.rounds c.requires.2 in
     rw (stops_front c.args.deck.now.stops c.args.deck.now.stop_x c.args.deck.now.stop_y c.args.deck.now.visits f.stops)
-    (part_room _ (stop_texts c.args.deck.now.stop_x c.args.deck.now.stop_y c.args.deck.now.visits c.args.deck.now.stops)
-    (start c.new-w.result c.new-w.ensures.place c.new-w.ensures.content)
-    (wrote₇ c.args.rounds f c.put.ensures c.put_place.ensures c.put_place-2.ensures c.put_axis.ensures c.put_count.ensures c.put_posts.ensures
-    c.put_count-2.ensures) r.eight)
+    (part_room _ (stop_texts c.args.deck.now.stop_x c.args.deck.now.stop_y c.args.deck.now.visits c.args.deck.now.stops) (start
+    c.new-w.result c.new-w.ensures.place c.new-w.ensures.content)
+    (wrote₇ c.args.rounds f c.put.ensures c.put_place.ensures c.put_place-2.ensures c.put_axis.ensures c.put_count.ensures
+    c.put_posts.ensures c.put_count-2.ensures) r.eight)
 
 pub put_count-requires-3 : goal.put_count-requires-3
 unfolding bytes
 put_count-requires-3 c =
-    let f : Held c.args.deck.now = record
-    { xlo = search rules; ylo = search rules; xhi = search rules; yhi = search rules; posts = search rules; stops = search rules } in
+    let f : Held c.args.deck.now = held (search rules) (search rules) (search rules) (search rules) (search rules) (search rules) in
     part_room _ (count_part (bytes "rounds=") c.args.rounds) (start c.new-w.result c.new-w.ensures.place c.new-w.ensures.content)
-    (wrote₈ c.args.rounds f c.put.ensures c.put_place.ensures c.put_place-2.ensures c.put_axis.ensures c.put_count.ensures c.put_posts.ensures
-    c.put_count-2.ensures c.put_stops.ensures) (rw file_parts at c.requires.2)
+    (wrote₈ c.args.rounds f c.put.ensures c.put_place.ensures c.put_place-2.ensures c.put_axis.ensures c.put_count.ensures
+    c.put_posts.ensures c.put_count-2.ensures c.put_stops.ensures) (rw file_parts at c.requires.2)
 
 pub returns : goal.returns
 unfolding bytes
 returns c =
-    let f : Held c.args.deck.now = record
-    { xlo = search rules; ylo = search rules; xhi = search rules; yhi = search rules; posts = search rules; stops = search rules } in
+    let f : Held c.args.deck.now = held (search rules) (search rules) (search rules) (search rules) (search rules) (search rules) in
     wrote_front _ (wrote₉ c.args.rounds f c.put.ensures c.put_place.ensures c.put_place-2.ensures c.put_axis.ensures c.put_count.ensures
     c.put_posts.ensures c.put_count-2.ensures c.put_stops.ensures c.put_count-3.ensures)
     c.new-w.ensures.content c.new-w.ensures.place (search rules) (search rules)

@@ -19,16 +19,16 @@ loop-x-init c = rw (texts_none stop_line (stops_of (places c.args.xs.now c.args.
 pub put_stop-requires : goal.put_stop-requires
 put_stop-requires c =
     let turn = YieldsList-turn (stops_yielded c.args.xs.now c.args.ys.now c.args.visits.now (search rules) (search rules) (search rules))
-    c.loop-x.yielded c.loop-x.x-iterator
-    c.loop-x.yielded_by c.next.result c.next.new.self ((c.in-Some.x, c.in-Some.y), c.in-Some.v) c.in-Some.is c.next.ensures.steps in
+    c.loop-x.yielded c.loop-x.x-iterator c.loop-x.yielded_by c.next.result c.next.new.self
+    ((c.in-Some.x, c.in-Some.y), c.in-Some.v) c.in-Some.is c.next.ensures.steps in
     line_room stop_line (stop_line_lem c.args.xs.now c.args.ys.now c.args.visits.now _ turn.0 (word_stop _ (search rules) (search rules) ∙ turn.1))
     c.loop-x.invariant (omega (arith, turn.0, stops_length c.args.xs.now c.args.ys.now c.args.visits.now)) c.requires
 
 pub loop-x-preserved : goal.loop-x-preserved
 loop-x-preserved c =
     let turn = YieldsList-turn (stops_yielded c.args.xs.now c.args.ys.now c.args.visits.now (search rules) (search rules) (search rules))
-    c.loop-x.yielded c.loop-x.x-iterator
-    c.loop-x.yielded_by c.next.result c.next.new.self ((c.in-Some.x, c.in-Some.y), c.in-Some.v) c.in-Some.is c.next.ensures.steps in
+    c.loop-x.yielded c.loop-x.x-iterator c.loop-x.yielded_by c.next.result c.next.new.self
+    ((c.in-Some.x, c.in-Some.y), c.in-Some.v) c.in-Some.is c.next.ensures.steps in
     rw (length-append c.loop-x.yielded (((c.in-Some.x, c.in-Some.y), c.in-Some.v) ∷ [])) (line_wrote stop_line
     (stop_line_lem c.args.xs.now c.args.ys.now c.args.visits.now _ turn.0 (word_stop _ (search rules) (search rules) ∙ turn.1)) c.loop-x.invariant
     c.put_stop.ensures)
@@ -36,7 +36,6 @@ loop-x-preserved c =
 pub returns : goal.returns
 returns c =
     let end = YieldsList-end (stops_yielded c.args.xs.now c.args.ys.now c.args.visits.now (search rules) (search rules) (search rules))
-    c.loop-x.yielded c.loop-x.x-iterator
-    c.loop-x.yielded_by c.next.result c.next.new.self c.in-None.is c.next.ensures.steps in
+    c.loop-x.yielded c.loop-x.x-iterator c.loop-x.yielded_by c.next.result c.next.new.self c.in-None.is c.next.ensures.steps in
     rw (texts_all stop_line (stops_of (places c.args.xs.now c.args.ys.now) c.args.visits.now) (length c.args.xs.now) (length c.loop-x.yielded)
     (omega (arith, stops_length c.args.xs.now c.args.ys.now c.args.visits.now)) (omega (arith, end.1))) c.loop-x.invariant

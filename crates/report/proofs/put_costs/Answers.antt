@@ -10,7 +10,7 @@ use Rattle.write.proofs.WrittenLaws.{wrote_pair}
 use Rattle.report.proofs.put_costs.Goals as goal
 
 pub put_key-requires : goal.put_key-requires
-put_key-requires c = omega (arith, c.requires, length_spell_nat c.args.high)
+put_key-requires c = omega (arith, c.requires, length_spell_nat c.args.high, length_spell_nat c.args.before)
 
 pub put_key-requires-2 : goal.put_key-requires-2
 put_key-requires-2 c = omega (
@@ -20,6 +20,7 @@ put_key-requires-2 c = omega (
   c.put_key.ensures.size,
   length_spell_nat c.args.high,
   length_spell_int (to_z w64 (of_z w64 c.args.low)),
+  length_spell_nat c.args.before,
 )
 
 pub put_key-requires-3 : goal.put_key-requires-3

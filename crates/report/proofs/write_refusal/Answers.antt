@@ -13,17 +13,18 @@ pub put_key-requires : goal.put_key-requires
 put_key-requires c = omega (
   arith,
   c.requires,
-  c.new-w.ensures.place,
-  ap length c.new-w.ensures.content,
+  c.new-lines.ensures.place,
+  ap length c.new-lines.ensures.content,
   length_spell_nat c.number_of-number.result,
+  length_spell_nat c.line_of-line.result,
 )
 
 pub put_key-requires-2 : goal.put_key-requires-2
 put_key-requires-2 c = omega (
   arith,
   c.requires,
-  c.new-w.ensures.place,
-  ap length c.new-w.ensures.content,
+  c.new-lines.ensures.place,
+  ap length c.new-lines.ensures.content,
   c.put_key.ensures.next,
   c.put_key.ensures.size,
   length_spell_nat c.number_of-number.result,
@@ -34,8 +35,8 @@ pub put-requires : goal.put-requires
 put-requires c = omega (
   arith,
   c.requires,
-  c.new-w.ensures.place,
-  ap length c.new-w.ensures.content,
+  c.new-lines.ensures.place,
+  ap length c.new-lines.ensures.content,
   c.put_key.ensures.next,
   c.put_key.ensures.size,
   c.put_key-2.ensures.next,
@@ -48,4 +49,4 @@ pub returns : goal.returns
 unfolding bytes
 returns c =
     let w = refusal_wrote _ _ c.number_of-number.ensures c.line_of-line.ensures c.put_key.ensures c.put_key-2.ensures c.put.ensures in
-    wrote_front _ w c.new-w.ensures.content c.new-w.ensures.place (search rules) (search rules)
+    wrote_front _ w c.new-lines.ensures.content c.new-lines.ensures.place (search rules) (search rules)
