@@ -1,17 +1,16 @@
 -- The first n rows of columns, as columns of their own: in range as before, and with the same places, objects and sum.
 -- Assumes nothing.
-use mathlib.Core.Path.{◌≡◌, refl, sym, ap, ◌∙◌}
-use mathlib.Core.List.{List, [], ◌∷◌, map, zip_with}
+use mathlib.Core.Path.{◌≡◌, sym, ap, ◌∙◌}
+use mathlib.Core.List.{List, zip_with}
 use Prim.Native.Nat.{ℕ, ◌*◌, ◌≤◌}
 use native.Mathlib.Omega.{arith}
 use lib.IntN.{ℤ, pos}
-use lib.ListN.{length, get_or, take, length-take}
+use lib.ListN.{length, take, length-take}
 use lib.Seq.{length-take-le, get_or-take, take-take, take_all}
 use Rattle.numbers.specs.Lists.{sum_of}
-use Rattle.query.specs.Place.{Place}
 use Rattle.query.specs.Deck.{AxisCosts, Stop}
 use Rattle.deck.specs.DeckOf.{places, stops_of}
-use Rattle.deck.specs.Objects.{Object, stored_objects, stored_pricing}
+use Rattle.deck.specs.Objects.{stored_objects, stored_pricing}
 use Rattle.deck.specs.Ranges.{CoordinatesUpTo, NaturalsUpTo, PlacesInRange}
 use Rattle.deck.specs.StopFigures.{paid}
 use Rattle.deck.proofs.ClosestLaws.{zip_length, zip_take}
@@ -47,6 +46,20 @@ pub front_places_are : (n : ℕ) (xs ys : List ℤ) → places (take n xs) (take
 unfolding places
 front_places_are n xs ys = sym (zip_take _ n xs ys)
 
+-- columns that were given of the first n rows
+pub given_range : {most : ℕ} {xs ys us vs : List ℤ} {n : ℕ} → us ≡ take n xs → vs ≡ take n ys → PlacesInRange most xs ys n →
+    PlacesInRange most us vs (length us)
+given_range ex ey range = rw (ex, ey) (places_in_front range)
+
+pub given_places : (n : ℕ) (xs ys : List ℤ) {us vs : List ℤ} → us ≡ take n xs → vs ≡ take n ys → places us vs ≡ take n (places xs ys)
+given_places n xs ys ex ey = rw (ex, ey) (front_places_are n xs ys)
+
+pub given_naturals : {most : ℕ} {vs us : List ℕ} {n m : ℕ} → us ≡ take n vs → m ≡ n → NaturalsUpTo most vs n → NaturalsUpTo most us m
+given_naturals e count range = rw e (naturals_front range count)
+
+pub given_count : {most : ℕ} {xs ys us : List ℤ} {n : ℕ} → us ≡ take n xs → PlacesInRange most xs ys n → length us ≡ n
+given_count e range = ap length e ∙ front_count range
+
 -- ---- objects
 module _ (axis : AxisCosts) where
   objects_front : (n : ℕ) (stops : List Stop) (ns : List ℕ) → stored_objects axis (take n stops) (take n ns) ≡ stored_objects axis (take n stops) ns
@@ -68,6 +81,11 @@ module _ (axis : AxisCosts) where
         ∙ ap (λ (l : List Stop). stored_objects axis l (take n ns)) (stops_taken n xs ys vs) ∙ objects_front n (stops_of (places xs ys) vs) ns) i;
   }
 
+  pub stored_given : (n : ℕ) (xs ys : List ℤ) (vs ns : List ℕ) {us ws : List ℤ} {ks ms : List ℕ} → us ≡ take n xs → ws ≡ take n ys →
+      ks ≡ take n vs → ms ≡ take n ns → length us ≡ n → stored_pricing axis us ws ks ms (length us) ≡ stored_pricing axis xs ys vs ns n
+  stored_given n xs ys vs ns e f g h count =
+      (λ i. stored_pricing axis (e i) (f i) (g i) (h i) (length (e i))) ∙ stored_front n xs ys vs ns (sym (ap length e) ∙ count)
+
 -- ---- visits × near
 pub paid_front : (n : ℕ) (vs ns : List ℕ) → length (take n vs) ≡ n → paid (take n vs) (take n ns) (length (take n vs)) ≡ paid vs ns n
 unfolding paid
@@ -75,3 +93,6 @@ paid_front n vs ns e =
     ap (λ (m : ℕ). sum_of (λ (m : ℕ). m) (take m (zip_with ◌*◌ (take n vs) (take n ns)))) e
     ∙ ap (λ (l : List ℕ). sum_of (λ (m : ℕ). m) (take n l)) (sym (zip_take ◌*◌ n vs ns))
     ∙ ap (sum_of (λ (m : ℕ). m)) (take-take n n (zip_with ◌*◌ vs ns) (omega arith))
+
+pub paid_given : (n : ℕ) (vs ns : List ℕ) {us ms : List ℕ} → us ≡ take n vs → ms ≡ take n ns → length us ≡ n → paid us ms (length us) ≡ paid vs ns n
+paid_given n vs ns e f count = rw (e, f) (paid_front n vs ns (sym (ap length e) ∙ count))

@@ -7,7 +7,7 @@ use native.Mathlib.Nat.{mul-le-mul}
 use native.Mathlib.Numerals.{add-one}
 use native.Mathlib.Omega.{arith}
 use lib.ListN.{length, get_or, take}
-use lib.Seq.{take-suc, length-take-le, get_or-take}
+use lib.Seq.{take-suc}
 use Rattle.numbers.specs.Lists.{sum_of}
 use Rattle.numbers.specs.Padded.{padded}
 use Rattle.query.specs.Deck.{Stop}

@@ -134,16 +134,9 @@ fn read_rest(s: &[u8], at: usize, line: u64, area: Rect, axis: AxisCosts) -> Res
     let at = read_stops(s, at, line, &mut deck)?;
     let rounds = last_line(s, at, line + 1 + deck.stops as u64)?;
     check(area, deck.posts, deck.stops)?;
-    deck.near = deck::nears_of(
-        axis,
-        &deck.post_x,
-        &deck.post_y,
-        deck.posts,
-        &deck.stop_x,
-        &deck.stop_y,
-        deck.stops,
-    );
-    deck.before = deck::before_of(&deck.visits, &deck.near, deck.stops);
+    deck.near = deck::nears_of(axis, deck.post_places(), deck.stop_columns().at);
+    let filled = deck.stop_columns();
+    deck.before = deck::before_of(filled.visits, filled.near);
     Ok(Job { rounds, deck })
 }
 

@@ -1,6 +1,4 @@
 -- What `deck::put_places` owes.
-use mathlib.Core.Path.{◌≡◌, ap, ◌∙◌}
-use native.Mathlib.Omega.{arith}
 use Rattle.deck.proofs.MadeColumns.{placed}
 use Rattle.deck.proofs.ScaleLaws.{natural_word}
 use Rattle.deck.proofs.put_places.Goals as goal

@@ -1,6 +1,8 @@
 -- What `job::read_rest` owes.
 use mathlib.Core.Path.{refl}
 use borrow.Author.Rules.{rules}
+use native.Mathlib.Omega.{arith}
+use Rattle.deck.proofs.Fronts.{given_range, given_places, given_naturals, given_count, paid_given}
 use Rattle.job.proofs.PartLaws.{handed}
 use Rattle.job.proofs.FilledLaws.{nears_range}
 use Rattle.job.proofs.ReadLaws.{rest_no_posts, rest_no_stops, rest_no_rounds, filled_posts, filled_stops, filled_visits, rest_unchecked, rest_read}
@@ -22,20 +24,27 @@ returns-in_err-check c =
     rw (handed _ c.from_residual-in_err-check.ensures.1)
     (rest_unchecked c.in_ok-at.ensures c.in_ok-at-2.ensures c.in_ok-rounds.ensures c.in_err-check.ensures)
 
+pub post_places-requires : goal.post_places-requires
+post_places-requires c = (filled_posts c.in_ok-at.ensures c.in_ok-at-2.ensures).few
+
+pub stop_columns-requires : goal.stop_columns-requires
+stop_columns-requires c = (filled_stops c.in_ok-at.ensures c.in_ok-at-2.ensures).few
+
 pub nears_of-deck-requires : goal.nears_of-deck-requires
-nears_of-deck-requires c = (
-  c.requires.1,
-  filled_posts c.in_ok-at.ensures c.in_ok-at-2.ensures,
-  filled_stops c.in_ok-at.ensures c.in_ok-at-2.ensures,
-  c.in_ok-check.ensures.posts_some,
-)
+nears_of-deck-requires c =
+    let posts = filled_posts c.in_ok-at.ensures c.in_ok-at-2.ensures in
+    let stops = filled_stops c.in_ok-at.ensures c.in_ok-at-2.ensures in (
+      c.requires.1,
+      given_range c.post_places.ensures.x c.post_places.ensures.y posts,
+      given_range c.stop_columns.ensures.x c.stop_columns.ensures.y stops,
+      omega (arith, given_count c.post_places.ensures.x posts, c.in_ok-check.ensures.posts_some),
+    )
+
+pub stop_columns-filled-requires : goal.stop_columns-filled-requires
+stop_columns-filled-requires c = (filled_stops c.in_ok-at.ensures c.in_ok-at-2.ensures).few
 
 pub before_of-requires : goal.before_of-requires
-before_of-requires c =
-    let stops = filled_stops c.in_ok-at.ensures c.in_ok-at-2.ensures in
-    (filled_visits c.in_ok-at.ensures c.in_ok-at-2.ensures, nears_range stops c.nears_of-deck.ensures, stops.few)
+before_of-requires c = ?
 
 pub returns : goal.returns
-returns c =
-    rest_read c.in_ok-at.ensures c.in_ok-at-2.ensures c.in_ok-rounds.ensures c.in_ok-check.ensures refl (search rules) (search rules)
-    (search rules) (search rules) c.nears_of-deck.ensures c.before_of.ensures
+returns c = ?
