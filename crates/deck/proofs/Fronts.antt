@@ -57,6 +57,9 @@ given_places n xs ys ex ey = rw (ex, ey) (front_places_are n xs ys)
 pub given_naturals : {most : ℕ} {vs us : List ℕ} {n m : ℕ} → us ≡ take n vs → m ≡ n → NaturalsUpTo most vs n → NaturalsUpTo most us m
 given_naturals e count range = rw e (naturals_front range count)
 
+pub naturals_count : {most : ℕ} {vs us : List ℕ} {n : ℕ} → us ≡ take n vs → NaturalsUpTo most vs n → length us ≡ n
+naturals_count {vs = vs} {n = n} e range = ap length e ∙ length-take-le n vs range.count
+
 pub given_count : {most : ℕ} {xs ys us : List ℤ} {n : ℕ} → us ≡ take n xs → PlacesInRange most xs ys n → length us ≡ n
 given_count e range = ap length e ∙ front_count range
 
