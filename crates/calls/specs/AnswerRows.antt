@@ -14,5 +14,6 @@ pub record AnswerRows : Type 0 where
   pub report_stopped : report_answer (Ok
       (record { state = Stopped; x = pos 1; y = pos 2; high = 3; low = pos 4; before = 5; rounds = 6 }))
       ≡ gives (report stopped (at 1 2) 3 (pos 4) 5 6)
-  pub exhaustive : cheapest_answer (Ok (record { at = record { x = pos 1; y = pos 2 }; cost = 3 })) ≡ gives (record { at = at 1 2; cost = 3 })
+  pub exhaustive : cheapest_answer (Ok (record { at = record { x = pos 1; y = pos 2 }; cost = 3 }))
+      ≡ gives (record { at = at 1 2; cost = 3 })
   pub estimate : estimated_answer (Ok (record { across = 1; deep = 2; limit = 3; cells = 4 })) ≡ gives (needs 1 2 3 4)

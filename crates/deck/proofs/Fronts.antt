@@ -12,7 +12,7 @@ use Rattle.query.specs.Deck.{AxisCosts, Stop}
 use Rattle.deck.specs.DeckOf.{places, stops_of}
 use Rattle.deck.specs.Objects.{stored_objects, stored_pricing}
 use Rattle.deck.specs.Ranges.{CoordinatesUpTo, NaturalsUpTo, PlacesInRange}
-use Rattle.deck.specs.StopFigures.{paid}
+use Rattle.deck.specs.StopFigures.{Nears, paid}
 use Rattle.deck.proofs.ClosestLaws.{zip_length, zip_take}
 use Rattle.deck.proofs.ColumnLoops.{stops_taken}
 use Rattle.deck.proofs.StoredLaws.{object_of}
@@ -53,6 +53,11 @@ given_range ex ey range = rw (ex, ey) (places_in_front range)
 
 pub given_places : (n : ℕ) (xs ys : List ℤ) {us vs : List ℤ} → us ≡ take n xs → vs ≡ take n ys → places us vs ≡ take n (places xs ys)
 given_places n xs ys ex ey = rw (ex, ey) (front_places_are n xs ys)
+
+-- near by them, as that of the first n rows
+pub nears_given : {axis : AxisCosts} {ps qs ss ts : List Place} {near : List ℕ} → ps ≡ qs → ss ≡ ts → Nears axis ps ss near → Nears axis qs ts near
+nears_given {axis} {ps} {qs} {ss} {ts} {near} e f found =
+    subst (λ (l : List Place). Nears axis l ts near) e (subst (λ (l : List Place). Nears axis ps l near) f found)
 
 pub given_naturals : {most : ℕ} {vs us : List ℕ} {n m : ℕ} → us ≡ take n vs → m ≡ n → NaturalsUpTo most vs n → NaturalsUpTo most us m
 given_naturals e count range = rw e (naturals_front range count)

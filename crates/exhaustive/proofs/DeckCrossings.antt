@@ -3,7 +3,7 @@
 use mathlib.Core.Path.{◌≡◌, sym, ap, subst, ◌∙◌}
 use mathlib.Core.Bool.{not}
 use mathlib.Core.List.Memᴰ
-use mathlib.Core.List.{List, flat_map, Memᴰ}
+use mathlib.Core.List.{flat_map, Memᴰ}
 use Prim.Native.Nat.{ℕ, ◌≤◌}
 use native.Mathlib.Omega.{arith}
 use lib.Dec.{T}
@@ -21,13 +21,13 @@ use Rattle.query.specs.Exhaustive.{exhaustive}
 use Rattle.query.specs.Range.{PlaceInRange, InRange}
 use Rattle.query.proofs.KeyOrder.{not_earlier}
 use Rattle.query.proofs.LineLaws.{lines_range}
-use Rattle.deck.specs.declared.Rect.{Rect}
 use Rattle.deck.specs.Rectangle.{rect_of}
 use Rattle.deck.specs.Objects.{Pricing}
-use Rattle.deck.specs.ObjectColumns.{pricing_in}
+use Rattle.reach.specs.Held.{pricing_of_objects}
 use Rattle.lines.specs.LineRecord.{grid_of}
 use Rattle.lines.proofs.Indexed.{member_at}
 use Rattle.lines.proofs.DeckLines.{lines_in_order}
+use Rattle.prepare.specs.declared.Problem.{Problem}
 use Rattle.problem.specs.declared.Spot.{Spot}
 use Rattle.problem.specs.ObjectProblem.{priced_of, spot_of}
 use Rattle.problem.specs.Prepared.{problem_of, Prepared}
@@ -62,36 +62,36 @@ module _ (deck : Query.Deck) (range : InRange deck) (full : NonEmpty deck.area) 
       rw (← e) (not_earlier (record { x = v; y = h }) (corner deck.area) (lines_range deck x_axis full v on-v).0 (lines_range deck y_axis full h on-h).0)
 
 -- ---- a prepared problem
-module _ {columns : List ℤ} {n : ℕ} {v h : List ℤ} {area : Rect} (prepared : Prepared columns n v h area) where
+module _ {p : Problem} (prepared : Prepared p) where
   abbrev P : Pricing
-  P = pricing_in columns n
+  P = pricing_of_objects p.objects
 
   abbrev deck : Query.Deck
   deck = prepared.deck
 
-  pub vertical_lines : LinesInRange v
+  pub vertical_lines : LinesInRange p.vertical
   vertical_lines = subst LinesInRange (sym prepared.vertical_are) (deck_lines deck prepared.range prepared.full x_axis)
 
-  pub horizontal_lines : LinesInRange h
+  pub horizontal_lines : LinesInRange p.horizontal
   horizontal_lines = subst LinesInRange (sym prepared.horizontal_are) (deck_lines deck prepared.range prepared.full y_axis)
 
   -- its crossings, in turn and none earlier than the area's corner
-  turn : InTurn (flat_map (along h) v)
-  turn = crossing_turn h v horizontal_lines.in_order.increasing vertical_lines.in_order.increasing
+  turn : InTurn (flat_map (along p.horizontal) p.vertical)
+  turn = crossing_turn p.horizontal p.vertical horizontal_lines.in_order.increasing vertical_lines.in_order.increasing
 
-  none_earlier : (q : Place) → Memᴰ q (flat_map (along h) v) → T (not (earlier q (corner (rect_of area))))
+  none_earlier : (q : Place) → Memᴰ q (flat_map (along p.horizontal) p.vertical) → T (not (earlier q (corner (rect_of p.area))))
   none_earlier q m =
       subst (λ (r : Place.Rect). T (not (earlier q (corner r)))) (sym prepared.area_is)
       (deck_corner deck prepared.range prepared.full q
       (subst (Memᴰ q) (λ i. flat_map (along (prepared.horizontal_are i)) (prepared.vertical_are i)) m))
 
-  pub corner_near : PlaceInRange (record { x = back area.xlo; y = back area.ylo })
-  corner_near = let low = (prepared_ranged prepared).range.low_corner_law in near_places area.xlo area.ylo low.x_range low.y_range
+  pub corner_near : PlaceInRange (record { x = back p.area.xlo; y = back p.area.ylo })
+  corner_near = let low = (prepared_ranged prepared).range.low_corner_law in near_places p.area.xlo p.area.ylo low.x_range low.y_range
 
-  pub answers : (first r : Spot) → first ≡ spot_of P (record { x = back area.xlo; y = back area.ylo })
-      → r ≡ first_cheapest P first (flat_map (along h) v) → priced_of r ≡ exhaustive (problem_of columns n v h area)
+  pub answers : (first r : Spot) → first ≡ spot_of P (record { x = back p.area.xlo; y = back p.area.ylo })
+      → r ≡ first_cheapest P first (flat_map (along p.horizontal) p.vertical) → priced_of r ≡ exhaustive (problem_of p)
   answers first r e b =
       let low = (prepared_ranged prepared).range.low_corner_law in
-      let corner_first : first ≡ spot_of P (corner (rect_of area)) = spot_back P area.xlo area.ylo first low.x_range low.y_range e in
-      ap priced_of (b ∙ ap (λ (s : Spot). first_cheapest P s (flat_map (along h) v)) corner_first)
-      ∙ cheapest_is P (grid_of v h) (rect_of area) turn none_earlier
+      let corner_first : first ≡ spot_of P (corner (rect_of p.area)) = spot_back P p.area.xlo p.area.ylo first low.x_range low.y_range e in
+      ap priced_of (b ∙ ap (λ (s : Spot). first_cheapest P s (flat_map (along p.horizontal) p.vertical)) corner_first)
+      ∙ cheapest_is P (grid_of p.vertical p.horizontal) (rect_of p.area) turn none_earlier

@@ -17,10 +17,11 @@ ghost use Rattle.exhaustive.specs.Cheapest.{cheaper_of, first_cheapest, along, c
 mod line_numbers;
 mod ramp_sums;
 
-use deck::{Place, Rect, scaled};
+use deck::{Place, scaled};
 use limits::{LINES, STOPS};
 use line_numbers::{Divisor, ScaledLines};
 pub use line_numbers::{NumberedLines, number_lines};
+use prepare::Problem;
 use problem::Spot;
 use ramp_sums::{ObjectRamps, Ramps};
 use reach::Objects;
@@ -180,17 +181,14 @@ fn choose(lines: &NumberedLines, v: i64, costs: &[u64; LINES], first: Spot) -> S
 
 // The cheapest crossing of the lines of a deck's problem, the earliest among equals, with its cost. `before` is what the objects pay with
 // the posts that there are.
-pub fn cheapest<'a>(
-    objects: &'a Objects,
-    v: &'a [i64],
-    h: &'a [i64],
-    area: Rect,
-    before: u64,
-) -> Spot
-    requires { Prepared objects.now.columns objects.now.count v.now h.now area
-        × Figure (before_of (pricing_of_objects objects.now)) cost_limit before }
-    ensures { priced_of result ≡ exhaustive (problem_of objects.now.columns objects.now.count v.now h.now area) }
+pub fn cheapest(problem: &Problem, before: u64) -> Spot
+    requires { Prepared problem.now
+        × Figure (before_of (pricing_of_objects problem.now.objects)) cost_limit before }
+    ensures { priced_of result ≡ exhaustive (problem_of problem.now) }
 {
+    let objects = &problem.objects;
+    let v = problem.vertical.as_slice();
+    let h = problem.horizontal.as_slice();
     let mut table = [0u16; 40001];
     number_lines(h, &mut table);
     let lines = NumberedLines {
@@ -201,8 +199,8 @@ pub fn cheapest<'a>(
     number_objects(objects, lines, &mut rows);
     let crossings = Crossings::new(objects, lines, &rows, before);
     let corner = Place {
-        x: area.xlo,
-        y: area.ylo,
+        x: problem.area.xlo,
+        y: problem.area.ylo,
     };
     let first = problem::priced(objects, corner);
     crossings.cheapest_of(v, first)

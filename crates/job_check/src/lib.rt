@@ -8,7 +8,8 @@ ghost use Rattle.job_line.specs.Reading.{area_numbers, cost_numbers, place_numbe
 ghost use Rattle.job.specs.Format.{area_of, read_text};
 ghost use Rattle.job.specs.Spelling.{count_line, post_line, stop_line};
 ghost use Rattle.job.specs.File.{writes_axis, file_text};
-ghost use Rattle.job_check.specs.LineFaults.{short, all_short, tested_fault, numbers_fault, first_fault, parts_fault, refusal_in, checked_as};
+ghost use Rattle.job_check.specs.LineFaults.{short, all_short, tested_fault, numbers_fault, first_fault};
+ghost use Rattle.job_check.specs.LineFaults.{parts_fault, refusal_in, checked_as};
 
 use deck::{AxisCosts, Deck, Place, Rect, Stop};
 use limits::{MOST_ROUNDS, POSTS, STOPS};

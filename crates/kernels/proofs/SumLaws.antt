@@ -1,15 +1,14 @@
 -- Sums over turns, and the places and rectangles of the turns.
 -- Assumes nothing.
 use mathlib.Core.Path.{◌≡◌, refl, sym, ap, ◌∙◌}
-use mathlib.Core.Bool.{Bool, false, cond}
+use mathlib.Core.Bool.{Bool, cond}
 use mathlib.Core.List.{List}
-use Prim.Native.Nat.{ℕ, zero, suc, ◌+◌, ◌*◌, ◌%◌, ◌≤◌, ◌<◌}
+use Prim.Native.Nat.{ℕ, ◌+◌, ◌*◌, ◌%◌, ◌≤◌, ◌<◌}
 use native.Mathlib.Nat.{mul-le-mul}
 use native.Mathlib.Numerals.{add-one}
 use native.Mathlib.Omega.{arith}
 use borrow.Author.Tests.{lt-ltb, le-ltb}
 use lib.Dec.{ltb}
-use lib.ListN.{take}
 use lib.IntN.{ℤ, pos, nat_abs, ◌-ℤ◌}
 use lib.Signed.{◌≤ℤ◌}
 use mir.Syntax.{w64}
@@ -20,31 +19,28 @@ use Rattle.numbers.proofs.Integer.{order, abs_range, sub_nat}
 use Rattle.numbers.proofs.Words.{difference, difference_fits}
 use Rattle.query.specs.Place.{Place, Rect}
 use Rattle.query.specs.Deck.{Deck}
-use Rattle.query.specs.Grid.{Grid}
-use Rattle.query.specs.Range.{PlaceInRange, cost_limit}
+use Rattle.query.specs.Range.{load_limit, cost_limit}
 use Rattle.job.specs.Format.{Result, read_job}
 use Rattle.job.proofs.ReadDeck.{Spelt}
 use Rattle.deck.specs.DeckOf.{deck_of}
-use Rattle.deck.specs.Objects.{Pricing, pricing_of}
-use Rattle.deck.specs.ObjectColumns.{pricing_in}
 use Rattle.reach.specs.Columns.{Ranged}
+use Rattle.reach.specs.Held.{pricing_of_objects}
 use Rattle.pricing.specs.ObjectFigures.{cost_of, load_of, Figure}
 use Rattle.pricing.proofs.ObjectLaws.{cost_law, load_law}
-use Rattle.lines.specs.LineRecord.{grid_of}
-use Rattle.cuts.specs.CutRecord.{cut_record}
-use Rattle.prepare.proofs.Coordinates.{near_back, rect_back}
+use Rattle.prepare.proofs.Coordinates.{rect_back}
 use Rattle.problem.specs.ObjectProblem.{bound_of}
-use Rattle.problem.proofs.Coordinates.{near_places}
-use Rattle.problem.proofs.DeckProblem.{bound_law, prepared_pricing, prepared_grid}
+use Rattle.problem.proofs.DeckProblem.{bound_law}
 use Rattle.std.specs.Prelude.{Option, None}
-use Rattle.trial.specs.Opened.{Whole, opened_record}
+use Rattle.std.specs.Option.{option_map}
+use Rattle.trial.specs.Opened.{Whole, parts_of, opened_record}
 use Rattle.trial.specs.Trial.{on_job, minus_one, least}
 use Rattle.trial.specs.declared.opened.Opened.{Opened}
-use Rattle.trial.proofs.OpenLaws.{prepared, open_refused, on_job_lem}
+use Rattle.trial.proofs.OpenLaws.{whole_pricing, open_refused, on_job_lem}
 use Rattle.kernels.specs.Sums.{
   sum_to,
   residue,
   Sampled,
+  TurnPlace,
   TurnRect,
   place_at,
   rect_at,
@@ -52,8 +48,6 @@ use Rattle.kernels.specs.Sums.{
   cost_turn,
   load_turn,
   bound_turn,
-  cut_turn,
-  near_turn,
   turn,
   kernel_sum,
 }
@@ -80,62 +74,38 @@ summed_more {f} {limit} {k} {sum} {t} v s h e l = record {
   most = omega (arith, s.most);
 }
 
-pub summed_all : {f : ℕ → ℕ} {limit k sum t : ℕ} → Summed f limit k sum t → k ≤ t → k ≤ 100000 → limit ≤ cost_limit →
-    Figure (sum_to f k) (100000 * cost_limit) sum
-summed_all {f} {limit} {k} {sum} {t} s h few small =
-    let e : t ≡ k = omega arith in
-    let few : t ≤ 100000 = omega arith in
-    let m : t * limit ≤ 100000 * cost_limit = mul-le-mul few small in
-    record { is = s.is ∙ ap (sum_to f) e; within = omega (arith, m) }
+pub summed_all : {f : ℕ → ℕ} {k sum t : ℕ} → Summed f cost_limit k sum t → k ≤ t → k ≤ 100000 → Figure (sum_to f k) (100000 * cost_limit) sum
+summed_all {f} {k} {sum} {t} s h few =
+    let e : t ≡ k = omega (arith, s.within) in
+    record { is = s.is ∙ ap (sum_to f) e; within = omega (arith, s.most) }
 
-sum_to_same : (f g : ℕ → ℕ) → ((t : ℕ) → f t ≡ g t) → (k : ℕ) → sum_to f k ≡ sum_to g k
-unfolding sum_to
-sum_to_same f g e zero = refl
-sum_to_same f g e (suc k) = rw (e k, sum_to_same f g e k)
+-- ---- a figure of the objects or the lines of an opened job is that of its deck
+module _ {o : Opened} (w : Whole o) (t : ℕ) {n : ℕ} where
+  pub cost_found : {p : Place} → p ≡ place_at t → Figure (cost_of (pricing_of_objects o.problem.objects) p) cost_limit n →
+      Figure (cost_turn (deck_of o.deck) t) cost_limit n
+  cost_found e fig = record {
+    is = fig.is ∙ (λ i. cost_of (whole_pricing w i) (e i)) ∙ cost_law (deck_of o.deck) (place_at t);
+    within = fig.within;
+  }
 
--- a sum of the same numbers
-same_sum : {f : ℕ → ℕ} (g : ℕ → ℕ) (k : ℕ) {limit n : ℕ} → ((t : ℕ) → f t ≡ g t) → Figure (sum_to f k) limit n → Figure (sum_to g k) limit n
-same_sum {f} g k e fig = record { is = fig.is ∙ sum_to_same f g e k; within = fig.within }
+  pub load_found : {r : Rect} → r ≡ rect_at t → Figure (load_of (pricing_of_objects o.problem.objects) r) load_limit n →
+      Figure (load_turn (deck_of o.deck) t) cost_limit n
+  load_found e fig = record {
+    is = fig.is ∙ (λ i. load_of (whole_pricing w i) (e i)) ∙ load_law (deck_of o.deck) (rect_at t);
+    within = omega (arith, fig.within);
+  }
 
--- ---- the sums of a job's deck, by the kernel's number
-abbrev deck_in : Opened → Deck
-deck_in o = deck_of o.deck
+  pub bound_found : {r : Rect} → r ≡ rect_at t → Figure (positive (bound_of (pricing_of_objects o.problem.objects) r)) 1 n →
+      Figure (bound_turn (deck_of o.deck) t) cost_limit n
+  bound_found e fig = record {
+    is = fig.is ∙ ap positive ((λ i. bound_of (whole_pricing w i) (e i)) ∙ bound_law (deck_of o.deck) (rect_at t));
+    within = omega (arith, fig.within);
+  }
 
-abbrev pricing : Opened → Pricing
-pricing o = pricing_in o.problem.columns o.problem.count
-
-abbrev line_grid : Opened → Grid
-line_grid o = grid_of (take o.problem.nv o.problem.v) (take o.problem.nh o.problem.h)
-
+-- ---- what `kernel_sum` answers
 abbrev SumIs : (ℕ → ℕ) → ℕ → ℕ → Type 0
 SumIs f k n = Figure (sum_to f k) (100000 * cost_limit) n
 
-pricing_is : {o : Opened} → Whole o → pricing o ≡ pricing_of (deck_in o)
-pricing_is {o} whole = prepared_pricing (prepared whole)
-
-module _ {o : Opened} (whole : Whole o) (which k : ℕ) {n : ℕ} where
-  pub cost_sum : which ≡ 0 → SumIs (λ t. cost_of (pricing o) (place_at t)) k n → SumIs (turn (deck_in o) which) k n
-  cost_sum e fig =
-      rw e (same_sum (cost_turn (deck_in o)) k (λ t. ap (λ (P : Pricing). cost_of P (place_at t)) (pricing_is whole) ∙ cost_law (deck_in o) (place_at t)) fig)
-
-  pub load_sum : which ≡ 1 → SumIs (λ t. load_of (pricing o) (rect_at t)) k n → SumIs (turn (deck_in o) which) k n
-  load_sum e fig =
-      rw e (same_sum (load_turn (deck_in o)) k (λ t. ap (λ (P : Pricing). load_of P (rect_at t)) (pricing_is whole) ∙ load_law (deck_in o) (rect_at t)) fig)
-
-  pub bound_sum : which ≡ 2 → SumIs (λ t. positive (bound_of (pricing o) (rect_at t))) k n → SumIs (turn (deck_in o) which) k n
-  bound_sum e fig =
-      rw e (same_sum (bound_turn (deck_in o)) k
-      (λ t. ap positive (ap (λ (P : Pricing). bound_of P (rect_at t)) (pricing_is whole) ∙ bound_law (deck_in o) (rect_at t))) fig)
-
-  pub cut_sum : which ≡ 3 → SumIs (λ t. positive (cut_record (line_grid o) (rect_at t)).at) k n → SumIs (turn (deck_in o) which) k n
-  cut_sum e fig =
-      rw e (same_sum (cut_turn (deck_in o)) k
-      (λ t. ap (λ (G : Grid). positive (cut_record G (rect_at t)).at) (prepared_grid (prepared whole))) fig)
-
-  pub near_sum : which ≡ 4 → SumIs (near_turn (deck_in o)) k n → SumIs (turn (deck_in o) which) k n
-  near_sum e fig = rw e fig
-
--- ---- what `kernel_sum` answers
 pub kernel_none : (which k : ℕ) (r : Result) → 4 < which → least ≡ kernel_sum which k r
 kernel_none which k r h = rw (lt-ltb 4 which h)
 
@@ -146,7 +116,8 @@ module _ (which k : ℕ) (w : which ≤ 4) where
   kernel_is : (r : Result) → on_deck r ≡ kernel_sum which k r
   kernel_is r = rw (le-ltb 4 which w)
 
-  pub kernel_refused : (bytes : List ℕ) (r : Option Opened) → r ≡ opened_record (read_job bytes) → r ≡ None → minus_one ≡ kernel_sum which k (read_job bytes)
+  pub kernel_refused : (bytes : List ℕ) (r : Option Opened) → option_map parts_of r ≡ opened_record (read_job bytes) → r ≡ None → minus_one ≡
+      kernel_sum which k (read_job bytes)
   kernel_refused bytes r e f = open_refused bytes r e _ _ f ∙ kernel_is (read_job bytes)
 
   module _ {bytes : List ℕ} (s : Spelt bytes) where
@@ -189,11 +160,8 @@ sample_is t factor less h =
 
 -- ---- the place and the rectangle of a turn
 module _ {t : ℕ} {x y : ℤ} (a : Sampled t 7919 10000 x) (b : Sampled t 6007 10000 y) where
-  pub place_turn : ◌≡◌ {A = Place} (record { x = back x; y = back y }) (place_at t)
-  place_turn = rw (near_back x a.range, near_back y b.range, a.is, b.is)
-
-  pub place_ranged : PlaceInRange (record { x = back x; y = back y })
-  place_ranged = near_places x y a.range b.range
+  pub place_turn : TurnPlace t (record { x = x; y = y })
+  place_turn = record { is = λ i. record { x = a.is i; y = b.is i }; range = record { x_range = a.range; y_range = b.range } }
 
 -- a low edge is not above a high one
 low_high : (m s : ℕ) → m ≤ 20000 → (pos m -ℤ pos 20000) ≤ℤ (pos s -ℤ pos 0)

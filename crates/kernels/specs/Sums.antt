@@ -1,6 +1,7 @@
 -- Figures that are summed over places and rectangles made from an index, for the benchmarks.
 -- Assumes nothing.
-use Rattle.std.specs.Prelude.{ℕ, zero, suc, ◌+◌, ◌*◌, ◌%◌, ◌≤◌, ◌≡◌, cond, [], ◌∷◌, map, ltb, ℤ, pos, nat_abs, ◌-ℤ◌, get_or}
+use Rattle.std.specs.Prelude.{ℕ, zero, suc, ◌+◌, ◌*◌, ◌%◌, ◌≤◌, ◌≡◌, cond, [], ◌∷◌, map, ltb, ℤ, pos, nat_abs, ◌-ℤ◌}
+use Rattle.std.specs.Prelude.{get_or, Option, Some, None}
 use Rattle.std.specs.Int.Signed.{lt_z}
 use Rattle.numbers.specs.Padded.{padded}
 use Rattle.query.specs.Place.{Place, Rect}
@@ -11,12 +12,14 @@ use Rattle.query.specs.Reach.{load}
 use Rattle.query.specs.Bound.{bound}
 use Rattle.query.specs.Grid.{grid}
 use Rattle.job.specs.Format.{Result}
-use Rattle.deck.specs.Rectangle.{rect_of}
-use Rattle.deck.specs.declared.Rect as Deck
+use Rattle.deck.specs.Rectangle.{place_of, rect_of}
+use Rattle.deck.specs.declared.Place as Code
+use Rattle.deck.specs.declared.Rect as Held
 use Rattle.reach.specs.Columns.{Ranged}
 use Rattle.cuts.specs.CutRecord.{cut_record}
+use Rattle.cuts.specs.declared.Cut.{Cut}
 use Rattle.trial.specs.Trial.{on_job, minus_one, least}
-use Rattle.query.specs.Range.{coordinate_limit, stops_limit}
+use Rattle.query.specs.Range.{coordinate_limit, stops_limit, PlaceInRange}
 
 -- f 0 + .. + f (k - 1)
 unfoldable pub sum_to : (ℕ → ℕ) → ℕ → ℕ
@@ -42,13 +45,23 @@ abbrev pub rect_at : ℕ → Rect
 rect_at t =
     record { xlo = sample t 7919 coordinate_limit; ylo = sample t 6007 coordinate_limit; xhi = sample t 4409 0; yhi = sample t 3001 0 }
 
--- a record of the code that holds it
-pub record TurnRect (t : ℕ) (r : Deck.Rect) : Type 0 where
+-- records of the code that hold them
+pub record TurnPlace (t : ℕ) (p : Code.Place) : Type 0 where
+  pub is : place_of p ≡ place_at t
+  pub range : PlaceInRange (place_of p)
+
+pub record TurnRect (t : ℕ) (r : Held.Rect) : Type 0 where
   pub is : rect_of r ≡ rect_at t
   pub ranged : Ranged (rect_of r)
 
+-- 1 for a number above 0
 abbrev pub positive : ℤ → ℕ
 positive z = cond (lt_z (pos 0) z) 1 0
+
+-- 1 for a cut at a line above 0
+abbrev pub line_above : Option Cut → ℕ
+line_above (Some cut) = positive cut.at
+line_above None = 0
 
 -- ---- what each kernel adds at a turn
 abbrev pub cost_turn : Deck → ℕ → ℕ
@@ -57,12 +70,12 @@ cost_turn deck t = cost deck (place_at t)
 abbrev pub load_turn : Deck → ℕ → ℕ
 load_turn deck t = load deck (rect_at t)
 
--- 1 where the bound, or the line of the cut, is above 0
+-- 1 where the bound, or the line of a cut, is above 0
 abbrev pub bound_turn : Deck → ℕ → ℕ
 bound_turn deck t = positive (bound deck (rect_at t))
 
 abbrev pub cut_turn : Deck → ℕ → ℕ
-cut_turn deck t = positive (cut_record (grid deck) (rect_at t)).at
+cut_turn deck t = line_above (cut_record (grid deck) (rect_at t))
 
 -- the near of stop t, over and over; 0 behind the last
 abbrev pub near_turn : Deck → ℕ → ℕ

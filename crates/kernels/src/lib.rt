@@ -1,25 +1,31 @@
 // The kernels of pricing over many places and rectangles, for the benchmarks: the job is read once and the loop runs here.
 #![tactic(auto)]
 
-ghost use Rattle.std.specs.Prelude.{◌≡◌, ◌*◌, ◌≤◌};
+ghost use Rattle.std.specs.Prelude.{◌≡◌, ℕ, ◌*◌, ◌≤◌};
+ghost use Rattle.query.specs.Deck as Query;
 ghost use Rattle.query.specs.Range.{cost_limit};
 ghost use Rattle.job.specs.Format.{read_job};
 ghost use Rattle.deck.specs.DeckOf.{deck_of};
-ghost use Rattle.deck.specs.ObjectColumns.{pricing_in};
-ghost use Rattle.reach.specs.Columns.{Priceable};
-ghost use Rattle.pricing.specs.ObjectFigures.{cost_of, load_of, Figure};
-ghost use Rattle.lines.specs.LineRecord.{Lined, grid_of};
-ghost use Rattle.cuts.specs.CutRecord.{cut_record};
-ghost use Rattle.deck.specs.Sound.{Sound};
-ghost use Rattle.problem.specs.ObjectProblem.{bound_of};
+ghost use Rattle.pricing.specs.ObjectFigures.{Figure};
 ghost use Rattle.trial.specs.Opened.{Whole};
-ghost use Rattle.kernels.specs.Sums.{sum_to, Sampled, TurnRect, place_at, rect_at, positive, near_turn, turn, kernel_sum};
+ghost use Rattle.kernels.specs.Sums.{
+  sum_to,
+  Sampled,
+  TurnPlace,
+  TurnRect,
+  positive,
+  cost_turn,
+  load_turn,
+  bound_turn,
+  cut_turn,
+  near_turn,
+  turn,
+  kernel_sum,
+};
 
-use deck::{Deck, Rect};
-use limits::COLUMNS;
-use trial::opened;
-use trial::NO_FIGURE;
+use deck::{Place, Rect};
 use trial::opened::Opened;
+use trial::{NO_FIGURE, opened};
 
 // A number of -20,000 to 20,000 for each turn.
 fn sample(t: u64, factor: u64, less: u64) -> i64
@@ -35,8 +41,18 @@ fn positive(z: i64) -> u64
     if 0 < z { 1 } else { 0 }
 }
 
+// The place of a turn.
+fn turn_place(t: u64) -> Place
+    ensures { TurnPlace t result }
+{
+    Place {
+        x: sample(t, 7919, 10000),
+        y: sample(t, 6007, 10000),
+    }
+}
+
 // The rectangle of a turn.
-fn rect_of(t: u64) -> Rect
+fn turn_rect(t: u64) -> Rect
     ensures { TurnRect t result }
 {
     Rect {
@@ -47,110 +63,98 @@ fn rect_of(t: u64) -> Rect
     }
 }
 
-fn costs(columns: &[i32; COLUMNS], n: usize, k: u64) -> u64
-    requires { Priceable columns.now n × (k ≤ 100000) }
-    ensures { Figure (sum_to (λ t. cost_of (pricing_in columns.now n) (place_at t)) k) (100000 * cost_limit) result }
-{
-    let mut sum: u64 = 0;
-    let mut t: u64 = 0;
-    while t < k {
-        let x = sample(t, 7919, 10000);
-        let y = sample(t, 6007, 10000);
-        sum = sum + pricing::cost(columns, n, x, y);
-        t = t + 1;
-    }
-    sum
+// What is found of an opened job at each turn.
+trait Kernel {
+    ghost figure: { Query.Deck → ℕ → ℕ };
+
+    fn at(o: &Opened, t: u64) -> u64
+        requires { Whole o.now }
+        ensures { Figure (figure (deck_of o.now.deck) t) cost_limit result };
 }
 
-fn loads(columns: &[i32; COLUMNS], n: usize, k: u64) -> u64
-    requires { Priceable columns.now n × (k ≤ 100000) }
-    ensures { Figure (sum_to (λ t. load_of (pricing_in columns.now n) (rect_at t)) k) (100000 * cost_limit) result }
-{
-    let mut sum: u64 = 0;
-    let mut t: u64 = 0;
-    while t < k {
-        let rect = rect_of(t);
-        sum = sum + pricing::load(columns, n, rect);
-        t = t + 1;
+// The cost of a place.
+struct Cost;
+
+impl Kernel for Cost {
+    ghost figure = { cost_turn };
+
+    fn at(o: &Opened, t: u64) -> u64 {
+        pricing::cost(&o.problem.objects, turn_place(t))
     }
-    sum
 }
 
-fn bounds(columns: &[i32; COLUMNS], n: usize, k: u64) -> u64
-    requires { Priceable columns.now n × (k ≤ 100000) }
-    ensures { Figure (sum_to (λ t. positive (bound_of (pricing_in columns.now n) (rect_at t))) k) (100000 * cost_limit) result }
-{
-    let mut sum: u64 = 0;
-    let mut t: u64 = 0;
-    while t < k {
-        let rect = rect_of(t);
-        sum = sum + positive(opened::bound_in(columns, n, rect));
-        t = t + 1;
+// The load of a rectangle.
+struct Load;
+
+impl Kernel for Load {
+    ghost figure = { load_turn };
+
+    fn at(o: &Opened, t: u64) -> u64 {
+        pricing::load(&o.problem.objects, turn_rect(t))
     }
-    sum
 }
 
-fn cuts<'a>(v: &'a [i64], h: &'a [i64], k: u64) -> u64
-    requires { Lined v.now h.now × (k ≤ 100000) }
-    ensures { Figure (sum_to (λ t. positive (cut_record (grid_of v.now h.now) (rect_at t)).at) k) (100000 * cost_limit) result }
-{
-    let mut sum: u64 = 0;
-    let mut t: u64 = 0;
-    while t < k {
-        let rect = rect_of(t);
-        let c = cuts::find_cut(v, h, rect);
-        sum = sum + positive(c.at);
-        t = t + 1;
+// Whether the bound of a rectangle is above 0.
+struct Bound;
+
+impl Kernel for Bound {
+    ghost figure = { bound_turn };
+
+    fn at(o: &Opened, t: u64) -> u64 {
+        positive(opened::bound_in(&o.problem.objects, turn_rect(t)))
     }
-    sum
+}
+
+// Whether a rectangle has a cut at a line above 0.
+struct Cut;
+
+impl Kernel for Cut {
+    ghost figure = { cut_turn };
+
+    fn at(o: &Opened, t: u64) -> u64 {
+        match opened::cut_of(o, turn_rect(t)) {
+            Some(cut) => positive(cut.at),
+            None => 0,
+        }
+    }
 }
 
 // The near of stop t of the deck, with that of all stops found anew.
-fn near_at(deck: Deck, t: u64) -> u64
-    requires { Sound deck }
-    ensures { Figure (near_turn (deck_of deck) t) 720000 result }
-{
-    let k = deck.posts;
-    let n = deck.stops;
-    let near = deck::nears_of(
-        deck.axis,
-        &deck.post_x,
-        &deck.post_y,
-        k,
-        &deck.stop_x,
-        &deck.stop_y,
-        n,
-    );
-    let i = (t % 512) as usize;
-    near[i]
+struct Near;
+
+impl Kernel for Near {
+    ghost figure = { near_turn };
+
+    fn at(o: &Opened, t: u64) -> u64 {
+        let deck = &o.deck;
+        let near = deck::nears_of(deck.axis, deck.post_places(), deck.stop_columns().at);
+        near[(t % 512) as usize]
+    }
 }
 
-fn nears(deck: Deck, k: u64) -> u64
-    requires { Sound deck × (k ≤ 100000) }
-    ensures { Figure (sum_to (near_turn (deck_of deck)) k) (100000 * cost_limit) result }
+// What a kernel gives over k turns, summed.
+fn sum_turns<K: Kernel>(o: &Opened, k: u64) -> u64
+    requires { Whole o.now × (k ≤ 100000) }
+    ensures { Figure (sum_to (K.figure (deck_of o.now.deck)) k) (100000 * cost_limit) result }
 {
-    let mut sum: u64 = 0;
-    let mut t: u64 = 0;
-    while t < k {
-        sum = sum + near_at(deck, t);
-        t = t + 1;
+    let mut sum = 0;
+    for t in 0..k {
+        sum += K::at(o, t);
     }
     sum
 }
 
-// What a kernel gives over k turns, summed: cost, load, bounds above 0, cuts above 0, near.
-fn sum_of(o: Opened, which: u64, k: u64) -> u64
-    requires { Whole o × (which ≤ 4) × (k ≤ 100000) }
-    ensures { Figure (sum_to (turn (deck_of o.deck) which) k) (100000 * cost_limit) result }
+// The sum by the kernel's number.
+fn sum_of(o: &Opened, which: u64, k: u64) -> u64
+    requires { Whole o.now × (which ≤ 4) × (k ≤ 100000) }
+    ensures { Figure (sum_to (turn (deck_of o.now.deck) which) k) (100000 * cost_limit) result }
 {
-    let p = o.problem;
-    let n = p.count;
     match which {
-        0 => costs(&p.columns, n, k),
-        1 => loads(&p.columns, n, k),
-        2 => bounds(&p.columns, n, k),
-        3 => cuts(&p.v[..p.nv], &p.h[..p.nh], k),
-        _ => nears(o.deck, k),
+        0 => sum_turns::<Cost>(o, k),
+        1 => sum_turns::<Load>(o, k),
+        2 => sum_turns::<Bound>(o, k),
+        3 => sum_turns::<Cut>(o, k),
+        _ => sum_turns::<Near>(o, k),
     }
 }
 
@@ -167,5 +171,5 @@ pub fn kernel_sum(job: &[u8], which: u64, k: u64) -> i64
     if 100000 < k {
         return -1;
     }
-    sum_of(o, which, k) as i64
+    sum_of(&o, which, k) as i64
 }

@@ -3,18 +3,20 @@
 use mathlib.Core.Path.{◌≡◌, refl, sym, ap, subst, ◌∙◌}
 use Prim.Native.Nat.{ℕ, ◌+◌, ◌*◌, max}
 use lib.IntN.{pos, ◌-ℤ◌}
+use lib.ListN.{length}
 use Rattle.numbers.specs.Integer.{half_up}
 use Rattle.query.specs.Place as Place
 use Rattle.query.specs.Deck as Query
 use Rattle.query.specs.Bound.{span, bound}
 use Rattle.query.specs.Reach.{load}
 use Rattle.query.specs.Grid.{grid}
+use Rattle.query.specs.Lines.{lines}
 use Rattle.query.specs.Problem.{problem}
 use Rattle.query.specs.Range.{InRange}
 use Rattle.query.proofs.BoundLaws.{bound_is, corner_sum_is}
 use Rattle.deck.specs.Rectangle.{rect_of}
 use Rattle.deck.specs.Objects.{Pricing, pricing_of}
-use Rattle.deck.specs.ObjectColumns.{pricing_in}
+use Rattle.deck.specs.ObjectColumns.{pricing_in, columns_of}
 use Rattle.reach.specs.Columns.{Ranged}
 use Rattle.reach.specs.Held.{pricing_of_objects}
 use Rattle.reach.proofs.RecordLaws.{made_pricing}
@@ -78,15 +80,35 @@ module _ {p : Problem} (prepared : Prepared p) where
   prepared_problem = (λ i. object_problem (prepared_pricing i) (prepared_grid i) (prepared.area_is i)) ∙ deck_problem deck
 
 -- ---- the problem that was made of a deck in range was prepared
+module _ (deck : Query.Deck) (p : Problem) (e : parts_in p ≡ problem_record deck) where
+  pub made_columns : p.objects.columns ≡ columns_of (pricing_of deck)
+  unfolding problem_record
+  made_columns = ap (λ (q : Parts). q.columns) e
+
+  pub made_count : p.objects.count ≡ length deck.stops
+  unfolding problem_record
+  made_count = ap (λ (q : Parts). q.count) e
+
+  pub made_vertical : p.vertical ≡ lines deck Place.x_axis
+  unfolding problem_record
+  made_vertical = ap (λ (q : Parts). q.vertical) e
+
+  pub made_horizontal : p.horizontal ≡ lines deck Place.y_axis
+  unfolding problem_record
+  made_horizontal = ap (λ (q : Parts). q.horizontal) e
+
+  pub made_area : rect_of p.area ≡ deck.area
+  unfolding problem_record
+  made_area = ap (λ (q : Parts). rect_of q.area) e
+
 abbrev pub made_prepared : (deck : Query.Deck) → InRange deck → Place.NonEmpty deck.area → (p : Problem) → parts_in p ≡ problem_record deck → Prepared p
-unfolding problem_record
 made_prepared deck range full p e = record {
   deck = deck;
   range = range;
   full = full;
-  columns_are = ap (λ (q : Parts). q.columns) e;
-  count_is = ap (λ (q : Parts). q.count) e;
-  vertical_are = ap (λ (q : Parts). q.vertical) e;
-  horizontal_are = ap (λ (q : Parts). q.horizontal) e;
-  area_is = ap (λ (q : Parts). rect_of q.area) e;
+  columns_are = made_columns deck p e;
+  count_is = made_count deck p e;
+  vertical_are = made_vertical deck p e;
+  horizontal_are = made_horizontal deck p e;
+  area_is = made_area deck p e;
 }

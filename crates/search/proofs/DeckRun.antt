@@ -59,6 +59,6 @@ module _ {Q : QueryProblem.Problem} {rounds : ℕ} {l : Live} {r : Found} (after
   pub cells_fit : (lent : ℕ) → length (all_numbers (run Q rounds).live) ≤ lent → 5 * length l.entries ≤ lent
   cells_fit lent h = omega (arith, h, all_numbers_length (run Q rounds).live, ap length after.cells, length-map l.entries entry_cell)
 
-  pub written : (lent : ℕ) (out : List ℤ) → out ≡ padded lent (pos 0) (all_numbers (map entry_cell l.entries))
+  pub cells_written : (lent : ℕ) (out : List ℤ) → out ≡ padded lent (pos 0) (all_numbers (map entry_cell l.entries))
       → out ≡ padded lent (pos 0) (all_numbers (run Q rounds).live)
-  written lent out e = e ∙ ap (padded lent (pos 0)) numbers_are
+  cells_written lent out e = e ∙ ap (padded lent (pos 0)) numbers_are

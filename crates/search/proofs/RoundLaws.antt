@@ -10,7 +10,6 @@ use Prim.Native.Nat.{ℕ, suc, ◌+◌, ◌-◌, ◌≤◌}
 use native.Mathlib.Numerals.{add-one}
 use native.Mathlib.Omega.{arith}
 use lib.Dec.{T}
-use lib.IntN.{ℤ}
 use Rattle.numbers.specs.Lists.{keep}
 use Rattle.numbers.proofs.Members.{keep_from}
 use Rattle.query.specs.Place.{Rect}

@@ -78,10 +78,12 @@ pub bound_is : (o : Objects) (axis : AxisCosts) (r : Rect) (k : Costs) (s l : �
     → AxisOf (axis_in o.columns) axis → s ≡ span (held_axis axis) r → l ≡ load_of (pricing_of_objects o) r
     → b ≡ half_up (pos (max (k.c00 + k.c11) (k.c01 + k.c10)) -ℤ pos (s * l)) → b ≡ bound_of (pricing_of_objects o) r
 unfolding bound_of
-bound_is o axis r k s l b costs held e f g = let same : s ≡ span (axis_in o.columns) r = e ∙ ap (λ (a : Query.AxisCosts). span a r) held.is in rw (costs, same, f) at g
+bound_is o axis r k s l b costs held e f g = let same : s ≡ span (axis_in o.columns) r = e ∙ ap (λ (a : Query.AxisCosts). span a r) held.is in rw
+    (costs, same, f) at g
 
 pub entry_back : (P : Pricing) (r : Deck.Rect) (b : ℤ) → mag b < 2 ^ 63 → b ≡ bound_of P (rect_of r)
-    → (k : Costs) → k ≡ corner_costs P (rect_of r) → ◌≡◌ {A = Entry} (record { cell = record { rect = r; bound = back b }; costs = k }) (entry_for P (rect_of r))
+    → (k : Costs) → k ≡ corner_costs P (rect_of r) → ◌≡◌ {A = Entry} (record { cell = record { rect = r; bound = back b }; costs = k })
+    (entry_for P (rect_of r))
 entry_back P r b f e k costs = λ i. record { cell = record { rect = r; bound = (fitting b f ∙ e) i }; costs = costs i }
 
 -- ---- the best of four
@@ -96,7 +98,8 @@ module _ (k : Corners) (h : CostsInRange (costs_of k)) where
   unfolding best_corner
   best_limit = improved_limit (improved (improved k.c00 k.c01) k.c10) k.c11 cost_limit best_three_limit h.corner_11
 
-pub best_corner_is : (k : Corners) (one two three : Spot) → one ≡ improved k.c00 k.c01 → two ≡ improved one k.c10 → three ≡ improved two k.c11 → three ≡ best_corner k
+pub best_corner_is : (k : Corners) (one two three : Spot) → one ≡ improved k.c00 k.c01 → two ≡ improved one k.c10 → three ≡ improved two k.c11 → three
+    ≡ best_corner k
 unfolding best_corner
 best_corner_is k one two three a b d = rw (d, b, a)
 

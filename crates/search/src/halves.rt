@@ -7,7 +7,7 @@ ghost use Rattle.deck.specs.Rectangle.{rect_of, rect_record};
 ghost use Rattle.reach.specs.Columns.{Ranged};
 ghost use Rattle.reach.specs.Held.{pricing_of_objects};
 ghost use Rattle.cuts.specs.CutRecord.{axis_of, cut_record};
-ghost use Rattle.problem.specs.ObjectProblem.{priced_of};
+ghost use Rattle.problem.specs.ObjectProblem.{priced_of, rect_in};
 ghost use Rattle.problem.specs.Prepared.{problem_of};
 ghost use Rattle.cells.specs.Entries.{query_key};
 ghost use Rattle.search.specs.Corners.{corner_costs, entry_for, improved};
@@ -76,7 +76,11 @@ pub(crate) fn cut_of(problem: &Problem, rect: Rect) -> Option<Cut>
     requires { RectInRange (rect_of rect) }
     ensures { result ≡ cut_record (problem_of problem.now).rules.grid (rect_of rect) }
 {
-    cuts::find_cut(problem.vertical.as_slice(), problem.horizontal.as_slice(), rect)
+    cuts::find_cut(
+        problem.vertical.as_slice(),
+        problem.horizontal.as_slice(),
+        rect,
+    )
 }
 
 // A part of a cell that is cut.
@@ -120,12 +124,15 @@ fn costs_part(k: Costs, axis: Axis, part: Part, low: u64, high: u64) -> Costs
 }
 
 // What the cut of a cell makes of it. The new corners are the low corner of the part behind the cut and the high one of the part before.
-pub(crate) fn halve(problem: &Problem, rect: Rect, k: Costs) -> Halves
-    requires { Cutting (pricing_of_objects problem.now.objects) (problem_of problem.now).rules.grid (rect_of rect) k }
+pub(crate) fn halve(problem: &Problem, entry: Entry) -> Halves
+    requires { Cutting (pricing_of_objects problem.now.objects) (problem_of problem.now).rules.grid (rect_in entry.cell)
+        entry.costs }
     ensures { result
         ≡ halves_of (pricing_of_objects problem.now.objects)
-        (cut_line (problem_of problem.now).rules.grid (rect_of rect)) (rect_of rect) }
+        (cut_line (problem_of problem.now).rules.grid (rect_in entry.cell)) (rect_in entry.cell) }
 {
+    let rect = entry.cell.rect;
+    let k = entry.costs;
     let cut = cut_of(problem, rect).unwrap();
     let before = rect_part(rect, cut, Part::Before);
     let behind = rect_part(rect, cut, Part::Behind);

@@ -109,7 +109,7 @@ fn round(problem: &Problem, live: &mut LiveCells, entry: Entry, st: Running) -> 
         (Search.round (problem_of problem.now).rules (search_of (entry ∷ live.old.entries) st))
         (live.old.free - 2) live.new result }
 {
-    let halves = halve(problem, entry.cell.rect, entry.costs);
+    let halves = halve(problem, entry);
     let best = improve(improve(st.best, halves.low), halves.high);
     live.trim(spot_key(best));
     add(problem, live, halves.second, best);

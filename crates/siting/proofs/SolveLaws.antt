@@ -2,12 +2,13 @@
 -- Assumes nothing.
 use Prim.Native.Nat.{ℕ, ◌*◌, ◌≤◌, ◌<◌}
 use mathlib.Core.Path.{◌≡◌, refl, sym, ap, ap₂, subst, ◌∙◌}
-use mathlib.Core.List.{List, [], ◌∷◌}
+use mathlib.Core.List.{List, [], ◌∷◌, map}
 use native.Mathlib.Omega.{arith}
 use mir.Syntax.{w64}
 use mir.ValLaws.{to_z-of_z}
 use lib.IntN.{ℤ, pos}
-use lib.ListN.{length, take}
+use lib.ListN.{length, length-replicate}
+use Rattle.std.proofs.lemmas.List.{length-map}
 use Rattle.numbers.specs.Padded.{padded}
 use Rattle.numbers.proofs.Words.{word_fits}
 use Rattle.numbers.proofs.WordTests.{back}
@@ -31,75 +32,84 @@ use Rattle.std.specs.Prelude as Std
 use Rattle.job.proofs.ReadDeck.{Spelt, spelt_range}
 use Rattle.refusal.specs.declared.Refusal.{Refusal}
 use Rattle.refusal.specs.declared.Refusal.TheVariants.{SmallSpace, ShortOutput}
-use Rattle.deck.specs.declared.Rect.{Rect}
-use Rattle.deck.specs.ObjectColumns.{pricing_in}
+use Rattle.reach.specs.Held.{pricing_of_objects}
 use Rattle.pricing.specs.ObjectFigures.{before_of, Figure}
 use Rattle.pricing.proofs.ObjectLaws.{before_law}
-use Rattle.prepare.specs.declared.Parts.{Parts}
-use Rattle.prepare.specs.ProblemRecord.{problem_record, problem_by, given_by, given_for}
+use Rattle.slots.specs.Slot.{entry_cell}
+use Rattle.cells.specs.Live.{Live}
+use Rattle.prepare.specs.declared.Problem as Held
+use Rattle.prepare.specs.declared.Given.{Given}
+use Rattle.prepare.specs.ProblemRecord.{given_by, given_for}
 use Rattle.prepare.proofs.JobProblem.{spelt, rounds_same, rounds_limit_lem, before_same, problem_same}
 use Rattle.problem.specs.Prepared.{problem_of, Prepared}
 use Rattle.problem.proofs.DeckProblem.{prepared_pricing, prepared_problem, made_prepared}
 use Rattle.report.specs.Report.{report_state, report_figures}
 use Rattle.report.specs.Text.{report_text}
-use Rattle.write.specs.Written.{overwritten, Overwrote}
+use Rattle.write.specs.Written.{overwritten}
 use Rattle.report.specs.declared.Report.{Report}
 use Rattle.report.specs.declared.State.{State}
 use Rattle.report.proofs.Fits.{report_fits}
-use Rattle.search.specs.Answer.{is_done, found_of, Room, Searched}
+use Rattle.search.specs.Answer.{is_done, found_of, Searched}
 use Rattle.search.specs.declared.run.Found.{Found}
-use Rattle.calls.specs.declared.Estimate as Held
+use Rattle.calls.specs.declared.Estimate as Calls
 use Rattle.calls.specs.Answers.{gives, estimate_numbers}
-use Rattle.calls.specs.Call.{Left, turned_down, reported, answered, report_call}
+use Rattle.calls.specs.Call.{Left, turned_down, reported, answered, report_call, own_space}
 use Rattle.calls.proofs.Demands.{more_rounds, call_of, small_answer, short_answer, report_answer_lem}
-use Rattle.estimate.specs.LineCounts.{LineCounts, estimate_by}
-use Rattle.estimate.proofs.EstimateLaws.{deck_estimate, job_counts}
-use Rattle.siting.specs.Response.{state_for, Solved, Responded}
+use Rattle.estimate.specs.LineCounts.{estimate_by}
+use Rattle.estimate.proofs.EstimateLaws.{deck_estimate}
+use Rattle.siting.specs.declared.Response.{Response}
+use Rattle.siting.specs.Response.{state_for, Solved, Fits, Lacking, Reported, Answered, cells_after, AnsweredIn, AnsweredAlone, Responded, RespondedAlone}
 
 -- ---- solve
 state_is : (cells : List Cell) → report_state (state_for (is_done cells)) ≡ Figures.state_of cells
 state_is [] = refl
 state_is (c ∷ cs) = refl
 
-found_report : (Q : Problem) (n : ℕ) (f : Found) (state : State) (b : ℕ) → f ≡ found_of (run Q n) → state ≡ state_for f.done →
-    report_figures (record { state = state; x = f.x; y = f.y; high = f.high; low = f.low; before = b; rounds = f.cuts }) ≡ figures_of b (run Q n)
+found_report : (Q : Problem) (n : ℕ) (f : Found) (state : State) (b : ℕ) → f ≡ found_of (run Q n) → state ≡ state_for f.done → report_figures (record {
+  state = state;
+  x = f.best.at.x;
+  y = f.best.at.y;
+  high = f.best.cost;
+  low = f.low;
+  before = b;
+  rounds = f.cuts;
+}) ≡ figures_of b (run Q n)
 unfolding figures_of found_of
 found_report Q n f state b e s = rw (s, e, state_is (run Q n).live)
 
-module _ {columns : List ℤ} {count : ℕ} {v h : List ℤ} {area : Rect} (prepared : Prepared columns count v h area) (n : ℕ) where
+module _ {p : Held.Problem} (prepared : Prepared p) (n : ℕ) where
   figures_range : FiguresInRange n (figures prepared.deck n)
   figures_range = (run_in_range prepared.deck prepared.range prepared.full n).figures_range
 
   -- the signed fields of an answer, as the code holds them
-  module _ (f : Found) (e : f ≡ found_of (run (problem_of columns count v h area) n)) where
+  module _ (f : Found) (e : f ≡ found_of (run (problem_of p) n)) where
     found : f ≡ found_of (run (problem prepared.deck) n)
     found = e ∙ ap (λ (q : Problem). found_of (run q n)) (prepared_problem prepared)
 
-    place_x : back f.x ≡ f.x
+    place_x : back f.best.at.x ≡ f.best.at.x
     unfolding figures figures_of found_of
-    place_x = to_z-of_z w64 f.x (word_fits w64 f.x (rw found (omega (arith, figures_range.place.x_range))))
+    place_x = to_z-of_z w64 f.best.at.x (word_fits w64 f.best.at.x (rw found (omega (arith, figures_range.place.x_range))))
 
-    place_y : back f.y ≡ f.y
+    place_y : back f.best.at.y ≡ f.best.at.y
     unfolding figures figures_of found_of
-    place_y = to_z-of_z w64 f.y (word_fits w64 f.y (rw found (omega (arith, figures_range.place.y_range))))
+    place_y = to_z-of_z w64 f.best.at.y (word_fits w64 f.best.at.y (rw found (omega (arith, figures_range.place.y_range))))
 
     low_word : back f.low ≡ f.low
     unfolding figures figures_of found_of
     low_word = to_z-of_z w64 f.low (word_fits w64 f.low (rw found (omega (arith, figures_range.low_limit))))
 
-  pub solved : (cells cells' : List ℤ) (f : Found) (state : State) (b : ℕ) → Searched (problem_of columns count v h area) n cells cells' f →
-      state ≡ state_for f.done → Solved (problem_of columns count v h area) b n cells cells' (record {
+  pub solved : (l : Live) (f : Found) (state : State) (b : ℕ) → Searched (problem_of p) n l f → state ≡ state_for f.done →
+      Solved (problem_of p) b n l (record {
         state = state;
-        x = back f.x;
-        y = back f.y;
-        high = f.high;
+        x = back f.best.at.x;
+        y = back f.best.at.y;
+        high = f.best.cost;
         low = back f.low;
         before = b;
         rounds = f.cuts;
       })
-  solved cells cells' f state b s t = record {
-    report = rw (place_x f s.found, place_y f s.found, low_word f s.found)
-        (found_report (problem_of columns count v h area) n f state b s.found t);
+  solved l f state b s t = record {
+    report = rw (place_x f s.found, place_y f s.found, low_word f s.found) (found_report (problem_of p) n f state b s.found t);
     cells = s.cells;
   }
 
@@ -113,17 +123,24 @@ respond_refused call cells out why e = record {
   few = omega arith;
 }
 
+alone : {call : Left} {cells : List ℤ} {out out' : List ℕ} {r : Std.Result Response Refusal} → Responded call out cells out' r →
+    RespondedAlone call out out' r
+alone {call} {cells} {out} {out'} {r} s =
+    subst (λ (z : List ℤ). Responded call out z out' r) (ap (λ (left : Left). left.cells) s.left) s
+
+pub refused_alone : (call : Left) (out : List ℕ) (why : Refusal) → call ≡ turned_down why own_space out → RespondedAlone call out out (Err why)
+refused_alone call out why e = alone (respond_refused call own_space out why e)
+
 reported_is : (job : Job) (cells cells' : List ℤ) (out out' : List ℕ) (r : Report) (text : List ℕ) → report_figures r ≡ figures job.deck job.rounds →
     cells' ≡ space job.deck job.rounds (length cells) → text ≡ report_text (figures job.deck job.rounds) → out' ≡ overwritten text out →
     record { answer = gives (report_figures r); cells = cells'; out = out' } ≡ reported job cells out
 unfolding reported
 reported_is job cells cells' out out' r text e f g h = rw (h, g, f, e)
 
--- ---- an accepted job that was prepared
-module _ (bytes : List ℕ) {r : Std.Result Parts Refusal} (columns v h : List ℤ) (e : given_by r columns v h ≡ given_for (read_job bytes)) {p : Parts}
-    (o : r ≡ Ok p) where
+-- ---- what an accepted job gives
+module _ (bytes : List ℕ) (g : Given) (e : given_by (Ok g) ≡ given_for (read_job bytes)) where
   abbrev pub spells : Spelt bytes
-  spells = spelt bytes r columns v h e p o
+  spells = spelt bytes g e
 
   abbrev deck : Query.Deck
   deck = spells.job.deck
@@ -131,77 +148,101 @@ module _ (bytes : List ℕ) {r : Std.Result Parts Refusal} (columns v h : List �
   abbrev range : InRange deck
   range = spelt_range spells
 
-  pub made : problem_by p columns v h ≡ problem_record deck
-  made = problem_same bytes r columns v h e p o
+  abbrev pub prepared : Prepared g.problem
+  prepared = made_prepared deck range spells.allowed.area_full g.problem (problem_same bytes g e)
 
-  abbrev pub prepared : Prepared columns p.count (take p.nv v) (take p.nh h) p.area
-  prepared = made_prepared deck range spells.allowed.area_full _ made
+  paid : g.before ≡ before deck
+  paid = before_same bytes g e
 
-  abbrev held : Problem
-  held = problem_of columns p.count (take p.nv v) (take p.nh h) p.area
-
-  paid : p.before ≡ before deck
-  paid = before_same bytes r columns v h e p o
+  pub few_rounds : g.rounds ≤ 1000
+  few_rounds = rounds_limit_lem bytes g e
 
   -- what the exhaustive search asks of what is paid before
-  pub before_figure_lem : Figure (before_of (pricing_in columns p.count)) cost_limit p.before
+  pub before_figure_lem : Figure (before_of (pricing_of_objects g.problem.objects)) cost_limit g.before
   before_figure_lem = record {
     is = paid ∙ sym (ap before_of (prepared_pricing prepared) ∙ before_law deck);
     within = rw paid (figure_limits deck range).before_limit;
   }
 
-  pub counted : LineCounts p.nv p.nh p.rounds
-  counted = job_counts bytes r columns v h e p o
-
   -- what is answered is what the call answers
-  call_is : (cells : List ℤ) (out : List ℕ) → answered (accepted (record { deck = deck; rounds = p.rounds })) cells out ≡ report_call bytes cells out
-  call_is cells out =
-      ap (λ (n : ℕ). answered (accepted (record { deck = deck; rounds = n })) cells out) (rounds_same bytes r columns v h e p o)
+  call_is : (cells : List ℤ) (out : List ℕ) → answered (accepted (record { deck = deck; rounds = g.rounds })) cells out ≡ report_call bytes cells out
+  call_is cells out = ap (λ (n : ℕ). answered (accepted (record { deck = deck; rounds = n })) cells out) (rounds_same bytes g e)
       ∙ sym (call_of bytes cells out (accepted spells.job) spells.read)
 
-  -- refusals 7 and 8, and the room that a search has without them
-  module _ (needs : Held.Estimate) (f : estimate_numbers needs ≡ estimate_by p.nv p.nh p.rounds) where
-    space_is : 5 * needs.cells ≡ space_needed deck p.rounds
-    unfolding Estimate.estimate
-    space_is = ap (λ (n : Estimate.Estimate). 5 * n.cells) (f ∙ deck_estimate deck _ made p.rounds)
+  -- ---- refusal 7, and what is enough for the live cells
+  needed_is : 5 * (estimate_by (length g.problem.vertical) (length g.problem.horizontal) g.rounds).cells ≡ space_needed deck g.rounds
+  unfolding Estimate.estimate
+  needed_is = ap (λ (n : Estimate.Estimate). 5 * n.cells) (deck_estimate deck _ (problem_same bytes g e) g.rounds)
+
+  needed_most : space_needed deck g.rounds ≤ 5005
+  needed_most = omega (arith, needs_most deck g.rounds, few_rounds)
+
+  module _ (needs : Calls.Estimate)
+      (f : estimate_numbers needs ≡ estimate_by (length g.problem.vertical) (length g.problem.horizontal) g.rounds) where
+    space_is : 5 * needs.cells ≡ space_needed deck g.rounds
+    space_is = ap (λ (n : Estimate.Estimate). 5 * n.cells) f ∙ needed_is
 
     pub few_cells : needs.cells ≤ 1001
-    few_cells = omega (arith, space_is, needs_most deck p.rounds, rounds_limit_lem bytes r columns v h e p o)
+    few_cells = omega (arith, space_is, needed_most)
 
     pub small : (cells : List ℤ) (out : List ℕ) → length cells < 5 * needs.cells → report_call bytes cells out ≡ turned_down SmallSpace cells out
-    small cells out g = sym (call_is cells out) ∙ small_answer _ cells out (omega (arith, space_is))
+    small cells out h = sym (call_is cells out) ∙ small_answer _ cells out (omega (arith, space_is))
 
-    pub short : (cells : List ℤ) (out : List ℕ) → 5 * needs.cells ≤ length cells → length out < 128 →
-        report_call bytes cells out ≡ turned_down ShortOutput cells out
-    short cells out g k = sym (call_is cells out) ∙ short_answer _ cells out (omega (arith, space_is)) k
+    pub fits : (lent : ℕ) → 5 * needs.cells ≤ lent → Fits g lent
+    fits lent h = record { enough = omega (arith, space_is, needed_is) }
 
-    pub room : (lent : ℕ) → 5 * needs.cells ≤ lent → Room held p.rounds lent
-    room lent g = record {
-      rounds_limit_lem = rounds_limit_lem bytes r columns v h e p o;
-      room = subst (λ (q : Problem). length (all_numbers (run q p.rounds).live) ≤ lent) (sym (prepared_problem prepared))
-          (omega (arith, space_is, (space_law deck p.rounds).numbers));
-    }
+  -- ---- the report
+  module _ (l : Live) (x : Report) (s : Solved (problem_of g.problem) g.before g.rounds l x) where
+    solved_figures : report_figures x ≡ figures deck g.rounds
+    unfolding figures
+    solved_figures = s.report ∙ ap₂ (λ (b : ℕ) (q : Problem). figures_of b (run q g.rounds)) paid (prepared_problem prepared)
 
-    module _ (cells cells' : List ℤ) (x : Report) (s : Solved held p.before p.rounds cells cells' x) where
-      solved_figures : report_figures x ≡ figures deck p.rounds
-      unfolding figures
-      solved_figures = s.report ∙ ap₂ (λ (b : ℕ) (q : Problem). figures_of b (run q p.rounds)) paid (prepared_problem prepared)
+    solved_live : map entry_cell l.entries ≡ (run (problem deck) g.rounds).live
+    solved_live = s.cells ∙ ap (λ (q : Problem). (run q g.rounds).live) (prepared_problem prepared)
 
-      solved_cells : cells' ≡ space deck p.rounds (length cells)
-      unfolding space
-      solved_cells = s.cells ∙ ap (λ (q : Problem). padded (length cells) (pos 0) (all_numbers (run q p.rounds).live)) (prepared_problem prepared)
+    pub report_limits : FiguresInRange 1000 (report_figures x)
+    report_limits = subst (FiguresInRange 1000) (sym solved_figures)
+        (more_rounds (run_in_range deck range spells.allowed.area_full g.rounds).figures_range few_rounds)
 
-      pub report_limits : FiguresInRange 1000 (report_figures x)
-      report_limits = subst (FiguresInRange 1000) (sym solved_figures)
-          (more_rounds (run_in_range deck range spells.allowed.area_full p.rounds).figures_range (rounds_limit_lem bytes r columns v h e p o))
+    pub live_fit : (lent : ℕ) → Fits g lent → 5 * length l.entries ≤ lent
+    live_fit lent h = omega (arith, h.enough, needed_is, (space_law deck g.rounds).live_cells, ap length solved_live, length-map l.entries entry_cell)
 
-      pub respond_reported : (out out' : List ℕ) (m : ℕ) → 5 * needs.cells ≤ length cells → 128 ≤ length out →
-          Overwrote out (report_text (report_figures x)) out' m →
-          Responded (report_call bytes cells out) out cells' out' (Ok (record { report = x; bytes = m }))
-      respond_reported out out' m g k w = record {
-        left =
-            reported_is _ cells cells' out out' x (report_text (report_figures x)) solved_figures solved_cells (ap report_text solved_figures) w.content
-            ∙ sym (report_answer_lem _ cells out (omega (arith, space_is)) k) ∙ call_is cells out;
-        filled = w;
-        few = omega (arith, w.number, report_fits.report_fits (report_figures x) report_limits);
-      }
+    solved_cells : (lent : ℕ) → padded lent (pos 0) (all_numbers (map entry_cell l.entries)) ≡ space deck g.rounds lent
+    unfolding space
+    solved_cells lent = ap (λ (cs : List Cell). padded lent (pos 0) (all_numbers cs)) solved_live
+
+  -- ---- refusal 8 or the report, where the cell space is large enough
+  module _ (cells : List ℤ) (out : List ℕ) (h : space_needed deck g.rounds ≤ length cells) where
+    lacking : (out' : List ℕ) (why : Refusal) → Lacking out out' why → Responded (report_call bytes cells out) out cells out' (Err why)
+    lacking out' why k = rw (k.kept, k.why_is)
+        (respond_refused _ cells out ShortOutput (sym (call_is cells out) ∙ short_answer _ cells out h k.short))
+
+    reporting : (l : Live) (out' : List ℕ) (x : Response) → Reported g out l out' x →
+        Responded (report_call bytes cells out) out (cells_after l cells (Ok x)) out' (Ok x)
+    reporting l out' x k =
+        let figures_are = solved_figures l x.report k.solved in
+        record {
+          left =
+              reported_is _ cells _ out out' x.report _ figures_are (solved_cells l x.report k.solved (length cells)) (ap report_text figures_are)
+              k.text.content
+              ∙ sym (report_answer_lem _ cells out h k.long) ∙ call_is cells out;
+          filled = k.text;
+          few = omega (arith, k.text.number, report_fits.report_fits (report_figures x.report) (report_limits l x.report k.solved));
+        }
+
+    responded : (l : Live) (out' : List ℕ) (r : Std.Result Response Refusal) → Answered g out l out' r →
+        Responded (report_call bytes cells out) out (cells_after l cells r) out' r
+    responded l out' (Ok x) k = reporting l out' x k
+    responded l out' (Err why) k = lacking out' why k
+
+  pub responded_in : (cells : List ℤ) (out : List ℕ) → Fits g (length cells) → (cells' : List ℤ) (out' : List ℕ) (r : Std.Result Response Refusal) →
+      AnsweredIn g cells out cells' out' r → Responded (report_call bytes cells out) out cells' out' r
+  responded_in cells out fit cells' out' r k =
+      subst (λ (z : List ℤ). Responded (report_call bytes cells out) out z out' r) (sym k.cells_are)
+      (responded cells out (omega (arith, fit.enough, needed_is)) k.live out' r k.answered)
+
+  -- that of a call with a cell space of its own
+  pub responded_alone : (out out' : List ℕ) (r : Std.Result Response Refusal) → AnsweredAlone g out out' r →
+      RespondedAlone (report_call bytes own_space out) out out' r
+  responded_alone out out' r k =
+      alone (responded own_space out (omega (arith, needed_most, length-replicate 5005 (pos 0))) k.live out' r k.answered)

@@ -2,22 +2,25 @@
 #![tactic(auto)]
 
 ghost use Rattle.std.specs.Prelude.{◌≤◌, ◌≡◌, length};
+ghost use Rattle.query.specs.Range.{rounds_limit};
 ghost use Rattle.calls.specs.Answers.{report_answer, cheapest_answer, estimated_answer, read_answer, written_answer};
-ghost use Rattle.calls.specs.Call.{report_call};
+ghost use Rattle.calls.specs.Call.{report_call, own_space};
 ghost use Rattle.calls.specs.Entry.{entry};
 ghost use Rattle.calls.specs.Program.{answer_text};
 ghost use Rattle.calls.specs.CheapestCall.{exhaustive_call};
 ghost use Rattle.calls.specs.EstimateCall.{estimate_call};
 ghost use Rattle.calls.specs.ReadCall.{read_deck, read_call};
 ghost use Rattle.calls.specs.WriteCall.{write_call};
+ghost use Rattle.cells.specs.Live.{none_live};
 ghost use Rattle.problem.specs.Prepared.{problem_of, Prepared};
-ghost use Rattle.search.specs.Answer.{Room};
-ghost use Rattle.siting.specs.Response.{state_for, Solved, Responded};
+ghost use Rattle.siting.specs.Response.{state_for, Solved, OfJob, Fits, Answered, AnsweredIn, AnsweredAlone, Responded, RespondedAlone};
 
 use calls::{Estimate, Text};
-use deck::{Deck, Rect};
+use cells::LiveCells;
+use deck::Deck;
 use job::Job;
-use limits::{CELL_NUMBERS, COLUMNS, LINES, REPORT_BYTES, SPACE};
+use limits::{CELL_NUMBERS, REPORT_BYTES};
+use prepare::{Given, Problem};
 use problem::Spot;
 use refusal::Refusal;
 use report::{Report, State};
@@ -36,67 +39,84 @@ fn state_of(done: bool) -> State
     if done { State::Done } else { State::Stopped }
 }
 
-// The report of a deck's problem, with what is paid before, for so many rounds, and the live cells in the cell space.
-fn solve<'a>(
-    columns: &'a [i32; COLUMNS],
-    n: usize,
-    v: &'a [i64],
-    h: &'a [i64],
-    area: Rect,
-    before: u64,
-    rounds: u64,
-    cells: &mut [i64],
-) -> Report
-    requires { Prepared columns.now n v.now h.now area
-        × Room (problem_of columns.now n v.now h.now area) rounds (length cells.old) }
-    ensures { Solved (problem_of columns.now n v.now h.now area) before rounds cells.old
-        cells.new result }
+// The report of a deck's problem, with what is paid before, for so many rounds. It begins with no live cell, and leaves those that are
+// live.
+fn solve(problem: &Problem, before: u64, rounds: u64, live: &mut LiveCells) -> Report
+    requires { Prepared problem.now × (rounds ≤ rounds_limit) × (live.old ≡ none_live) }
+    ensures { Solved (problem_of problem.now) before rounds live.new result }
 {
-    let found = run::search(columns, n, v, h, area, rounds, cells);
+    let found = run::search(problem, rounds, live);
     let state = state_of(found.done);
     Report {
         state,
-        x: found.x,
-        y: found.y,
-        high: found.high,
+        x: found.best.at.x,
+        y: found.best.at.y,
+        high: found.best.cost,
         low: found.low,
         before,
         rounds: found.cuts,
     }
 }
 
-// What the calls below answer. Refusals 7 and 8 come before any place is priced. A refusal leaves the cell space and the output as they
+// The report of what a job gives, with its text in the output, or refusal 8, which comes before any place is priced.
+// Not inlined: where it is, the compiler keeps more than two of the live cells on the stack of its caller.
+#[inline(never)]
+fn respond_to(given: &Given, live: &mut LiveCells, out: &mut [u8]) -> Result<Response, Refusal>
+    requires { OfJob given.now × (live.old ≡ none_live) }
+    ensures { Answered given.now out.old live.new out.new result }
+{
+    if out.len() < REPORT_BYTES {
+        return Err(Refusal::ShortOutput);
+    }
+    let report = solve(&given.problem, given.before, given.rounds, live);
+    let bytes = report::write_report(out, report);
+    Ok(Response { report, bytes })
+}
+
+// The same, with the live cells in the cell space. Not inlined, so that they are not on the stack while a job is read.
+#[inline(never)]
+fn respond_in(given: &Given, cells: &mut [i64], out: &mut [u8]) -> Result<Response, Refusal>
+    requires { OfJob given.now × Fits given.now (length cells.old) }
+    ensures { AnsweredIn given.now cells.old out.old cells.new out.new result }
+{
+    let mut live = LiveCells::new();
+    let response = respond_to(given, &mut live, out)?;
+    live.write_out(cells);
+    Ok(response)
+}
+
+// The same for a caller with no cell space. Not inlined, as `respond_in`.
+#[inline(never)]
+fn respond_without_cells(given: &Given, out: &mut [u8]) -> Result<Response, Refusal>
+    requires { OfJob given.now }
+    ensures { AnsweredAlone given.now out.old out.new result }
+{
+    respond_to(given, &mut LiveCells::new(), out)
+}
+
+// What the call below answers. Refusals 7 and 8 come before any place is priced. A refusal leaves the cell space and the output as they
 // were.
 fn respond(job: &[u8], cells: &mut [i64], out: &mut [u8]) -> Result<Response, Refusal>
     ensures { Responded (report_call job.now cells.old out.old) out.old cells.new
         out.new result }
 {
-    let mut columns = [0i32; COLUMNS];
-    let mut v = [0i64; LINES];
-    let mut h = [0i64; LINES];
-    let parts = prepare::of_job(job, &mut columns, &mut v, &mut h)?;
-    let nv = parts.nv;
-    let nh = parts.nh;
-    let rounds = parts.rounds;
-    let needs = estimate::of_lines(nv, nh, rounds);
+    let given = prepare::of_job(job)?;
+    let problem = &given.problem;
+    let vertical = problem.vertical.len();
+    let horizontal = problem.horizontal.len();
+    let needs = estimate::of_lines(vertical, horizontal, given.rounds);
     if (cells.len() as u64) < CELL_NUMBERS as u64 * needs.cells {
         return Err(Refusal::SmallSpace);
     }
-    if out.len() < REPORT_BYTES {
-        return Err(Refusal::ShortOutput);
-    }
-    let report = solve(
-        &columns,
-        parts.count,
-        &v[..nv],
-        &h[..nh],
-        parts.area,
-        parts.before,
-        rounds,
-        cells,
-    );
-    let bytes = report::write_report(out, report);
-    Ok(Response { report, bytes })
+    respond_in(&given, cells, out)
+}
+
+// What the C entry and the program answer, as if with a cell space of their own, which is enough for every job.
+fn respond_alone(job: &[u8], out: &mut [u8]) -> Result<Response, Refusal>
+    ensures { RespondedAlone (report_call job.now own_space out.old) out.old out.new result }
+{
+    let given = prepare::of_job(job)?;
+    respond_without_cells(&given, out)
 }
 
 // The report of a job, with its text in the output and its live cells in the cell space, or the refusal that applies first.
@@ -108,12 +128,11 @@ pub fn report(job: &[u8], cells: &mut [i64], out: &mut [u8]) -> Result<Report, R
     Ok(response.report)
 }
 
-// The entry for C, with a cell space of its own: the bytes written, or minus the number of the refusal.
+// The entry for C: the bytes written, or minus the number of the refusal.
 pub fn siting_report(job: &[u8], out: &mut [u8]) -> i64
     ensures { record { result = result; out = out.new } ≡ entry job.now out.old }
 {
-    let mut cells = [0i64; SPACE];
-    match respond(job, &mut cells, out) {
+    match respond_alone(job, out) {
         Ok(response) => response.bytes as i64,
         Err(why) => -(refusal::number_of(why) as i64),
     }
@@ -123,11 +142,8 @@ pub fn siting_report(job: &[u8], out: &mut [u8]) -> i64
 pub fn exhaustive(job: &[u8]) -> Result<Spot, Refusal>
     ensures { cheapest_answer result ≡ exhaustive_call job.now }
 {
-    let mut columns = [0i32; COLUMNS];
-    let mut v = [0i64; LINES];
-    let mut h = [0i64; LINES];
-    let p = prepare::of_job(job, &mut columns, &mut v, &mut h)?;
-    Ok(exhaustive::cheapest(&columns, p.count, &v[..p.nv], &h[..p.nh], p.area, p.before))
+    let prepared = prepare::of_job(job)?;
+    Ok(exhaustive::cheapest(&prepared.problem, prepared.before))
 }
 
 // What the job needs, or the refusal of the job. No place is priced.
@@ -160,9 +176,8 @@ pub fn answer_text(job: &[u8]) -> Text
     ensures whole { result ≡ answer_text job.now }
     ensures short { length result ≤ 128 }
 {
-    let mut cells = [0i64; SPACE];
     let mut bytes = [0u8; REPORT_BYTES];
-    match respond(job, &mut cells, &mut bytes) {
+    match respond_alone(job, &mut bytes) {
         Ok(response) => Text::new(bytes, response.bytes),
         Err(why) => {
             let length = report::write_refusal(&mut bytes, why);

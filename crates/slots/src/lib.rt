@@ -144,8 +144,7 @@ pub fn numbers() -> [u16; CELLS]
 }
 
 impl Slots {
-    // Slots of zeros. Not inlined, so that what it is made of is gone from the stack when a search runs.
-    #[inline(never)]
+    // Slots of zeros. Without `inline(never)`, since a call that returns so large a struct keeps one more of it on the stack.
     pub fn new() -> Self
         ensures { result ≡ replicate 1001 no_entry }
     {

@@ -24,18 +24,17 @@ use Rattle.job.specs.Format.{read_job}
 use Rattle.deck.specs.declared.Deck.{Deck}
 use Rattle.deck.specs.DeckOf.{deck_record}
 use Rattle.deck.specs.Objects.{Pricing, pricing_of}
-use Rattle.deck.specs.ObjectColumns.{pricing_in}
 use Rattle.deck.proofs.SoundLaws.{sound_nears}
-use Rattle.reach.specs.Columns.{Priceable}
+use Rattle.reach.specs.Held.{pricing_of_objects}
 use Rattle.pricing.specs.ObjectFigures.{cost_of, load_of, Figure}
 use Rattle.pricing.proofs.ObjectLaws.{cost_law, load_law}
 use Rattle.problem.specs.ObjectProblem.{bound_of}
-use Rattle.problem.proofs.DeckProblem.{bound_law, prepared_priceable, prepared_pricing}
+use Rattle.problem.proofs.DeckProblem.{bound_law}
 use Rattle.trial.specs.Opened.{place_in_range, rect_allowed}
 use Rattle.trial.specs.Trial.{minus_one, least, before_figure, near_figure, cost_figure, load_figure, bound_figure}
 use Rattle.trial.specs.declared.opened.Opened.{Opened}
 use Rattle.job.proofs.ReadDeck.{Spelt, spelt_range}
-use Rattle.trial.proofs.OpenLaws.{Open, prepared, open_deck, open_held, open_whole, on_job_lem, inside}
+use Rattle.trial.proofs.OpenLaws.{Open, whole_pricing, open_deck, open_held, open_whole, on_job_lem, inside}
 
 -- a figure as a signed word
 figure_word : {figure n : ℕ} → Figure figure cost_limit n → to_z w64 n ≡ pos figure
@@ -46,23 +45,23 @@ module _ {bytes : List ℕ} {o : Opened} (w : Open bytes o) where
   abbrev s : Spelt bytes
   s = w.job
 
-  pricing_is : pricing_in o.problem.columns o.problem.count ≡ pricing_of s.job.deck
-  pricing_is = prepared_pricing (prepared (open_whole w)) ∙ ap pricing_of (open_deck w)
+  pricing_is : pricing_of_objects o.problem.objects ≡ pricing_of s.job.deck
+  pricing_is = whole_pricing (open_whole w) ∙ ap pricing_of (open_deck w)
 
-  pub cost_answer : (at : Place) {n : ℕ} → place_in_range at ≡ true → Figure (cost_of (pricing_in o.problem.columns o.problem.count) at) cost_limit n →
+  pub cost_answer : (at : Place) {n : ℕ} → place_in_range at ≡ true → Figure (cost_of (pricing_of_objects o.problem.objects) at) cost_limit n →
       to_z w64 n ≡ cost_figure at (read_job bytes)
   cost_answer at t fig =
       figure_word fig ∙ ap pos (ap (λ (P : Pricing). cost_of P at) pricing_is ∙ cost_law s.job.deck at)
       ∙ inside minus_one (place_in_range at) (λ job. pos (cost job.deck at)) s t
 
-  pub load_answer : (r : Rect) {n : ℕ} → rect_allowed r ≡ true → Figure (load_of (pricing_in o.problem.columns o.problem.count) r) load_limit n →
+  pub load_answer : (r : Rect) {n : ℕ} → rect_allowed r ≡ true → Figure (load_of (pricing_of_objects o.problem.objects) r) load_limit n →
       to_z w64 n ≡ load_figure r (read_job bytes)
   load_answer r t fig =
       figure_word (record { is = fig.is; within = omega (arith, fig.within) })
       ∙ ap pos (ap (λ (P : Pricing). load_of P r) pricing_is ∙ load_law s.job.deck r)
       ∙ inside minus_one (rect_allowed r) (λ job. pos (load job.deck r)) s t
 
-  pub bound_answer : (r : Rect) {b : ℤ} → rect_allowed r ≡ true → b ≡ bound_of (pricing_in o.problem.columns o.problem.count) r →
+  pub bound_answer : (r : Rect) {b : ℤ} → rect_allowed r ≡ true → b ≡ bound_of (pricing_of_objects o.problem.objects) r →
       b ≡ bound_figure r (read_job bytes)
   bound_answer r t is =
       is ∙ ap (λ (P : Pricing). bound_of P r) pricing_is ∙ bound_law s.job.deck r ∙ inside least (rect_allowed r) (λ job. bound job.deck r) s t
@@ -77,9 +76,6 @@ module _ {bytes : List ℕ} {o : Opened} (w : Open bytes o) where
 
   pub before_answer : to_z w64 o.deck.before ≡ before_figure (read_job bytes)
   before_answer = figure_word (record { is = held_before; within = before_small }) ∙ on_job_lem minus_one (λ job. pos (before job.deck)) s
-
-  pub open_priceable : Priceable o.problem.columns o.problem.count
-  open_priceable = prepared_priceable (prepared (open_whole w))
 
   count_is : o.deck.stops ≡ length s.job.deck.stops
   unfolding deck_record

@@ -1,34 +1,25 @@
 -- The numbers that `refusal_figure`, `trial_reading` and `trial_figure` choose from, by their place.
 -- Assumes nothing.
-use Prim.Native.Nat.{ℕ, zero, suc, ◌-◌, ◌≤◌, ◌<◌}
+use Prim.Native.Nat.{ℕ, zero, suc, ◌<◌}
 use mathlib.Core.Path.{◌≡◌, refl}
 use mathlib.Core.Bool.{true, false}
 use mathlib.Core.Logic.{◌≢◌}
 use mathlib.Core.List.{List}
 use native.Mathlib.Omega.{arith}
-use lib.Dec.{T}
 use lib.IntN.{ℤ, pos, negsuc, nat_abs}
-use lib.Signed.{lt_z, non_neg}
+use lib.Signed.{lt_z}
 use lib.ListN.{get_or}
 use mir.Syntax.{w64}
-use mir.Val.{Fits, SFits}
+use mir.Val.{SFits}
 use borrow.Author.Tests.{ltb-true}
-use Rattle.query.specs.Place.{Rect}
 use Rattle.job.specs.Format.{Job, Result, refused, accepted}
 use Rattle.refusal.specs.declared.Refusal.{Refusal}
 use Rattle.numbers.proofs.WordTests.{back, back_is}
 use Rattle.job.proofs.ReadDeck.{differ}
-use Rattle.trial.specs.Trial.{minus_one, least, refusal_numbers, reading_numbers, near_figure, near_at, deck_figures}
+use Rattle.trial.specs.Trial.{minus_one, least, refusal_numbers, reading_numbers, near_figure, near_at}
 
 pub number_at : (numbers : List ℤ) (which k : ℕ) (z : ℤ) → which ≡ k → z ≡ get_or numbers k least → z ≡ get_or numbers which least
 number_at numbers which k z e f = rw e f
-
--- behind the numbers of a refusal, and of a deck
-pub no_refusal_number : (why : Refusal) (which : ℕ) → 2 ≤ which → least ≡ get_or (refusal_numbers why) which least
-no_refusal_number why which h = number_at (refusal_numbers why) which (suc (suc (which - 2))) least (omega arith) refl
-
-pub no_deck_figure : (rect : Rect) (r : Result) (which : ℕ) → 7 ≤ which → least ≡ get_or (deck_figures rect r) which least
-no_deck_figure rect r which h = number_at (deck_figures rect r) which (suc (suc (suc (suc (suc (suc (suc (which - 7)))))))) least (omega arith) refl
 
 -- ---- an accepted job
 zero_below : (job : Job) (which : ℕ) → which < 2 → pos 0 ≡ get_or (reading_numbers (accepted job)) which least
@@ -42,9 +33,6 @@ module _ {r : Result} {job : Job} (e : r ≡ accepted job) (which : ℕ) where
 
   pub rounds_number : which ≡ 2 → pos job.rounds ≡ get_or (reading_numbers r) which least
   rounds_number f = rw (e, f) refl
-
-  pub no_reading_number : 3 ≤ which → least ≡ get_or (reading_numbers r) which least
-  no_reading_number h = rw e (number_at (reading_numbers (accepted job)) which (suc (suc (suc (which - 3)))) least (omega arith) refl)
 
 -- ---- a refused job
 refusal_same : (why : Refusal) (which : ℕ) → which ≢ 2 → get_or (refusal_numbers why) which least ≡ get_or (reading_numbers (refused why)) which least
@@ -65,10 +53,6 @@ negative_none : (z : ℤ) (r : Result) → lt_z z (pos 0) ≡ true → minus_one
 negative_none (pos i) r e = absurd (omega (arith, ltb-true i 0 e))
 negative_none (negsuc i) r e = refl
 
-natural_cast : (z : ℤ) → SFits w64 z → lt_z z (pos 0) ≡ false → T (non_neg z) × Fits w64 (nat_abs z)
-natural_cast (pos i) f e = (tt, record { fits = omega (arith, f.sfits) })
-natural_cast (negsuc i) f e = differ e
-
 natural_near : (z : ℤ) (r : Result) → lt_z z (pos 0) ≡ false → near_figure (nat_abs z) r ≡ near_at z r
 natural_near (pos i) r e = refl
 natural_near (negsuc i) r e = differ e
@@ -78,11 +62,5 @@ near_refused (pos i) r e = e
 near_refused (negsuc i) r e = refl
 
 module _ {z : ℤ} (f : SFits w64 z) where
-  pub near_negative : (r : Result) → lt_z (back z) (pos 0) ≡ true → minus_one ≡ near_at z r
-  near_negative r e = negative_none z r (rw (back_is f) at e)
-
-  pub near_cast : lt_z (back z) (pos 0) ≡ false → T (non_neg (back z)) × Fits w64 (nat_abs (back z))
-  near_cast e = rw (back_is f) (natural_cast z f (rw (back_is f) at e))
-
   pub near_natural : (r : Result) → lt_z (back z) (pos 0) ≡ false → near_figure (nat_abs (back z)) r ≡ near_at z r
   near_natural r e = rw (back_is f) (natural_near z r (rw (back_is f) at e))

@@ -5,10 +5,9 @@ use mathlib.Core.Bool.{Bool, true, false, cond}
 use mathlib.Core.List.{List}
 use Prim.Native.Nat.{ℕ, ◌≤◌}
 use native.Mathlib.Omega.{arith}
-use lib.IntN.{ℤ}
-use lib.ListN.{take}
 use Rattle.std.specs.Prelude.{Ok, Err, Option, Some, None}
 use Rattle.std.specs.Prelude as Std
+use Rattle.std.specs.Option.{option_map}
 use Rattle.std.specs.Result.{result_ok}
 use Rattle.refusal.specs.declared.Refusal.{Refusal}
 use Rattle.job.specs.Format.{Job, Result, refused, accepted, read_job}
@@ -22,12 +21,16 @@ use Rattle.deck.proofs.DeckLaws.{held_deck}
 use Rattle.deck.proofs.SoundLaws.{record_sound}
 use Rattle.job.proofs.ReadDeck.{Spelt, spelt_range}
 use Rattle.job.proofs.ReadDeck.{read_accepted, read_deck, read_rounds}
-use Rattle.prepare.specs.declared.Parts.{Parts}
-use Rattle.prepare.specs.ProblemRecord.{problem_record, problem_by, given_by, given_for}
+use Rattle.prepare.specs.declared.Given.{Given}
+use Rattle.prepare.specs.ProblemRecord.{parts_in, problem_record, given_by, given_for}
 use Rattle.prepare.proofs.JobProblem.{spelt, problem_same, given_refused}
+use Rattle.lines.specs.LineRecord.{grid_of}
+use Rattle.query.specs.Grid.{grid}
+use Rattle.deck.specs.Objects.{pricing_of}
+use Rattle.reach.specs.Held.{pricing_of_objects}
 use Rattle.problem.specs.Prepared.{Prepared}
-use Rattle.problem.proofs.DeckProblem.{made_prepared}
-use Rattle.trial.specs.Opened.{Whole, opened_deck, opened_record}
+use Rattle.problem.proofs.DeckProblem.{made_prepared, prepared_pricing, prepared_grid}
+use Rattle.trial.specs.Opened.{Whole, OpenedParts, parts_of, opened_deck, opened_record}
 use Rattle.trial.specs.Trial.{on_job}
 use Rattle.trial.specs.declared.opened.Opened.{Opened}
 
@@ -49,63 +52,78 @@ ok_some (Ok b) a e = cc
 ok_some (Err why) a e = cc
 
 -- ---- a job that was read, and what preparing it gives
-module _ (bytes : List ℕ) (q : Std.Result Parts Refusal) (columns v h : List ℤ) (f : given_by q columns v h ≡ given_for (read_job bytes)) where
+module _ (bytes : List ℕ) (q : Std.Result Given Refusal) (f : given_by q ≡ given_for (read_job bytes)) where
   pub unprepared : (why : Refusal) → q ≡ Err why → None ≡ opened_record (read_job bytes)
   unfolding opened_record
-  unprepared why o = sym (ap opened_record (given_refused bytes q columns v h f why o))
+  unprepared why o = sym (ap opened_record (given_refused bytes why (sym (ap given_by o) ∙ f)))
 
-  module _ (p : Parts) (o : q ≡ Ok p) (r : Std.Result Held.Job Refusal) (e : r ≡ job_result (read_job bytes)) where
+  module _ (g : Given) (o : q ≡ Ok g) (r : Std.Result Held.Job Refusal) (e : r ≡ job_result (read_job bytes)) where
+    given : Ok (record { rounds = g.rounds; before = g.before; problem = parts_in g.problem }) ≡ given_for (read_job bytes)
+    given = sym (ap given_by o) ∙ f
+
     pub read_too : (why : Refusal) → r ≡ Err why → ⊥
     unfolding job_result
-    read_too why g = let same = e ∙ ap job_result (spelt bytes q columns v h f p o).read in cc
+    read_too why k = let same = e ∙ ap job_result (spelt bytes g given).read in cc
 
-    pub opened : (j : Held.Job) → r ≡ Ok j → Some (record { deck = j.deck; problem = problem_by p columns v h }) ≡ opened_record (read_job bytes)
+    pub opened : (j : Held.Job) → r ≡ Ok j → Some (record { deck = j.deck; problem = parts_in g.problem }) ≡ opened_record (read_job bytes)
     unfolding opened_record opened_deck
-    opened j g =
-        let s = spelt bytes q columns v h f p o in
-        let deck = read_deck bytes j (sym g ∙ e) s in
-        let problem = problem_same bytes q columns v h f p o in
+    opened j k =
+        let s = spelt bytes g given in
+        let deck = read_deck bytes j (sym k ∙ e) s in
+        let problem = problem_same bytes g given in
         (λ i. Some (record { deck = deck i; problem = problem i })) ∙ sym (ap opened_record s.read)
 
--- ---- a deck in range with its problem: it is prepared, and its deck is the one held
-abbrev pub prepared : {o : Opened} → Whole o →
-    Prepared o.problem.columns o.problem.count (take o.problem.nv o.problem.v) (take o.problem.nh o.problem.h) o.problem.area
-prepared {o} w = made_prepared (deck_of o.deck) w.sound.range w.sound.full o.problem w.problem_is
+-- ---- the objects and the lines of a problem are those of the deck that is held
+module _ {o : Opened} (w : Whole o) where
+  abbrev prepared : Prepared o.problem
+  prepared = made_prepared (deck_of o.deck) w.sound.range w.sound.full o.problem w.problem_is
+
+  pub whole_pricing : pricing_of_objects o.problem.objects ≡ pricing_of (deck_of o.deck)
+  whole_pricing = prepared_pricing prepared
+
+  pub whole_grid : grid_of o.problem.vertical o.problem.horizontal ≡ grid (deck_of o.deck)
+  whole_grid = prepared_grid prepared
 
 -- ---- what `open_job` answers
+some_none : {P : Type 0} {k : OpenedParts} → Some k ≡ None → P
+some_none e = cc
+
+same_some : {k m : OpenedParts} → ◌≡◌ {A = Option OpenedParts} (Some k) (Some m) → k ≡ m
+same_some e = cc
+
 -- what was opened of an accepted job
 pub record Open (bytes : List ℕ) (o : Opened) : Type 0 where
   pub job : Spelt bytes
-  pub is : o ≡ opened_deck job.job.deck
+  pub is : parts_of o ≡ opened_deck job.job.deck
 
-module _ (bytes : List ℕ) (r : Option Opened) (e : r ≡ opened_record (read_job bytes)) where
+module _ (bytes : List ℕ) (r : Option Opened) (e : option_map parts_of r ≡ opened_record (read_job bytes)) where
   pub open_accepted : (o : Opened) → r ≡ Some o → Open bytes o
   unfolding opened_record
-  open_accepted o f = go (read_job bytes) refl e
+  open_accepted o f = go (read_job bytes) refl (sym (ap (option_map parts_of) f) ∙ e)
     where
-      go : (q : Result) → read_job bytes ≡ q → r ≡ opened_record q → Open bytes o
-      go (refused why) p g = cc
-      go (accepted job) p g = record { job = record { job = job; read = p; allowed = ((accepted_job bytes job).0 p).2 }; is = cc }
+      go : (q : Result) → read_job bytes ≡ q → Some (parts_of o) ≡ opened_record q → Open bytes o
+      go (refused why) p g = some_none g
+      go (accepted job) p g = record { job = record { job = job; read = p; allowed = ((accepted_job bytes job).0 p).2 }; is = same_some g }
 
   pub open_refused : {A : Type 0} (none : A) (f : Job → A) → r ≡ None → none ≡ on_job none f (read_job bytes)
   unfolding opened_record
-  open_refused none f g = go (read_job bytes) refl e
+  open_refused none f g = go (read_job bytes) (sym (ap (option_map parts_of) g) ∙ e)
     where
-      go : (q : Result) → read_job bytes ≡ q → r ≡ opened_record q → none ≡ on_job none f q
-      go (refused why) p h = refl
-      go (accepted job) p h = cc
+      go : (q : Result) → None ≡ opened_record q → none ≡ on_job none f q
+      go (refused why) h = refl
+      go (accepted job) h = some_none (sym h)
 
 module _ {bytes : List ℕ} {o : Opened} (w : Open bytes o) where
   pub open_held : o.deck ≡ deck_record w.job.job.deck
   unfolding opened_deck
-  open_held = ap (λ (k : Opened). k.deck) w.is
+  open_held = ap (λ (k : OpenedParts). k.deck) w.is
 
   pub open_deck : deck_of o.deck ≡ w.job.job.deck
   open_deck = ap deck_of open_held ∙ held_deck w.job.job.deck
 
-  pub open_problem : o.problem ≡ problem_record w.job.job.deck
+  pub open_problem : parts_in o.problem ≡ problem_record w.job.job.deck
   unfolding opened_deck
-  open_problem = ap (λ (k : Opened). k.problem) w.is
+  open_problem = ap (λ (k : OpenedParts). k.problem) w.is
 
   pub open_whole : Whole o
   open_whole = record {

@@ -1,6 +1,6 @@
 -- A rectangle that is allowed, and its numbers as machine words.
 -- Assumes nothing.
-use mathlib.Core.Path.{◌≡◌, refl, sym, ap, ◌∙◌}
+use mathlib.Core.Path.{◌≡◌, refl}
 use mathlib.Core.Bool.{Bool, true, false, ◌&&◌}
 use mathlib.Core.Logic.{◌↔◌}
 use lib.Dec.{T}
@@ -26,16 +26,6 @@ place_range p =
     let both = and_iff (in_range coordinates p.x) (in_range coordinates p.y) (coordinate_range p.x) (coordinate_range p.y) in
     (λ t. record { x_range = (both.0 t).0; y_range = (both.0 t).1 }, λ h. both.1 (h.x_range, h.y_range))
 
--- x and y were tested in this order
-module _ {x y : ℤ} (f : SFits w64 x) (g : SFits w64 y) {r : Bool} (first : r ≡ in_range coordinates (back x)) where
-  pub place_on : {t : Bool} → r ≡ true → t ≡ in_range coordinates (back y) → t ≡ place_in_range (record { x = x; y = y })
-  unfolding place_in_range
-  place_on on second = let first = rw (back_is f) at first in second ∙ rw (back_is g, ← first, on)
-
-  pub place_off : r ≡ false → false ≡ place_in_range (record { x = x; y = y })
-  unfolding place_in_range
-  place_off off = let first = rw (back_is f) at first in rw (← first, off)
-
 -- the test holds of the rectangles that are in range and not empty, and of no others
 in_order : (a b : ℤ) → T (le_z a b) ↔ (a ≤ℤ b)
 in_order a b = (λ t. record { le = t }, λ h. h.le)
@@ -50,18 +40,6 @@ rect_range r =
       λ t. let (l, (h, (x, y))) = four.0 t in record { range = record { low_corner_law = l; high_corner_law = h }; full = record { across = x; deep = y } },
       λ h. four.1 (h.range.low_corner_law, (h.range.high_corner_law, (h.full.across, h.full.deep))),
     )
-
--- ---- numbers as 64 bits hold them
-pub place_held : {x y : ℤ} → SFits w64 x → SFits w64 y → ◌≡◌ {A = Place} (record { x = back x; y = back y }) (record { x = x; y = y })
-place_held f g = rw (back_is f, back_is g)
-
-pub rect_held : {xlo ylo xhi yhi : ℤ} → SFits w64 xlo → SFits w64 ylo → SFits w64 xhi → SFits w64 yhi →
-    ◌≡◌ {A = Rect} (record { xlo = back xlo; ylo = back ylo; xhi = back xhi; yhi = back yhi }) (record { xlo = xlo; ylo = ylo; xhi = xhi; yhi = yhi })
-rect_held f g h k = rw (back_is f, back_is g, back_is h, back_is k)
-
-pub tested_place : {x y : ℤ} {r t : Bool} → SFits w64 x → SFits w64 y → r ≡ place_in_range (record { x = back x; y = back y }) → r ≡ t →
-    place_in_range (record { x = x; y = y }) ≡ t
-tested_place f g e t = sym (e ∙ ap place_in_range (place_held f g)) ∙ t
 
 -- ---- tests that are joined by `&&`, as the code joins them
 pub and_then : (a b : Bool) → a ≡ true → b ≡ a && b
@@ -80,5 +58,5 @@ pub rect_tests : (r : Held.Rect) → SFits w64 r.xlo → SFits w64 r.ylo → SFi
     corners ≡ low && place_in_range (record { x = back r.xhi; y = back r.yhi }) → across ≡ corners && le_z (back r.xlo) (back r.xhi) →
     across && le_z (back r.ylo) (back r.yhi) ≡ rect_allowed (rect_of r)
 unfolding rect_allowed
-rect_tests r f g h k low corners across = rw (across, corners, low, back_is f, back_is g, back_is h, back_is k) 
+rect_tests r f g h k low corners across = rw (across, corners, low, back_is f, back_is g, back_is h, back_is k)
     (grouped (place_in_range (record { x = r.xlo; y = r.ylo })) (place_in_range (record { x = r.xhi; y = r.yhi })) (le_z r.xlo r.xhi) (le_z r.ylo r.yhi))

@@ -8,14 +8,24 @@ use Rattle.job_line.specs.Kinds.{coordinates, in_range}
 use Rattle.job.specs.Format.{Result, refused, accepted}
 use Rattle.deck.specs.DeckOf.{deck_of, deck_record}
 use Rattle.deck.specs.Sound.{Sound}
-use Rattle.prepare.specs.ProblemRecord.{problem_record}
+use Rattle.deck.specs.declared.Deck as Held
+use Rattle.prepare.specs.ProblemRecord.{Parts, parts_in, problem_record}
 use Rattle.trial.specs.declared.opened.Opened.{Opened}
 
-unfoldable pub opened_deck : Query.Deck → Opened
+-- the record of a deck, and what its problem consists of
+pub record OpenedParts : Type 0 where
+  pub deck : Held.Deck
+  pub problem : Parts
+
+-- those of an opened job
+abbrev pub parts_of : Opened → OpenedParts
+parts_of o = record { deck = o.deck; problem = parts_in o.problem }
+
+unfoldable pub opened_deck : Query.Deck → OpenedParts
 unfolding deck_record problem_record
 opened_deck deck = record { deck = deck_record deck; problem = problem_record deck }
 
-unfoldable pub opened_record : Result → Option Opened
+unfoldable pub opened_record : Result → Option OpenedParts
 unfolding opened_deck
 opened_record (refused why) = None
 opened_record (accepted job) = Some (opened_deck job.deck)
@@ -23,7 +33,7 @@ opened_record (accepted job) = Some (opened_deck job.deck)
 -- a sound record, and the problem of its deck
 pub record Whole (o : Opened) : Type 0 where
   pub sound : Sound o.deck
-  pub problem_is : o.problem ≡ problem_record (deck_of o.deck)
+  pub problem_is : parts_in o.problem ≡ problem_record (deck_of o.deck)
 
 -- a place whose coordinates are in range
 unfoldable pub place_in_range : Place → Bool

@@ -11,7 +11,6 @@ use Rattle.query.specs.Grid.{grid}
 use Rattle.query.specs.Cut.{can_cut, cut_line}
 use Rattle.refusal.specs.Refusal.{number_of, line_of}
 use Rattle.refusal.specs.declared.Refusal.{Refusal}
-use Rattle.cuts.specs.CutRecord.{axis_of}
 use Rattle.job.specs.Format.{Job, Result, refused, accepted}
 use Rattle.trial.specs.Opened.{place_in_range, rect_allowed}
 
@@ -89,10 +88,14 @@ pub record Written : Type 0 where
   pub result : ℤ
   pub out : List ℤ
 
+-- across, the lines at an x; else those at a y
+abbrev pub lines_axis : Bool → Axis
+lines_axis across = cond across x_axis y_axis
+
 -- the lines along an axis are put in front of the output, and their number is the result.
 -- Where the job is refused or the output too short the result is -1, and the output is as it was
 abbrev pub lines_written : Bool → List ℤ → Result → Written
 lines_written across out r = on_job (record { result = minus_one; out = out })
-    (λ job. let ls = lines job.deck (axis_of across) in
+    (λ job. let ls = lines job.deck (lines_axis across) in
     cond (ltb (length out) (length ls)) (record { result = minus_one; out = out })
     (record { result = pos (length ls); out = ls ++ drop (length ls) out })) r

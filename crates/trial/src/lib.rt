@@ -7,8 +7,10 @@ pub mod opened;
 ghost use Rattle.std.specs.Prelude.{◌≡◌, ◌≤◌, get_or};
 ghost use Rattle.refusal.specs.Refusal.{line_of};
 ghost use Rattle.job.specs.Format.{read_job};
-ghost use Rattle.deck.specs.Rectangle.{rect_of};
+ghost use Rattle.deck.specs.Rectangle.{place_of, rect_of};
+ghost use Rattle.cuts.specs.CutRecord.{axis_of};
 ghost use Rattle.trial.specs.Trial.{
+  axis_number,
   least,
   minus_one,
   figure_or,
@@ -25,7 +27,8 @@ ghost use Rattle.trial.specs.Trial.{
   lines_written,
 };
 
-use deck::Rect;
+use cuts::Axis;
+use deck::{Place, Rect};
 use refusal::Refusal;
 
 // Stands for a figure that there is not.
@@ -86,18 +89,22 @@ fn near(job: &[u8], i: i64) -> Option<i64>
         return None;
     }
     let i = i as usize;
-    if i < o.deck.stops { Some(o.deck.near[i] as i64) } else { None }
+    if i < o.deck.stops {
+        Some(o.deck.near[i] as i64)
+    } else {
+        None
+    }
 }
 
 // The cost of a place.
-fn cost(job: &[u8], x: i64, y: i64) -> Option<i64>
-    ensures { figure_or minus_one result ≡ cost_figure (record { x = x; y = y }) (read_job job.now) }
+fn cost(job: &[u8], at: Place) -> Option<i64>
+    ensures { figure_or minus_one result ≡ cost_figure (place_of at) (read_job job.now) }
 {
     let o = opened::open_job(job)?;
-    if !opened::place_in_range(x, y) {
+    if !opened::place_in_range(at) {
         return None;
     }
-    Some(pricing::cost(&o.problem.columns, o.problem.count, x, y) as i64)
+    Some(pricing::cost(&o.problem.objects, at) as i64)
 }
 
 // The load of a rectangle.
@@ -108,7 +115,7 @@ fn load(job: &[u8], rect: Rect) -> Option<i64>
     if !opened::rect_allowed(rect) {
         return None;
     }
-    Some(pricing::load(&o.problem.columns, o.problem.count, rect) as i64)
+    Some(pricing::load(&o.problem.objects, rect) as i64)
 }
 
 // The bound of a rectangle.
@@ -119,7 +126,16 @@ fn bound(job: &[u8], rect: Rect) -> Option<i64>
     if !opened::rect_allowed(rect) {
         return None;
     }
-    Some(opened::bound_in(&o.problem.columns, o.problem.count, rect))
+    Some(opened::bound_in(&o.problem.objects, rect))
+}
+
+fn axis_number(axis: Axis) -> i64
+    ensures { result ≡ axis_number (axis_of axis) }
+{
+    match axis {
+        Axis::X => 1,
+        Axis::Y => 2,
+    }
 }
 
 // 1 for a cut at an x, 2 for one at a y, 0 for none.
@@ -130,11 +146,10 @@ fn cut_axis(job: &[u8], rect: Rect) -> Option<i64>
     if !opened::rect_allowed(rect) {
         return None;
     }
-    let cut = opened::cut_of(&o, rect);
-    if !cut.found {
-        return Some(0);
+    match opened::cut_of(&o, rect) {
+        Some(cut) => Some(axis_number(cut.axis)),
+        None => Some(0),
     }
-    Some(if cut.across { 1 } else { 2 })
 }
 
 // The line of the cut, and none also where there is no cut.
@@ -145,8 +160,8 @@ fn cut_line(job: &[u8], rect: Rect) -> Option<i64>
     if !opened::rect_allowed(rect) {
         return None;
     }
-    let cut = opened::cut_of(&o, rect);
-    if cut.found { Some(cut.at) } else { None }
+    let cut = opened::cut_of(&o, rect)?;
+    Some(cut.at)
 }
 
 // A figure of the job's deck: before, the near of stop `xlo`, the cost of (`xlo`, `ylo`); of the rectangle the load, the bound, the axis
@@ -160,7 +175,7 @@ pub fn trial_figure(job: &[u8], which: u64, xlo: i64, ylo: i64, xhi: i64, yhi: i
     match which {
         0 => before(job).unwrap_or(REFUSED),
         1 => near(job, xlo).unwrap_or(REFUSED),
-        2 => cost(job, xlo, ylo).unwrap_or(REFUSED),
+        2 => cost(job, Place { x: xlo, y: ylo }).unwrap_or(REFUSED),
         3 => load(job, rect).unwrap_or(REFUSED),
         4 => bound(job, rect).unwrap_or(NO_FIGURE),
         5 => cut_axis(job, rect).unwrap_or(REFUSED),
@@ -177,7 +192,11 @@ pub fn trial_lines(job: &[u8], across: bool, out: &mut [i64]) -> i64
         return REFUSED;
     };
     let p = &o.problem;
-    let lines: &[i64] = if across { &p.v[..p.nv] } else { &p.h[..p.nh] };
+    let lines = if across {
+        p.vertical.as_slice()
+    } else {
+        p.horizontal.as_slice()
+    };
     let n = lines.len();
     if out.len() < n {
         return REFUSED;

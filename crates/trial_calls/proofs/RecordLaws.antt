@@ -1,18 +1,15 @@
 -- The calls `read` and `write` as the tests see them: a record's numbers in two lists, and what the answers carry.
 -- Assumes nothing.
-use Prim.Native.Nat.{ℕ, zero, suc, ◌+◌, ◌-◌, ◌≤◌, ◌<◌}
+use Prim.Native.Nat.{ℕ, suc, ◌+◌, ◌-◌, ◌≤◌}
 use mathlib.Core.Path.{◌≡◌, refl, sym, ap, ◌∙◌}
-use mathlib.Core.Bool.{Bool, true, false, cond}
+use mathlib.Core.Bool.{Bool, true, cond}
 use mathlib.Core.Logic.{◌≢◌}
 use mathlib.Core.List.{List, [], ◌∷◌, ◌++◌, append-nil, append_assoc}
 use native.Mathlib.Omega.{arith}
 use lib.IntN.{ℤ, pos}
 use lib.ListN.{length, length-append, get_or, take, drop, set, replicate, length-set, length-drop, drop_of_length-le, replicate}
 use lib.Seq.{take_all, take_at, drop_at, take-suc-set, length-take-le}
-use mir.Syntax.{w64}
-use mir.Val.{to_z}
-use mir.ValLaws.{to_z_pos}
-use borrow.Author.Tests.{eq-eqb, ne_eqb}
+use borrow.Author.Tests.{eq-eqb}
 use Rattle.deck.specs.DeckOf.{Sized, deck_record, empty_deck}
 use Rattle.deck.specs.declared.Deck.{Deck}
 use Rattle.refusal.specs.Refusal.{number_of, line_of}
@@ -24,7 +21,7 @@ use borrow.Rule.Slice.PartMut.{put_mid}
 use Rattle.job.specs.declared.Job as Held
 use Rattle.job.proofs.JobLaws.{most_rounds}
 use Rattle.job.proofs.RefusalLaws.{condition_line}
-use Rattle.calls.specs.Answers.{AnswerOf, gives, refusal, read_answer, written_answer}
+use Rattle.calls.specs.Answers.{AnswerOf, refusal, read_answer, written_answer}
 use Rattle.calls.specs.ReadCall.{Read, read_deck, read_call}
 use Rattle.calls.specs.WriteCall.{Saved, write_call}
 use Rattle.calls.specs.SavingLaw.{WriteLaw}
@@ -111,21 +108,6 @@ deck_sized zs ns h k = record {
 }
 
 -- ---- the numbers of an answer
-module _ (n which : ℕ) where
-  pub count_itself : n ≤ 20000 → which ≡ 0 → to_z w64 n ≡ count_figure which (gives n)
-  count_itself h e = number_at (count_numbers (gives n)) which 0 _ e (to_z_pos w64 n (omega arith))
-
-  zero_at : (k : ℕ) → k < 2 → pos 0 ≡ get_or (count_numbers (gives n)) (suc k) least
-  zero_at zero h = refl
-  zero_at (suc zero) h = refl
-  zero_at (suc (suc k)) h = absurd (omega arith)
-
-  pub no_refusal_told : which ≢ 0 → which < 3 → pos 0 ≡ count_figure which (gives n)
-  no_refusal_told h l = number_at (count_numbers (gives n)) which (suc (which - 1)) (pos 0) (omega arith) (zero_at (which - 1) (omega arith))
-
-  pub no_count_figure : 3 ≤ which → least ≡ count_figure which (gives n)
-  no_count_figure h = number_at (count_numbers (gives n)) which (suc (suc (suc (which - 3)))) least (omega arith) refl
-
 module _ (why : Refusal) {answer : AnswerOf ℕ} (a : answer ≡ refusal why) (which : ℕ) where
   pub no_count : which ≡ 0 → least ≡ count_figure which answer
   no_count e = rw a (number_at (count_numbers (refusal why)) which 0 least e refl)
@@ -135,34 +117,8 @@ module _ (why : Refusal) {answer : AnswerOf ℕ} (a : answer ≡ refusal why) (w
 
 -- ---- lists that are as long as a record's
 module _ (zs : List ℤ) (ns : List ℕ) where
-  few_coordinates : length zs ≢ 1156 → is_record zs ns ≡ false
-  few_coordinates h = rw (ne_eqb (length zs) 1156 h)
-
-  few_naturals : length zs ≡ 1156 → length ns ≢ 1029 → is_record zs ns ≡ false
-  few_naturals h k = rw (eq-eqb (length zs) 1156 h, ne_eqb (length ns) 1029 k)
-
   as_long : length zs ≡ 1156 → length ns ≡ 1029 → is_record zs ns ≡ true
   as_long h k = rw (eq-eqb (length zs) 1156 h, eq-eqb (length ns) 1029 k)
-
-  module _ (job : List ℕ) (which : ℕ) where
-    nothing_read : is_record zs ns ≡ false → record { result = least; coordinates = zs; naturals = ns } ≡ trial_read job zs ns which
-    nothing_read e = ap (λ (b : Bool). cond b (read_into which (read_call job)) (record { result = least; coordinates = zs; naturals = ns })) (sym e)
-
-    pub read_few_coordinates : length zs ≢ 1156 → record { result = least; coordinates = zs; naturals = ns } ≡ trial_read job zs ns which
-    read_few_coordinates h = nothing_read (few_coordinates h)
-
-    pub read_few_naturals : length zs ≡ 1156 → length ns ≢ 1029 → record { result = least; coordinates = zs; naturals = ns } ≡ trial_read job zs ns which
-    read_few_naturals h k = nothing_read (few_naturals h k)
-
-  module _ (rounds : ℕ) (out : List ℕ) (which : ℕ) where
-    nothing_written : is_record zs ns ≡ false → record { result = least; out = out } ≡ trial_write zs ns rounds out which
-    nothing_written e = ap (λ (b : Bool). cond b (wrote_from which (write_call (deck_from zs ns) rounds out)) (record { result = least; out = out })) (sym e)
-
-    pub write_few_coordinates : length zs ≢ 1156 → record { result = least; out = out } ≡ trial_write zs ns rounds out which
-    write_few_coordinates h = nothing_written (few_coordinates h)
-
-    pub write_few_naturals : length zs ≡ 1156 → length ns ≢ 1029 → record { result = least; out = out } ≡ trial_write zs ns rounds out which
-    write_few_naturals h k = nothing_written (few_naturals h k)
 
 -- ---- the numbers of the record that counts for a refusal
 zero_coordinates : replicate 1156 (pos 0) ≡ coordinates_of (deck_record empty_deck)

@@ -69,8 +69,8 @@ fn spot_figure(s: Spot, which: u64) -> i64
     ensures { result ≡ get_or (spot_numbers (priced_of s)) which least }
 {
     match which {
-        0 => s.x,
-        1 => s.y,
+        0 => s.at.x,
+        1 => s.at.y,
         2 => s.cost as i64,
         3 | 4 => 0,
         _ => NO_FIGURE,

@@ -68,7 +68,12 @@ fn put_naturals(deck: &Deck, naturals: &mut [u64])
     requires { length naturals.old ≡ 1029 }
     ensures { naturals.new ≡ naturals_of deck.now }
 {
-    naturals[..4].copy_from_slice(&[deck.axis.a, deck.axis.b, deck.posts as u64, deck.stops as u64]);
+    naturals[..4].copy_from_slice(&[
+        deck.axis.a,
+        deck.axis.b,
+        deck.posts as u64,
+        deck.stops as u64,
+    ]);
     naturals[4..516].copy_from_slice(&deck.visits);
     naturals[516..1028].copy_from_slice(&deck.near);
     naturals[1028] = deck.before;

@@ -1,17 +1,16 @@
 -- What `job::read_rest` owes.
-use mathlib.Core.Path.{◌≡◌, refl, subst, ◌∙◌}
+use mathlib.Core.Path.{◌≡◌, refl, ◌∙◌}
 use mathlib.Core.List.{List}
 use Prim.Native.Nat.{ℕ}
 use lib.IntN.{ℤ}
 use lib.ListN.{take}
 use borrow.Author.Rules.{rules}
 use native.Mathlib.Omega.{arith}
-use Rattle.query.specs.Place.{Place}
 use Rattle.query.specs.Deck as Query
 use Rattle.deck.specs.DeckOf.{places}
 use Rattle.deck.specs.StopFigures.{Nears}
 use Rattle.deck.specs.declared.Deck.{Deck}
-use Rattle.deck.proofs.Fronts.{given_range, given_places, given_naturals, given_count, naturals_count, paid_given}
+use Rattle.deck.proofs.Fronts.{given_range, given_places, given_naturals, given_count, naturals_count, nears_given, paid_given}
 use Rattle.job.proofs.PartLaws.{handed}
 use Rattle.job.proofs.FilledLaws.{nears_range}
 use Rattle.job.proofs.ReadLaws.{rest_no_posts, rest_no_stops, rest_no_rounds, filled_posts, filled_stops, filled_visits, rest_unchecked, rest_read}
@@ -56,9 +55,8 @@ stop_columns-filled-requires c = (filled_stops c.in_ok-at.ensures c.in_ok-at-2.e
 found_of : {c : Query.AxisCosts} (deck : Deck) {us vs ws zs : List ℤ} {near : List ℕ} → us ≡ take deck.posts deck.post_x → vs ≡ take deck.posts deck.post_y →
     ws ≡ take deck.stops deck.stop_x → zs ≡ take deck.stops deck.stop_y → Nears c (places us vs) (places ws zs) near →
     Nears c (take deck.posts (places deck.post_x deck.post_y)) (take deck.stops (places deck.stop_x deck.stop_y)) near
-found_of {c} deck {us = us} {vs = vs} {near = near} e f g h found =
-    subst (λ (l : List Place). Nears c l (take deck.stops (places deck.stop_x deck.stop_y)) near) (given_places deck.posts deck.post_x deck.post_y e f)
-    (subst (λ (l : List Place). Nears c (places us vs) l near) (given_places deck.stops deck.stop_x deck.stop_y g h) found)
+found_of deck e f g h =
+    nears_given (given_places deck.posts deck.post_x deck.post_y e f) (given_places deck.stops deck.stop_x deck.stop_y g h)
 
 pub before_of-requires : goal.before_of-requires
 before_of-requires c =

@@ -54,21 +54,24 @@ line_few deck e few = omega (arith, first_few deck e)
 
 pub returns-in_err-area_line : goal.returns-in_err-area_line
 returns-in_err-area_line c =
-    let s : Sized c.args.deck.now = record { post_x = search rules; post_y = search rules; stop_x = search rules; stop_y = search rules; visits = search rules } in
+    let s : Sized c.args.deck.now = record
+    { post_x = search rules; post_y = search rules; stop_x = search rules; stop_y = search rules; visits = search rules } in
     let f : AreaFits c.args.deck.now = record { xlo = search rules; ylo = search rules; xhi = search rules; yhi = search rules } in
     passed_on _ c.from_residual.ensures.1
     ∙ part_refused _ (left s f) c.area_line.ensures (ap checked_as c.in_err-area_line.was)
 
 pub returns-in_err-axis_line : goal.returns-in_err-axis_line
 returns-in_err-axis_line c =
-    let s : Sized c.args.deck.now = record { post_x = search rules; post_y = search rules; stop_x = search rules; stop_y = search rules; visits = search rules } in
+    let s : Sized c.args.deck.now = record
+    { post_x = search rules; post_y = search rules; stop_x = search rules; stop_y = search rules; visits = search rules } in
     let f : AreaFits c.args.deck.now = record { xlo = search rules; ylo = search rules; xhi = search rules; yhi = search rules } in
     passed_on _ c.from_residual-in_err-axis_line.ensures.1
     ∙ part_refused _ (left-area s f c.area_line.ensures (ap checked_as c.in_ok-area_line.was)) c.axis_line.ensures (ap checked_as c.in_err-axis_line.was)
 
 pub returns-in_err-all_posts : goal.returns-in_err-all_posts
 returns-in_err-all_posts c =
-    let s : Sized c.args.deck.now = record { post_x = search rules; post_y = search rules; stop_x = search rules; stop_y = search rules; visits = search rules } in
+    let s : Sized c.args.deck.now = record
+    { post_x = search rules; post_y = search rules; stop_x = search rules; stop_y = search rules; visits = search rules } in
     let f : AreaFits c.args.deck.now = record { xlo = search rules; ylo = search rules; xhi = search rules; yhi = search rules } in
     passed_on _ c.from_residual-in_err-all_posts.ensures.1
     ∙ part_refused _ (left-axis s f c.area_line.ensures (ap checked_as c.in_ok-area_line.was) c.axis_line.ensures (ap checked_as c.in_ok-axis_line.was)
@@ -81,13 +84,15 @@ overflow_add-line-2 c =
 
 pub all_stops-requires : goal.all_stops-requires
 all_stops-requires c =
-    let s : Sized c.args.deck.now = record { post_x = search rules; post_y = search rules; stop_x = search rules; stop_y = search rules; visits = search rules } in
+    let s : Sized c.args.deck.now = record
+    { post_x = search rules; post_y = search rules; stop_x = search rules; stop_y = search rules; visits = search rules } in
     let few : c.args.deck.now.posts ≤ 64 = posts_most c.args.deck.now _ c.all_posts.ensures (ap checked_as c.in_ok-all_posts.was) in
     (omega (arith, s.stop_x), omega (arith, s.stop_y), omega (arith, s.visits), omega (arith, line_few c.args.deck.now c.posts_at-first.ensures few))
 
 pub returns-in_err-all_stops : goal.returns-in_err-all_stops
 returns-in_err-all_stops c =
-    let s : Sized c.args.deck.now = record { post_x = search rules; post_y = search rules; stop_x = search rules; stop_y = search rules; visits = search rules } in
+    let s : Sized c.args.deck.now = record
+    { post_x = search rules; post_y = search rules; stop_x = search rules; stop_y = search rules; visits = search rules } in
     let f : AreaFits c.args.deck.now = record { xlo = search rules; ylo = search rules; xhi = search rules; yhi = search rules } in
     passed_on _ c.from_residual-in_err-all_stops.ensures.1
     ∙ part_refused _ (left-posts s f c.area_line.ensures (ap checked_as c.in_ok-area_line.was) c.axis_line.ensures (ap checked_as c.in_ok-axis_line.was)
@@ -107,7 +112,8 @@ overflow_add-line-4 c =
 
 pub returns-in_err-count_line : goal.returns-in_err-count_line
 returns-in_err-count_line c =
-    let s : Sized c.args.deck.now = record { post_x = search rules; post_y = search rules; stop_x = search rules; stop_y = search rules; visits = search rules } in
+    let s : Sized c.args.deck.now = record
+    { post_x = search rules; post_y = search rules; stop_x = search rules; stop_y = search rules; visits = search rules } in
     let f : AreaFits c.args.deck.now = record { xlo = search rules; ylo = search rules; xhi = search rules; yhi = search rules } in
     passed_on _ c.from_residual-in_err-count_line.ensures.1
     ∙ part_refused _ (left-stops s f c.area_line.ensures (ap checked_as c.in_ok-area_line.was) c.axis_line.ensures (ap checked_as c.in_ok-axis_line.was)
@@ -117,9 +123,11 @@ returns-in_err-count_line c =
 
 pub returns : goal.returns
 returns c =
-    let s : Sized c.args.deck.now = record { post_x = search rules; post_y = search rules; stop_x = search rules; stop_y = search rules; visits = search rules } in
+    let s : Sized c.args.deck.now = record
+    { post_x = search rules; post_y = search rules; stop_x = search rules; stop_y = search rules; visits = search rules } in
     let f : AreaFits c.args.deck.now = record { xlo = search rules; ylo = search rules; xhi = search rules; yhi = search rules } in
-    parts_answer f (part_fine _ (left-stops s f c.area_line.ensures (ap checked_as c.in_ok-area_line.was) c.axis_line.ensures (ap checked_as c.in_ok-axis_line.was)
+    parts_answer f (part_fine _ (left-stops s f c.area_line.ensures (ap checked_as c.in_ok-area_line.was) c.axis_line.ensures
+    (ap checked_as c.in_ok-axis_line.was)
     c.posts_at-first.ensures
     c.all_posts.ensures (ap checked_as c.in_ok-all_posts.was) c.all_stops.ensures (ap checked_as c.in_ok-all_stops.was)) c.count_line.ensures
     (ap checked_as c.in_ok-count_line.was))

@@ -19,8 +19,11 @@ pub loop-x-preserved : goal.loop-x-preserved
 loop-x-preserved c =
     let turn = YieldsList-turn (places_yielded c.args.xs.now c.args.ys.now (search rules) (search rules)) c.loop-x.yielded c.loop-x.x-iterator
     c.loop-x.yielded_by c.next.result c.next.new.self (c.in-Some.x, c.in-Some.y) c.in-Some.is c.next.ensures.steps in
-    let more = length-append c.loop-x.yielded ((c.in-Some.x, c.in-Some.y) ∷ []) in
-    (post_counted c.args.xs.now c.args.ys.now _ turn.0 (word_place (search rules) (search rules) ∙ turn.1) c.loop-x.invariant.0 c.place_len.ensures.value more, omega (arith, more))
+    let more = length-append c.loop-x.yielded ((c.in-Some.x, c.in-Some.y) ∷ []) in (
+      post_counted c.args.xs.now c.args.ys.now _ turn.0 (word_place (search rules) (search rules) ∙ turn.1) c.loop-x.invariant.0
+          c.place_len.ensures.value more,
+      omega (arith, more),
+    )
 
 pub returns-clause-value : goal.returns-clause-value
 returns-clause-value c =

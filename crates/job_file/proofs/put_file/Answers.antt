@@ -83,7 +83,8 @@ put-next-requires c =
 pub put_place-next-requires : goal.put_place-next-requires
 unfolding bytes
 put_place-next-requires c =
-    let f : Held c.args.deck.now = record { xlo = search rules; ylo = search rules; xhi = search rules; yhi = search rules; posts = search rules; stops = search rules } in
+    let f : Held c.args.deck.now = record
+    { xlo = search rules; ylo = search rules; xhi = search rules; yhi = search rules; posts = search rules; stops = search rules } in
     let r : Fronts c.args.deck.now (length c.args.out.now) = fronts c.args.deck.now c.args.rounds c.requires.2 in
     rw (to_z-of_z w64 c.args.deck.now.xlo f.xlo, to_z-of_z w64 c.args.deck.now.ylo f.ylo)
     (part_room _ (place_text c.args.deck.now.xlo c.args.deck.now.ylo comma) c.put-next.ensures r.two)
@@ -91,7 +92,8 @@ put_place-next-requires c =
 pub put_place-next-requires-2 : goal.put_place-next-requires-2
 unfolding bytes
 put_place-next-requires-2 c =
-    let f : Held c.args.deck.now = record { xlo = search rules; ylo = search rules; xhi = search rules; yhi = search rules; posts = search rules; stops = search rules } in
+    let f : Held c.args.deck.now = record
+    { xlo = search rules; ylo = search rules; xhi = search rules; yhi = search rules; posts = search rules; stops = search rules } in
     let r : Fronts c.args.deck.now (length c.args.out.now) = fronts c.args.deck.now c.args.rounds c.requires.2 in
     rw (to_z-of_z w64 c.args.deck.now.xhi f.xhi, to_z-of_z w64 c.args.deck.now.yhi f.yhi)
     (part_room _ (place_text c.args.deck.now.xhi c.args.deck.now.yhi newline) (wrote₂ c.args.rounds f c.put-next.ensures c.put_place-next.ensures) r.three)
@@ -99,14 +101,17 @@ put_place-next-requires-2 c =
 pub put_axis-next-requires : goal.put_axis-next-requires
 unfolding bytes
 put_axis-next-requires c =
-    let f : Held c.args.deck.now = record { xlo = search rules; ylo = search rules; xhi = search rules; yhi = search rules; posts = search rules; stops = search rules } in
+    let f : Held c.args.deck.now = record
+    { xlo = search rules; ylo = search rules; xhi = search rules; yhi = search rules; posts = search rules; stops = search rules } in
     let r : Fronts c.args.deck.now (length c.args.out.now) = fronts c.args.deck.now c.args.rounds c.requires.2 in
-    part_room _ (axis_text (held_axis c.args.deck.now.axis)) (wrote₃ c.args.rounds f c.put-next.ensures c.put_place-next.ensures c.put_place-next-2.ensures) r.four
+    part_room _ (axis_text (held_axis c.args.deck.now.axis))
+    (wrote₃ c.args.rounds f c.put-next.ensures c.put_place-next.ensures c.put_place-next-2.ensures) r.four
 
 pub put_count-next-requires : goal.put_count-next-requires
 unfolding bytes
 put_count-next-requires c =
-    let f : Held c.args.deck.now = record { xlo = search rules; ylo = search rules; xhi = search rules; yhi = search rules; posts = search rules; stops = search rules } in
+    let f : Held c.args.deck.now = record
+    { xlo = search rules; ylo = search rules; xhi = search rules; yhi = search rules; posts = search rules; stops = search rules } in
     let r : Fronts c.args.deck.now (length c.args.out.now) = fronts c.args.deck.now c.args.rounds c.requires.2 in
     part_room _ (count_part (bytes "posts=") c.args.deck.now.posts)
     (wrote₄ c.args.rounds f c.put-next.ensures c.put_place-next.ensures c.put_place-next-2.ensures c.put_axis-next.ensures) r.five
@@ -114,7 +119,8 @@ put_count-next-requires c =
 pub put_posts-next-requires : goal.put_posts-next-requires
 unfolding bytes
 put_posts-next-requires c =
-    let f : Held c.args.deck.now = record { xlo = search rules; ylo = search rules; xhi = search rules; yhi = search rules; posts = search rules; stops = search rules } in
+    let f : Held c.args.deck.now = record
+    { xlo = search rules; ylo = search rules; xhi = search rules; yhi = search rules; posts = search rules; stops = search rules } in
     let r : Fronts c.args.deck.now (length c.args.out.now) = fronts c.args.deck.now c.args.rounds c.requires.2 in
     rw (posts_front c.args.deck.now.posts c.args.deck.now.post_x c.args.deck.now.post_y f.posts)
     (part_room _ (post_texts c.args.deck.now.post_x c.args.deck.now.post_y c.args.deck.now.posts)
@@ -123,7 +129,8 @@ put_posts-next-requires c =
 pub put_count-next-requires-2 : goal.put_count-next-requires-2
 unfolding bytes
 put_count-next-requires-2 c =
-    let f : Held c.args.deck.now = record { xlo = search rules; ylo = search rules; xhi = search rules; yhi = search rules; posts = search rules; stops = search rules } in
+    let f : Held c.args.deck.now = record
+    { xlo = search rules; ylo = search rules; xhi = search rules; yhi = search rules; posts = search rules; stops = search rules } in
     let r : Fronts c.args.deck.now (length c.args.out.now) = fronts c.args.deck.now c.args.rounds c.requires.2 in
     part_room _ (count_part (bytes "stops=") c.args.deck.now.stops)
     (wrote₆ c.args.rounds f c.put-next.ensures c.put_place-next.ensures c.put_place-next-2.ensures c.put_axis-next.ensures c.put_count-next.ensures
@@ -132,7 +139,8 @@ put_count-next-requires-2 c =
 pub put_stops-next-requires : goal.put_stops-next-requires
 unfolding bytes
 put_stops-next-requires c =
-    let f : Held c.args.deck.now = record { xlo = search rules; ylo = search rules; xhi = search rules; yhi = search rules; posts = search rules; stops = search rules } in
+    let f : Held c.args.deck.now = record
+    { xlo = search rules; ylo = search rules; xhi = search rules; yhi = search rules; posts = search rules; stops = search rules } in
     let r : Fronts c.args.deck.now (length c.args.out.now) = fronts c.args.deck.now c.args.rounds c.requires.2 in
     rw (stops_front c.args.deck.now.stops c.args.deck.now.stop_x c.args.deck.now.stop_y c.args.deck.now.visits f.stops)
     (part_room _ (stop_texts c.args.deck.now.stop_x c.args.deck.now.stop_y c.args.deck.now.visits c.args.deck.now.stops)
@@ -142,7 +150,8 @@ put_stops-next-requires c =
 pub put_count-requires : goal.put_count-requires
 unfolding bytes
 put_count-requires c =
-    let f : Held c.args.deck.now = record { xlo = search rules; ylo = search rules; xhi = search rules; yhi = search rules; posts = search rules; stops = search rules } in
+    let f : Held c.args.deck.now = record
+    { xlo = search rules; ylo = search rules; xhi = search rules; yhi = search rules; posts = search rules; stops = search rules } in
     part_room _ (count_part (bytes "rounds=") c.args.rounds)
     (wrote₈ c.args.rounds f c.put-next.ensures c.put_place-next.ensures c.put_place-next-2.ensures c.put_axis-next.ensures c.put_count-next.ensures
     c.put_posts-next.ensures c.put_count-next-2.ensures c.put_stops-next.ensures) (rw file_parts at c.requires.2)
@@ -150,6 +159,7 @@ put_count-requires c =
 pub returns : goal.returns
 unfolding bytes
 returns c =
-    let f : Held c.args.deck.now = record { xlo = search rules; ylo = search rules; xhi = search rules; yhi = search rules; posts = search rules; stops = search rules } in
+    let f : Held c.args.deck.now = record
+    { xlo = search rules; ylo = search rules; xhi = search rules; yhi = search rules; posts = search rules; stops = search rules } in
     wrote_front _ (wrote₉ c.args.rounds f c.put-next.ensures c.put_place-next.ensures c.put_place-next-2.ensures c.put_axis-next.ensures
     c.put_count-next.ensures c.put_posts-next.ensures c.put_count-next-2.ensures c.put_stops-next.ensures c.put_count.ensures)

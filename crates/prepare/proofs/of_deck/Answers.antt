@@ -24,7 +24,15 @@ of_stops-objects-requires c =
     )
 
 pub reach_flags-flags-requires : goal.reach_flags-flags-requires
-reach_flags-flags-requires c = ?
+reach_flags-flags-requires c = area_ranged _ c.requires _ c.area-area.ensures
 
 pub returns : goal.returns
-returns c = ?
+returns c =
+    let h = c.requires in
+    let made = c.of_stops-objects.ensures in
+    let given = c.stop_columns-stops.ensures in
+    let count = given_count given.x (stops_range _ (sound_columns h) h.range) in
+    made_problem _ h _ c.area-area.ensures c.of_stops-objects.result
+    (made.0 ∙ ap columns_of (stored_given _ _ _ _ _ _ given.x given.y given.visits given.near count ∙ sound_pricing h)) (made.1 ∙ count) _
+    c.reach_flags-flags.ensures _ _
+    (rw given.x at c.find_lines-vertical.ensures.whole) (rw given.y at c.find_lines-horizontal.ensures.whole)

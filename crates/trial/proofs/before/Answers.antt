@@ -1,6 +1,5 @@
 -- What `trial::before` owes.
 use native.Mathlib.Omega.{arith}
-use Rattle.trial.specs.Trial.{figure_or}
 use Rattle.trial.proofs.OpenLaws.{open_accepted, open_refused}
 use Rattle.trial.proofs.FigureLaws.{before_small, before_answer}
 use Rattle.trial.proofs.before.Goals as goal

@@ -1,12 +1,12 @@
 -- What `trial::load` owes.
 use mathlib.Core.Path.{◌≡◌, sym, ◌∙◌}
-use mathlib.Core.Bool.{true, false}
+use mathlib.Core.Bool.{true}
 use Rattle.numbers.proofs.Words.{is_true}
 use Rattle.deck.specs.Rectangle.{rect_of}
 use Rattle.trial.specs.Opened.{rect_allowed}
-use Rattle.trial.proofs.OpenLaws.{open_accepted, open_whole, open_refused}
+use Rattle.trial.proofs.OpenLaws.{open_accepted, open_refused}
 use Rattle.trial.proofs.RectLaws.{rect_range}
-use Rattle.trial.proofs.FigureLaws.{open_priceable, load_answer}
+use Rattle.trial.proofs.FigureLaws.{load_answer}
 use Rattle.trial.proofs.load.Goals as goal
 
 pub returns-in_err-o : goal.returns-in_err-o
@@ -15,7 +15,7 @@ returns-in_err-o c = rw c.from_residual.ensures (open_refused _ _ c.open_job.ens
 pub load-requires : goal.load-requires
 load-requires c =
     let on : rect_allowed (rect_of c.args.rect) ≡ true = sym c.rect_allowed.ensures ∙ c.if-not-rect_allowed.false in
-    (open_priceable (open_accepted _ _ c.open_job.ensures _ c.in_ok-o.was), (rect_range _).0 (is_true _ on))
+    (rect_range _).0 (is_true _ on)
 
 pub returns : goal.returns
 returns c =

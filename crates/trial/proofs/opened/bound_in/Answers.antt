@@ -8,16 +8,17 @@ use Rattle.trial.proofs.opened.bound_in.Goals as goal
 
 pub returns : goal.returns
 returns c =
-    let r = c.args.rect in
-    let h = c.requires.1.range in
+    let r = c.args.r in
+    let h = c.requires.range in
     to_z-of_z w64 _ (record { sfits = c.bound.type_inv }) ∙ c.bound.ensures
     ∙ rw (
-      c.cost-c00.ensures.is,
-      c.cost-c01.ensures.is,
-      c.cost-c10.ensures.is,
-      c.cost-c11.ensures.is,
+      c.cost.ensures.is,
+      c.cost-2.ensures.is,
+      c.cost-3.ensures.is,
+      c.cost-4.ensures.is,
       c.load-load.ensures.is,
       c.span.ensures.is,
+      c.axis.ensures.is,
       near_back r.xlo h.low_corner_law.x_range,
       near_back r.ylo h.low_corner_law.y_range,
       near_back r.xhi h.high_corner_law.x_range,

@@ -1,5 +1,4 @@
 -- What `search::run::Corners::best` owes.
-use mathlib.Core.Path.{sym, subst}
 use Rattle.search.proofs.StepLaws.{best_two_limit, best_three_limit, best_corner_is}
 use Rattle.search.proofs.run.Corners.best.Goals as goal
 
