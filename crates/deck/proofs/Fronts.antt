@@ -1,6 +1,6 @@
 -- The first n rows of columns, as columns of their own: in range as before, and with the same places, objects and sum.
 -- Assumes nothing.
-use mathlib.Core.Path.{◌≡◌, sym, ap, ◌∙◌}
+use mathlib.Core.Path.{◌≡◌, sym, ap, subst, ◌∙◌}
 use mathlib.Core.List.{List, zip_with}
 use Prim.Native.Nat.{ℕ, ◌*◌, ◌≤◌}
 use native.Mathlib.Omega.{arith}
@@ -8,6 +8,7 @@ use lib.IntN.{ℤ, pos}
 use lib.ListN.{length, take, length-take}
 use lib.Seq.{length-take-le, get_or-take, take-take, take_all}
 use Rattle.numbers.specs.Lists.{sum_of}
+use Rattle.query.specs.Place.{Place}
 use Rattle.query.specs.Deck.{AxisCosts, Stop}
 use Rattle.deck.specs.DeckOf.{places, stops_of}
 use Rattle.deck.specs.Objects.{stored_objects, stored_pricing}

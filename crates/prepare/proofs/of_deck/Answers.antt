@@ -1,5 +1,9 @@
 -- What `prepare::of_deck` owes.
-use mathlib.Core.Path.{ap, ◌∙◌}
+use mathlib.Core.Path.{◌≡◌, sym, ap, ◌∙◌}
+use native.Mathlib.Omega.{arith}
+use borrow.Author.Rules.{rules}
+use lib.ListN.{length}
+use lib.Seq.{length-take-le}
 use Rattle.deck.specs.ObjectColumns.{columns_of}
 use Rattle.deck.proofs.DeckLaws.{costs_range, stops_range, visits_range}
 use Rattle.deck.proofs.Fronts.{given_range, given_naturals, given_count, stored_given}
@@ -25,6 +29,24 @@ of_stops-objects-requires c =
 
 pub reach_flags-flags-requires : goal.reach_flags-flags-requires
 reach_flags-flags-requires c = area_ranged _ c.requires _ c.area-area.ensures
+
+pub slice_bounds-flags-end : goal.slice_bounds-flags-end
+slice_bounds-flags-end c =
+    let long : length c.reach_flags-flags.result ≡ 512 = search rules in omega (arith, long, (sound_columns c.requires).stops)
+
+pub slice_bounds-find_lines-end : goal.slice_bounds-find_lines-end
+slice_bounds-find_lines-end c =
+    let long : length c.reach_flags-flags.result ≡ 512 = search rules in
+    sym (length-take-le _ c.reach_flags-flags.result (omega (arith, long, (sound_columns c.requires).stops)))
+
+pub slice_bounds-flags-end-2 : goal.slice_bounds-flags-end-2
+slice_bounds-flags-end-2 c =
+    let long : length c.reach_flags-flags.result ≡ 512 = search rules in omega (arith, long, (sound_columns c.requires).stops)
+
+pub slice_bounds-find_lines-end-2 : goal.slice_bounds-find_lines-end-2
+slice_bounds-find_lines-end-2 c =
+    let long : length c.reach_flags-flags.result ≡ 512 = search rules in
+    sym (length-take-le _ c.reach_flags-flags.result (omega (arith, long, (sound_columns c.requires).stops)))
 
 pub returns : goal.returns
 returns c =
