@@ -45,6 +45,7 @@ pub struct Rect {
 }
 
 // What a tenth costs in x and in y.
+// kept: their range is no invariant, since a record that a caller hands over may hold any costs, and a type beside this one is no plainer.
 #[derive(Clone, Copy, PartialEq, Eq)]
 pub struct AxisCosts {
     pub a: u64,
@@ -52,6 +53,7 @@ pub struct AxisCosts {
 }
 
 // The columns of some places: their x, and their y beside it.
+// kept: their range is no invariant, since a record may hold any places; what computes with them asks for the range that it needs.
 #[derive(Clone, Copy)]
 pub struct Places<'a> {
     pub x: &'a [i64],
@@ -281,6 +283,7 @@ impl ScaledPosts {
     }
 }
 
+// kept: here and below the columns are one array with the count of their rows, as pricing reads them, so that the passes are vectorised.
 // The first post: the travel to it is the figure of each of the first n stops, in the last column.
 fn start_nears(columns: &mut [i32], n: usize, post: ScaledPlace)
     requires { StopsInRange columns.old n }
