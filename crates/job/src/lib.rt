@@ -133,16 +133,9 @@ fn read_rest(unread: Unread<'_>, area: Rect, axis: AxisCosts) -> Result<Job, Ref
     let unread = read_stops(unread, &mut deck)?;
     let rounds = last_line(unread)?;
     check(area, deck.posts, deck.stops)?;
-    deck.near = deck::nears_of(
-        axis,
-        &deck.post_x,
-        &deck.post_y,
-        deck.posts,
-        &deck.stop_x,
-        &deck.stop_y,
-        deck.stops,
-    );
-    deck.before = deck::before_of(&deck.visits, &deck.near, deck.stops);
+    deck.near = deck::nears_of(axis, deck.post_places(), deck.stop_columns().at);
+    let filled = deck.stop_columns();
+    deck.before = deck::before_of(filled.visits, filled.near);
     Ok(Job { rounds, deck })
 }
 

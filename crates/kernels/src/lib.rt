@@ -127,15 +127,7 @@ impl Kernel for Near {
 
     fn at(o: &Opened, t: u64) -> u64 {
         let deck = &o.deck;
-        let near = deck::nears_of(
-            deck.axis,
-            &deck.post_x,
-            &deck.post_y,
-            deck.posts,
-            &deck.stop_x,
-            &deck.stop_y,
-            deck.stops,
-        );
+        let near = deck::nears_of(deck.axis, deck.post_places(), deck.stop_columns().at);
         near[(t % 512) as usize]
     }
 }
