@@ -7,7 +7,8 @@ use native.Mathlib.Numerals.{add-one}
 use native.Mathlib.Omega.{arith}
 use lib.IntN.{ℤ, pos}
 use lib.ListN.{length, get_or, take, drop, set, replicate, length-replicate, replicate-append-replicate, get_or-append}
-use lib.Seq.{take-length, drop-length, paste, paste-zero, paste-suc, length-paste, drop-paste, length-take-le, get_or-take, get_or-drop, take_at, drop_at, drop-append-add}
+use lib.Seq.{take-length, drop-length, paste, paste-zero, paste-suc, length-paste}
+use lib.Seq.{drop-paste, length-take-le, get_or-take, get_or-drop, take_at, drop_at, drop-append-add}
 use Rattle.numbers.specs.Padded.{padded}
 
 -- an array d into which the first n elements of s are copied from `at` on, i of them so far

@@ -74,7 +74,8 @@ part_put at n d xs {part} e h = put_mid-paste at (at + n - at) d part (take n xs
 
 pub placed : (axis : AxisCosts) (d : List ℤ) {xs ys : List ℤ} → PlacesInRange 512 xs ys (length xs) → {u v : List ℤ} → u ≡ map (times axis.a) xs →
     v ≡ map (times axis.b) (take (length xs) ys) →
-    put_mid 512 (512 + length xs - 512) (u ++ drop (length xs) d) v ≡ paste (paste d 0 (map (times axis.a) xs) (length xs)) 512 (map (times axis.b) ys) (length xs)
+    put_mid 512 (512 + length xs - 512) (u ++ drop (length xs) d) v ≡ paste (paste d 0 (map (times axis.a) xs) (length xs)) 512
+    (map (times axis.b) ys) (length xs)
 placed axis d {xs} {ys} range {u} {v} eu ev =
     part_put 512 (length xs) (u ++ drop (length xs) d) (map (times axis.b) ys) (ev ∙ map_take (times axis.b) (length xs) ys)
     (omega (arith, range.y.count, length-map ys (times axis.b)))

@@ -111,7 +111,12 @@ module _ (axis : AxisCosts) (costs : CostsInRange axis) {px py xs ys : List ℤ}
   near_limit : (p : Place) → Memᴰ p stops_at → closest axis p posts_at ≤ 720000
   near_limit p m =
       let (post, i, e) = closest_some axis p posts_at (length_non_empty posts_at (omega (arith, some, places_count posts))) in
-      omega (arith, e, costs_limit axis costs.most p post (rw (places_whole stops) at (places_each stops) p m) (rw (places_whole posts) at (places_each posts) post i))
+      omega (
+        arith,
+        e,
+        costs_limit axis costs.most p post (rw (places_whole stops) at (places_each stops) p m)
+            (rw (places_whole posts) at (places_each posts) post i),
+      )
 
   scaled_stops_x : CoordinatesInRange (map (times axis.a) xs) n
   scaled_stops_x = scaled_range axis.a xs n costs.most.0 stops.x

@@ -17,8 +17,8 @@ use Rattle.deck.specs.declared.Deck.{Deck}
 use Rattle.deck.specs.DeckOf.{held_axis}
 use Rattle.job.specs.File.{file_text}
 use Rattle.job_file.specs.Texts.{place_text, axis_text, post_texts, stop_texts}
-use Rattle.job_file.proofs.FileLaws.{count_part, front₁, front₂, front₃, front₄, front₅, front₆, front₇, front₈, file_parts, Fronts,
-fronts, part_room}
+use Rattle.job_file.proofs.FileLaws.{count_part, front₁, front₂, front₃, front₄, front₅, front₆, front₇, front₈}
+use Rattle.job_file.proofs.FileLaws.{file_parts, Fronts, fronts, part_room}
 use Rattle.job_file.proofs.TextLaws.{posts_front, stops_front}
 use Rattle.job_file.proofs.put_file.Goals as goal
 

@@ -12,18 +12,18 @@ use Rattle.deck.proofs.Fronts.{given_range, given_places, given_count, nears_giv
 use Rattle.deck.proofs.SoundLaws.{found_nears, sound_columns, sound_posts, sound_limit}
 use Rattle.kernels.proofs.NearKernel.at.Goals as goal
 
-pub post_places-near-requires : goal.post_places-near-requires
-post_places-near-requires c = (sound_columns c.requires.sound).posts
+pub post_places-requires : goal.post_places-requires
+post_places-requires c = (sound_columns c.requires.sound).posts
 
-pub stop_columns-near-requires : goal.stop_columns-near-requires
-stop_columns-near-requires c = (sound_columns c.requires.sound).stops
+pub stop_columns-requires : goal.stop_columns-requires
+stop_columns-requires c = (sound_columns c.requires.sound).stops
 
 pub nears_of-near-requires : goal.nears_of-near-requires
 nears_of-near-requires c =
     let sound = c.requires.sound in
     let columns = sound_columns sound in
-    let posts = c.post_places-near.ensures in
-    let stops = c.stop_columns-near.ensures in
+    let posts = c.post_places.ensures in
+    let stops = c.stop_columns.ensures in
     let range = posts_range _ columns sound.range in (
       costs_range _ columns sound.range,
       given_range posts.x posts.y range,
@@ -36,8 +36,8 @@ returns c =
     let i = c.args.t % 512 in
     let record_of = c.args.o.now.deck in
     let deck = deck_of record_of in
-    let posts = c.post_places-near.ensures in
-    let stops = c.stop_columns-near.ensures in
+    let posts = c.post_places.ensures in
+    let stops = c.stop_columns.ensures in
     let found : c.nears_of-near.result ≡ padded 512 0 (map (near deck) deck.stops) =
     found_nears _ (sound_columns c.requires.sound) (nears_given (given_places record_of.posts record_of.post_x record_of.post_y posts.x posts.y)
     (given_places record_of.stops record_of.stop_x record_of.stop_y stops.x stops.y) c.nears_of-near.ensures) in
