@@ -1,13 +1,14 @@
 -- A list copied into an array from a place on, one element after another; columns of 512 copied one behind another.
 -- Assumes nothing.
-use mathlib.Core.Path.{◌≡◌, refl, sym, ap, ◌∙◌}
-use mathlib.Core.List.{List, ◌++◌, append_assoc}
+use mathlib.Core.Path.{◌≡◌, refl, sym, ap, subst, ◌∙◌}
+use mathlib.Core.List.{List, ◌++◌, append_assoc, append-nil}
 use Prim.Native.Nat.{ℕ, ◌+◌, ◌-◌, ◌≤◌, ◌<◌}
 use native.Mathlib.Numerals.{add-one}
 use native.Mathlib.Omega.{arith}
 use lib.IntN.{ℤ, pos}
 use lib.ListN.{length, get_or, take, drop, set, replicate, length-replicate, replicate-append-replicate, get_or-append}
-use lib.Seq.{paste, paste-zero, paste-suc, length-paste, drop-paste, length-take-le, get_or-take, get_or-drop, take_at, drop_at, drop-append-add}
+use lib.Seq.{take-length, drop-length, paste, paste-zero, paste-suc, length-paste}
+use lib.Seq.{drop-paste, length-take-le, get_or-take, get_or-drop, take_at, drop_at, drop-append-add}
 use Rattle.numbers.specs.Padded.{padded}
 
 -- an array d into which the first n elements of s are copied from `at` on, i of them so far
@@ -52,6 +53,21 @@ module _ {A : Type 0} (d : List A) (at : ℕ) (s : List A) (n : ℕ) where
         drop_at (take at d) (take i s ++ drop (at + i) d) at (length-take-le at d g),
       )
       (get_or-append (take i s) _ z j (omega (arith, length-take-le i s (omega (arith, so_far.count)))) ∙ get_or-take i s j z l)
+
+-- a list copied from the front on, the whole of it into an array of its length
+pub copied_start : {A : Type 0} (d s : List A) {to : List A} {i : ℕ} (v z : A) → length d ≡ length s → Copied d 0 s (length s) to i → i < length s →
+    v ≡ get_or s i z → Copied d 0 s (length s) (set to i v) (i + 1)
+copied_start d s {to} {i} v z same so_far h e =
+    let at : 0 + i ≡ i = omega arith in
+    subst (λ (m : ℕ). Copied d 0 s (length s) (set to m v) (i + 1)) at (copied_more d 0 s (length s) v z (omega arith) (omega arith) so_far h e)
+
+pub copied_whole : {A : Type 0} (d s : List A) {to : List A} {i : ℕ} → length d ≡ length s → Copied d 0 s (length s) to i → length s ≤ i → to ≡ s
+copied_whole {A} d s {to} {i} same so_far h =
+    copied_all d 0 s (length s) so_far h ∙ ap (λ (l : List A). l ++ drop (0 + length s) d) (take-length s)
+    ∙ ap (λ (l : List A). s ++ l) (ap (λ (m : ℕ). drop m d) (at ∙ sym same) ∙ drop-length d) ∙ append-nil s
+  where
+    at : 0 + length s ≡ length s
+    at = omega arith
 
 -- of two copies to the same place the second counts
 pub copied_again : {A : Type 0} (d : List A) (at : ℕ) (s t : List A) (n : ℕ) → at ≤ length d → n ≤ length s → paste (paste d at s n) at t n ≡ paste d at t n

@@ -9,6 +9,8 @@ pub mod DeckLaws
 pub mod StoredLaws
 pub mod MadeColumns
 pub mod MadeNears
+pub mod PostLaws
 pub mod PaidLaws
 pub mod SoundLaws
 pub mod ColumnLoops
+pub mod Fronts

@@ -2,11 +2,13 @@
 -- Assumes nothing.
 use mathlib.Core.Path.{◌≡◌, refl, sym, ap, ◌∙◌}
 use mathlib.Core.List.{List, [], ◌∷◌, ◌++◌, map, append_assoc}
-use Prim.Native.Nat.{ℕ, ◌≤◌}
+use Prim.Native.Nat.{ℕ, ◌+◌, ◌-◌, ◌≤◌}
 use native.Mathlib.Omega.{arith}
 use lib.IntN.{ℤ, pos}
 use lib.ListN.{length, take, drop, set, replicate, length-append, length-map, length-take}
-use lib.Seq.{paste, set_at, take-append-le, drop_at, length-take-le}
+use lib.Seq.{paste, set_at, take-append-le, take_all, take-take, drop_at, length-take-le}
+use borrow.Rule.Slice.PartMut.{put_mid}
+use Rattle.std.proofs.lemmas.Slice.{put_mid-paste}
 use Rattle.numbers.specs.Integer.{times}
 use Rattle.numbers.specs.Padded.{padded}
 use Rattle.numbers.proofs.Padded.{padded_length, padded_front}
@@ -16,6 +18,7 @@ use Rattle.deck.specs.ObjectColumns.{object_columns, columns_of}
 use Rattle.deck.specs.Ranges.{NaturalsUpTo, VisitsInRange, NearsInRange, PlacesInRange}
 use Rattle.deck.proofs.CopyLaws.{put_column}
 use Rattle.deck.proofs.ColumnLaws.{columns_length}
+use Rattle.deck.proofs.DeckLaws.{map_take}
 use Rattle.deck.proofs.StoredLaws.{stored, stored_count, stored_columns}
 
 -- two numbers put behind others, where 0 was
@@ -64,6 +67,30 @@ module _ (n : ℕ) (few : n ≤ 512) where
         )
         (take-append-le n (padded_column ws) _ (omega (arith, column_long ws)) ∙ column_front ws y)
 
+-- ---- a part of an array that was filled: the first n numbers of a column at a place
+pub part_put : (at n : ℕ) (d xs : List ℤ) {part : List ℤ} → part ≡ take n xs → n ≤ length xs → put_mid at (at + n - at) d part ≡ paste d at xs n
+part_put at n d xs {part} e h = put_mid-paste at (at + n - at) d part (take n xs) n e (omega arith) (omega (arith, length-take-le n xs h))
+    ∙ ap (λ (l : List ℤ). take at d ++ l ++ drop (at + n) d) (take-take n n xs (omega arith))
+
+pub placed : (axis : AxisCosts) (d : List ℤ) {xs ys : List ℤ} → PlacesInRange 512 xs ys (length xs) → {u v : List ℤ} → u ≡ map (times axis.a) xs →
+    v ≡ map (times axis.b) (take (length xs) ys) →
+    put_mid 512 (512 + length xs - 512) (u ++ drop (length xs) d) v ≡ paste (paste d 0 (map (times axis.a) xs) (length xs)) 512
+    (map (times axis.b) ys) (length xs)
+placed axis d {xs} {ys} range {u} {v} eu ev =
+    part_put 512 (length xs) (u ++ drop (length xs) d) (map (times axis.b) ys) (ev ∙ map_take (times axis.b) (length xs) ys)
+    (omega (arith, range.y.count, length-map ys (times axis.b)))
+    ∙ ap (λ (l : List ℤ). paste l 512 (map (times axis.b) ys) (length xs)) front
+  where
+    at : 0 + length xs ≡ length xs
+    at = omega arith
+
+    all : u ≡ take (length xs) (map (times axis.a) xs)
+    all = eu ∙ sym (take_all (length xs) (map (times axis.a) xs) (omega (arith, length-map xs (times axis.a))))
+
+    front : u ++ drop (length xs) d ≡ paste d 0 (map (times axis.a) xs) (length xs)
+    front = ap (λ (l : List ℤ). l ++ drop (length xs) d) all
+        ∙ ap (λ (m : ℕ). take (length xs) (map (times axis.a) xs) ++ drop m d) (sym at)
+
 -- ---- all columns, of what a record holds
 module _ (axis : AxisCosts) {xs ys : List ℤ} {vs ns : List ℕ} {n : ℕ} (places : PlacesInRange 512 xs ys n) (visits : VisitsInRange vs n)
     (nears : NearsInRange ns n) where
@@ -85,10 +112,10 @@ module _ (axis : AxisCosts) {xs ys : List ℤ} {vs ns : List ℕ} {n : ℕ} (pla
   abbrev v : List ℤ
   v = padded_column n places.few (map pos vs)
 
-  module _ {a b c d : List ℤ} (ea : a ≡ paste (replicate 2050 (pos 0)) 0 (map (times axis.a) xs) n)
-      (eb : b ≡ paste a 512 (map (times axis.b) ys) n) (ec : c ≡ paste b 1024 (map pos vs) n) (ed : d ≡ paste c 1536 (map pos ns) n) where
+  module _ {b c d : List ℤ} (eb : b ≡ paste (paste (replicate 2050 (pos 0)) 0 (map (times axis.a) xs) n) 512 (map (times axis.b) ys) n)
+      (ec : c ≡ paste b 1024 (map pos vs) n) (ed : d ≡ paste c 1536 (map pos ns) n) where
     two : length (x ++ y) ≡ 1024
-    two = two_columns n places.few _ _ scaled_x scaled_y ea eb
+    two = two_columns n places.few _ _ scaled_x scaled_y refl eb
 
     three : length (x ++ y ++ v) ≡ 1536
     three = omega (arith, length-append (x ++ y) v, two, column_long n places.few (map pos vs))
@@ -97,7 +124,7 @@ module _ (axis : AxisCosts) {xs ys : List ℤ} {vs ns : List ℕ} {n : ℕ} (pla
     objects =
         ed
         ∙ ap (λ (l : List ℤ). paste l 1536 (map pos ns) n)
-        (ec ∙ ap (λ (l : List ℤ). paste l 1024 (map pos vs) n) (places_put n places.few _ _ scaled_x scaled_y ea eb)
+        (ec ∙ ap (λ (l : List ℤ). paste l 1024 (map pos vs) n) (places_put n places.few _ _ scaled_x scaled_y refl eb)
         ∙ put_column (x ++ y) 1024 514 n (map pos vs) two places.few (naturals vs visits.count))
         ∙ put_column (x ++ y ++ v) 1536 2 n (map pos ns) three places.few (naturals ns nears.count)
 

@@ -9,7 +9,7 @@ use native.Mathlib.Omega.{arith}
 use lib.IntN.{ℤ, pos, negsuc, nat_abs}
 use lib.ListN.{length, get_or, take, drop, set, replicate, length-append, length-map, length-drop, length-replicate, get_or-map}
 use lib.Dec.{T}
-use lib.Seq.{paste, length-paste, take_at, take-suc, length-take-le, get_or-take, get_or-drop, drop_at}
+use lib.Seq.{take_all, paste, length-paste, take_at, take-suc, length-take-le, get_or-take, get_or-drop, drop_at}
 use mir.Syntax.{w32}
 use mir.Val.{Fits, SFits, to_z, of_z}
 use mir.ValLaws.{to_z-of_z}
@@ -29,9 +29,9 @@ use Rattle.query.proofs.NearLaws.{closest_some}
 use Rattle.query.proofs.Ranges.{costs_limit}
 use Rattle.deck.specs.DeckOf.{places}
 use Rattle.deck.specs.Objects.{scaled_place}
-use Rattle.deck.specs.Ranges.{CoordinatesInRange, NearColumn, CostsInRange, PlacesInRange}
+use Rattle.deck.specs.Ranges.{CoordinatesInRange, StopsInRange, NearColumn, CostsInRange, PlacesInRange}
 use Rattle.deck.specs.StopFigures.{Nears}
-use Rattle.deck.proofs.ClosestLaws.{places_front, places_length, near_by, closest_scaled}
+use Rattle.deck.proofs.ClosestLaws.{places_front, places_length, closest_scaled}
 use Rattle.deck.proofs.DeckLaws.{map_take, scaled_places}
 use Rattle.deck.proofs.ScaleLaws.{scaled_range}
 use Rattle.deck.proofs.MadeColumns.{places_put, two_columns, x_front, y_front}
@@ -43,14 +43,11 @@ front_range us xs n e h range = record {
   range = λ i l. rw (sym (get_or-take n us i (pos 0) l) ∙ ap (λ (r : List ℤ). get_or r i (pos 0)) e ∙ get_or-take n xs i (pos 0) l) (range.range i l);
 }
 
--- near, found by posts and stops of the same first numbers
-near_front : (k n : ℕ) (px py us vs qx qy xs ys : List ℤ) → take k px ≡ take k qx → take k py ≡ take k qy → take n us ≡ take n xs →
-    take n vs ≡ take n ys → take n (map (near_by px py k) (places us vs)) ≡ take n (map (near_by qx qy k) (places xs ys))
-near_front k n px py us vs qx qy xs ys a b c d =
-    sym (map_take (near_by px py k) n (places us vs))
-    ∙ rw (places_front n us vs xs ys c d)
-    (ap (λ (posts : List Place). map (λ p. pos (closest plain p posts)) (take n (places xs ys))) (places_front k px py qx qy a b))
-    ∙ map_take (near_by qx qy k) n (places xs ys)
+-- near, found of stops of the same first numbers
+near_front : (f : Place → ℤ) (n : ℕ) (us vs xs ys : List ℤ) → take n us ≡ take n xs → take n vs ≡ take n ys →
+    take n (map f (places us vs)) ≡ take n (map f (places xs ys))
+near_front f n us vs xs ys c d =
+    sym (map_take f n (places us vs)) ∙ ap (map f) (places_front n us vs xs ys c d) ∙ map_take f n (places xs ys)
 
 -- ---- the column of near, row by row
 abbrev rows : List ℤ → List ℕ
@@ -90,53 +87,36 @@ each_place (suc n) (x ∷ xs) (y ∷ ys) f g p m = each_cons PlaceInRange (recor
 pub places_each : {most : ℕ} {xs ys : List ℤ} {n : ℕ} → PlacesInRange most xs ys n → (p : Place) → Memᴰ p (take n (places xs ys)) → PlaceInRange p
 places_each {most} {xs} {ys} {n} range = each_place n xs ys range.x.range range.y.range
 
-module _ (axis : AxisCosts) (costs : CostsInRange axis) {px py xs ys : List ℤ} {k n : ℕ} (posts : PlacesInRange 64 px py k) (stops : PlacesInRange 512 xs ys n)
-    (some : 1 ≤ k) where
+-- all places of columns, where the first is no longer than the second
+pub places_whole : {most : ℕ} {xs ys : List ℤ} → PlacesInRange most xs ys (length xs) → take (length xs) (places xs ys) ≡ places xs ys
+places_whole {most} {xs} {ys} range = take_all (length xs) (places xs ys) (omega (arith, places_length xs ys))
+
+pub places_count : {most : ℕ} {xs ys : List ℤ} → PlacesInRange most xs ys (length xs) → length (places xs ys) ≡ length xs
+places_count {most} {xs} {ys} range = omega (arith, places_length xs ys, range.y.count)
+
+module _ (axis : AxisCosts) (costs : CostsInRange axis) {px py xs ys : List ℤ} (posts : PlacesInRange 64 px py (length px))
+    (stops : PlacesInRange 512 xs ys (length xs)) (some : 1 ≤ length px) where
+  abbrev n : ℕ
+  n = length xs
+
   abbrev posts_at : List Place
-  posts_at = take k (places px py)
+  posts_at = places px py
 
   abbrev stops_at : List Place
-  stops_at = take n (places xs ys)
+  stops_at = places xs ys
 
   abbrev nears : List ℕ
   nears = map (λ p. closest axis p posts_at) stops_at
 
-  posts_count : length posts_at ≡ k
-  posts_count = length-take-le k (places px py) (omega (arith, places_length px py, posts.x.count, posts.y.count))
-
-  stops_count : length stops_at ≡ n
-  stops_count = length-take-le n (places xs ys) (omega (arith, places_length xs ys, stops.x.count, stops.y.count))
-
   near_limit : (p : Place) → Memᴰ p stops_at → closest axis p posts_at ≤ 720000
   near_limit p m =
-      let (post, i, e) = closest_some axis p posts_at (length_non_empty posts_at (omega (arith, posts_count))) in
-      omega (arith, e, costs_limit axis costs.most p post (places_each stops p m) (places_each posts post i))
-
-  -- near of scaled places, by scaled posts
-  near_scaled : (p : Place) →
-      near_by (map (times axis.a) px) (map (times axis.b) py) k (scaled_place axis p) ≡ pos (closest axis p posts_at)
-  near_scaled p = ap pos (ap (λ (l : List Place). closest plain (scaled_place axis p) (take k l)) (sym (scaled_places axis px py))
-      ∙ ap (closest plain (scaled_place axis p)) (sym (map_take (scaled_place axis) k (places px py))) ∙ sym (closest_scaled axis p posts_at))
-
-  nears_scaled : take n (map (near_by (map (times axis.a) px) (map (times axis.b) py) k) (places (map (times axis.a) xs) (map (times axis.b) ys)))
-      ≡ map pos nears
-  nears_scaled =
-      sym (map_take scaled_near n (places (map (times axis.a) xs) (map (times axis.b) ys)))
-      ∙ ap (λ (l : List Place). map scaled_near (take n l)) (sym (scaled_places axis xs ys))
-      ∙ ap (map scaled_near) (sym (map_take (scaled_place axis) n (places xs ys)))
-      ∙ map-map scaled_near (scaled_place axis) stops_at
-      ∙ map_each (λ p. scaled_near (scaled_place axis p)) (λ p. pos (closest axis p posts_at)) stops_at (λ p m. near_scaled p)
-      ∙ sym (map-map pos (λ p. closest axis p posts_at) stops_at)
-    where
-      scaled_near : Place → ℤ
-      scaled_near = near_by (map (times axis.a) px) (map (times axis.b) py) k
-
-  -- ---- the columns that the code makes
-  scaled_posts_x : CoordinatesInRange (map (times axis.a) px) k
-  scaled_posts_x = scaled_range axis.a px k costs.most.0 posts.x
-
-  scaled_posts_y : CoordinatesInRange (map (times axis.b) py) k
-  scaled_posts_y = scaled_range axis.b py k costs.most.1 posts.y
+      let (post, i, e) = closest_some axis p posts_at (length_non_empty posts_at (omega (arith, some, places_count posts))) in
+      omega (
+        arith,
+        e,
+        costs_limit axis costs.most p post (rw (places_whole stops) at (places_each stops) p m)
+            (rw (places_whole posts) at (places_each posts) post i),
+      )
 
   scaled_stops_x : CoordinatesInRange (map (times axis.a) xs) n
   scaled_stops_x = scaled_range axis.a xs n costs.most.0 stops.x
@@ -144,69 +124,66 @@ module _ (axis : AxisCosts) (costs : CostsInRange axis) {px py xs ys : List ℤ}
   scaled_stops_y : CoordinatesInRange (map (times axis.b) ys) n
   scaled_stops_y = scaled_range axis.b ys n costs.most.1 stops.y
 
-  -- a column of posts
-  module _ {us ws : List ℤ} (range : CoordinatesInRange ws k) (e : us ≡ paste (replicate 64 (pos 0)) 0 ws k) where
-    post_front : take k us ≡ take k ws
-    post_front = rw e (take_at (take k ws) _ k (length-take-le k ws range.count))
-
-    post_copied : CoordinatesInRange us k
-    post_copied = front_range us ws k post_front (omega (arith, posts.few, long)) range
-      where
-        long : length us ≡ 64
-        long =
-            rw e
-            (length-paste (replicate 64 (pos 0)) 0 ws k (omega (arith, posts.few, length-replicate 64 (pos 0))) range.count
-            ∙ length-replicate 64 (pos 0))
-
-  module _ {a b qx qy : List ℤ} (ea : a ≡ paste (replicate 2050 (pos 0)) 0 (map (times axis.a) xs) n) (eb : b ≡ paste a 512 (map (times axis.b) ys) n)
-      (ex : qx ≡ paste (replicate 64 (pos 0)) 0 (map (times axis.a) px) k) (ey : qy ≡ paste (replicate 64 (pos 0)) 0 (map (times axis.b) py) k) where
-    pub columns_long : length b ≡ 2050
+  -- ---- the columns that the code makes
+  module _ {b : List ℤ} (eb : b ≡ paste (paste (replicate 2050 (pos 0)) 0 (map (times axis.a) xs) n) 512 (map (times axis.b) ys) n) where
+    columns_long : length b ≡ 2050
     columns_long =
-        rw (places_put n stops.few _ _ scaled_stops_x.count scaled_stops_y.count ea eb)
+        rw (places_put n stops.few _ _ scaled_stops_x.count scaled_stops_y.count refl eb)
         (omega (
           arith,
           length-append (padded 512 (pos 0) (take n (map (times axis.a) xs)) ++ padded 512 (pos 0) (take n (map (times axis.b) ys)))
               (replicate 1026 (pos 0)),
-          two_columns n stops.few _ _ scaled_stops_x.count scaled_stops_y.count ea eb,
+          two_columns n stops.few _ _ scaled_stops_x.count scaled_stops_y.count refl eb,
           length-replicate 1026 (pos 0),
         ))
 
     x_same : take n b ≡ take n (map (times axis.a) xs)
-    x_same = x_front n stops.few _ _ scaled_stops_x.count scaled_stops_y.count ea eb
+    x_same = x_front n stops.few _ _ scaled_stops_x.count scaled_stops_y.count refl eb
 
     y_same : take n (drop 512 b) ≡ take n (map (times axis.b) ys)
-    y_same = y_front n stops.few _ _ scaled_stops_x.count scaled_stops_y.count ea eb
+    y_same = y_front n stops.few _ _ scaled_stops_x.count scaled_stops_y.count refl eb
 
     -- what `put_nears` asks
-    pub stops_x_copied : CoordinatesInRange b n
-    stops_x_copied = front_range b _ n x_same (omega (arith, columns_long, stops.few)) scaled_stops_x
+    pub stops_copied : StopsInRange b n
+    stops_copied = record {
+      fit = record { few = stops.few; long = columns_long };
+      x = front_range b _ n x_same (omega (arith, columns_long, stops.few)) scaled_stops_x;
+      y = front_range (drop 512 b) _ n y_same (omega (arith, length-drop 512 b, columns_long, stops.few)) scaled_stops_y;
+    }
 
-    pub stops_y_copied : CoordinatesInRange (drop 512 b) n
-    stops_y_copied = front_range (drop 512 b) _ n y_same (omega (arith, length-drop 512 b, columns_long, stops.few)) scaled_stops_y
+    -- what it leaves, by posts at their scaled places
+    module _ {scaled : List Place} (es : scaled ≡ map (scaled_place axis) posts_at) {d : List ℤ}
+        (ed : d ≡ paste b 1536 (map (λ p. pos (closest plain p scaled)) (places b (drop 512 b))) n) where
+      abbrev scaled_near : Place → ℤ
+      scaled_near p = pos (closest plain p scaled)
 
-    pub posts_x_copied : CoordinatesInRange qx k
-    posts_x_copied = post_copied scaled_posts_x ex
+      near_scaled : (p : Place) → scaled_near (scaled_place axis p) ≡ pos (closest axis p posts_at)
+      near_scaled p = ap (λ (l : List Place). pos (closest plain (scaled_place axis p) l)) es ∙ ap pos (sym (closest_scaled axis p posts_at))
 
-    pub posts_y_copied : CoordinatesInRange qy k
-    posts_y_copied = post_copied scaled_posts_y ey
+      nears_scaled : take n (map scaled_near (places (map (times axis.a) xs) (map (times axis.b) ys))) ≡ map pos nears
+      nears_scaled =
+          sym (map_take scaled_near n (places (map (times axis.a) xs) (map (times axis.b) ys)))
+          ∙ ap (λ (l : List Place). map scaled_near (take n l)) (sym (scaled_places axis xs ys))
+          ∙ ap (map scaled_near) (sym (map_take (scaled_place axis) n stops_at) ∙ ap (map (scaled_place axis)) (places_whole stops))
+          ∙ map-map scaled_near (scaled_place axis) stops_at
+          ∙ map_each (λ p. scaled_near (scaled_place axis p)) (λ p. pos (closest axis p posts_at)) stops_at (λ p m. near_scaled p)
+          ∙ sym (map-map pos (λ p. closest axis p posts_at) stops_at)
 
-    -- what it leaves
-    module _ {d : List ℤ} (ed : d ≡ paste b 1536 (map (near_by qx qy k) (places b (drop 512 b))) n) where
-      found_count : n ≤ length (map (near_by qx qy k) (places b (drop 512 b)))
+      found_count : n ≤ length (map scaled_near (places b (drop 512 b)))
       found_count = omega (
         arith,
-        length-map (places b (drop 512 b)) (near_by qx qy k),
+        length-map (places b (drop 512 b)) scaled_near,
         places_length b (drop 512 b),
-        stops_x_copied.count,
-        stops_y_copied.count,
+        stops_copied.x.count,
+        stops_copied.y.count,
       )
 
       near_rows : take n (drop 1536 d) ≡ map pos nears
       near_rows =
-          rw (ed, append_assoc (take 1536 b) (take n (map (near_by qx qy k) (places b (drop 512 b)))) (drop (1536 + n) b))
+          rw (ed, append_assoc (take 1536 b) (take n (map scaled_near (places b (drop 512 b)))) (drop (1536 + n) b))
           (ap (take n) (drop_at (take 1536 b) _ 1536 (length-take-le 1536 b (omega (arith, columns_long))))
-          ∙ take_at (take n (map (near_by qx qy k) (places b (drop 512 b)))) _ n (length-take-le n _ found_count)
-          ∙ near_front k n qx qy b (drop 512 b) _ _ _ _ (post_front scaled_posts_x ex) (post_front scaled_posts_y ey) x_same y_same
+          ∙ take_at (take n (map scaled_near (places b (drop 512 b)))) _ n (length-take-le n _ found_count)
+          ∙ near_front scaled_near n b (drop 512 b) _ _ x_same y_same
           ∙ nears_scaled)
 
       pub near_column : NearColumn d n
@@ -215,7 +192,7 @@ module _ (axis : AxisCosts) (costs : CostsInRange axis) {px py xs ys : List ℤ}
           long : length d ≡ 2050
           long =
               rw ed
-              (length-paste b 1536 (map (near_by qx qy k) (places b (drop 512 b))) n (omega (arith, columns_long, stops.few)) found_count ∙ columns_long)
+              (length-paste b 1536 (map scaled_near (places b (drop 512 b))) n (omega (arith, columns_long, stops.few)) found_count ∙ columns_long)
 
           row : (i : ℕ) → i < n → get_or d (1536 + i) (pos 0) ≡ pos (get_or nears i 0)
           row i h = sym (get_or-take n (drop 1536 d) i (pos 0) h ∙ get_or-drop 1536 d i (pos 0)) ∙ ap (λ (l : List ℤ). get_or l i (pos 0)) near_rows
@@ -228,13 +205,13 @@ module _ (axis : AxisCosts) (costs : CostsInRange axis) {px py xs ys : List ℤ}
       made_nears {r} e = record {
         are = is;
         range = record {
-          count = rw is (omega (arith, padded_length 512 0 nears (omega (arith, nears_count, stops.few)), stops_count, stops.few));
+          count = rw is (omega (arith, padded_length 512 0 nears (omega (arith, nears_count, stops.few)), places_count stops, stops.few));
           range = λ i h. rw is (padded_each (λ (m : ℕ). m ≤ 720000) 0 (omega arith) 512 nears (each_map (λ (m : ℕ). m ≤ 720000) _ stops_at near_limit) i);
         };
       }
         where
           nears_count : length nears ≡ n
-          nears_count = length-map stops_at (λ p. closest axis p posts_at) ∙ stops_count
+          nears_count = length-map stops_at (λ p. closest axis p posts_at) ∙ places_count stops
 
           is : r ≡ padded 512 0 nears
           is = e ∙ ap (padded 512 0) (sym (map_take nat_abs n (drop 1536 d)) ∙ ap (map nat_abs) near_rows ∙ map-map nat_abs pos nears ∙ map_same nears)

@@ -7,7 +7,7 @@ use native.Mathlib.Nat.{mul-le-mul}
 use native.Mathlib.Numerals.{add-one}
 use native.Mathlib.Omega.{arith}
 use lib.ListN.{length, get_or, take}
-use lib.Seq.{take-suc, length-take-le, get_or-take}
+use lib.Seq.{take-suc}
 use Rattle.numbers.specs.Lists.{sum_of}
 use Rattle.numbers.specs.Padded.{padded}
 use Rattle.query.specs.Deck.{Stop}
@@ -47,20 +47,16 @@ module _ {visits nears : List ℕ} {n : ℕ} (v : VisitsInRange visits n) (k : N
     most = omega (arith, so_far.most, term_most i h);
   }
 
-  -- the next term, of numbers that are read from the first n
-  module _ {sum i w m : ℕ} (so_far : Paid visits nears n sum i) (h : i < length (take n visits)) (e : w ≡ get_or (take n visits) i 0)
-      (f : m ≡ get_or (take n nears) i 0) where
-    turn : i < n
-    turn = omega (arith, length-take-le n visits v.count)
-
+  -- the next term, of numbers that are read from the columns
+  module _ {sum i w m : ℕ} (so_far : Paid visits nears n sum i) (turn : i < n) (e : w ≡ get_or visits i 0) (f : m ≡ get_or nears i 0) where
     pub term_fits : w * m ≤ 47185200000
-    term_fits = rw (e, f, get_or-take n visits i 0 turn, get_or-take n nears i 0 turn) (term_most i turn)
+    term_fits = rw (e, f) (term_most i turn)
 
     pub sum_fits : n ≤ 512 → sum + w * m ≤ 24158822400000
     sum_fits few = omega (arith, term_fits, so_far.most, turn)
 
     pub paid_turn : Paid visits nears n (sum + w * m) (i + 1)
-    paid_turn = rw (e, f, get_or-take n visits i 0 turn, get_or-take n nears i 0 turn) (paid_more so_far turn)
+    paid_turn = rw (e, f) (paid_more so_far turn)
 
 -- ---- over stops, whose visits and near stand in front of the two columns
 pub paid_stops : (near : Stop → ℕ) (size : ℕ) (stops : List Stop) →

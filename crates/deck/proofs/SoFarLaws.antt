@@ -21,7 +21,7 @@ use Rattle.query.specs.Deck.{plain}
 use Rattle.query.specs.Travel.{travel, closest}
 use Rattle.deck.specs.DeckOf.{places}
 use Rattle.deck.specs.ClosestSoFar.{closest_so_far, columns_so_far, improved, columns_improved}
-use Rattle.deck.specs.Ranges.{CoordinatesInRange, Near180000}
+use Rattle.deck.specs.Ranges.{CoordinatesInRange, Near180000, ColumnsFit, StopsInRange}
 use Rattle.deck.proofs.WordLaws.{coordinate}
 use Rattle.deck.proofs.TravelLaws.{far, travel_plain, place_word}
 use Rattle.deck.proofs.ClosestLaws.{zip_length, zip_at, place_at, places_length, places_at, closest_one, closest_snoc}
@@ -63,20 +63,7 @@ unfolding improved
 improved_so_far post p posts at new =
     rw (so_far_more post p posts at new) (picked (ltb (travel plain p post) (closest_so_far posts p)) (travel plain p post) (closest_so_far posts p))
 
--- ---- stops in columns: how many there are, and that their places are in range
-pub record ColumnsFit (columns : List ℤ) (n : ℕ) : Type 0 where
-  pub few : n ≤ 512
-  pub long : length columns ≡ 2050
-
-pub record StopsInRange (columns : List ℤ) (n : ℕ) : Type 0 where
-  pub fit : ColumnsFit columns n
-  pub x : CoordinatesInRange columns n
-  pub y : CoordinatesInRange (drop 512 columns) n
-
-pub stops_in : {columns : List ℤ} {n : ℕ} → CoordinatesInRange columns n → CoordinatesInRange (drop 512 columns) n → n ≤ 512 → length columns ≡ 2050 →
-    StopsInRange columns n
-stops_in x y few long = record { fit = record { few = few; long = long }; x = x; y = y }
-
+-- ---- stops in columns
 abbrev stop : List ℤ → ℕ → Place
 stop columns i = place_at columns (drop 512 columns) i
 
@@ -218,13 +205,6 @@ module _ {columns : List ℤ} {n : ℕ} (stops : StopsInRange columns n) (post :
   unfolding columns_improved
   better_all h = copied_all columns 1536 (better columns post) n so_far h
 
--- the words of a post in columns
-abbrev pub word_at : List ℤ → List ℤ → ℕ → Place
-word_at px py j = record { x = to_z w32 (of_z w32 (get_or px j (pos 0))); y = to_z w32 (of_z w32 (get_or py j (pos 0))) }
-
-word_is : {px py : List ℤ} {k : ℕ} → CoordinatesInRange px k → CoordinatesInRange py k → (j : ℕ) → j < k → word_at px py j ≡ place_at px py j
-word_is {px} {py} gx gy j h = rw (coordinate (get_or px j (pos 0)) (gx.range j h), coordinate (get_or py j (pos 0)) (gy.range j h))
-
 -- ---- all stops, post by post
 module _ {columns : List ℤ} {n : ℕ} (stops : StopsInRange columns n) (posts : List Place) where
   abbrev now : List ℤ
@@ -273,9 +253,9 @@ columns_all columns n posts h = rw (map_each
 
 -- ---- posts in columns: after the first, after each further one, and after the last
 module _ {columns px py : List ℤ} {n k : ℕ} (stops : StopsInRange columns n) (some : 1 ≤ k) (gx : CoordinatesInRange px k) (gy : CoordinatesInRange py k)
-    {first : List ℤ} (e : first ≡ columns_so_far columns n (word_at px py 0 ∷ [])) where
+    {first : List ℤ} (e : first ≡ columns_so_far columns n (place_at px py 0 ∷ [])) where
   first_is : first ≡ columns_so_far columns n (take 1 (places px py))
-  first_is = e ∙ rw (word_is gx gy 0 some, posts_more gx gy 0 some)
+  first_is = e ∙ rw (posts_more gx gy 0 some)
 
   first_ranged : StopsInRange first n
   first_ranged = rw first_is (so_far_ranged stops _)
@@ -287,8 +267,8 @@ module _ {columns px py : List ℤ} {n k : ℕ} (stops : StopsInRange columns n)
     pub posts_ranged : StopsInRange now n
     posts_ranged = rw so_far (so_far_ranged first_ranged _)
 
-    pub posts_next : {next : List ℤ} → j < k → next ≡ columns_improved now n (word_at px py j) → next ≡ columns_so_far first n (take (j + 1) (places px py))
-    posts_next h is = is ∙ rw (word_is gx gy j h, so_far, posts_more gx gy j h) (columns_more first_ranged _ _ (post_range gx gy j h))
+    pub posts_next : {next : List ℤ} → j < k → next ≡ columns_improved now n (place_at px py j) → next ≡ columns_so_far first n (take (j + 1) (places px py))
+    posts_next h is = is ∙ rw (so_far, posts_more gx gy j h) (columns_more first_ranged _ _ (post_range gx gy j h))
 
     pub posts_all : j ≤ k → k ≤ j → now ≡ paste columns 1536 (map (near_by px py k) (places columns (drop 512 columns))) n
     posts_all g h =

@@ -1,6 +1,6 @@
 -- The range of the numbers that objects are made of: coordinates up to 9 × 20,000, as axis costs up to 9 scale them.
 -- Assumes nothing.
-use Rattle.std.specs.Prelude.{ℕ, ◌+◌, ◌≤◌, ◌<◌, ◌≡◌, List, ℤ, pos, nat_abs, length, get_or, ◌≤ℤ◌}
+use Rattle.std.specs.Prelude.{ℕ, ◌+◌, ◌≤◌, ◌<◌, ◌≡◌, List, ℤ, pos, nat_abs, length, drop, get_or, ◌≤ℤ◌}
 use Rattle.numbers.specs.Integer.{times}
 use Rattle.query.specs.Deck.{AxisCosts}
 use Rattle.query.specs.Range.{coordinate_limit, visits_limit, axis_cost_limit, travel_limit}
@@ -37,6 +37,16 @@ VisitsInRange = NaturalsUpTo visits_limit
 
 abbrev pub NearsInRange : List ℕ → ℕ → Type 0
 NearsInRange = NaturalsUpTo travel_limit
+
+-- all columns, of which the first n rows have their scaled places in the first two
+pub record ColumnsFit (columns : List ℤ) (n : ℕ) : Type 0 where
+  pub few : n ≤ 512
+  pub long : length columns ≡ 2050
+
+pub record StopsInRange (columns : List ℤ) (n : ℕ) : Type 0 where
+  pub fit : ColumnsFit columns n
+  pub x : CoordinatesInRange columns n
+  pub y : CoordinatesInRange (drop 512 columns) n
 
 -- the first n rows of the column of near in all columns
 pub record NearColumn (columns : List ℤ) (n : ℕ) : Type 0 where

@@ -1,21 +1,22 @@
 // The deck as a record, and its objects: its stops in columns, each with its near.
 #![tactic(auto)]
 
-ghost use Rattle.std.specs.Prelude.{◌≡◌, cond, [], ◌∷◌, map, ◌+◌, ◌≤◌, pos, nat_abs, length, take, drop, replicate};
+ghost use Rattle.std.specs.Prelude.{◌≡◌, cond, [], ◌∷◌, map, ◌+◌, ◌≤◌, ◌<◌, pos, nat_abs, length, get_or, take, drop, replicate};
 ghost use Rattle.std.specs.Int.Signed.{lt_z};
 ghost use Rattle.std.proofs.Math.Seq.{paste};
 ghost use Rattle.numbers.specs.Integer.{dist, times};
 ghost use Rattle.query.specs.Deck.{plain};
 ghost use Rattle.query.specs.Travel.{closest};
-ghost use Rattle.query.specs.Range.{travel_limit};
+ghost use Rattle.query.specs.Range.{travel_limit, PlaceInRange};
 ghost use Rattle.numbers.specs.Padded.{padded};
 ghost use Rattle.deck.specs.DeckOf.{places, held_axis};
-ghost use Rattle.deck.specs.Objects.{stored_pricing};
+ghost use Rattle.deck.specs.Rectangle.{place_of};
+ghost use Rattle.deck.specs.Objects.{scaled_place, stored_pricing};
 ghost use Rattle.deck.specs.ObjectColumns.{columns_of};
 ghost use Rattle.deck.specs.ClosestSoFar.{columns_so_far, columns_improved};
 ghost use Rattle.deck.specs.Ranges.{Near180000, AxisCostInRange, Scaled};
 ghost use Rattle.deck.specs.Ranges.{CoordinatesUpTo, CoordinatesInRange, NaturalsUpTo, VisitsInRange, NearsInRange};
-ghost use Rattle.deck.specs.Ranges.{CostsInRange, PlacesInRange, NearColumn};
+ghost use Rattle.deck.specs.Ranges.{CostsInRange, PlacesInRange, StopsInRange, NearColumn};
 ghost use Rattle.deck.specs.StopFigures.{Nears, paid};
 
 use limits::{COLUMNS, NEAR_COLUMN, POSTS, STOPS, VISITS_COLUMN, X_COST, Y_COLUMN, Y_COST};
@@ -44,10 +45,27 @@ pub struct Rect {
 }
 
 // What a tenth costs in x and in y.
+// kept: their range is no invariant, since a record that a caller hands over may hold any costs, and a type beside this one is no plainer.
 #[derive(Clone, Copy, PartialEq, Eq)]
 pub struct AxisCosts {
     pub a: u64,
     pub b: u64,
+}
+
+// The columns of some places: their x, and their y beside it.
+// kept: their range is no invariant, since a record may hold any places; what computes with them asks for the range that it needs.
+#[derive(Clone, Copy)]
+pub struct Places<'a> {
+    pub x: &'a [i64],
+    pub y: &'a [i64],
+}
+
+// The columns of some stops: where they are, their visits, and the near that is kept with each.
+#[derive(Clone, Copy)]
+pub struct Stops<'a> {
+    pub at: Places<'a>,
+    pub visits: &'a [u64],
+    pub near: &'a [u64],
 }
 
 // A deck, one array a field. The first `posts` and `stops` elements of the arrays count; in a record that reading made the others are 0.
@@ -71,20 +89,51 @@ pub struct Deck {
     pub before: u64,
 }
 
-// |u − v|
-fn apart(u: i32, v: i32) -> i32
-    requires { Near180000 u v }
-    ensures { result ≡ pos (dist u v) }
-{
-    u.abs_diff(v) as i32
-}
+impl Deck {
+    // The area.
+    pub fn area(&self) -> Rect
+        ensures { result
+            ≡ record { xlo = self.now.xlo; ylo = self.now.ylo; xhi = self.now.xhi; yhi = self.now.yhi } }
+    {
+        Rect {
+            xlo: self.xlo,
+            ylo: self.ylo,
+            xhi: self.xhi,
+            yhi: self.yhi,
+        }
+    }
 
-// The travel between two places.
-pub fn travelled(ux: i32, uy: i32, vx: i32, vy: i32) -> i32
-    requires { Near180000 ux uy × Near180000 vx vy }
-    ensures { result ≡ pos (dist ux vx + dist uy vy) }
-{
-    apart(ux, vx) + apart(uy, vy)
+    // The columns of the posts.
+    pub fn post_places(&self) -> Places<'_>
+        requires { self.now.posts ≤ 64 }
+        ensures x { result.x.now ≡ take self.now.posts self.now.post_x }
+        ensures y { result.y.now ≡ take self.now.posts self.now.post_y }
+    {
+        Places {
+            x: &self.post_x[..self.posts],
+            y: &self.post_y[..self.posts],
+        }
+    }
+
+    // The columns of the stops.
+    pub fn stop_columns(&self) -> Stops<'_>
+        requires { self.now.stops ≤ 512 }
+        ensures x { result.at.x.now ≡ take self.now.stops self.now.stop_x }
+        ensures y { result.at.y.now ≡ take self.now.stops self.now.stop_y }
+        ensures visits { result.visits.now ≡ take self.now.stops self.now.visits }
+        ensures near { result.near.now ≡ take self.now.stops self.now.near }
+    {
+        let n = self.stops;
+        let at = Places {
+            x: &self.stop_x[..n],
+            y: &self.stop_y[..n],
+        };
+        Stops {
+            at,
+            visits: &self.visits[..n],
+            near: &self.near[..n],
+        }
+    }
 }
 
 // A coordinate multiplied by an axis cost.
@@ -96,76 +145,185 @@ pub fn scaled(k: i32, v: i64) -> i32
     k * narrow
 }
 
-// The first n coordinates of a column, multiplied by an axis cost, put into an array from a place on.
-pub fn copy_coordinates(from: &[i64], k: i32, to: &mut [i32], at: usize, n: usize)
-    requires { CoordinatesUpTo 20000 from.now n × AxisCostInRange k × (at + n ≤ length to.old) }
-    ensures { to.new ≡ paste to.old at (map (times (nat_abs k)) from.now) n }
+// The coordinates of a column, multiplied by an axis cost, put into another.
+pub fn copy_coordinates(from: &[i64], k: i32, to: &mut [i32])
+    requires { CoordinatesUpTo 20000 from.now (length from.now) × AxisCostInRange k × (length to.old ≡ length from.now) }
+    ensures { to.new ≡ map (times (nat_abs k)) from.now }
 {
-    for i in 0..n {
-        to[at + i] = scaled(k, from[i]);
+    for i in 0..from.len() {
+        to[i] = scaled(k, from[i]);
     }
 }
 
 // The same of a column of visits or of near.
 // kept: one function over both takes a closure and clauses on each of its calls, which is longer than the two loops.
-fn copy_naturals(from: &[u64], to: &mut [i32], at: usize, n: usize)
-    requires { NaturalsUpTo travel_limit from.now n × (at + n ≤ length to.old) }
-    ensures { to.new ≡ paste to.old at (map pos from.now) n }
+fn copy_naturals(from: &[u64], to: &mut [i32])
+    requires { NaturalsUpTo travel_limit from.now (length from.now) × (length to.old ≡ length from.now) }
+    ensures { to.new ≡ map pos from.now }
 {
-    for i in 0..n {
-        to[at + i] = from[i] as i32;
+    for i in 0..from.len() {
+        to[i] = from[i] as i32;
     }
 }
 
-// The smaller of a travel and of that from (x, y) to (px, py).
-pub fn closer(least: i32, x: i32, y: i32, px: i32, py: i32) -> i32
-    requires { Near180000 x y × Near180000 px py }
-    ensures { result ≡ cond (lt_z (pos (dist x px + dist y py)) least) (pos (dist x px + dist y py)) least }
+// |u − v|
+fn apart(u: i32, v: i32) -> i32
+    requires { Near180000 u v }
+    ensures { result ≡ pos (dist u v) }
 {
-    least.min(travelled(x, y, px, py))
+    u.abs_diff(v) as i32
 }
 
+// A place with its coordinates multiplied by the axis costs.
+#[derive(Clone, Copy)]
+pub struct ScaledPlace {
+    pub x: i32,
+    pub y: i32,
+    pub ghost in_range: { Near180000 x y },
+}
+
+impl ScaledPlace {
+    // A place, scaled.
+    pub fn of(axis: AxisCosts, p: Place) -> ScaledPlace
+        requires { CostsInRange (held_axis axis) × PlaceInRange (place_of p) }
+        ensures { (result.x ≡ times axis.a p.x) × (result.y ≡ times axis.b p.y) }
+    {
+        ScaledPlace {
+            x: scaled(axis.a as i32, p.x),
+            y: scaled(axis.b as i32, p.y),
+        }
+    }
+
+    // The travel to another place.
+    pub fn travel_to(self, other: ScaledPlace) -> i32
+        ensures { result ≡ pos (dist self.x other.x + dist self.y other.y) }
+    {
+        apart(self.x, other.x) + apart(self.y, other.y)
+    }
+
+    // The smaller of a travel and of that to another place.
+    pub fn closer(self, least: i32, other: ScaledPlace) -> i32
+        ensures { result
+            ≡ cond (lt_z (pos (dist self.x other.x + dist self.y other.y)) least)
+            (pos (dist self.x other.x + dist self.y other.y)) least }
+    {
+        least.min(self.travel_to(other))
+    }
+}
+
+// Posts at scaled places, in columns of which the first `count` elements count. There is one at least.
+// kept: a count beside arrays, since memory is fixed.
+#[derive(Drop)]
+pub struct ScaledPosts {
+    axis: AxisCosts,
+    x: [i32; POSTS],
+    y: [i32; POSTS],
+    count: usize,
+    pub ghost costs: { CostsInRange (held_axis axis) },
+    pub ghost x_range: { CoordinatesInRange x count },
+    pub ghost y_range: { CoordinatesInRange y count },
+    pub ghost some: { 1 ≤ count },
+}
+
+impl ScaledPosts {
+    // Posts, scaled.
+    pub fn of(axis: AxisCosts, posts: Places<'_>) -> ScaledPosts
+        requires { CostsInRange (held_axis axis) × PlacesInRange 64 posts.x.now posts.y.now (length posts.x.now)
+            × (1 ≤ length posts.x.now) }
+        ensures axis { result.axis ≡ axis }
+        ensures posts { take result.count (places result.x result.y)
+            ≡ map (scaled_place (held_axis axis)) (places posts.entry.x.now posts.entry.y.now) }
+    {
+        let count = posts.x.len();
+        let mut x = [0i32; POSTS];
+        let mut y = [0i32; POSTS];
+        copy_coordinates(posts.x, axis.a as i32, &mut x[..count]);
+        copy_coordinates(&posts.y[..count], axis.b as i32, &mut y[..count]);
+        ScaledPosts { axis, x, y, count }
+    }
+
+    // The axis costs.
+    pub fn axis(&self) -> AxisCosts
+        ensures { result ≡ self.now.axis }
+    {
+        self.axis
+    }
+
+    // Post j.
+    fn post(&self, j: usize) -> ScaledPlace
+        requires { j < self.now.count }
+        ensures { (result.x ≡ get_or self.now.x j (pos 0)) × (result.y ≡ get_or self.now.y j (pos 0)) }
+    {
+        ScaledPlace {
+            x: self.x[j],
+            y: self.y[j],
+        }
+    }
+
+    // The travel from a scaled place to the closest of the posts.
+    fn closest(&self, p: ScaledPlace) -> i32
+        ensures { result
+            ≡ pos (closest plain (record { x = p.x; y = p.y }) (take self.now.count (places self.now.x self.now.y))) }
+    {
+        let mut least = p.travel_to(self.post(0));
+        for j in 1..self.count {
+            least = p.closer(least, self.post(j));
+        }
+        least
+    }
+
+    // The travel from a place to the closest of the posts.
+    pub fn closest_to(&self, p: Place) -> u64
+        requires { PlaceInRange (place_of p) }
+        ensures { result ≡ closest plain (scaled_place (held_axis self.now.axis) (place_of p))
+            (take self.now.count (places self.now.x self.now.y)) }
+    {
+        let t = self.closest(ScaledPlace::of(self.axis, p));
+        (t as u32) as u64
+    }
+}
+
+// kept: here and below the columns are one array with the count of their rows, as pricing reads them, so that the passes are vectorised.
 // The first post: the travel to it is the figure of each of the first n stops, in the last column.
-fn start_nears(columns: &mut [i32], n: usize, px: i32, py: i32)
-    requires { CoordinatesInRange columns.old n × CoordinatesInRange (drop 512 columns.old) n × Near180000 px py × (n ≤ 512)
-        × (length columns.old ≡ 2050) }
-    ensures { columns.new ≡ columns_so_far columns.old n (record { x = px; y = py } ∷ []) }
+fn start_nears(columns: &mut [i32], n: usize, post: ScaledPlace)
+    requires { StopsInRange columns.old n }
+    ensures { columns.new ≡ columns_so_far columns.old n (record { x = post.x; y = post.y } ∷ []) }
 {
     for i in 0..n {
-        columns[NEAR_COLUMN + i] = travelled(columns[i], columns[Y_COLUMN + i], px, py);
+        let stop = ScaledPlace {
+            x: columns[i],
+            y: columns[Y_COLUMN + i],
+        };
+        columns[NEAR_COLUMN + i] = stop.travel_to(post);
     }
 }
 
 // One more post: the figures of the first n stops, in the last column, improved by it.
-fn improve_nears(columns: &mut [i32], n: usize, px: i32, py: i32)
-    requires { CoordinatesInRange columns.old n × CoordinatesInRange (drop 512 columns.old) n × Near180000 px py × (n ≤ 512)
-        × (length columns.old ≡ 2050) }
-    ensures { columns.new ≡ columns_improved columns.old n (record { x = px; y = py }) }
+fn improve_nears(columns: &mut [i32], n: usize, post: ScaledPlace)
+    requires { StopsInRange columns.old n }
+    ensures { columns.new ≡ columns_improved columns.old n (record { x = post.x; y = post.y }) }
 {
     for stop in 0..n {
-        columns[NEAR_COLUMN + stop] = closer(
-            columns[NEAR_COLUMN + stop],
-            columns[stop],
-            columns[Y_COLUMN + stop],
-            px,
-            py,
-        );
+        let at = ScaledPlace {
+            x: columns[stop],
+            y: columns[Y_COLUMN + stop],
+        };
+        columns[NEAR_COLUMN + stop] = at.closer(columns[NEAR_COLUMN + stop], post);
     }
 }
 
 // The near of the first n stops, put into the last column, post by post. Their places are in the first two. After each post every figure is
 // the travel to the closest post so far.
-fn put_nears<'a>(columns: &mut [i32], n: usize, px: &'a [i32], py: &'a [i32], k: usize)
-    requires { (1 ≤ k) × CoordinatesInRange px.now k × CoordinatesInRange py.now k × CoordinatesInRange columns.old n
-        × CoordinatesInRange (drop 512 columns.old) n × (n ≤ 512) × (length columns.old ≡ 2050) }
+fn put_nears(columns: &mut [i32], n: usize, posts: &ScaledPosts)
+    requires { StopsInRange columns.old n }
     ensures { columns.new
         ≡ paste columns.old 1536
-        (map (λ p. pos (closest plain p (take k (places px.now py.now))))
+        (map (λ p. pos (closest plain p (take posts.now.count (places posts.now.x posts.now.y))))
         (places columns.old (drop 512 columns.old))) n }
 {
-    start_nears(columns, n, px[0], py[0]);
-    for j in 1..k {
-        improve_nears(columns, n, px[j], py[j]);
+    start_nears(columns, n, posts.post(0));
+    for j in 1..posts.count {
+        improve_nears(columns, n, posts.post(j));
     }
 }
 
@@ -181,68 +339,66 @@ fn nears_in(columns: &[i32], n: usize) -> [u64; STOPS]
     near
 }
 
-// The near of the first n stops by the first k posts, with 0 behind the last.
-pub fn nears_of<'a>(
-    axis: AxisCosts,
-    px: &'a [i64],
-    py: &'a [i64],
-    k: usize,
-    sx: &'a [i64],
-    sy: &'a [i64],
-    n: usize,
-) -> [u64; STOPS]
-    requires { CostsInRange (held_axis axis) × PlacesInRange 64 px.now py.now k × PlacesInRange 512 sx.now sy.now n
-        × (1 ≤ k) }
-    ensures { Nears (held_axis axis) (take k (places px.now py.now))
-        (take n (places sx.now sy.now)) result }
+// Puts the places of stops, scaled, into the columns of x and of y.
+fn put_places(axis: AxisCosts, stops: Places<'_>, columns: &mut [i32])
+    requires { CostsInRange (held_axis axis) × PlacesInRange 512 stops.x.now stops.y.now (length stops.x.now)
+        × (columns.old ≡ replicate 2050 (pos 0)) }
+    ensures { columns.new
+        ≡ paste (paste columns.old 0 (map (times axis.a) stops.entry.x.now) (length stops.entry.x.now)) 512
+        (map (times axis.b) stops.entry.y.now) (length stops.entry.x.now) }
 {
-    let a = axis.a as i32;
-    let b = axis.b as i32;
-    let mut qx = [0i32; POSTS];
-    let mut qy = [0i32; POSTS];
-    copy_coordinates(px, a, &mut qx, 0, k);
-    copy_coordinates(py, b, &mut qy, 0, k);
-    let mut columns = [0i32; COLUMNS];
-    copy_coordinates(sx, a, &mut columns, 0, n);
-    copy_coordinates(sy, b, &mut columns, Y_COLUMN, n);
-    put_nears(&mut columns, n, &qx, &qy, k);
-    nears_in(&columns, n)
+    let n = stops.x.len();
+    copy_coordinates(stops.x, axis.a as i32, &mut columns[..n]);
+    copy_coordinates(
+        &stops.y[..n],
+        axis.b as i32,
+        &mut columns[Y_COLUMN..Y_COLUMN + n],
+    );
 }
 
-// What the first n stops pay with the posts that there are: the sum of visits × near.
-pub fn before_of<'a>(visits: &'a [u64], near: &'a [u64], n: usize) -> u64
-    requires { VisitsInRange visits.now n × NearsInRange near.now n × (n ≤ 512) }
-    ensures { result ≡ paid visits.now near.now n }
+// The near of stops at some places by the posts at others, with 0 behind the last.
+pub fn nears_of(axis: AxisCosts, posts: Places<'_>, stops: Places<'_>) -> [u64; STOPS]
+    requires { CostsInRange (held_axis axis) × PlacesInRange 64 posts.x.now posts.y.now (length posts.x.now)
+        × PlacesInRange 512 stops.x.now stops.y.now (length stops.x.now) × (1 ≤ length posts.x.now) }
+    ensures { Nears (held_axis axis) (places posts.entry.x.now posts.entry.y.now) (places stops.entry.x.now stops.entry.y.now) result }
+{
+    let posts = ScaledPosts::of(axis, posts);
+    let mut columns = [0i32; COLUMNS];
+    put_places(axis, stops, &mut columns);
+    put_nears(&mut columns, stops.x.len(), &posts);
+    nears_in(&columns, stops.x.len())
+}
+
+// What stops pay with the posts that there are: the sum of visits × near.
+pub fn before_of<'a>(visits: &'a [u64], near: &'a [u64]) -> u64
+    requires { VisitsInRange visits.now (length visits.now) × NearsInRange near.now (length visits.now)
+        × (length visits.now ≤ 512) }
+    ensures { result ≡ paid visits.now near.now (length visits.now) }
 {
     let mut sum = 0;
-    for (visits, near) in visits[..n].iter().zip(&near[..n]) {
+    for (visits, near) in visits.iter().zip(near) {
         sum += *visits * *near;
     }
     sum
 }
 
-// Puts what pricing needs of a record's axis costs and stops into an array of zeros: the columns of its objects, scaled x and y, visits and
-// near as it holds them, from 0, 512, 1,024 and 1,536 on, with 0 behind the last of each, and the axis costs behind them.
-pub fn put_columns<'a>(
-    axis: AxisCosts,
-    x: &'a [i64],
-    y: &'a [i64],
-    visits: &'a [u64],
-    near: &'a [u64],
-    n: usize,
-    columns: &mut [i32],
-)
-    requires { CostsInRange (held_axis axis) × PlacesInRange 512 x.now y.now n × VisitsInRange visits.now n
-        × NearsInRange near.now n × (columns.old ≡ replicate 2050 (pos 0)) }
+// Puts what pricing needs of axis costs and stops into an array of zeros: the columns of its objects, scaled x and y, visits and near as
+// the stops hold them, from 0, 512, 1,024 and 1,536 on, with 0 behind the last of each, and the axis costs behind them.
+pub fn put_columns(axis: AxisCosts, stops: Stops<'_>, columns: &mut [i32])
+    requires { CostsInRange (held_axis axis) × PlacesInRange 512 stops.at.x.now stops.at.y.now (length stops.at.x.now)
+        × VisitsInRange stops.visits.now (length stops.at.x.now) × NearsInRange stops.near.now (length stops.at.x.now)
+        × (columns.old ≡ replicate 2050 (pos 0)) }
     ensures { columns.new
-        ≡ columns_of (stored_pricing (held_axis axis) x.now y.now visits.now near.now n) }
+        ≡ columns_of (stored_pricing (held_axis axis) stops.entry.at.x.now stops.entry.at.y.now stops.entry.visits.now stops.entry.near.now
+        (length stops.entry.at.x.now)) }
 {
-    let a = axis.a as i32;
-    let b = axis.b as i32;
-    copy_coordinates(x, a, columns, 0, n);
-    copy_coordinates(y, b, columns, Y_COLUMN, n);
-    copy_naturals(visits, columns, VISITS_COLUMN, n);
-    copy_naturals(near, columns, NEAR_COLUMN, n);
-    columns[X_COST] = a;
-    columns[Y_COST] = b;
+    let n = stops.at.x.len();
+    put_places(axis, stops.at, columns);
+    copy_naturals(
+        &stops.visits[..n],
+        &mut columns[VISITS_COLUMN..VISITS_COLUMN + n],
+    );
+    copy_naturals(&stops.near[..n], &mut columns[NEAR_COLUMN..NEAR_COLUMN + n]);
+    columns[X_COST] = axis.a as i32;
+    columns[Y_COST] = axis.b as i32;
 }

@@ -3,11 +3,11 @@
 use mathlib.Core.Path.{◌≡◌, sym, ap, subst, ◌∙◌}
 use mathlib.Core.Bool.{Bool, true, false, not}
 use mathlib.Core.List.{List, map, map-map, Memᴰ}
-use Prim.Native.Nat.{ℕ, ◌+◌, ◌≤◌}
+use Prim.Native.Nat.{ℕ, ◌≤◌}
 use native.Mathlib.Omega.{arith}
 use lib.Dec.{T}
 use lib.IntN.{ℤ, pos, nat_abs}
-use lib.ListN.{length, take, drop, length-map}
+use lib.ListN.{length, take, length-map}
 use lib.Seq.{length-take-le}
 use Rattle.std.specs.Prelude.{Ok}
 use Rattle.numbers.specs.Padded.{padded}
@@ -31,6 +31,7 @@ use Rattle.deck.proofs.PaidLaws.{paid_stops}
 use Rattle.job_line.specs.Kinds.{Kind, axis, posts, post, stops, stop, row}
 use Rattle.job_line.specs.OneLine.{line}
 use Rattle.job_line.specs.Reading.{cost_numbers}
+use Rattle.job_line.specs.declared.Unread.{Unread}
 use Rattle.job.specs.Format.{axis_costs_of, count_of, post_of, stop_of, job_of}
 use Rattle.job.specs.ManyLines.{AxisAt, many_lines, counted_lines, ListAt, PostsAt, StopsAt}
 use Rattle.job.proofs.RangeLaws.{axis_range, post_range, stop_range, post_back_lem, stop_back_lem}
@@ -39,10 +40,10 @@ use Rattle.job.proofs.PartLaws.{Put}
 
 -- ---- ranges
 -- axis costs that were read, where those that stand for a missing line are in range
-pub axis_in_range : {s : List ℕ} {at : ℕ} {missing costs : AxisCosts} {n to : ℕ} → AxisAt s at missing (Ok (costs, n, to)) →
+pub axis_in_range : {unread : Unread} {missing costs : AxisCosts} {left : Unread} → AxisAt unread missing (Ok (costs, left)) →
     CostsInRange (held_axis missing) → CostsInRange (held_axis costs)
-axis_in_range {s} {at} {missing} {costs} {n} {to} axis_at h =
-    go (optional_got axis (cost_numbers missing) 2 (drop at s) (cost_numbers costs) n (drop to s) (sym axis_at.is))
+axis_in_range {unread} {missing} {costs} {left} axis_at h =
+    go (optional_got axis (cost_numbers missing) unread.line unread.text.now (cost_numbers costs) left.line left.text.now (sym axis_at.is))
   where
     carried_in : Ranged axis (cost_numbers costs) → CostsInRange (held_axis costs)
     carried_in t = let (some, most) = axis_range (held_axis costs) t in record { some = some; most = most }
@@ -51,16 +52,16 @@ axis_in_range {s} {at} {missing} {costs} {n} {to} axis_at h =
     either true f g = carried_in (f tt)
     either false f g = subst CostsInRange (sym (ap axis_costs_of (g tt))) h
 
-    go : OptionalGot axis (cost_numbers missing) (drop at s) (cost_numbers costs) (drop to s) → CostsInRange (held_axis costs)
+    go : OptionalGot axis (cost_numbers missing) unread.text.now (cost_numbers costs) left.text.now → CostsInRange (held_axis costs)
     go o = either o.carried o.ranged o.left_out
 
 -- lines that were all read
-module _ (k kind : Kind) {put : Put} {most : ℕ} {s : List ℕ} {at n to : ℕ} {old new : Deck}
-    (list_at : ListAt (counted_lines k kind) put most s at n old new (Ok to)) where
+module _ (k kind : Kind) {put : Put} {most : ℕ} {unread left : Unread} {old new : Deck}
+    (list_at : ListAt (counted_lines k kind) put most unread old new (Ok left)) where
   lines_ranged : (ns : List ℤ) → Memᴰ ns list_at.lines → Ranged kind ns
   unfolding counted_lines
-  lines_ranged = bind_got (line (row k)) (λ c. many_lines kind (count_of c)) n (drop at s)
-      (λ c n₁ b₁ e₁ e₂. (all_got kind (count_of c) n₁ b₁ list_at.lines (n + 1 + length list_at.lines) (drop to s) e₂).2) (sym list_at.is)
+  lines_ranged = bind_got (line (row k)) (λ c. many_lines kind (count_of c)) unread.line unread.text.now
+      (λ c n₁ b₁ e₁ e₂. (all_got kind (count_of c) n₁ b₁ list_at.lines left.line left.text.now e₂).2) (sym list_at.is)
 
 -- the places that lines hold, in arrays of a size
 module _ (size : ℕ) (lines : List (List ℤ)) where
@@ -111,11 +112,11 @@ stop_in_lem : (ns : List ℤ) → Ranged stop ns → StopInRange (stop_of ns)
 stop_in_lem ns t = stop_range (stop_of ns) (subst (Ranged stop) (sym (stop_back_lem ns t)) t)
 
 -- all posts, and all stops, that were read
-pub posts_in : {s : List ℕ} {at n to : ℕ} {old new : Deck} (posts_at : PostsAt s at n old new (Ok to)) →
+pub posts_in : {unread left : Unread} {old new : Deck} (posts_at : PostsAt unread old new (Ok left)) →
     PlacesInRange 64 (xs 64 posts_at.lines) (ys 64 posts_at.lines) (length posts_at.lines)
 posts_in posts_at = places_ranged 64 posts_at.lines posts_at.few (λ ns m. post_in ns (lines_ranged posts post posts_at ns m))
 
-module _ {s : List ℕ} {at n to : ℕ} {old new : Deck} (stops_at : StopsAt s at n old new (Ok to)) where
+module _ {unread left : Unread} {old new : Deck} (stops_at : StopsAt unread old new (Ok left)) where
   each_stop : (ns : List ℤ) → Memᴰ ns stops_at.lines → StopInRange (stop_of ns)
   each_stop ns m = stop_in_lem ns (lines_ranged stops stop stops_at ns m)
 

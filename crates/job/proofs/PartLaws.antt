@@ -2,26 +2,29 @@
 -- last line.
 -- Assumes nothing.
 use mathlib.Core.Path.{◌≡◌, refl, sym, ap, ◌∙◌}
-use mathlib.Core.Bool.{Bool, true, false}
+use mathlib.Core.Bool.{true, false, true≢false}
 use mathlib.Core.List.{List, [], ◌∷◌, ◌++◌}
-use Prim.Native.Nat.{ℕ, suc, ◌+◌, ◌-◌, ◌≤◌, ◌<◌}
-use native.Mathlib.Nat.{add-zero, sub-zero}
+use Prim.Native.Nat.{ℕ, suc, ◌+◌, ◌-◌, ◌≤◌, ◌<◌, ◌^◌}
+use native.Mathlib.Nat.{sub-zero}
 use native.Mathlib.Omega.{arith}
-use lib.ListN.{length, drop, set, length-append, drop_of_length-le}
+use borrow.Author.Tests.{eq-eqb, eqb-true}
+use lib.Dec.{eqb}
+use lib.ListN.{length, set, length-append}
 use lib.IntN.{ℤ, pos}
 use mir.Syntax.{w64}
 use mir.Val.{SFits}
-use Rattle.std.specs.Prelude.{Result, Ok, Err, IsErrAnd}
-use Rattle.numbers.proofs.Joined.{drop_next}
+use Rattle.std.specs.Prelude.{Result, Ok, Err, IsErrAnd, IfOk}
 use Rattle.numbers.proofs.Padded.{padded_none, padded_map}
 use Rattle.numbers.proofs.WordTests.{back, back_is}
-use Rattle.text.specs.TextReading.{Starts}
+use Rattle.text.specs.TextReading.{starts_with}
 use Rattle.deck.specs.declared.AxisCosts.{AxisCosts}
 use Rattle.deck.specs.declared.Deck.{Deck}
-use Rattle.job_line.specs.Kinds.{Kind, axis, rounds, Row, row}
-use Rattle.job_line.specs.OneLine.{fault, got, Reader, line}
-use Rattle.job_line.specs.Reading.{LineAnswer, read, refused, cost_numbers, answer_in, LineAt}
-use Rattle.job.specs.Reader.{and_then, repeated, optional, end}
+use Rattle.job_line.specs.Kinds.{Kind, axis, rounds, row}
+use Rattle.job_line.specs.OneLine.{Reading, fault, got, Reader, line}
+use Rattle.job_line.specs.Reading.{cost_numbers, reading_of, LineAt}
+use Rattle.job_line.specs.declared.Unread.{Unread}
+use Rattle.job_line.proofs.LineLaws.{line_at_is, line_counts}
+use Rattle.job.specs.Reader.{and_then, repeated, end}
 use Rattle.job.specs.Format.{count_of, post_of, stop_of}
 use Rattle.job.specs.ManyLines.{AxisAt, many_lines, counted_lines, NoPostsYet, NoStopsYet, with_post_lines, with_posts, with_stop_lines, with_stops}
 use Rattle.job.specs.ManyLines.{ListAt, last_line, LastAt}
@@ -35,20 +38,21 @@ handed (Ok a) h = absurd h
 handed (Err e) h = ap Err h
 
 -- ---- the axis line
-module _ {s : List ℕ} {at : ℕ} {t : Bool} (starts : Starts s at (row axis).key t) where
-  pub axis_missing : {missing : AxisCosts} → t ≡ false → AxisAt s at missing (Ok (missing, 2, at))
-  axis_missing off = record { is = rw (optional_is, ← starts.is, off); few = omega arith }
+module _ {unread : Unread} {missing : AxisCosts} where
+  pub axis_missing : starts_with (row axis).key unread.text.now ≡ false → AxisAt unread missing (Ok (missing, unread))
+  axis_missing off = record { is = rw (optional_is, off); few = omega arith }
 
-  module _ (on : t ≡ true) where
-    axis_line_lem : (missing : AxisCosts) {answer : LineAnswer} → LineAt (row axis) s at 2 answer →
-        answer_in s 2 answer ≡ optional (row axis) (cost_numbers missing) 2 (drop at s)
-    axis_line_lem missing axis_at = rw (optional_is, ← starts.is, on) axis_at.is
+  pub axis_read : (r : Result (AxisCosts × Unread) Refusal) → starts_with (row axis).key unread.text.now ≡ true → unread.line ≤ 900 →
+      LineAt (row axis) unread (reading_of cost_numbers r) → AxisAt unread missing r
+  axis_read r on h axis_at = record { is = rw (optional_is, on) is; few = few r is }
+    where
+      is : reading_of cost_numbers r ≡ line (row axis) unread.line unread.text.now
+      is = line_at_is axis_at (omega arith)
 
-    pub axis_read : {missing c : AxisCosts} {next : ℕ} → LineAt (row axis) s at 2 (read (cost_numbers c) next) → AxisAt s at missing (Ok (c, 3, next))
-    axis_read {missing} axis_at = record { is = axis_line_lem missing axis_at; few = omega arith }
-
-    pub axis_refused : {missing : AxisCosts} {why : Refusal} → LineAt (row axis) s at 2 (refused why) → AxisAt s at missing (Err why)
-    axis_refused {missing} axis_at = record { is = axis_line_lem missing axis_at; few = tt }
+      few : (r : Result (AxisCosts × Unread) Refusal) → reading_of cost_numbers r ≡ line (row axis) unread.line unread.text.now →
+          IfOk r (λ a. a.1.line ≤ unread.line + 1)
+      few (Ok a) e = omega (arith, line_counts (row axis) unread.line unread.text.now e)
+      few (Err why) e = tt
 
 -- ---- lines that were read, and those left
 repeated_none : {A : Type 0} (one : Reader A) (done : List A) (n : ℕ) (bs : List ℕ) → repeated 0 one done n bs ≡ got done n bs
@@ -64,44 +68,42 @@ repeated_more one k done n bs = refl
 abbrev pub Put : Type 0
 Put = Deck → List (List ℤ) → Deck
 
--- i lines were read and are put into a record, and reading goes on at a place
-pub record Filled (kind : Kind) (put : Put) (old now : Deck) (s : List ℕ) (start count first at i : ℕ) : Type 0 where
+-- i lines were read and are put into a record, and this is left
+pub record Filled (kind : Kind) (put : Put) (old now : Deck) (start : Unread) (count : ℕ) (left : Unread) (i : ℕ) : Type 0 where
   pub lines : List (List ℤ)
   pub count_is : i ≡ length lines
   pub deck_is : now ≡ put old lines
-  pub left : many_lines kind count first (drop start s) ≡ repeated (count - i) (line (row kind)) lines (first + i) (drop at s)
+  pub line_is : left.line ≡ start.line + i
+  pub left_is : many_lines kind count start.line start.text.now ≡ repeated (count - i) (line (row kind)) lines left.line left.text.now
 
-module _ {kind : Kind} {put : Put} {old : Deck} {s : List ℕ} {start count first : ℕ} where
-  pub filled_none : old ≡ put old [] → Filled kind put old old s start count first start 0
-  filled_none e = record { lines = []; count_is = refl; deck_is = e; left = rw (sub-zero, add-zero) refl }
+module _ {kind : Kind} {put : Put} {old : Deck} {start : Unread} {count : ℕ} where
+  pub filled_none : old ≡ put old [] → Filled kind put old old start count start 0
+  filled_none e = record { lines = []; count_is = refl; deck_is = e; line_is = omega arith; left_is = rw sub-zero refl }
 
-  module _ {now : Deck} {at i : ℕ} (f : Filled kind put old now s start count first at i) where
-    all_read : count ≤ i → got f.lines (first + length f.lines) (drop at s) ≡ many_lines kind count first (drop start s)
-    all_read h = rw (← f.count_is) (sym (f.left ∙ rw none (repeated_none _ _ _ _)))
+  module _ {now : Deck} {left : Unread} {i : ℕ} (f : Filled kind put old now start count left i) where
+    all_read : count ≤ i → got f.lines left.line left.text.now ≡ many_lines kind count start.line start.text.now
+    all_read h = sym (f.left_is ∙ rw none (repeated_none _ _ _ _))
       where
         none : count - i ≡ 0
         none = omega arith
 
-    module _ {answer : LineAnswer} (line_at_lem : LineAt (row kind) s at (first + i) answer) (h : i < count) where
-      next : many_lines kind count first (drop start s)
-          ≡ and_then (answer_in s (first + i) answer) (λ ns. repeated (count - (i + 1)) (line (row kind)) (f.lines ++ (ns ∷ [])))
-      next = f.left ∙ rw (more, line_at_lem.is) (repeated_more _ _ _ _ _)
+    module _ (h : i < count) {r : Reading (List ℤ)} (line_is_lem : r ≡ line (row kind) left.line left.text.now) where
+      next : many_lines kind count start.line start.text.now ≡ and_then r (λ ns. repeated (count - (i + 1)) (line (row kind)) (f.lines ++ (ns ∷ [])))
+      next = f.left_is ∙ rw (more, line_is_lem) (repeated_more _ _ _ _ _)
         where
           more : count - i ≡ suc (count - (i + 1))
           more = omega arith
 
-  pub filled_more : {now : Deck} {at i : ℕ} (f : Filled kind put old now s start count first at i) {ns : List ℤ} {to : ℕ} → i < count →
-      LineAt (row kind) s at (first + i) (read ns to) → {then : Deck} → then ≡ put old (f.lines ++ (ns ∷ [])) →
-      Filled kind put old then s start count first to (i + 1)
-  filled_more {now} {at} {i} f {ns} h line_at_lem e = record {
+  pub filled_more : {now : Deck} {left : Unread} {i : ℕ} (f : Filled kind put old now start count left i) {ns : List ℤ} {to : Unread} → i < count →
+      left.line + 1 < 2 ^ 64 → LineAt (row kind) left (got ns to.line to.text.now) → {then : Deck} → then ≡ put old (f.lines ++ (ns ∷ [])) →
+      Filled kind put old then start count to (i + 1)
+  filled_more {left = left} f {ns} h few line_at e = record {
     lines = f.lines ++ (ns ∷ []);
     count_is = rw (length-append, ← f.count_is);
     deck_is = e;
-    left = rw line (next f line_at_lem h);
+    line_is = omega (arith, f.line_is, line_counts (row kind) left.line left.text.now (line_at_is line_at few));
+    left_is = next f h (line_at_is line_at few);
   }
-    where
-      line : first + (i + 1) ≡ first + i + 1
-      line = omega arith
 
 -- ---- the record that holds them
 pub posts_none : {deck : Deck} → NoPostsYet deck → deck ≡ with_post_lines deck []
@@ -147,39 +149,51 @@ module _ {count i : ℕ} (lines : List (List ℤ)) (count_is : i ≡ length line
   stops_all old now e = λ k. record (e k) { stops = all_counted k }
 
 -- ---- a line of a count, and what follows it
-module _ {s : List ℕ} {at n : ℕ} {row : Row} {answer : LineAnswer} (count_at : LineAt row s at n answer) {A : Type 0} (rest : List ℤ → Reader A) where
-  counted : and_then (answer_in s n answer) rest ≡ and_then (line row n (drop at s)) rest
-  counted = ap (λ R. and_then R rest) count_at.is
-
 counted_is : (k kind : Kind) (n : ℕ) (bs : List ℕ) → and_then (line (row k) n bs) (λ c. many_lines kind (count_of c)) ≡ counted_lines k kind n bs
 unfolding counted_lines
 counted_is k kind n bs = refl
 
-module _ (k kind : Kind) {s : List ℕ} {at n : ℕ} where
-  list_fault : {put : Put} {most : ℕ} {old new : Deck} {why : Refusal} → fault why ≡ counted_lines k kind n (drop at s) →
-      ListAt (counted_lines k kind) put most s at n old new (Err why)
-  list_fault e = record { lines = []; is = e; few = tt; held = tt }
+module _ (k kind : Kind) {unread : Unread} (low : unread.line ≤ 900) where
+  counted_at : {r : Reading (List ℤ)} → LineAt (row k) unread r →
+      and_then r (λ c. many_lines kind (count_of c)) ≡ counted_lines k kind unread.line unread.text.now
+  counted_at count_at = ap (λ r. and_then r (λ c. many_lines kind (count_of c))) (line_at_is count_at (omega arith))
+      ∙ counted_is k kind unread.line unread.text.now
 
-  pub list_no_count : {put : Put} {most : ℕ} {old new : Deck} {why : Refusal} → LineAt (row k) s at n (refused why) →
-      ListAt (counted_lines k kind) put most s at n old new (Err why)
-  list_no_count count_at = list_fault (counted count_at (λ c. many_lines kind (count_of c)) ∙ counted_is k kind n (drop at s))
+  list_fault : {put : Put} {most : ℕ} {old new : Deck} {why : Refusal} → fault why ≡ counted_lines k kind unread.line unread.text.now →
+      ListAt (counted_lines k kind) put most unread old new (Err why)
+  list_fault e = record { lines = []; is = e; few = tt; counted = tt; held = tt }
 
-  module _ {count start : ℕ} (count_at : LineAt (row k) s at n (read (pos count ∷ []) start)) where
-    -- a count that was read is in its range
-    pub counted_in : Ranged k (pos count ∷ [])
-    counted_in = (line_got k n (drop at s) (pos count ∷ []) (n + 1) (drop start s) (sym count_at.is)).1
+  pub list_no_count : {put : Put} {most : ℕ} {old new : Deck} {why : Refusal} → LineAt (row k) unread (fault why) →
+      ListAt (counted_lines k kind) put most unread old new (Err why)
+  list_no_count count_at = list_fault (counted_at count_at)
 
-    lines_are : many_lines kind count (n + 1) (drop start s) ≡ counted_lines k kind n (drop at s)
-    lines_are = counted count_at (λ c. many_lines kind (count_of c)) ∙ counted_is k kind n (drop at s)
+  -- a count that was read is in its range
+  pub counted_in : {count m : ℕ} {rest : List ℕ} → LineAt (row k) unread (got (pos count ∷ []) m rest) → Ranged k (pos count ∷ [])
+  counted_in {count} {m} {rest} count_at =
+      (line_got k unread.line unread.text.now (pos count ∷ []) m rest (sym (line_at_is count_at (omega arith)))).1
 
-    module _ {fill : Put} {first now : Deck} {to i : ℕ} (f : Filled kind fill first now s start count (n + 1) to i) {put : Put} {most : ℕ}
-        {old new : Deck} where
-      pub list_read : count ≤ i → i ≤ count → count ≤ most → new ≡ put old f.lines → ListAt (counted_lines k kind) put most s at n old new (Ok to)
-      list_read g h few e = record { lines = f.lines; is = all_read f g ∙ lines_are; few = omega (arith, f.count_is); held = e }
+  module _ {count : ℕ} (start : Unread) (count_at : LineAt (row k) unread (got (pos count ∷ []) start.line start.text.now)) where
+    start_is : start.line ≡ unread.line + 1
+    start_is = line_counts (row k) unread.line unread.text.now (line_at_is count_at (omega arith))
 
-      pub list_refused : {why : Refusal} → i < count → LineAt (row kind) s to (n + 1 + i) (refused why) →
-          ListAt (counted_lines k kind) put most s at n old new (Err why)
-      list_refused h line_at_lem = list_fault (sym (next f line_at_lem h) ∙ lines_are)
+    module _ {fill : Put} {first now : Deck} {left : Unread} {i : ℕ} (f : Filled kind fill first now start count left i) where
+      -- the number of a line fits 64 bits
+      pub line_small : i ≤ 512 → left.line + 1 < 2 ^ 64
+      line_small h = omega (arith, f.line_is, start_is)
+
+      pub list_read : {put : Put} {most : ℕ} {old new : Deck} → count ≤ i → i ≤ count → count ≤ most → new ≡ put old f.lines → ListAt
+          (counted_lines k kind) put most unread old new (Ok left)
+      list_read g h few e = record {
+        lines = f.lines;
+        is = all_read f g ∙ counted_at count_at;
+        few = omega (arith, f.count_is);
+        counted = omega (arith, f.line_is, start_is);
+        held = e;
+      }
+
+      pub list_refused : {put : Put} {most : ℕ} {old new : Deck} {why : Refusal} → i < count → i ≤ 512 → LineAt (row kind) left (fault why) →
+          ListAt (counted_lines k kind) put most unread old new (Err why)
+      list_refused h few line_at = list_fault (sym (next f h (line_at_is line_at (line_small few))) ∙ counted_at count_at)
 
 -- ---- the last line
 -- the end of the text behind a number
@@ -190,24 +204,31 @@ last_is : (n : ℕ) (bs : List ℕ) → and_then (line (row rounds) n bs) ended 
 unfolding last_line ended
 last_is n bs = refl
 
-ended_more : (z : List ℤ) (n next : ℕ) (s : List ℕ) → next < length s → fault (Malformed n) ≡ ended z n (drop next s)
+ended_more : (z : List ℤ) (n : ℕ) (bs : List ℕ) → (length bs ≡ 0 → ⊥) → fault (Malformed n) ≡ ended z n bs
 unfolding ended end
-ended_more z n next s h = rw (drop_next s next 0 refl h)
+ended_more z n [] h = absurd (h refl)
+ended_more z n (b ∷ bs) h = refl
 
-ended_here : (z : List ℤ) (n next : ℕ) (s : List ℕ) → length s ≤ next → got z n [] ≡ ended z n (drop next s)
+ended_here : (z : List ℤ) (n : ℕ) (bs : List ℕ) → length bs ≡ 0 → got z n [] ≡ ended z n bs
 unfolding ended end
-ended_here z n next s h = rw (drop_of_length-le s h)
+ended_here z n [] h = refl
+ended_here z n (b ∷ bs) h = absurd (omega arith)
 
-module _ {s : List ℕ} {at n : ℕ} where
-  last_line_is : {answer : LineAnswer} → LineAt (row rounds) s at n answer → and_then (answer_in s n answer) ended ≡ last_line n (drop at s)
-  last_line_is count_at = counted count_at ended ∙ last_is n (drop at s)
+module _ {unread : Unread} (low : unread.line ≤ 900) where
+  last_line_is : {r : Reading (List ℤ)} → LineAt (row rounds) unread r → and_then r ended ≡ last_line unread.line unread.text.now
+  last_line_is count_at = ap (λ r. and_then r ended) (line_at_is count_at (omega arith)) ∙ last_is unread.line unread.text.now
 
-  pub last_refused : {why : Refusal} → LineAt (row rounds) s at n (refused why) → LastAt s at n (Err why)
+  pub last_refused : {why : Refusal} → LineAt (row rounds) unread (fault why) → LastAt unread (Err why)
   last_refused count_at = record { is = last_line_is count_at }
 
-  module _ {count next : ℕ} (count_at : LineAt (row rounds) s at n (read (pos count ∷ []) next)) where
-    pub last_more : next < length s → LastAt s at n (Err (Malformed (n + 1)))
-    last_more h = record { is = ended_more (pos count ∷ []) (n + 1) next s h ∙ last_line_is count_at }
+  module _ {count : ℕ} (left : Unread) (count_at : LineAt (row rounds) unread (got (pos count ∷ []) left.line left.text.now)) where
+    pub last_more : eqb (length left.text.now) 0 ≡ false → LastAt unread (Err (Malformed left.line))
+    last_more h = record {
+      is = ended_more (pos count ∷ []) left.line left.text.now (λ z. true≢false (sym (eq-eqb _ _ z) ∙ h)) ∙ last_line_is count_at;
+    }
 
-    pub last_read : length s ≤ next → LastAt s at n (Ok count)
-    last_read h = record { is = ended_here (pos count ∷ []) (n + 1) next s h ∙ last_line_is count_at }
+    pub last_alone : eqb (length left.text.now) 0 ≡ true → LastAt unread (Ok count)
+    last_alone h = record {
+      is = ap (λ m. got (pos count ∷ []) m []) (sym (line_counts (row rounds) unread.line unread.text.now (line_at_is count_at (omega arith))))
+          ∙ ended_here (pos count ∷ []) left.line left.text.now (eqb-true _ _ h) ∙ last_line_is count_at;
+    }

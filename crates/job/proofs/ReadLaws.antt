@@ -3,11 +3,11 @@
 use mathlib.Core.Path.{◌≡◌, refl, sym, ap, subst, ◌∙◌}
 use mathlib.Core.Bool.{Bool, true, false}
 use mathlib.Core.List.{List, [], ◌∷◌, map, map-map}
-use Prim.Native.Nat.{ℕ, zero, suc, ◌+◌, ◌≤◌, ◌<◌}
+use Prim.Native.Nat.{ℕ, zero, suc, ◌≤◌, ◌<◌}
 use native.Mathlib.Omega.{arith}
 use borrow.Author.Tests.{lt-ltb}
 use lib.IntN.{ℤ, pos}
-use lib.ListN.{length, take, drop, replicate, length-map}
+use lib.ListN.{length, take, replicate, length-map}
 use lib.Signed.{lt_z}
 use mir.Syntax.{w64}
 use mir.Val.{SFits}
@@ -17,14 +17,16 @@ use Rattle.numbers.specs.Lists.{non_empty}
 use Rattle.numbers.specs.Padded.{padded}
 use Rattle.job_line.specs.Kinds.{area, axis, posts, stops, rounds, row}
 use Rattle.job_line.specs.OneLine.{Reading, fault, got, Reader, line}
-use Rattle.job_line.specs.Reading.{LineAnswer, read, refused, area_numbers, cost_numbers, answer_in, LineAt}
+use Rattle.job_line.specs.Reading.{area_numbers, cost_numbers, reading_of, LineAt}
+use Rattle.job_line.specs.declared.Unread.{Unread}
+use Rattle.job_line.proofs.LineLaws.{line_at_is, line_counts}
 use Rattle.job.specs.Reader.{and_then, optional, end}
 use Rattle.job.specs.Format as Format
 use Rattle.job.specs.Format.{accepted, area_of, axis_costs_of, axis_numbers, count_of, post_of, stop_of, job_of, empty_area, checked, job_lines}
 use Rattle.job.specs.Format.{reading_result, read_with, missing_axis, read_job}
 use Rattle.job.specs.JobRecord.{job_result}
 use Rattle.job.specs.ManyLines.{post_lines, stop_lines, counted_lines, all_posts, all_stops, last_line, rest_lines, with_posts, with_stops}
-use Rattle.job.specs.ManyLines.{reading_of, job_unless, AxisAt, PostsAt, StopsAt, LastAt, CheckedAt, RestAt}
+use Rattle.job.specs.ManyLines.{lines_read, last_read, job_unless, AxisAt, PostsAt, StopsAt, LastAt, CheckedAt, RestAt}
 use Rattle.query.specs.Deck as Query
 use Rattle.query.specs.Travel as Travel
 use Rattle.query.specs.Cost.{before}
@@ -203,11 +205,8 @@ unfolding job_result
 accepted_is a c ps ss n = refl
 
 -- the record that holds those that were read
-module _ {s : List ℕ} {at n : ℕ} {d₀ d₁ : Deck} {at₂ : ℕ} (posts_at : PostsAt s at n d₀ d₁ (Ok at₂)) where
-  posts_are : d₁.posts ≡ length posts_at.lines
-  posts_are = ap (λ (d : Deck). d.posts) posts_at.held
-
-  module _ {m : ℕ} {d₂ : Deck} {at₃ : ℕ} (stops_at : StopsAt s at₂ m d₁ d₂ (Ok at₃)) where
+module _ {unread : Unread} {d₀ d₁ : Deck} {left : Unread} (posts_at : PostsAt unread d₀ d₁ (Ok left)) where
+  module _ {d₂ : Deck} {last : Unread} (stops_at : StopsAt left d₁ d₂ (Ok last)) where
     stops_are : d₂.stops ≡ length stops_at.lines
     stops_are = ap (λ (d : Deck). d.stops) stops_at.held
 
@@ -267,54 +266,51 @@ job_made {a} c ps ss n held xlo ylo xhi yhi {near} {sum} found summed =
     paid_in = subst (λ (d : Deck). sum ≡ paid d.visits near d.stops) held summed
 
 -- the reading that they come to
-record RestIs (s : List ℕ) (at first : ℕ) (a : Rect) (c : AxisCosts) (reading : Reading Format.Job) : Type 0 where
-  is : rest_lines (area_numbers a) (cost_numbers c) first (drop at s) ≡ reading
+record RestIs (unread : Unread) (a : Rect) (c : AxisCosts) (reading : Reading Format.Job) : Type 0 where
+  is : rest_lines (area_numbers a) (cost_numbers c) unread.line unread.text.now ≡ reading
 
-module _ {s : List ℕ} {at first : ℕ} {a : Rect} {c : AxisCosts} where
-  rest_refused : {why : Refusal} → RestIs s at first a c (fault why) → RestAt s at first a c (Err why)
+module _ {unread : Unread} {a : Rect} {c : AxisCosts} where
+  rest_refused : {why : Refusal} → RestIs unread a c (fault why) → RestAt unread a c (Err why)
   unfolding job_result
   rest_refused r = record { is = rw r.is refl }
 
-  rest_made : {job : Format.Job} {m : ℕ} {bs : List ℕ} {r : Std.Result Job Refusal} → RestIs s at first a c (got job m bs) → r ≡ job_result (checked job) →
-      RestAt s at first a c r
+  rest_made : {job : Format.Job} {m : ℕ} {bs : List ℕ} {r : Std.Result Job Refusal} → RestIs unread a c (got job m bs) → r ≡ job_result (checked job) →
+      RestAt unread a c r
   rest_made f e = record { is = rw f.is e }
 
-  from_posts : {d₀ d₁ : Deck} {r : Std.Result ℕ Refusal} (posts_at : PostsAt s at first d₀ d₁ r) →
-      RestIs s at first a c (and_then (reading_of (λ next. got posts_at.lines (first + 1 + length posts_at.lines) (drop next s)) r)
-      (after_posts (area_numbers a) (cost_numbers c)))
-  from_posts posts_at = record { is = rw (rest_is (area_numbers a) (cost_numbers c) first (drop at s), posts_at.is) }
+  from_posts : {d₀ d₁ : Deck} {r : Std.Result Unread Refusal} (posts_at : PostsAt unread d₀ d₁ r) →
+      RestIs unread a c (and_then (lines_read posts_at.lines r) (after_posts (area_numbers a) (cost_numbers c)))
+  from_posts posts_at = record { is = rw (rest_is (area_numbers a) (cost_numbers c) unread.line unread.text.now, posts_at.is) }
 
-  pub rest_no_posts : {d₀ d₁ : Deck} {why : Refusal} → PostsAt s at first d₀ d₁ (Err why) → RestAt s at first a c (Err why)
+  pub rest_no_posts : {d₀ d₁ : Deck} {why : Refusal} → PostsAt unread d₀ d₁ (Err why) → RestAt unread a c (Err why)
   rest_no_posts posts_at = rest_refused (from_posts posts_at)
 
-  module _ {d₀ d₁ : Deck} {at₂ : ℕ} (posts_at : PostsAt s at first d₀ d₁ (Ok at₂)) where
-    from_stops : {d₂ : Deck} {r : Std.Result ℕ Refusal} (stops_at : StopsAt s at₂ (first + 1 + d₁.posts) d₁ d₂ r) →
-        RestIs s at first a c (and_then (reading_of (λ next. got stops_at.lines (first + 1 + d₁.posts + 1 + length stops_at.lines) (drop next s)) r)
-        (after_stops (area_numbers a) (cost_numbers c) posts_at.lines))
+  module _ {d₀ d₁ : Deck} {left : Unread} (posts_at : PostsAt unread d₀ d₁ (Ok left)) where
+    from_stops : {d₂ : Deck} {r : Std.Result Unread Refusal} (stops_at : StopsAt left d₁ d₂ r) →
+        RestIs unread a c (and_then (lines_read stops_at.lines r) (after_stops (area_numbers a) (cost_numbers c) posts_at.lines))
     unfolding after_posts
-    from_stops stops_at = record { is = (from_posts posts_at).is ∙ rw (← posts_are posts_at, stops_at.is) }
+    from_stops stops_at = record { is = (from_posts posts_at).is ∙ rw stops_at.is }
 
-    pub rest_no_stops : {d₂ : Deck} {why : Refusal} → StopsAt s at₂ (first + 1 + d₁.posts) d₁ d₂ (Err why) → RestAt s at first a c (Err why)
+    pub rest_no_stops : {d₂ : Deck} {why : Refusal} → StopsAt left d₁ d₂ (Err why) → RestAt unread a c (Err why)
     rest_no_stops stops_at = rest_refused (from_stops stops_at)
 
-    module _ {d₂ : Deck} {at₃ : ℕ} (stops_at : StopsAt s at₂ (first + 1 + d₁.posts) d₁ d₂ (Ok at₃)) where
-      from_last : {r : Std.Result ℕ Refusal} → LastAt s at₃ (first + 1 + d₁.posts + 1 + d₂.stops) r →
-          RestIs s at first a c (and_then (reading_of (λ count. got (pos count ∷ []) (first + 1 + d₁.posts + 1 + d₂.stops + 1) []) r)
-          (λ k n bs. got (job_of (area_numbers a) (cost_numbers c) posts_at.lines stops_at.lines k) n bs))
+    module _ {d₂ : Deck} {last : Unread} (stops_at : StopsAt left d₁ d₂ (Ok last)) where
+      from_last : {r : Std.Result ℕ Refusal} → LastAt last r →
+          RestIs unread a c (and_then (last_read last.line r) (λ k n bs. got (job_of (area_numbers a) (cost_numbers c) posts_at.lines stops_at.lines k) n bs))
       unfolding after_stops
-      from_last last_at = record { is = (from_stops stops_at).is ∙ rw (← stops_are posts_at stops_at, last_at.is) }
+      from_last last_at = record { is = (from_stops stops_at).is ∙ rw last_at.is }
 
-      pub rest_no_rounds : {why : Refusal} → LastAt s at₃ (first + 1 + d₁.posts + 1 + d₂.stops) (Err why) → RestAt s at first a c (Err why)
+      pub rest_no_rounds : {why : Refusal} → LastAt last (Err why) → RestAt unread a c (Err why)
       rest_no_rounds last_at = rest_refused (from_last last_at)
 
-      module _ {n : ℕ} (last_at : LastAt s at₃ (first + 1 + d₁.posts + 1 + d₂.stops) (Ok n)) where
-        pub rest_unchecked : {why : Refusal} → CheckedAt a d₂.posts d₂.stops (Err why) → RestAt s at first a c (Err why)
+      module _ {n : ℕ} (last_at : LastAt last (Ok n)) where
+        pub rest_unchecked : {why : Refusal} → CheckedAt a d₂.posts d₂.stops (Err why) → RestAt unread a c (Err why)
         unfolding job_result
         rest_unchecked checked_at = rest_made (from_last last_at) (ap job_result (sym (checked_is posts_at stops_at c n checked_at)))
 
         pub rest_read : CheckedAt a d₂.posts d₂.stops (Ok tt) → d₀ ≡ start_deck a c → SFits w64 a.xlo → SFits w64 a.ylo → SFits w64 a.xhi → SFits w64 a.yhi →
             {near : List ℕ} {sum : ℕ} → Nears (held_axis c) (take d₂.posts (places d₂.post_x d₂.post_y)) (take d₂.stops (places d₂.stop_x d₂.stop_y)) near →
-            sum ≡ paid d₂.visits near d₂.stops → RestAt s at first a c (Ok (record { rounds = n; deck = record d₂ { near = near; before = sum } }))
+            sum ≡ paid d₂.visits near d₂.stops → RestAt unread a c (Ok (record { rounds = n; deck = record d₂ { near = near; before = sum } }))
         rest_read checked_at start xlo ylo xhi yhi found summed =
             rest_made (from_last last_at)
             (job_made c posts_at.lines stops_at.lines n (filled posts_at stops_at ∙ ap (λ d. with_stops (with_posts d posts_at.lines) stops_at.lines) start)
@@ -325,27 +321,31 @@ pub read_long : (missing : Query.AxisCosts) (s : List ℕ) → 16384 < length s 
 unfolding read_with job_result
 read_long missing s h = rw (lt-ltb 16384 (length s) h)
 
-module _ (missing : AxisCosts) {s : List ℕ} (short : length s ≤ 16384) where
-  from_area : {answer : LineAnswer} → LineAt (row area) s 0 1 answer → job_lines (held_axis missing) 1 s ≡ and_then (answer_in s 1 answer)
+module _ (missing : AxisCosts) {whole : Unread} (first : whole.line ≡ 1) (short : length whole.text.now ≤ 16384) where
+  from_area : {r : Reading (List ℤ)} → LineAt (row area) whole r → job_lines (held_axis missing) 1 whole.text.now ≡ and_then r
       (λ a n bs. and_then (optional (row axis) (cost_numbers missing) n bs) (rest_lines a))
-  from_area area_at = rw (lines_are (held_axis missing) 1 s, ← area_at.is)
+  from_area area_at = rw (lines_are (held_axis missing) 1 whole.text.now, line_at_is area_at (omega arith), first)
 
-  pub read_no_area : {why : Refusal} → LineAt (row area) s 0 1 (refused why) → Err why ≡ job_result (read_with (held_axis missing) s)
+  pub read_no_area : {why : Refusal} → LineAt (row area) whole (fault why) → Err why ≡ job_result (read_with (held_axis missing) whole.text.now)
   unfolding job_result
-  read_no_area area_at = rw (read_short (held_axis missing) s short, from_area area_at)
+  read_no_area area_at = rw (read_short (held_axis missing) whole.text.now short, from_area area_at)
 
-  module _ {a : Rect} {at : ℕ} (area_at : LineAt (row area) s 0 1 (read (area_numbers a) at)) where
-    from_axis : {r : Std.Result (AxisCosts × ℕ × ℕ) Refusal} → AxisAt s at missing r →
-        job_lines (held_axis missing) 1 s ≡ and_then (reading_of (λ a. got (cost_numbers a.0) a.1 (drop a.2 s)) r) (rest_lines (area_numbers a))
+  module _ {a : Rect} (unread : Unread) (area_at : LineAt (row area) whole (got (area_numbers a) unread.line unread.text.now)) where
+    -- the line behind the area's is the second
+    pub second : unread.line ≡ 2
+    second = omega (arith, line_counts (row area) whole.line whole.text.now (line_at_is area_at (omega arith)))
+
+    from_axis : {r : Std.Result (AxisCosts × Unread) Refusal} → AxisAt unread missing r →
+        job_lines (held_axis missing) 1 whole.text.now ≡ and_then (reading_of cost_numbers r) (rest_lines (area_numbers a))
     from_axis axis_at = rw (from_area area_at, axis_at.is)
 
-    pub read_no_axis : {why : Refusal} → AxisAt s at missing (Err why) → Err why ≡ job_result (read_with (held_axis missing) s)
+    pub read_no_axis : {why : Refusal} → AxisAt unread missing (Err why) → Err why ≡ job_result (read_with (held_axis missing) whole.text.now)
     unfolding job_result
-    read_no_axis axis_at = rw (read_short (held_axis missing) s short, from_axis axis_at)
+    read_no_axis axis_at = rw (read_short (held_axis missing) whole.text.now short, from_axis axis_at)
 
-    pub read_rest : {costs : AxisCosts} {line at₂ : ℕ} → AxisAt s at missing (Ok (costs, line, at₂)) → {r : Std.Result Job Refusal} →
-        RestAt s at₂ line a costs r → r ≡ job_result (read_with (held_axis missing) s)
-    read_rest axis_at rest_at = rw (read_short (held_axis missing) s short, from_axis axis_at) rest_at.is
+    pub read_rest : {costs : AxisCosts} {left : Unread} → AxisAt unread missing (Ok (costs, left)) → {r : Std.Result Job Refusal} →
+        RestAt left a costs r → r ≡ job_result (read_with (held_axis missing) whole.text.now)
+    read_rest axis_at rest_at = rw (read_short (held_axis missing) whole.text.now short, from_axis axis_at) rest_at.is
 
 -- where a missing line means what it does for every call
 pub read_missing : (s : List ℕ) {r : Std.Result Job Refusal} → r ≡ job_result (read_with missing_axis s) → r ≡ job_result (read_job s)

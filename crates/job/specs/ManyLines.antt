@@ -1,11 +1,12 @@
 -- What the functions that read several lines answer, as the definitions of `Reader` and `Format` have it. No public contract cites these.
 -- Assumes nothing.
 use Rattle.std.specs.Prelude as Std
-use Rattle.std.specs.Prelude.{ℕ, ◌+◌, ◌≤◌, ◌≡◌, List, [], ◌∷◌, map, ℤ, pos, length, drop, replicate, Ok, Err, IfOk}
+use Rattle.std.specs.Prelude.{ℕ, ◌+◌, ◌≤◌, ◌≡◌, List, [], ◌∷◌, map, ℤ, pos, length, replicate, Ok, Err, IfOk}
 use Rattle.job_line.specs.Kinds.{Kind, axis, posts, post, stops, stop, rounds, row}
 use Rattle.job_line.specs.OneLine.{Reading, fault, got, Reader, line}
 use Rattle.job.specs.Reader.{◌>>=◌, ◌>>◌, return, repeated, optional, end}
-use Rattle.job_line.specs.Reading.{area_numbers, cost_numbers}
+use Rattle.job_line.specs.Reading.{area_numbers, cost_numbers, reading_of}
+use Rattle.job_line.specs.declared.Unread.{Unread}
 use Rattle.job.specs.Format as Format
 use Rattle.job.specs.Format.{Result, refused, accepted, count_of, post_of, stop_of, job_of, checked, reading_result}
 use Rattle.job.specs.JobRecord.{job_result}
@@ -17,15 +18,10 @@ use Rattle.job.specs.declared.Job.{Job}
 use Rattle.refusal.specs.declared.Refusal.{Refusal}
 use Rattle.query.specs.Range.{posts_limit, stops_limit}
 
--- a result as the definitions have it, where what was read stands for this reading
-abbrev pub reading_of : {A B : Type 0} → (A → Reading B) → Std.Result A Refusal → Reading B
-reading_of read (Ok a) = read a
-reading_of read (Err why) = fault why
-
--- the second line of a job, which may be missing and then stands for these costs; then the next line and its place
-pub record AxisAt (s : List ℕ) (at : ℕ) (missing : AxisCosts) (r : Std.Result (AxisCosts × ℕ × ℕ) Refusal) : Type 0 where
-  pub is : reading_of (λ a. got (cost_numbers a.0) a.1 (drop a.2 s)) r ≡ optional (row axis) (cost_numbers missing) 2 (drop at s)
-  pub few : IfOk r (λ a. a.1 ≤ 3)
+-- the second line of a job, which may be missing and then stands for these costs
+pub record AxisAt (unread : Unread) (missing : AxisCosts) (r : Std.Result (AxisCosts × Unread) Refusal) : Type 0 where
+  pub is : reading_of cost_numbers r ≡ optional (row axis) (cost_numbers missing) unread.line unread.text.now
+  pub few : IfOk r (λ a. a.1.line ≤ unread.line + 1)
 
 -- so many lines of a kind
 abbrev pub many_lines : Kind → ℕ → Reader (List (List ℤ))
@@ -83,18 +79,24 @@ with_stop_lines deck lines = record deck {
 abbrev pub with_stops : Deck → List (List ℤ) → Deck
 with_stops deck lines = record (with_stop_lines deck lines) { stops = length lines }
 
--- what the lines of a list are read as from line n on: where none is refused, the record holds them, and they are at most `most`
-pub record ListAt (all : Reader (List (List ℤ))) (with_lines : Deck → List (List ℤ) → Deck) (most : ℕ) (s : List ℕ) (at n : ℕ)
-    (old new : Deck) (r : Std.Result ℕ Refusal) : Type 0 where
-  pub lines : List (List ℤ)
-  pub is : reading_of (λ next. got lines (n + 1 + length lines) (drop next s)) r ≡ all n (drop at s)
-  pub few : IfOk r (λ next. length lines ≤ most)
-  pub held : IfOk r (λ next. new ≡ with_lines old lines)
+-- a result as the definitions have it, where these lines were read
+abbrev pub lines_read : List (List ℤ) → Std.Result Unread Refusal → Reading (List (List ℤ))
+lines_read lines (Ok left) = got lines left.line left.text.now
+lines_read lines (Err why) = fault why
 
-abbrev pub PostsAt : List ℕ → ℕ → ℕ → Deck → Deck → Std.Result ℕ Refusal → Type 0
+-- what the lines of a list are read as: where none is refused, the record holds them, and they are at most `most`
+pub record ListAt (all : Reader (List (List ℤ))) (with_lines : Deck → List (List ℤ) → Deck) (most : ℕ) (unread : Unread) (old new : Deck)
+    (r : Std.Result Unread Refusal) : Type 0 where
+  pub lines : List (List ℤ)
+  pub is : lines_read lines r ≡ all unread.line unread.text.now
+  pub few : IfOk r (λ left. length lines ≤ most)
+  pub counted : IfOk r (λ left. left.line ≤ unread.line + 1 + most)
+  pub held : IfOk r (λ left. new ≡ with_lines old lines)
+
+abbrev pub PostsAt : Unread → Deck → Deck → Std.Result Unread Refusal → Type 0
 PostsAt = ListAt all_posts with_posts posts_limit
 
-abbrev pub StopsAt : List ℕ → ℕ → ℕ → Deck → Deck → Std.Result ℕ Refusal → Type 0
+abbrev pub StopsAt : Unread → Deck → Deck → Std.Result Unread Refusal → Type 0
 StopsAt = ListAt all_stops with_stops stops_limit
 
 -- ---- the end of a job
@@ -106,8 +108,12 @@ last_line = do
   end
   return n
 
-pub record LastAt (s : List ℕ) (at n : ℕ) (r : Std.Result ℕ Refusal) : Type 0 where
-  pub is : reading_of (λ count. got (pos count ∷ []) (n + 1) []) r ≡ last_line n (drop at s)
+abbrev pub last_read : ℕ → Std.Result ℕ Refusal → Reading (List ℤ)
+last_read n (Ok count) = got (pos count ∷ []) (n + 1) []
+last_read n (Err why) = fault why
+
+pub record LastAt (unread : Unread) (r : Std.Result ℕ Refusal) : Type 0 where
+  pub is : last_read unread.line r ≡ last_line unread.line unread.text.now
 
 -- the lines behind those of the area and the axis costs, whose numbers these are, and nothing behind them
 unfoldable pub rest_lines : List ℤ → List ℤ → Reader Format.Job
@@ -130,5 +136,5 @@ pub record CheckedAt (area : Rect) (posts stops : ℕ) (r : Std.Result (Unit {0}
   pub posts_some : IfOk r (λ u. 1 ≤ posts)
 
 -- the job that they come to
-pub record RestAt (s : List ℕ) (at n : ℕ) (area : Rect) (costs : AxisCosts) (r : Std.Result Job Refusal) : Type 0 where
-  pub is : r ≡ job_result (reading_result (rest_lines (area_numbers area) (cost_numbers costs) n (drop at s)))
+pub record RestAt (unread : Unread) (area : Rect) (costs : AxisCosts) (r : Std.Result Job Refusal) : Type 0 where
+  pub is : r ≡ job_result (reading_result (rest_lines (area_numbers area) (cost_numbers costs) unread.line unread.text.now))

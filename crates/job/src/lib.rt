@@ -12,6 +12,7 @@ ghost use Rattle.job.specs.JobRecord.{job_result};
 ghost use Rattle.job.specs.ManyLines.{AxisAt, NoPostsYet, NoStopsYet, PostsAt, StopsAt, LastAt, CheckedAt, RestAt};
 
 use deck::{AxisCosts, Deck, Rect};
+use job_line::Unread;
 use limits::{JOB_BYTES, MOST_ROUNDS, POSTS, STOPS};
 use refusal::Refusal;
 
@@ -24,59 +25,58 @@ pub struct Job {
 
 // ---- parts
 
-// The line `axis=a,b`, which is the second line where the text goes on with its key. Where it is missing, `missing` stands for it. Then the
-// number of the line where reading goes on, and its place.
-fn read_axis(s: &[u8], at: usize, missing: AxisCosts) -> Result<(AxisCosts, u64, usize), Refusal>
-    ensures { AxisAt s.now at missing result }
+// The line `axis=a,b`, which is there where the text goes on with its key. Where it is missing, `missing` stands for it.
+fn read_axis(unread: Unread<'_>, missing: AxisCosts) -> Result<(AxisCosts, Unread<'_>), Refusal>
+    requires { unread.line ≤ 900 }
+    ensures { AxisAt unread.entry missing result }
 {
-    if !text::starts(s, at, b"axis=") {
-        return Ok((missing, 2, at));
+    if text::after_key(unread.text, b"axis=").is_none() {
+        return Ok((missing, unread));
     }
-    let (costs, next) = job_line::axis_line(s, at, 2)?;
-    Ok((costs, 3, next))
+    job_line::axis_line(unread)
 }
 
-// The line `posts=n` and the n lines `post=x,y` behind it, into a deck that holds none, and the place after them.
-fn read_posts(s: &[u8], at: usize, line: u64, deck: &mut Deck) -> Result<usize, Refusal>
-    requires { (line ≤ 900) × NoPostsYet deck.old }
-    ensures { PostsAt s.now at line deck.old deck.new result }
+// The line `posts=n` and the n lines `post=x,y` behind it, into a deck that holds none, and what is left behind them.
+fn read_posts<'a>(unread: Unread<'a>, deck: &mut Deck) -> Result<Unread<'a>, Refusal>
+    requires { (unread.line ≤ 900) × NoPostsYet deck.old }
+    ensures { PostsAt unread.entry deck.old deck.new result }
 {
-    let (count, mut at) = job_line::count_line(s, at, b"posts=", POSTS, line)?;
+    let (count, mut left) = job_line::count_line(unread, b"posts=", POSTS)?;
     for i in 0..count {
-        let (post, next) = job_line::post_line(s, at, line + 1 + i as u64)?;
+        let (post, next) = job_line::post_line(left)?;
         deck.post_x[i] = post.x;
         deck.post_y[i] = post.y;
-        at = next;
+        left = next;
     }
     deck.posts = count;
-    Ok(at)
+    Ok(left)
 }
 
-// The line `stops=n` and the n lines `stop=x,y,visits` behind it, into a deck that holds none, and the place after them.
-fn read_stops(s: &[u8], at: usize, line: u64, deck: &mut Deck) -> Result<usize, Refusal>
-    requires { (line ≤ 900) × NoStopsYet deck.old }
-    ensures { StopsAt s.now at line deck.old deck.new result }
+// The line `stops=n` and the n lines `stop=x,y,visits` behind it, into a deck that holds none, and what is left behind them.
+fn read_stops<'a>(unread: Unread<'a>, deck: &mut Deck) -> Result<Unread<'a>, Refusal>
+    requires { (unread.line ≤ 900) × NoStopsYet deck.old }
+    ensures { StopsAt unread.entry deck.old deck.new result }
 {
-    let (count, mut at) = job_line::count_line(s, at, b"stops=", STOPS, line)?;
+    let (count, mut left) = job_line::count_line(unread, b"stops=", STOPS)?;
     for i in 0..count {
-        let (stop, next) = job_line::stop_line(s, at, line + 1 + i as u64)?;
+        let (stop, next) = job_line::stop_line(left)?;
         deck.stop_x[i] = stop.at.x;
         deck.stop_y[i] = stop.at.y;
         deck.visits[i] = stop.visits;
-        at = next;
+        left = next;
     }
     deck.stops = count;
-    Ok(at)
+    Ok(left)
 }
 
 // The line `rounds=n`, behind which nothing follows.
-fn last_line(s: &[u8], at: usize, line: u64) -> Result<u64, Refusal>
-    requires { line ≤ 900 }
-    ensures { LastAt s.now at line result }
+fn last_line(unread: Unread<'_>) -> Result<u64, Refusal>
+    requires { unread.line ≤ 900 }
+    ensures { LastAt unread.entry result }
 {
-    let (rounds, next) = job_line::count_line(s, at, b"rounds=", MOST_ROUNDS, line)?;
-    if next < s.len() {
-        return Err(Refusal::Malformed(line + 1));
+    let (rounds, left) = job_line::count_line(unread, b"rounds=", MOST_ROUNDS)?;
+    if !left.text.is_empty() {
+        return Err(Refusal::Malformed(left.line));
     }
     Ok(rounds as u64)
 }
@@ -106,12 +106,12 @@ fn check(area: Rect, posts: usize, stops: usize) -> Result<(), Refusal>
     Ok(())
 }
 
-// The lines behind those of the area and the axis costs, from `line` on, and then refusals 4, 5 and 6: the job, with the near of its stops
-// and its before. Not inlined, so that the deck stands once on the stack besides the result.
+// The lines behind those of the area and the axis costs, and then refusals 4, 5 and 6: the job, with the near of its stops and its before.
+// Not inlined, so that the deck stands once on the stack besides the result.
 #[inline(never)]
-fn read_rest(s: &[u8], at: usize, line: u64, area: Rect, axis: AxisCosts) -> Result<Job, Refusal>
-    requires { (line ≤ 3) × CostsInRange (held_axis axis) }
-    ensures { RestAt s.now at line area axis result }
+fn read_rest(unread: Unread<'_>, area: Rect, axis: AxisCosts) -> Result<Job, Refusal>
+    requires { (unread.line ≤ 3) × CostsInRange (held_axis axis) }
+    ensures { RestAt unread.entry area axis result }
 {
     let mut deck = Deck {
         axis,
@@ -129,21 +129,13 @@ fn read_rest(s: &[u8], at: usize, line: u64, area: Rect, axis: AxisCosts) -> Res
         near: [0; STOPS],
         before: 0,
     };
-    let at = read_posts(s, at, line, &mut deck)?;
-    let line = line + 1 + deck.posts as u64;
-    let at = read_stops(s, at, line, &mut deck)?;
-    let rounds = last_line(s, at, line + 1 + deck.stops as u64)?;
+    let unread = read_posts(unread, &mut deck)?;
+    let unread = read_stops(unread, &mut deck)?;
+    let rounds = last_line(unread)?;
     check(area, deck.posts, deck.stops)?;
-    deck.near = deck::nears_of(
-        axis,
-        &deck.post_x,
-        &deck.post_y,
-        deck.posts,
-        &deck.stop_x,
-        &deck.stop_y,
-        deck.stops,
-    );
-    deck.before = deck::before_of(&deck.visits, &deck.near, deck.stops);
+    deck.near = deck::nears_of(axis, deck.post_places(), deck.stop_columns().at);
+    let filled = deck.stop_columns();
+    deck.before = deck::before_of(filled.visits, filled.near);
     Ok(Job { rounds, deck })
 }
 
@@ -156,9 +148,13 @@ pub fn read_with(bytes: &[u8], missing: AxisCosts) -> Result<Job, Refusal>
     if JOB_BYTES < bytes.len() {
         return Err(Refusal::TooLong);
     }
-    let (area, at) = job_line::area_line(bytes, 0, 1)?;
-    let (costs, line, at) = read_axis(bytes, at, missing)?;
-    read_rest(bytes, at, line, area, costs)
+    let whole = Unread {
+        text: bytes,
+        line: 1,
+    };
+    let (area, unread) = job_line::area_line(whole)?;
+    let (costs, unread) = read_axis(unread, missing)?;
+    read_rest(unread, area, costs)
 }
 
 // The same, where a job without an axis line has the axis costs 1 and 1.

@@ -10,8 +10,8 @@ use lib.ListN.{length, take, length-append}
 use Rattle.numbers.proofs.Joined.{flat_map_append}
 use Rattle.text.specs.Ascii.{bytes, comma, newline}
 use Rattle.text.specs.Decimal.{spell_nat, spell_int}
-use Rattle.write.specs.Written.{Wrote}
-use Rattle.write.proofs.WrittenLaws.{wrote_kept}
+use Rattle.write.specs.declared.Writer.{Writer}
+use Rattle.write.specs.Written.{HasRoom, Wrote}
 use Rattle.deck.specs.declared.Deck.{Deck}
 use Rattle.deck.specs.DeckOf.{held_axis, places, stops_of}
 use Rattle.job_line.specs.Kinds.{posts, stops, rounds}
@@ -131,7 +131,6 @@ fronts deck n {room} h =
     }
 
 -- a part behind what was written
-pub part_room : {out mid : List ℕ} {end : ℕ} (before part : List ℕ) → Wrote out 0 before mid end → length (before ++ part) ≤ length out →
-    end + length part ≤ length mid
-part_room before part w h =
-    let room = length-append before part in omega (arith, w.next, room, wrote_kept w (omega (arith, room)))
+pub part_room : {start w : Writer} {room : ℕ} (before part : List ℕ) → HasRoom start room → Wrote start before w → length (before ++ part) ≤ room →
+    HasRoom w (length part)
+part_room before part r w h = omega (arith, w.next, w.size, r, length-append before part)

@@ -14,7 +14,8 @@ use Rattle.query.specs.Place.{Place, Rect}
 use Rattle.query.specs.Deck.{AxisCosts, Stop}
 use Rattle.text.specs.Ascii.{bytes, comma, newline}
 use Rattle.text.specs.Decimal.{spell_nat, spell_int}
-use Rattle.write.specs.Written.{Wrote}
+use Rattle.write.specs.declared.Writer.{Writer}
+use Rattle.write.specs.Written.{HasRoom, Wrote}
 use Rattle.write.proofs.WrittenLaws.{wrote_both}
 use Rattle.deck.specs.DeckOf.{places, stops_of}
 use Rattle.deck.proofs.ColumnLoops.{places_taken, stops_taken}
@@ -70,13 +71,12 @@ module _ {A : Type 0} (line : A → JobLine) where
     pub line_counted : length (texts l (i + 1)) ≡ length (texts l i) + length text
     line_counted = ap length texts_more ∙ length-append (texts l i) text
 
-    pub line_room : {out mid : List ℕ} {start at n room : ℕ} → Wrote out start (texts l i) mid at → i < n → start + length (texts l n) ≤ room →
-        at + length text ≤ room
-    line_room {n = n} w h room = omega (arith, w.next, room, line_counted, texts_fewer (i + 1) n l (omega arith))
+    pub line_room : {before mid : Writer} {n : ℕ} → Wrote before (texts l i) mid → i < n → HasRoom before (length (texts l n)) →
+        HasRoom mid (length text)
+    line_room {n = n} w h room = omega (arith, w.next, w.size, room, line_counted, texts_fewer (i + 1) n l (omega arith))
 
-    pub line_wrote : {out mid after : List ℕ} {start at end : ℕ} → Wrote out start (texts l i) mid at → Wrote mid at text after end → start ≤ length out →
-        Wrote out start (texts l (i + 1)) after end
-    line_wrote v w h = rw texts_more (wrote_both v w h)
+    pub line_wrote : {before mid after : Writer} → Wrote before (texts l i) mid → Wrote mid text after → Wrote before (texts l (i + 1)) after
+    line_wrote v w = rw texts_more (wrote_both v w)
 
 -- ---- one line
 line_text : (l : JobLine) → spell_line l ≡ (row l.kind).key ++ spell_numbers l.numbers
@@ -137,6 +137,9 @@ count_text kind n = line_text (count_line kind n) ∙ ap (λ (l : List ℕ). (ro
 pub spelled_pos : (n : ℕ) → spell_int (pos n) ≡ spell_nat n
 unfolding spell_int
 spelled_pos n = refl
+
+pub nat_text : (n end : ℕ) → number_text (pos n) end ≡ spell_nat n ++ (end ∷ [])
+nat_text n end = ap (λ (l : List ℕ). l ++ (end ∷ [])) (spelled_pos n)
 
 pub length_number : (z : ℤ) (end : ℕ) → length (number_text z end) ≡ length (spell_int z) + 1
 length_number z end = length-append (spell_int z) (end ∷ [])

@@ -1,73 +1,64 @@
--- The forms of a line at a place of a slice, and a line by its form and its ranges.
+-- The forms of a line at the start of a text, and a line by its form and its ranges.
 -- Assumes nothing.
 use mathlib.Core.Path.{◌≡◌, refl, sym, ap, ◌∙◌}
 use mathlib.Core.Bool.{Bool, true, false, cond, ◌&&◌}
 use mathlib.Core.List.{List, [], ◌∷◌, ◌++◌}
 use mathlib.Core.Option.{Option, none, some, bind}
-use Prim.Native.Nat.{ℕ, ◌+◌, ◌≤◌, ◌<◌, ◌^◌, max}
+use Prim.Native.Nat.{ℕ, ◌+◌, ◌<◌, ◌^◌}
 use native.Mathlib.Omega.{arith}
 use lib.Dec.{T, eqb}
 use lib.IntN.{ℤ, pos, negsuc, nat_abs}
-use lib.ListN.{length, drop, length-drop}
-use lib.Seq.{drop-drop}
+use lib.ListN.{length, drop}
 use lib.Signed.{lt_z, non_neg, pos-nat_abs}
 use mir.Syntax.{w64}
 use mir.Val.{Fits, SFits}
+use Rattle.std.specs.Prelude as Std
 use Rattle.std.specs.Prelude.{Some, None, Result, Ok, Err, IsErrAnd}
+use Rattle.std.specs.Borrow.{Bor}
 use Rattle.text.specs.Ascii.{newline}
 use Rattle.text.specs.Numeral.{number}
-use Rattle.text.specs.TextReading.{starts_with, ByteIs, Starts, NumberAt}
-use Rattle.text.proofs.KeyLaws.{byte_there}
+use Rattle.text.specs.TextReading.{starts_with, behind}
 use Rattle.job_line.specs.Form.{byte, key, field}
 use Rattle.job_line.specs.Kinds.{Range, Row, end_of, numbers, form_of, in_ranges}
-use Rattle.job_line.specs.OneLine.{fault, line}
-use Rattle.job_line.specs.Reading.{KeyAt, FieldAt, read, refused, answer_of, LineAt}
+use Rattle.job_line.specs.OneLine.{Reading, fault, got, line, line_result}
+use Rattle.job_line.specs.Reading.{KeyAt, FieldAt, NextLine, reading_of, in_64_bits, LineAt}
+use Rattle.job_line.specs.declared.Unread.{Unread}
 use Rattle.refusal.specs.declared.Refusal.{Refusal}
 use Rattle.refusal.specs.declared.Refusal.TheVariants.{Malformed, OutOfRange}
 use Rattle.job_line.proofs.RangeTests.{natural}
-use Rattle.numbers.proofs.Truth.{and_right, holds}
-use Rattle.numbers.proofs.Words.{is_true}
 use Rattle.numbers.proofs.WordTests.{back, back_is}
 
 -- ---- bytes and keys
--- the text after a byte or a key that is there
-abbrev found : Bool → List ℕ → Option (Unit {0} × List ℕ)
-found true bs = some (tt, bs)
-found false bs = none
+abbrev found : Std.Option (List ℕ) → Option (Unit {0} × List ℕ)
+found (Some rest) = some (tt, rest)
+found None = none
 
-byte_starts : (b : ℕ) (bs : List ℕ) → byte b bs ≡ found (starts_with (b ∷ []) bs) (drop 1 bs)
+byte_behind : (b : ℕ) (bs : List ℕ) → byte b bs ≡ found (behind (b ∷ []) bs)
 unfolding byte starts_with
-byte_starts b [] = refl
-byte_starts b (c ∷ cs) = go (eqb c b)
+byte_behind b [] = refl
+byte_behind b (c ∷ cs) = go (eqb c b)
   where
-    go : (t : Bool) → cond t (found true cs) none ≡ found (t && true) cs
+    go : (t : Bool) → cond t (found (Some cs)) none ≡ found (cond (t && true) (Some cs) None)
     go true = refl
     go false = refl
 
-key_starts : (ks bs : List ℕ) → key ks bs ≡ found (starts_with ks bs) (drop (length ks) bs)
+key_behind : (ks bs : List ℕ) → key ks bs ≡ found (behind ks bs)
 unfolding key starts_with
-key_starts [] bs = refl
-key_starts (k ∷ ks) [] = refl
-key_starts (k ∷ ks) (b ∷ bs) = go (eqb b k) (key_starts ks bs)
+key_behind [] bs = refl
+key_behind (k ∷ ks) [] = refl
+key_behind (k ∷ ks) (b ∷ bs) = go (eqb b k) (key_behind ks bs)
   where
-    go : (t : Bool) → key ks bs ≡ found (starts_with ks bs) (drop (length ks) bs) →
-        bind (cond t (found true bs) none) (λ r. key ks r.1) ≡ found (t && starts_with ks bs) (drop (length ks) bs)
+    go : (t : Bool) → key ks bs ≡ found (behind ks bs) →
+        bind (cond t (found (Some bs)) none) (λ r. key ks r.1) ≡ found (cond (t && starts_with ks bs) (Some (drop (length ks) bs)) None)
     go true ih = ih
     go false ih = refl
 
-module _ {s : List ℕ} {at b : ℕ} {t : Bool} (is_byte_lem : ByteIs s at b t) where
-  pub byte_on : t ≡ true → byte b (drop at s) ≡ some (tt, drop (at + 1) s)
-  byte_on on = byte_starts b (drop at s) ∙ rw (← is_byte_lem.is, on, drop-drop 1 at s)
+module _ (name : List ℕ) (unread : Unread) where
+  pub key_found : {rest : Bor (List ℕ)} → Some rest.now ≡ behind name unread.text.now → KeyAt name unread (Ok (record { text = rest; line = unread.line }))
+  key_found e = record { is = ap found e ∙ sym (key_behind name unread.text.now); in_line = refl }
 
-  pub byte_off : t ≡ false → byte b (drop at s) ≡ none
-  byte_off off = byte_starts b (drop at s) ∙ rw (← is_byte_lem.is, off)
-
-module _ {s : List ℕ} {at : ℕ} {k : List ℕ} {n : ℕ} {t : Bool} (is_key : Starts s at k t) where
-  pub key_found : t ≡ true → KeyAt s at k n (Ok (at + length k))
-  key_found on = record { is = sym (key_starts k (drop at s) ∙ rw (← is_key.is, on, drop-drop (length k) at s)); malformed = tt }
-
-  pub key_missing : t ≡ false → KeyAt s at k n (Err (Malformed n))
-  key_missing off = record { is = sym (key_starts k (drop at s) ∙ rw (← is_key.is, off)); malformed = refl }
+  pub key_missing : None ≡ behind name unread.text.now → KeyAt name unread (Err (Malformed unread.line))
+  key_missing e = record { is = ap found e ∙ sym (key_behind name unread.text.now); in_line = refl }
 
 -- ---- fields
 -- a number of at most nine digits fits 64 bits
@@ -79,52 +70,43 @@ field_is : (end : ℕ) (bs : List ℕ) → field end bs ≡ bind (number bs) (λ
 unfolding field
 field_is end bs = refl
 
-module _ {s : List ℕ} {at : ℕ} (end n : ℕ) where
-  pub field_none : NumberAt s at None → FieldAt s at end n (Err (Malformed n))
+abbrev number_then : ℤ → List ℕ → Option (ℤ × List ℕ)
+number_then z rest = some (z, rest)
+
+module _ (end : ℕ) (unread : Unread) where
+  pub field_none : none ≡ number unread.text.now → FieldAt end unread (Err (Malformed unread.line))
   unfolding bind
-  field_none number_at = record { is = rw (field_is, ← number_at.is); within = tt; malformed = refl }
+  field_none e = record { is = rw (field_is, ← e); nine_digits = tt; in_line = refl }
 
-  module _ {z : ℤ} {next : ℕ} (number_at : NumberAt s at (Some (z, next))) {t : Bool} (is_byte_lem : ByteIs s next end t) where
-    pub field_off : t ≡ false → FieldAt s at end n (Err (Malformed n))
+  module _ (z : ℤ) (rest : List ℕ) (is_number : number_then z rest ≡ number unread.text.now) where
+    pub field_off : None ≡ behind (end ∷ []) rest → FieldAt end unread (Err (Malformed unread.line))
     unfolding bind
-    field_off off = record { is = rw (field_is, ← number_at.is, byte_off is_byte_lem off); within = tt; malformed = refl }
+    field_off e = record { is = rw (field_is, ← is_number, byte_behind end rest, ← e); nine_digits = tt; in_line = refl }
 
-    pub field_on : t ≡ true → FieldAt s at end n (Ok (back z, next + 1))
+    pub field_on : nat_abs z < 10 ^ 9 → {left : Bor (List ℕ)} → Some left.now ≡ behind (end ∷ []) rest →
+        FieldAt end unread (Ok (back z, record { text = left; line = unread.line }))
     unfolding bind
-    field_on on = rw (back_is (nine_digits_lem z number_at.within.0)) (record {
-      is = rw (field_is, ← number_at.is, byte_on is_byte_lem on);
-      within = (number_at.within.0, omega (arith, byte_there is_byte_lem on));
-      malformed = tt;
+    field_on h e = rw (back_is (nine_digits_lem z h)) (record {
+      is = rw (field_is, ← is_number, byte_behind end rest, ← e);
+      nine_digits = h;
+      in_line = refl;
     })
 
 -- what a field that was read is
-module _ {s : List ℕ} {at end n : ℕ} {z : ℤ} {next : ℕ} (field_at : FieldAt s at end n (Ok (z, next))) where
+module _ {end : ℕ} {unread left : Unread} {z : ℤ} (field_at : FieldAt end unread (Ok (z, left))) where
   field_back : back z ≡ z
-  field_back = back_is (nine_digits_lem z field_at.within.0)
+  field_back = back_is (nine_digits_lem z field_at.nine_digits)
 
-  field_reads : field end (drop at s) ≡ some (back z, drop next s)
+  field_reads : field end unread.text.now ≡ number_then (back z) left.text.now
   field_reads = rw field_back (sym field_at.is)
 
   pub field_natural : lt_z (back z) (pos 0) ≡ false → T (non_neg (back z))
   field_natural = natural (back z)
 
   pub field_cast : T (non_neg (back z)) → T (non_neg (back z)) × Fits w64 (nat_abs (back z))
-  field_cast t = (t, record { fits = rw field_back (omega (arith, field_at.within.0)) })
+  field_cast t = (t, record { fits = rw field_back (omega (arith, field_at.nine_digits)) })
 
-  pub field_inside : next ≤ length s
-  field_inside = field_at.within.1
-
--- the place after a key
-starts_fits : (ks bs : List ℕ) → starts_with ks bs ≡ true → length ks ≤ length bs
-unfolding starts_with
-starts_fits [] bs e = omega arith
-starts_fits (k ∷ ks) [] e = let z : ◌≡◌ {A = ℕ} 0 1 = cc in absurd (omega arith)
-starts_fits (k ∷ ks) (b ∷ bs) e = omega (arith, starts_fits ks bs (holds _ (and_right (eqb b k) (starts_with ks bs) (is_true _ e))))
-
-pub key_fits : {s : List ℕ} {at : ℕ} {k : List ℕ} {t : Bool} → Starts s at k t → t ≡ true → at + length k ≤ max at (length s)
-key_fits {s} {at} {k} is_key on = omega (arith, length-drop at s, starts_fits k (drop at s) (sym is_key.is ∙ on))
-
--- ---- the numbers of a line, from the place where they start
+-- ---- the numbers of a line, from where they start
 numbers_is : (range : Range) (others : List Range) (bs : List ℕ) →
     numbers (range ∷ others) bs ≡ bind (field (end_of others) bs) (λ r. bind (numbers others r.1) (λ t. some (r.0 ∷ t.0, t.1)))
 unfolding numbers
@@ -134,68 +116,118 @@ numbers_end : (bs : List ℕ) → numbers [] bs ≡ some ([], bs)
 unfolding numbers
 numbers_end bs = refl
 
-pub record NumbersAt (ranges : List Range) (s : List ℕ) (at : ℕ) (o : Option (List ℤ × List ℕ)) : Type 0 where
-  pub is : numbers ranges (drop at s) ≡ o
+abbrev numbers_then : List ℤ → List ℕ → Option (List ℤ × List ℕ)
+numbers_then ns rest = some (ns, rest)
 
-module _ {range : Range} {others : List Range} {s : List ℕ} {at n : ℕ} where
-  pub no_number : {why : Refusal} → FieldAt s at (end_of others) n (Err why) → NumbersAt (range ∷ others) s at none
+-- they are there, or one is not, and the line is malformed
+pub record Numbers (ranges : List Range) (unread : Unread) (ns : List ℤ) (left : Unread) : Type 0 where
+  pub is : numbers ranges unread.text.now ≡ numbers_then ns left.text.now
+  pub in_line : left.line ≡ unread.line
+
+pub record NoNumbers (ranges : List Range) (unread : Unread) (why : Refusal) : Type 0 where
+  pub is : numbers ranges unread.text.now ≡ none
+  pub malformed : why ≡ Malformed unread.line
+
+module _ {range : Range} {others : List Range} {unread : Unread} where
+  pub no_number : {why : Refusal} → FieldAt (end_of others) unread (Err why) → NoNumbers (range ∷ others) unread why
   unfolding bind
-  no_number field_at = record { is = rw (numbers_is, ← field_at.is) }
+  no_number field_at = record { is = rw (numbers_is, ← field_at.is); malformed = field_at.in_line }
 
-  module _ {z : ℤ} {next : ℕ} (field_at : FieldAt s at (end_of others) n (Ok (z, next))) where
-    pub number_then_none : NumbersAt others s next none → NumbersAt (range ∷ others) s at none
+  module _ {z : ℤ} {next : Unread} (field_at : FieldAt (end_of others) unread (Ok (z, next))) where
+    pub number_then_none : {why : Refusal} → NoNumbers others next why → NoNumbers (range ∷ others) unread why
     unfolding bind
-    number_then_none f = record { is = rw (numbers_is, field_reads field_at, f.is) }
+    number_then_none f = record { is = rw (numbers_is, field_reads field_at, f.is); malformed = f.malformed ∙ ap Malformed field_at.in_line }
 
-    pub number_then : {ns : List ℤ} {rest : List ℕ} → NumbersAt others s next (some (ns, rest)) → NumbersAt (range ∷ others) s at (some (back z ∷ ns, rest))
+    pub number_then_more : {ns : List ℤ} {left : Unread} → Numbers others next ns left → Numbers (range ∷ others) unread (back z ∷ ns) left
     unfolding bind
-    number_then f = record { is = rw (numbers_is, field_reads field_at, f.is) }
+    number_then_more f = record { is = rw (numbers_is, field_reads field_at, f.is); in_line = f.in_line ∙ field_at.in_line }
 
-pub last_number : {range : Range} {s : List ℕ} {at n : ℕ} {z : ℤ} {next : ℕ} → FieldAt s at newline n (Ok (z, next)) →
-    NumbersAt (range ∷ []) s at (some (back z ∷ [], drop next s))
-last_number {s = s} {next = next} field_at = number_then field_at (record { is = numbers_end (drop next s) })
+pub last_number : {range : Range} {unread : Unread} {z : ℤ} {left : Unread} → FieldAt newline unread (Ok (z, left)) →
+    Numbers (range ∷ []) unread (back z ∷ []) left
+last_number {left = left} field_at = number_then_more field_at (record { is = numbers_end left.text.now; in_line = refl })
 
 -- ---- a line by its form and its ranges
 form_is : (row : Row) (bs : List ℕ) → form_of row bs ≡ bind (key row.key bs) (λ k. numbers row.ranges k.1)
 unfolding form_of
 form_is row bs = refl
 
-pub record FormAt (row : Row) (s : List ℕ) (at : ℕ) (o : Option (List ℤ × List ℕ)) : Type 0 where
-  pub is : form_of row (drop at s) ≡ o
+pub record HasForm (row : Row) (unread : Unread) (ns : List ℤ) (left : Unread) : Type 0 where
+  pub is : form_of row unread.text.now ≡ numbers_then ns left.text.now
+  pub in_line : left.line ≡ unread.line
 
-module _ {row : Row} {s : List ℕ} {at n : ℕ} where
-  pub no_key : {why : Refusal} → KeyAt s at row.key n (Err why) → FormAt row s at none
-  unfolding bind
-  no_key is_key = record { is = rw (form_is, ← is_key.is) }
+pub record NoForm (row : Row) (unread : Unread) (why : Refusal) : Type 0 where
+  pub is : form_of row unread.text.now ≡ none
+  pub malformed : why ≡ Malformed unread.line
 
-  pub key_then : {next : ℕ} → KeyAt s at row.key n (Ok next) → {o : Option (List ℤ × List ℕ)} → NumbersAt row.ranges s next o → FormAt row s at o
+module _ {row : Row} {unread : Unread} where
+  pub no_key : {why : Refusal} → KeyAt row.key unread (Err why) → NoForm row unread why
   unfolding bind
-  key_then is_key f = record { is = rw (form_is, ← is_key.is) f.is }
+  no_key is_key = record { is = rw (form_is, ← is_key.is); malformed = is_key.in_line }
+
+  module _ {next : Unread} (is_key : KeyAt row.key unread (Ok next)) where
+    pub key_then_none : {why : Refusal} → NoNumbers row.ranges next why → NoForm row unread why
+    unfolding bind
+    key_then_none f = record { is = rw (form_is, ← is_key.is) f.is; malformed = f.malformed ∙ ap Malformed is_key.in_line }
+
+    pub key_then : {ns : List ℤ} {left : Unread} → Numbers row.ranges next ns left → HasForm row unread ns left
+    unfolding bind
+    key_then f = record { is = rw (form_is, ← is_key.is) f.is; in_line = f.in_line ∙ is_key.in_line }
 
 -- two numbers that are not negative, by their sizes
-pub both_natural : {row : Row} {s : List ℕ} {at : ℕ} {rest : List ℕ} (x y : ℤ) → T (non_neg x) → T (non_neg y) →
-    FormAt row s at (some (x ∷ y ∷ [], rest)) → FormAt row s at (some (pos (nat_abs x) ∷ pos (nat_abs y) ∷ [], rest))
+pub both_natural : {row : Row} {unread left : Unread} (x y : ℤ) → T (non_neg x) → T (non_neg y) →
+    HasForm row unread (x ∷ y ∷ []) left → HasForm row unread (pos (nat_abs x) ∷ pos (nat_abs y) ∷ []) left
 both_natural x y t u f = rw (pos-nat_abs x t, pos-nat_abs y u) f
 
-module _ {row : Row} {s : List ℕ} {at n : ℕ} where
+module _ {row : Row} {unread : Unread} where
   -- where a part is not there, and `?` hands its refusal on
-  pub malformed : {A : Type 0} {why : Refusal} (numbers_of : A → List ℤ) (r : Result (A × ℕ) Refusal) → FormAt row s at none → why ≡ Malformed n →
-      IsErrAnd r (λ e. e ≡ why) → LineAt row s at n (answer_of numbers_of r)
+  pub malformed : {A : Type 0} {why : Refusal} (numbers_of : A → List ℤ) (r : Result (A × Unread) Refusal) → NoForm row unread why →
+      IsErrAnd r (λ e. e ≡ why) → LineAt row unread (reading_of numbers_of r)
   unfolding line
-  malformed numbers_of (Ok a) f e h = absurd h
-  malformed numbers_of (Err why) f e h = record { is = ap fault (h ∙ e) ∙ rw f.is refl; within = tt }
+  malformed numbers_of (Ok a) f h = absurd h
+  malformed numbers_of (Err why) f h = record { is = ap fault (h ∙ f.malformed) ∙ rw f.is refl }
 
-  pub out_of_range : {ns : List ℤ} {rest : List ℕ} → FormAt row s at (some (ns, rest)) → in_ranges row.ranges ns ≡ false →
-      LineAt row s at n (refused (OutOfRange n))
-  unfolding line
-  out_of_range f t = record { is = rw (f.is, t); within = tt }
+  module _ {ns : List ℤ} {left : Unread} (f : HasForm row unread ns left) where
+    pub out_of_range : in_ranges row.ranges ns ≡ false → LineAt row unread (fault (OutOfRange left.line))
+    unfolding line
+    out_of_range t = record { is = rw (f.is, t, f.in_line) refl }
 
-  pub line_read : {ns : List ℤ} {next : ℕ} → FormAt row s at (some (ns, drop next s)) → in_ranges row.ranges ns ≡ true → next ≤ length s →
-      LineAt row s at n (read ns next)
-  unfolding line
-  line_read f t h = record { is = rw (f.is, t); within = h }
+    pub line_read : in_ranges row.ranges ns ≡ true → {next : Unread} → NextLine left next → LineAt row unread (got ns next.line next.text.now)
+    unfolding line
+    line_read t after = record { is = rw (f.is, t, after.line_is, after.text_is, f.in_line) refl }
 
   -- the last number as its size, where it is not negative
-  pub last_natural : (ns : List ℤ) (z : ℤ) {next : ℕ} → T (non_neg z) → LineAt row s at n (read (ns ++ (z ∷ [])) next) →
-      LineAt row s at n (read (ns ++ (pos (nat_abs z) ∷ [])) next)
+  pub last_natural : (ns : List ℤ) (z : ℤ) {m : ℕ} {rest : List ℕ} → T (non_neg z) → LineAt row unread (got (ns ++ (z ∷ [])) m rest) →
+      LineAt row unread (got (ns ++ (pos (nat_abs z) ∷ [])) m rest)
   last_natural ns z t l = rw (pos-nat_abs z t) l
+
+-- ---- the number of the next line
+-- which 64 bits hold, where this line is not the last that they can count
+exact : (row : Row) (n : ℕ) (bs : List ℕ) → n + 1 < 2 ^ 64 → in_64_bits (line row n bs) ≡ line row n bs
+unfolding line
+exact row n bs h = go (form_of row bs)
+  where
+    either : (t : Bool) (ns : List ℤ) (rest : List ℕ) →
+        in_64_bits (cond t (got ns (n + 1) rest) (fault (OutOfRange n))) ≡ cond t (got ns (n + 1) rest) (fault (OutOfRange n))
+    either true ns rest = ap (λ m. got ns m rest) (omega arith)
+    either false ns rest = refl
+
+    go : (o : Option (List ℤ × List ℕ)) → in_64_bits (line_result row n o) ≡ line_result row n o
+    go none = refl
+    go (some r) = either (in_ranges row.ranges r.0) r.0 r.1
+
+pub line_at_is : {row : Row} {unread : Unread} {r : Reading (List ℤ)} → LineAt row unread r → unread.line + 1 < 2 ^ 64 → r ≡ line row unread.line
+    unread.text.now
+line_at_is {row} {unread} line_at h = line_at.is ∙ exact row unread.line unread.text.now h
+
+-- it is one more
+pub line_counts : (row : Row) (n : ℕ) (bs : List ℕ) {ns : List ℤ} {m : ℕ} {rest : List ℕ} → got ns m rest ≡ line row n bs → m ≡ n + 1
+unfolding line
+line_counts row n bs {ns} {m} {rest} e = go (form_of row bs) e
+  where
+    either : (t : Bool) (ms : List ℤ) (more : List ℕ) → got ns m rest ≡ cond t (got ms (n + 1) more) (fault (OutOfRange n)) → m ≡ n + 1
+    either true ms more e = cc
+    either false ms more e = absurd (let z : ◌≡◌ {A = ℕ} 0 1 = cc in omega arith)
+
+    go : (o : Option (List ℤ × List ℕ)) → got ns m rest ≡ line_result row n o → m ≡ n + 1
+    go none e = absurd (let z : ◌≡◌ {A = ℕ} 0 1 = cc in omega arith)
+    go (some r) e = either (in_ranges row.ranges r.0) r.0 r.1 e

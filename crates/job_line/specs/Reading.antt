@@ -1,10 +1,11 @@
 -- What the functions of this crate answer, as the definitions of `Form`, `Kinds` and `OneLine` have it: of the public ones `LineAt`.
 -- Assumes nothing.
-use Rattle.std.specs.Prelude.{ℕ, ◌+◌, ◌≤◌, ◌<◌, ◌^◌, ◌≡◌, List, [], ◌∷◌, ℤ, pos, nat_abs, length, drop, Result, Ok, Err}
+use Rattle.std.specs.Prelude.{ℕ, ◌+◌, ◌-◌, ◌<◌, ◌^◌, ◌≡◌, min, List, [], ◌∷◌, ℤ, pos, nat_abs, Result, Ok, Err, IfOk}
 use Rattle.std.proofs.Math.Option.{Option, none, some}
 use Rattle.job_line.specs.Form.{key, field}
 use Rattle.job_line.specs.Kinds.{Row, up_to}
 use Rattle.job_line.specs.OneLine.{Reading, fault, got, line}
+use Rattle.job_line.specs.declared.Unread.{Unread}
 use Rattle.refusal.specs.declared.Refusal.{Refusal}
 use Rattle.refusal.specs.declared.Refusal.TheVariants.{Malformed}
 use Rattle.deck.specs.declared.AxisCosts.{AxisCosts}
@@ -12,35 +13,30 @@ use Rattle.deck.specs.declared.Place.{Place}
 use Rattle.deck.specs.declared.Rect.{Rect}
 use Rattle.deck.specs.declared.Stop.{Stop}
 
--- ---- a part of line n, at a place of the text: what the text after it is, or the refusal of a line without it
-abbrev pub key_in : List ℕ → Result ℕ Refusal → Option (Unit {0} × List ℕ)
-key_in s (Ok next) = some (tt, drop next s)
-key_in s (Err why) = none
+-- ---- a part of a line: what it is and the text after it, or nothing where it is not there
+abbrev pub key_in : Result Unread Refusal → Option (Unit {0} × List ℕ)
+key_in (Ok left) = some (tt, left.text.now)
+key_in (Err why) = none
 
-abbrev pub field_in : List ℕ → Result (ℤ × ℕ) Refusal → Option (ℤ × List ℕ)
-field_in s (Ok r) = some (r.0, drop r.1 s)
-field_in s (Err why) = none
+abbrev pub field_in : Result (ℤ × Unread) Refusal → Option (ℤ × List ℕ)
+field_in (Ok r) = some (r.0, r.1.text.now)
+field_in (Err why) = none
 
--- the place after a number is one of the text, and the number has at most nine digits
-abbrev pub FieldWithin : List ℕ → Result (ℤ × ℕ) Refusal → Type 0
-FieldWithin s (Ok r) = (nat_abs r.0 < 10 ^ 9) × (r.1 ≤ length s)
-FieldWithin s (Err why) = Unit {0}
-
--- where the part is not there, line n is malformed
-abbrev pub MalformedAt : {A : Type 0} → ℕ → Result A Refusal → Type 0
-MalformedAt n (Ok r) = Unit {0}
-MalformedAt n (Err why) = why ≡ Malformed n
+-- what is left behind the part is of line n still. Where the part is not there, line n is malformed
+abbrev pub InLine : {A : Type 0} → (A → Unread) → ℕ → Result A Refusal → Type 0
+InLine left n (Ok r) = (left r).line ≡ n
+InLine left n (Err why) = why ≡ Malformed n
 
 -- a key
-pub record KeyAt (s : List ℕ) (at : ℕ) (name : List ℕ) (n : ℕ) (r : Result ℕ Refusal) : Type 0 where
-  pub is : key_in s r ≡ key name (drop at s)
-  pub malformed : MalformedAt n r
+pub record KeyAt (name : List ℕ) (unread : Unread) (r : Result Unread Refusal) : Type 0 where
+  pub is : key_in r ≡ key name unread.text.now
+  pub in_line : InLine (λ left. left) unread.line r
 
--- a number and the byte that ends it
-pub record FieldAt (s : List ℕ) (at end n : ℕ) (r : Result (ℤ × ℕ) Refusal) : Type 0 where
-  pub is : field_in s r ≡ field end (drop at s)
-  pub within : FieldWithin s r
-  pub malformed : MalformedAt n r
+-- a number, of at most nine digits, and the byte that ends it
+pub record FieldAt (end : ℕ) (unread : Unread) (r : Result (ℤ × Unread) Refusal) : Type 0 where
+  pub is : field_in r ≡ field end unread.text.now
+  pub nine_digits : IfOk r (λ a. nat_abs a.0 < 10 ^ 9)
+  pub in_line : InLine (λ a. a.1) unread.line r
 
 -- ---- the numbers of a line, as the code holds them
 abbrev pub area_numbers : Rect → List ℤ
@@ -58,30 +54,29 @@ place_numbers p = p.x ∷ p.y ∷ []
 abbrev pub stop_numbers : Stop → List ℤ
 stop_numbers s = s.at.x ∷ s.at.y ∷ pos s.visits ∷ []
 
--- ---- what a reader of a line answers: the numbers of the line and the place after it, or the refusal
-pub data LineAnswer : Type 0 where
-  read : List ℤ → ℕ → LineAnswer
-  refused : Refusal → LineAnswer
+-- ---- lines
+-- the number of a line as 64 bits hold it: no job has so many lines that it is another
+abbrev pub line_number : ℕ → ℕ
+line_number n = min n (2 ^ 64 - 1)
 
--- as the code has it, where what it read has these numbers
-abbrev pub answer_of : {A : Type 0} → (A → List ℤ) → Result (A × ℕ) Refusal → LineAnswer
-answer_of numbers (Ok r) = read (numbers r.0) r.1
-answer_of numbers (Err why) = refused why
+-- what is left begins the next line
+pub record NextLine (old new : Unread) : Type 0 where
+  pub text_is : new.text.now ≡ old.text.now
+  pub line_is : new.line ≡ line_number (old.line + 1)
 
--- an answer as the definitions have it
-abbrev pub answer_in : List ℕ → ℕ → LineAnswer → Reading (List ℤ)
-answer_in s n (read ns next) = got ns (n + 1) (drop next s)
-answer_in s n (refused why) = fault why
+-- what a reader of lines answers, where what it read has these numbers
+abbrev pub reading_of : {A B : Type 0} → (A → B) → Result (A × Unread) Refusal → Reading B
+reading_of numbers (Ok r) = got (numbers r.0) r.1.line r.1.text.now
+reading_of numbers (Err why) = fault why
 
-abbrev pub Within : List ℕ → LineAnswer → Type 0
-Within s (read ns next) = next ≤ length s
-Within s (refused why) = Unit {0}
+-- a reading whose line has its number in 64 bits
+abbrev pub in_64_bits : {A : Type 0} → Reading A → Reading A
+in_64_bits (fault why) = fault why
+in_64_bits (got a n bs) = got a (line_number n) bs
 
--- what is read at a place of the text, in line n, where a line with this row is due. Where something is, the text after it and the
--- bound on its place say which place that is
-pub record LineAt (row : Row) (s : List ℕ) (at n : ℕ) (r : LineAnswer) : Type 0 where
-  pub is : answer_in s n r ≡ line row n (drop at s)
-  pub within : Within s r
+-- what is read where a line with this row is due
+pub record LineAt (row : Row) (unread : Unread) (r : Reading (List ℤ)) : Type 0 where
+  pub is : r ≡ in_64_bits (line row unread.line unread.text.now)
 
 -- the row of a count, by its key and the most that it may be
 abbrev pub count_row : List ℕ → ℕ → Row

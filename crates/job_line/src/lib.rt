@@ -1,4 +1,4 @@
-// One line of a job: what it holds and the place after it, or the refusal of a line without its form or of a value out of range.
+// One line of a job: what it holds and what is left behind it, or the refusal of a line without its form or of a value out of range.
 
 #![tactic(auto)]
 
@@ -6,11 +6,18 @@ ghost use Rattle.std.specs.Prelude.{◌≡◌, ◌∷◌, [], pos};
 ghost use Rattle.numbers.specs.Integer.{between};
 ghost use Rattle.job_line.specs.Kinds.{area, axis, post, stop, coordinates, axis_costs, row, in_range, in_ranges};
 ghost use Rattle.job_line.specs.Reading.{area_numbers, cost_numbers, count_numbers, place_numbers, stop_numbers};
-ghost use Rattle.job_line.specs.Reading.{KeyAt, FieldAt, answer_of, LineAt, count_row};
+ghost use Rattle.job_line.specs.Reading.{KeyAt, FieldAt, NextLine, reading_of, LineAt, count_row};
 
 use deck::{AxisCosts, Place, Rect, Stop};
 use limits::{LEAST_COORDINATE, MOST_AXIS_COST, MOST_COORDINATE, MOST_VISITS};
 use refusal::Refusal;
+
+// What is left to read of a job: its text, and the number of the line that this begins in.
+#[derive(Clone, Copy)]
+pub struct Unread<'a> {
+    pub text: &'a [u8],
+    pub line: u64,
+}
 
 // ---- ranges: whether the numbers of a line are in those of its row
 
@@ -58,114 +65,124 @@ pub fn stop_in_range(p: Place, visits: i64) -> bool
 
 // ---- parts of a line: without one the line is malformed
 
-// The place after a key.
-fn after(s: &[u8], at: usize, key: &[u8], line: u64) -> Result<usize, Refusal>
-    ensures { KeyAt s.now at key.now line result }
+// What is left behind a key.
+fn after<'a>(unread: Unread<'a>, key: &[u8]) -> Result<Unread<'a>, Refusal>
+    ensures { KeyAt key.now unread.entry result }
 {
-    if !text::starts(s, at, key) {
-        return Err(Refusal::Malformed(line));
-    }
-    Ok(at + key.len())
-}
-
-// A number and the place after the byte that ends it.
-fn field(s: &[u8], at: usize, end: u8, line: u64) -> Result<(i64, usize), Refusal>
-    ensures { FieldAt s.now at end line result }
-{
-    let Some((z, next)) = text::number(s, at) else {
+    let line = unread.line;
+    let Some(text) = text::after_key(unread.text, key) else {
         return Err(Refusal::Malformed(line));
     };
-    if !text::byte_is(s, next, end) {
+    Ok(Unread { text, line })
+}
+
+// A number, and what is left behind the byte that ends it.
+fn field(unread: Unread<'_>, end: u8) -> Result<(i64, Unread<'_>), Refusal>
+    ensures { FieldAt end unread.entry result }
+{
+    let line = unread.line;
+    let Some((z, behind)) = text::number(unread.text) else {
         return Err(Refusal::Malformed(line));
+    };
+    let Some(text) = text::after_byte(behind, end) else {
+        return Err(Refusal::Malformed(line));
+    };
+    Ok((z, Unread { text, line }))
+}
+
+// What is left, counted as the next line. The largest number of 64 bits, to which no job counts, stays.
+fn next_line(unread: Unread<'_>) -> Unread<'_>
+    ensures { NextLine unread.entry result }
+{
+    Unread {
+        text: unread.text,
+        line: unread.line.saturating_add(1),
     }
-    Ok((z, next + 1))
 }
 
 // ---- lines
 
 // `area=xlo,ylo,xhi,yhi`
-pub fn area_line(s: &[u8], at: usize, line: u64) -> Result<(Rect, usize), Refusal>
-    ensures { LineAt (row area) s.now at line (answer_of area_numbers result) }
+pub fn area_line(unread: Unread<'_>) -> Result<(Rect, Unread<'_>), Refusal>
+    ensures { LineAt (row area) unread.entry (reading_of area_numbers result) }
 {
-    let at = after(s, at, b"area=", line)?;
-    let (xlo, at) = field(s, at, b',', line)?;
-    let (ylo, at) = field(s, at, b',', line)?;
-    let (xhi, at) = field(s, at, b',', line)?;
-    let (yhi, next) = field(s, at, b'\n', line)?;
+    let unread = after(unread, b"area=")?;
+    let (xlo, unread) = field(unread, b',')?;
+    let (ylo, unread) = field(unread, b',')?;
+    let (xhi, unread) = field(unread, b',')?;
+    let (yhi, unread) = field(unread, b'\n')?;
     let area = Rect { xlo, ylo, xhi, yhi };
     if !area_in_range(area) {
-        return Err(Refusal::OutOfRange(line));
+        return Err(Refusal::OutOfRange(unread.line));
     }
-    Ok((area, next))
+    Ok((area, next_line(unread)))
 }
 
 // `axis=a,b`
-pub fn axis_line(s: &[u8], at: usize, line: u64) -> Result<(AxisCosts, usize), Refusal>
-    ensures { LineAt (row axis) s.now at line (answer_of cost_numbers result) }
+pub fn axis_line(unread: Unread<'_>) -> Result<(AxisCosts, Unread<'_>), Refusal>
+    ensures { LineAt (row axis) unread.entry (reading_of cost_numbers result) }
 {
-    let at = after(s, at, b"axis=", line)?;
-    let (x_cost, at) = field(s, at, b',', line)?;
-    let (y_cost, next) = field(s, at, b'\n', line)?;
+    let unread = after(unread, b"axis=")?;
+    let (x_cost, unread) = field(unread, b',')?;
+    let (y_cost, unread) = field(unread, b'\n')?;
     if x_cost < 0 || y_cost < 0 {
-        return Err(Refusal::OutOfRange(line));
+        return Err(Refusal::OutOfRange(unread.line));
     }
     let a = x_cost as u64;
     let b = y_cost as u64;
     let costs = AxisCosts { a, b };
     if !axis_in_range(costs) {
-        return Err(Refusal::OutOfRange(line));
+        return Err(Refusal::OutOfRange(unread.line));
     }
-    Ok((costs, next))
+    Ok((costs, next_line(unread)))
 }
 
 // `posts=n`, `stops=n`, `rounds=n`: a number from 0 to `most` behind `key`.
-pub fn count_line(
-    s: &[u8],
-    at: usize,
+pub fn count_line<'a>(
+    unread: Unread<'a>,
     key: &[u8],
     most: usize,
-    line: u64,
-) -> Result<(usize, usize), Refusal>
-    ensures { LineAt (count_row key.now most) s.now at line (answer_of count_numbers result) }
+) -> Result<(usize, Unread<'a>), Refusal>
+    ensures { LineAt (count_row key.now most) unread.entry (reading_of count_numbers result) }
 {
-    let at = after(s, at, key, line)?;
-    let (z, next) = field(s, at, b'\n', line)?;
+    let unread = after(unread, key)?;
+    let (z, unread) = field(unread, b'\n')?;
     if z < 0 {
-        return Err(Refusal::OutOfRange(line));
+        return Err(Refusal::OutOfRange(unread.line));
     }
     let n = z as usize;
     if most < n {
-        return Err(Refusal::OutOfRange(line));
+        return Err(Refusal::OutOfRange(unread.line));
     }
-    Ok((n, next))
+    Ok((n, next_line(unread)))
 }
 
 // `post=x,y`
-pub fn post_line(s: &[u8], at: usize, line: u64) -> Result<(Place, usize), Refusal>
-    ensures { LineAt (row post) s.now at line (answer_of place_numbers result) }
+pub fn post_line(unread: Unread<'_>) -> Result<(Place, Unread<'_>), Refusal>
+    ensures { LineAt (row post) unread.entry (reading_of place_numbers result) }
 {
-    let at = after(s, at, b"post=", line)?;
-    let (x, at) = field(s, at, b',', line)?;
-    let (y, next) = field(s, at, b'\n', line)?;
+    let unread = after(unread, b"post=")?;
+    let (x, unread) = field(unread, b',')?;
+    let (y, unread) = field(unread, b'\n')?;
     let post = Place { x, y };
     if !place_in_range(post) {
-        return Err(Refusal::OutOfRange(line));
+        return Err(Refusal::OutOfRange(unread.line));
     }
-    Ok((post, next))
+    Ok((post, next_line(unread)))
 }
 
 // `stop=x,y,visits`
-pub fn stop_line(s: &[u8], at: usize, line: u64) -> Result<(Stop, usize), Refusal>
-    ensures { LineAt (row stop) s.now at line (answer_of stop_numbers result) }
+pub fn stop_line(unread: Unread<'_>) -> Result<(Stop, Unread<'_>), Refusal>
+    ensures { LineAt (row stop) unread.entry (reading_of stop_numbers result) }
 {
-    let at = after(s, at, b"stop=", line)?;
-    let (x, at) = field(s, at, b',', line)?;
-    let (y, at) = field(s, at, b',', line)?;
-    let (visits, next) = field(s, at, b'\n', line)?;
+    let unread = after(unread, b"stop=")?;
+    let (x, unread) = field(unread, b',')?;
+    let (y, unread) = field(unread, b',')?;
+    let (visits, unread) = field(unread, b'\n')?;
     let place = Place { x, y };
     if !stop_in_range(place, visits) {
-        return Err(Refusal::OutOfRange(line));
+        return Err(Refusal::OutOfRange(unread.line));
     }
     let visits = visits as u64;
-    Ok((Stop { at: place, visits }, next))
+    Ok((Stop { at: place, visits }, next_line(unread)))
 }

@@ -127,15 +127,7 @@ impl Kernel for Near {
 
     fn at(o: &Opened, t: u64) -> u64 {
         let deck = &o.deck;
-        let near = deck::nears_of(
-            deck.axis,
-            &deck.post_x,
-            &deck.post_y,
-            deck.posts,
-            &deck.stop_x,
-            &deck.stop_y,
-            deck.stops,
-        );
+        let near = deck::nears_of(deck.axis, deck.post_places(), deck.stop_columns().at);
         near[(t % 512) as usize]
     }
 }
@@ -153,6 +145,7 @@ fn sum_turns<K: Kernel>(o: &Opened, k: u64) -> u64
 }
 
 // The sum by the kernel's number.
+// kept: the number comes from a C function, and here it picks the type whose kernel is summed.
 fn sum_of(o: &Opened, which: u64, k: u64) -> u64
     requires { Whole o.now × (which ≤ 4) × (k ≤ 100000) }
     ensures { Figure (sum_to (turn (deck_of o.now.deck) which) k) (100000 * cost_limit) result }

@@ -30,37 +30,6 @@ zip_each h [] ms = refl
 zip_each h (p ∷ ps) [] = refl
 zip_each h (p ∷ ps) (m ∷ ms) = ap₂ (λ (n : ℕ) (l : List ℕ). n ∷ l) (h p m) (zip_each h ps ms)
 
--- ---- posts that were scaled in words
-module _ {axis : AxisCosts} {px py : List ℤ} {k : ℕ} (costs : CostsInRange axis) (posts : PlacesInRange 64 px py k) {qx qy : List ℤ}
-    (ex : qx ≡ paste (replicate 64 (pos 0)) 0 (map (times axis.a) px) k) (ey : qy ≡ paste (replicate 64 (pos 0)) 0 (map (times axis.b) py) k) where
-  front : {us ws : List ℤ} → CoordinatesInRange ws k → us ≡ paste (replicate 64 (pos 0)) 0 ws k → take k us ≡ take k ws
-  front {us} {ws} range e = ap (take k) e ∙ take_at (take k ws) _ k (length-take-le k ws range.count)
-
-  long : {us ws : List ℤ} → CoordinatesInRange ws k → us ≡ paste (replicate 64 (pos 0)) 0 ws k → k ≤ length us
-  long {us} {ws} range e = omega (
-    arith,
-    posts.few,
-    ap length e ∙ length-paste (replicate 64 (pos 0)) 0 ws k (omega (arith, posts.few, length-replicate 64 (pos 0))) range.count
-        ∙ length-replicate 64 (pos 0),
-  )
-
-  x_range : CoordinatesInRange (map (times axis.a) px) k
-  x_range = scaled_range axis.a px k costs.most.0 posts.x
-
-  y_range : CoordinatesInRange (map (times axis.b) py) k
-  y_range = scaled_range axis.b py k costs.most.1 posts.y
-
-  pub posts_x_scaled : CoordinatesInRange qx k
-  posts_x_scaled = front_range qx _ k (front x_range ex) (long x_range ex) x_range
-
-  pub posts_y_scaled : CoordinatesInRange qy k
-  posts_y_scaled = front_range qy _ k (front y_range ey) (long y_range ey) y_range
-
-  pub posts_scaled : take k (places qx qy) ≡ map (scaled_place axis) (take k (places px py))
-  posts_scaled =
-      places_front k qx qy _ _ (front x_range ex) (front y_range ey) ∙ ap (take k) (sym (scaled_places axis px py))
-      ∙ sym (map_take (scaled_place axis) k (places px py))
-
 -- ---- by posts at their scaled places, for the posts themselves
 module _ {axis axis' : AxisCosts} (e : axis' ≡ axis) (posts : List Place) {scaled : List Place} (f : scaled ≡ map (scaled_place axis) posts) where
   closest_same : (p : Place) → closest plain (scaled_place axis' p) scaled ≡ closest axis p posts

@@ -10,8 +10,9 @@ use Rattle.numbers.specs.Padded.{padded}
 use Rattle.query.specs.Place.{Axis, x_axis, y_axis, low_edge, high_edge}
 use Rattle.query.specs.Lines.{lines}
 use Rattle.deck.specs.declared.Deck.{Deck}
+use Rattle.deck.specs.declared.Rect.{Rect}
 use Rattle.deck.specs.DeckOf.{deck_of}
-use Rattle.deck.specs.Rectangle.{rect_record}
+use Rattle.deck.specs.Rectangle.{rect_of, rect_record}
 use Rattle.deck.specs.Objects.{pricing_of}
 use Rattle.deck.specs.ObjectColumns.{columns_of, pricing_in}
 use Rattle.deck.specs.Sound.{Sound}
@@ -27,9 +28,9 @@ use Rattle.lines.specs.LineRecord.{flagged, lines_between}
 use Rattle.lines.proofs.DeckLines.{coordinates, reached, lines_flagged, padded_reached}
 use Rattle.numbers.proofs.WordTests.{back}
 use Rattle.prepare.specs.ProblemRecord.{Parts, problem_record}
-use Rattle.prepare.proofs.Coordinates.{near_back, rect_back}
+use Rattle.prepare.proofs.Coordinates.{near_back}
 
-module _ (deck : Deck) (h : Sound deck) where
+module _ (deck : Deck) (h : Sound deck) (a : Rect) (ea : a ≡ record { xlo = deck.xlo; ylo = deck.ylo; xhi = deck.xhi; yhi = deck.yhi }) where
   stops_count : length (deck_of deck).stops ≡ deck.stops
   stops_count = sym (sound_stops h)
 
@@ -40,34 +41,32 @@ module _ (deck : Deck) (h : Sound deck) where
   y_coordinates : take deck.stops deck.stop_y ≡ coordinates (deck_of deck) y_axis
   y_coordinates = sym (stops_y deck (sound_columns h))
 
-  -- the area in words: its edges as `find_lines` gets them, and as a rectangle
-  edges : (back (back deck.xlo) ≡ (deck_of deck).area.xlo) × (back (back deck.ylo) ≡ (deck_of deck).area.ylo)
-      × (back (back deck.xhi) ≡ (deck_of deck).area.xhi) × (back (back deck.yhi) ≡ (deck_of deck).area.yhi)
+  -- the area, and its edges as `find_lines` gets them
+  area_is : rect_of a ≡ (deck_of deck).area
+  unfolding deck_of
+  area_is = ap rect_of ea
+
+  edges : (back a.xlo ≡ (deck_of deck).area.xlo) × (back a.ylo ≡ (deck_of deck).area.ylo)
+      × (back a.xhi ≡ (deck_of deck).area.xhi) × (back a.yhi ≡ (deck_of deck).area.yhi)
   unfolding deck_of
   edges =
-      let r = h.range.area in
-      let twice : (z : ℤ) → nat_abs z ≤ 20000 → back (back z) ≡ z = λ z f. ap back (near_back z f) ∙ near_back z f in (
-        twice deck.xlo r.low_corner_law.x_range,
-        twice deck.ylo r.low_corner_law.y_range,
-        twice deck.xhi r.high_corner_law.x_range,
-        twice deck.yhi r.high_corner_law.y_range,
+      let r = h.range.area in (
+        ap (λ (a : Rect). back a.xlo) ea ∙ near_back deck.xlo r.low_corner_law.x_range,
+        ap (λ (a : Rect). back a.ylo) ea ∙ near_back deck.ylo r.low_corner_law.y_range,
+        ap (λ (a : Rect). back a.xhi) ea ∙ near_back deck.xhi r.high_corner_law.x_range,
+        ap (λ (a : Rect). back a.yhi) ea ∙ near_back deck.yhi r.high_corner_law.y_range,
       )
 
-  area_back_lem : record { xlo = back deck.xlo; ylo = back deck.ylo; xhi = back deck.xhi; yhi = back deck.yhi } ≡ (deck_of deck).area
-  unfolding deck_of
-  area_back_lem = rect_back (deck_of deck).area h.range.area
-
-  pub area_ranged : Ranged (record { xlo = back deck.xlo; ylo = back deck.ylo; xhi = back deck.xhi; yhi = back deck.yhi })
-  area_ranged = rw area_back_lem (record { range = h.range.area; full = h.full })
+  pub area_ranged : Ranged (rect_of a)
+  area_ranged = rw area_is (record { range = h.range.area; full = h.full })
 
   -- its objects, and which of them reach the area
   module _ (objects : Objects) (e : objects.columns ≡ columns_of (pricing_of (deck_of deck))) (n : objects.count ≡ deck.stops)
-      (flags : List Bool) (f : flags ≡ flags_of (pricing_of_objects objects)
-      (record { xlo = back deck.xlo; ylo = back deck.ylo; xhi = back deck.xhi; yhi = back deck.yhi })) where
+      (flags : List Bool) (f : flags ≡ flags_of (pricing_of_objects objects) (rect_of a)) where
     flags_are : flags ≡ padded 512 false (reached (deck_of deck) x_axis)
     unfolding deck_of
     flags_are =
-        f ∙ ap (flags_of (pricing_of_objects objects)) area_back_lem
+        f ∙ ap (flags_of (pricing_of_objects objects)) area_is
         ∙ (λ i. flags_of (pricing_in (e i) ((n ∙ sym stops_count) i)) (deck_of deck).area)
         ∙ ap (λ P. flags_of P (deck_of deck).area) (made_pricing (deck_of deck) h.range)
         ∙ flags_law (deck_of deck) (deck_of deck).area
@@ -84,10 +83,10 @@ module _ (deck : Deck) (h : Sound deck) where
 
     -- the record
     pub made_problem : (v w : List ℤ) →
-        v ≡ lines_between (back (back deck.xlo)) (back (back deck.xhi)) (flagged (take deck.stops deck.stop_x) (take deck.stops flags)) →
-        w ≡ lines_between (back (back deck.ylo)) (back (back deck.yhi)) (flagged (take deck.stops deck.stop_y) (take deck.stops flags)) →
+        v ≡ lines_between (back a.xlo) (back a.xhi) (flagged (take deck.stops deck.stop_x) (take deck.stops flags)) →
+        w ≡ lines_between (back a.ylo) (back a.yhi) (flagged (take deck.stops deck.stop_y) (take deck.stops flags)) →
         ◌≡◌ {A = Parts} (record {
-          area = record { xlo = back deck.xlo; ylo = back deck.ylo; xhi = back deck.xhi; yhi = back deck.yhi };
+          area = a;
           count = objects.count;
           columns = objects.columns;
           vertical = v;
@@ -95,7 +94,7 @@ module _ (deck : Deck) (h : Sound deck) where
         }) (problem_record (deck_of deck))
     unfolding problem_record
     made_problem v w found_x found_y = λ i. record {
-      area = rect_record (area_back_lem i);
+      area = rect_record (area_is i);
       count = (n ∙ sym stops_count) i;
       columns = e i;
       vertical = lines_found x_axis deck.stop_x v _ _ x_coordinates edges.0 edges.2 found_x i;

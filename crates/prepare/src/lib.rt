@@ -36,23 +36,12 @@ fn of_deck(deck: &Deck) -> Problem
     ensures { parts_in result ≡ problem_record (deck_of deck.now) }
 {
     let n = deck.stops;
-    let area = Rect {
-        xlo: deck.xlo,
-        ylo: deck.ylo,
-        xhi: deck.xhi,
-        yhi: deck.yhi,
-    };
-    let objects = Objects::of_stops(
-        deck.axis,
-        &deck.stop_x,
-        &deck.stop_y,
-        &deck.visits,
-        &deck.near,
-        n,
-    );
+    let area = deck.area();
+    let stops = deck.stop_columns();
+    let objects = Objects::of_stops(deck.axis, stops);
     let flags = reach::reach_flags(&objects, area);
-    let vertical = lines::find_lines(&deck.stop_x[..n], &flags[..n], area.xlo, area.xhi);
-    let horizontal = lines::find_lines(&deck.stop_y[..n], &flags[..n], area.ylo, area.yhi);
+    let vertical = lines::find_lines(stops.at.x, &flags[..n], area.xlo, area.xhi);
+    let horizontal = lines::find_lines(stops.at.y, &flags[..n], area.ylo, area.yhi);
     Problem {
         area,
         objects,

@@ -48,15 +48,6 @@ smaller near t m k some most small et em =
     let m_is : m ≡ pos (min (nat_abs near) k) = em ∙ (λ i. int_min (t_is i) (near_is i)) ∙ least k (nat_abs near) in
     rw m_is (ap nat_abs (number_word (pos (min (nat_abs near) k)) (omega arith)))
 
--- ---- a place, scaled
-module _ {axis : AxisCosts} {p : Place} {u v : ℤ} (costs : CostsInRange axis) (h : PlaceInRange p) (eu : Scaled (to_z w32 axis.a) (back p.x) u)
-    (ev : Scaled (to_z w32 axis.b) (back p.y) v) where
-  pub place_words : record { x = word u; y = word v } ≡ scaled_place axis p
-  place_words = λ i. record { x = scaled_by costs.most.0 p.x h.x_range eu i; y = scaled_by costs.most.1 p.y h.y_range ev i }
-
-  pub place_near : Near180000 (word u) (word v)
-  place_near = rw (scaled_by costs.most.0 p.x h.x_range eu, scaled_by costs.most.1 p.y h.y_range ev) (place_scaled costs p h)
-
 -- ---- a side of a scaled rectangle, and both
 module _ (lo hi : ℤ) (g : nat_abs lo ≤ 180000) (h : nat_abs hi ≤ 180000) (k : lo ≤ℤ hi) where
   side_is : word hi -ℤ word lo ≡ pos (dist lo hi)

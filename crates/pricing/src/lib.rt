@@ -7,23 +7,23 @@ ghost use Rattle.numbers.specs.Integer.{dist, clamp, half_up};
 ghost use Rattle.query.specs.Bound as Bound;
 ghost use Rattle.query.specs.Range.{load_limit, cost_limit, travel_limit, PlaceInRange};
 ghost use Rattle.deck.specs.DeckOf.{held_axis};
-ghost use Rattle.deck.specs.Ranges.{Near180000, CostsInRange};
+ghost use Rattle.deck.specs.Ranges.{CostsInRange};
 ghost use Rattle.deck.specs.Rectangle.{place_of, rect_of};
 ghost use Rattle.reach.specs.Columns.{Ranged};
 ghost use Rattle.reach.specs.Held.{pricing_of_objects};
 ghost use Rattle.pricing.specs.ObjectFigures.{cost_of, load_of, BoundInRange, Figure};
 
-use deck::{AxisCosts, Place, Rect, scaled, travelled};
+use deck::{AxisCosts, Place, Rect, ScaledPlace};
 use numbers::half_up;
 use reach::{Edges, Objects, Row};
 use slots::Costs;
 
-// What an object pays for a post at (x, y): its visits times the smaller of its near and its travel there.
-fn paid(row: Row, x: i32, y: i32) -> u64
-    requires { Near180000 x y }
-    ensures { result ≡ nat_abs row.visits * min (nat_abs row.near) (dist row.x x + dist row.y y) }
+// What an object pays for a post: its visits times the smaller of its near and its travel there.
+fn paid(row: Row, post: ScaledPlace) -> u64
+    ensures { result ≡ nat_abs row.visits * min (nat_abs row.near) (dist row.x post.x + dist row.y post.y) }
 {
-    let t = travelled(row.x, row.y, x, y);
+    let at = ScaledPlace { x: row.x, y: row.y };
+    let t = at.travel_to(post);
     let m = t.min(row.near);
     ((row.visits as u32) as u64) * ((m as u32) as u64)
 }
@@ -34,11 +34,10 @@ pub fn cost(objects: &Objects, at: Place) -> u64
     ensures { Figure (cost_of (pricing_of_objects objects.now) (place_of at)) cost_limit result }
 {
     let axis = objects.axis();
-    let x = scaled(axis.a as i32, at.x);
-    let y = scaled(axis.b as i32, at.y);
+    let post = ScaledPlace::of(axis, at);
     let mut sum: u64 = 0;
     for i in 0..objects.count() {
-        sum += paid(objects.row(i), x, y);
+        sum += paid(objects.row(i), post);
     }
     sum
 }

@@ -1,13 +1,13 @@
 // The objects of a deck in columns, with the axis costs behind them.
 
-ghost use Rattle.std.specs.Prelude.{◌≡◌, ◌<◌};
+ghost use Rattle.std.specs.Prelude.{◌≡◌, ◌<◌, length};
 ghost use Rattle.deck.specs.DeckOf.{held_axis};
 ghost use Rattle.deck.specs.Objects.{stored_pricing};
 ghost use Rattle.deck.specs.ObjectColumns.{object_at, axis_in, columns_of};
 ghost use Rattle.deck.specs.Ranges.{CostsInRange, PlacesInRange, VisitsInRange, NearsInRange};
 ghost use Rattle.reach.specs.Columns.{ObjectInRange, Priceable};
 
-use deck::{AxisCosts, put_columns};
+use deck::{AxisCosts, Stops, put_columns};
 use limits::{COLUMNS, NEAR_COLUMN, VISITS_COLUMN, X_COST, Y_COLUMN, Y_COST};
 
 // One object: its scaled place, its visits and its near.
@@ -40,26 +40,21 @@ impl Objects {
         Objects { count, columns }
     }
 
-    // The objects of the first n stops in columns of coordinates, visits and near. Not inlined, so that a caller's frame has no second
-    // array of columns.
+    // The objects of stops. Not inlined, so that a caller's frame has no second array of columns.
     #[inline(never)]
-    pub fn of_stops<'a>(
-        axis: AxisCosts,
-        x: &'a [i64],
-        y: &'a [i64],
-        visits: &'a [u64],
-        near: &'a [u64],
-        n: usize,
-    ) -> Objects
-        requires { CostsInRange (held_axis axis) × PlacesInRange 512 x.now y.now n × VisitsInRange visits.now n
-            × NearsInRange near.now n }
+    pub fn of_stops(axis: AxisCosts, stops: Stops<'_>) -> Objects
+        requires { CostsInRange (held_axis axis) × PlacesInRange 512 stops.at.x.now stops.at.y.now (length stops.at.x.now)
+            × VisitsInRange stops.visits.now (length stops.at.x.now) × NearsInRange stops.near.now (length stops.at.x.now) }
         ensures { (result.columns
-            ≡ columns_of (stored_pricing (held_axis axis) x.now y.now visits.now near.now n))
-            × (result.count ≡ n) }
+            ≡ columns_of (stored_pricing (held_axis axis) stops.entry.at.x.now stops.entry.at.y.now stops.entry.visits.now
+            stops.entry.near.now (length stops.entry.at.x.now))) × (result.count ≡ length stops.entry.at.x.now) }
     {
         let mut columns = [0i32; COLUMNS];
-        put_columns(axis, x, y, visits, near, n, &mut columns);
-        Objects { count: n, columns }
+        put_columns(axis, stops, &mut columns);
+        Objects {
+            count: stops.at.x.len(),
+            columns,
+        }
     }
 
     // How many objects there are.

@@ -1,7 +1,7 @@
 -- The text of a report and of a refusal in parts, as the functions write them, and the lengths of the parts.
 -- Assumes nothing.
 use mathlib.Core.Path.{◌≡◌, refl, sym, ap, ◌∙◌}
-use Prim.Native.Nat.{ℕ, ◌+◌, ◌≤◌, ◌<◌, ◌^◌, zero-le}
+use Prim.Native.Nat.{ℕ, ◌+◌, ◌≤◌, ◌<◌, ◌^◌}
 use native.Mathlib.Omega.{arith}
 use mathlib.Core.List.{List, [], ◌∷◌, ◌++◌, flatten, append_assoc, append-nil}
 use mathlib.Core.Option.{Option, none, some}
@@ -12,10 +12,11 @@ use Rattle.query.specs.Range.{cost_limit}
 use Rattle.text.specs.Ascii.{bytes, comma}
 use Rattle.text.specs.Decimal.{spell_nat, spell_int}
 use Rattle.text.specs.Numeral.{digits, natural}
-use Rattle.write.specs.Written.{Overwrote, Wrote}
+use Rattle.write.specs.declared.Writer.{Writer}
+use Rattle.write.specs.Written.{Wrote}
 use Rattle.text.proofs.NumeralLaws.{natural_spelled}
 use Rattle.text.proofs.DigitCounts.{length_spell_nat_below, length_spell_int_below}
-use Rattle.write.proofs.WrittenLaws.{wrote_both, wrote_front}
+use Rattle.write.proofs.WrittenLaws.{wrote_both}
 use Rattle.refusal.specs.Refusal.{number_of}
 use Rattle.refusal.specs.declared.Refusal.{Refusal}
 use Rattle.refusal.proofs.Numbers.{number_most}
@@ -112,25 +113,23 @@ length_rounds n h = simp length-append (omega (arith, length_spell_nat_below 3 n
 pub length_number : (why : Refusal) → length (spell_nat (number_of why)) ≤ 1
 length_number why = length_spell_nat_below 0 (number_of why) (omega (arith, number_most why))
 
--- ---- a text written from the start on
-pub report_filled :
-    {out m₁ m₂ m₃ m₄ after : List ℕ} {e₁ e₂ e₃ e₄ end : ℕ} (f : Figures) →
-    Wrote out 0 (state_part f.state) m₁ e₁ →
-    Wrote m₁ e₁ (place_part f.at.x f.at.y) m₂ e₂ →
-    Wrote m₂ e₂ (costs_part f.high f.low f.before) m₃ e₃ →
-    Wrote m₃ e₃ (rounds_part f.rounds) m₄ e₄ →
-    Wrote m₄ e₄ (bytes "\n") after end →
-    Overwrote out (report_text f) after end
-report_filled f s p c r n =
-    wrote_front (report_text f) (rw report_parts (wrote_both (wrote_both (wrote_both (wrote_both s p zero-le) c zero-le) r zero-le) n zero-le))
+-- ---- a text written part by part
+pub report_wrote :
+    {w₀ w₁ w₂ w₃ w₄ w₅ : Writer} (f : Figures) →
+    Wrote w₀ (state_part f.state) w₁ →
+    Wrote w₁ (place_part f.at.x f.at.y) w₂ →
+    Wrote w₂ (costs_part f.high f.low f.before) w₃ →
+    Wrote w₃ (rounds_part f.rounds) w₄ →
+    Wrote w₄ (bytes "\n") w₅ →
+    Wrote w₀ (report_text f) w₅
+report_wrote f s p c r n = rw report_parts (wrote_both (wrote_both (wrote_both (wrote_both s p) c) r) n)
 
-pub refusal_filled :
-    {out m₁ m₂ after : List ℕ} {e₁ e₂ end number line : ℕ} (n l : ℕ) →
+pub refusal_wrote :
+    {w₀ w₁ w₂ w₃ : Writer} {number line : ℕ} (n l : ℕ) →
     n ≡ number →
     l ≡ line →
-    Wrote out 0 (bytes "refused=" ++ spell_nat n) m₁ e₁ →
-    Wrote m₁ e₁ (bytes "\nline=" ++ spell_nat l) m₂ e₂ →
-    Wrote m₂ e₂ (bytes "\n") after end →
-    Overwrote out (refusal_text number line) after end
-refusal_filled {number = number} {line = line} n l p q v w e =
-    wrote_front (refusal_text number line) (rw (refusal_parts, ← p, ← q) (wrote_both (wrote_both v w zero-le) e zero-le))
+    Wrote w₀ (bytes "refused=" ++ spell_nat n) w₁ →
+    Wrote w₁ (bytes "\nline=" ++ spell_nat l) w₂ →
+    Wrote w₂ (bytes "\n") w₃ →
+    Wrote w₀ (refusal_text number line) w₃
+refusal_wrote n l p q v w e = rw (refusal_parts, ← p, ← q) (wrote_both (wrote_both v w) e)

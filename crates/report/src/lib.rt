@@ -5,13 +5,13 @@ ghost use Rattle.std.specs.Prelude.{◌+◌, ◌≤◌, [], ◌∷◌, ◌++◌,
 ghost use Rattle.refusal.specs.Refusal.{number_of, line_of};
 ghost use Rattle.text.specs.Ascii.{bytes, comma};
 ghost use Rattle.text.specs.Decimal.{spell_nat, spell_int};
-ghost use Rattle.write.specs.Written.{Overwrote, Wrote};
+ghost use Rattle.write.specs.Written.{HasRoom, Overwrote, Wrote};
 ghost use Rattle.report.specs.Report.{report_state, report_figures};
 ghost use Rattle.report.specs.Text.{state_text, report_text, refusal_text};
 ghost use Rattle.query.specs.Range.{FiguresInRange};
 
 use refusal::Refusal;
-use write::Decimal;
+use write::{Decimal, Writer};
 
 #[derive(Clone, Copy, PartialEq, Eq)]
 pub enum State {
@@ -32,42 +32,42 @@ pub struct Report {
 }
 
 // A key and a number behind it.
-fn put_key<T: Decimal>(out: &mut [u8], at: usize, key: &[u8], number: T) -> usize
-    requires { at + length key.now + length (T.spelling number) ≤ length out.old }
-    ensures { Wrote out.old at (key.now ++ T.spelling number) out.new result }
+fn put_key<T: Decimal>(w: &mut Writer, key: &[u8], number: T)
+    requires { HasRoom w.old (length key.now + length (T.spelling number)) }
+    ensures { Wrote w.old (key.now ++ T.spelling number) w.new }
 {
-    let next = write::put(out, at, key);
-    number.put_decimal(out, next)
+    w.put(key);
+    w.put_decimal(number);
 }
 
 // The lines of a report, each but for its byte 10, which stands before the next one's key.
-fn put_state(out: &mut [u8], at: usize, state: State) -> usize
-    requires { at + 13 ≤ length out.old }
-    ensures { Wrote out.old at (bytes "state=" ++ state_text (report_state state)) out.new result }
+fn put_state(w: &mut Writer, state: State)
+    requires { HasRoom w.old 13 }
+    ensures { Wrote w.old (bytes "state=" ++ state_text (report_state state)) w.new }
 {
-    let next = write::put(out, at, b"state=");
+    w.put(b"state=");
     match state {
-        State::Done => write::put(out, next, b"done"),
-        State::Stopped => write::put(out, next, b"stopped"),
+        State::Done => w.put(b"done"),
+        State::Stopped => w.put(b"stopped"),
     }
 }
 
-fn put_place(out: &mut [u8], at: usize, x: i64, y: i64) -> usize
-    requires { at + 47 ≤ length out.old }
-    ensures { Wrote out.old at (bytes "\nat=" ++ spell_int x ++ (comma ∷ []) ++ spell_int y) out.new result }
+fn put_place(w: &mut Writer, x: i64, y: i64)
+    requires { HasRoom w.old 47 }
+    ensures { Wrote w.old (bytes "\nat=" ++ spell_int x ++ (comma ∷ []) ++ spell_int y) w.new }
 {
-    let next = put_key(out, at, b"\nat=", x);
-    put_key(out, next, b",", y)
+    put_key(w, b"\nat=", x);
+    put_key(w, b",", y);
 }
 
-fn put_costs(out: &mut [u8], at: usize, high: u64, low: i64, before: u64) -> usize
-    requires { at + 80 ≤ length out.old }
-    ensures { Wrote out.old at (bytes "\nhigh=" ++ spell_nat high ++ bytes "\nlow=" ++ spell_int low ++ bytes "\nbefore="
-        ++ spell_nat before) out.new result }
+fn put_costs(w: &mut Writer, high: u64, low: i64, before: u64)
+    requires { HasRoom w.old 80 }
+    ensures { Wrote w.old (bytes "\nhigh=" ++ spell_nat high ++ bytes "\nlow=" ++ spell_int low ++ bytes "\nbefore="
+        ++ spell_nat before) w.new }
 {
-    let next = put_key(out, at, b"\nhigh=", high);
-    let next = put_key(out, next, b"\nlow=", low);
-    put_key(out, next, b"\nbefore=", before)
+    put_key(w, b"\nhigh=", high);
+    put_key(w, b"\nlow=", low);
+    put_key(w, b"\nbefore=", before);
 }
 
 // The report at the start of `out`, and its length.
@@ -76,12 +76,13 @@ pub fn write_report(out: &mut [u8], r: Report) -> usize
     requires figures_in_range { FiguresInRange 1000 (report_figures r) }
     ensures { Overwrote out.old (report_text (report_figures r)) out.new result }
 {
-    let state = r.state;
-    let end = put_state(out, 0, state);
-    let end = put_place(out, end, r.x, r.y);
-    let end = put_costs(out, end, r.high, r.low, r.before);
-    let end = put_key(out, end, b"\nrounds=", r.rounds);
-    write::put(out, end, b"\n")
+    let mut w = Writer::new(out);
+    put_state(&mut w, r.state);
+    put_place(&mut w, r.x, r.y);
+    put_costs(&mut w, r.high, r.low, r.before);
+    put_key(&mut w, b"\nrounds=", r.rounds);
+    w.put(b"\n");
+    w.len()
 }
 
 // The two lines of a refusal at the start of `out`, and their length.
@@ -91,7 +92,9 @@ pub fn write_refusal(out: &mut [u8], why: Refusal) -> usize
 {
     let number = refusal::number_of(why);
     let line = refusal::line_of(why);
-    let next = put_key(out, 0, b"refused=", number);
-    let next = put_key(out, next, b"\nline=", line);
-    write::put(out, next, b"\n")
+    let mut lines = Writer::new(out);
+    put_key(&mut lines, b"refused=", number);
+    put_key(&mut lines, b"\nline=", line);
+    lines.put(b"\n");
+    lines.len()
 }

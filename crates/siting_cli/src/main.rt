@@ -43,6 +43,7 @@ fn read_full<R: Read>(input: &mut R, buf: &mut [u8]) -> Filled
     ensures end { (n : ℕ) → result ≡ Whole n → n ≢ length buf.new → IsAtEnd (R.remaining input.new) }
 {
     let mut count = 0;
+    // kept: how many bytes a read gives is what the read finds out, so no range has the turns.
     while count < buf.len() {
         match input.read(&mut buf[count..]) {
             Ok(0) => return Filled::Whole(count),

@@ -4,9 +4,7 @@ use mathlib.Core.Path.{◌≡◌, refl, sym, ap, ◌∙◌}
 use mathlib.Core.Bool.{Bool, true, false, not, cond, ◌&&◌}
 use mathlib.Core.List.{List, [], ◌∷◌}
 use mathlib.Core.Option.{Option, none, some}
-use Rattle.std.specs.Prelude as Std
-use Rattle.std.specs.Prelude.{Some, None}
-use Prim.Native.Nat.{ℕ, zero, suc, ◌+◌, ◌<◌, ◌^◌}
+use Prim.Native.Nat.{ℕ, zero, suc, ◌<◌, ◌^◌}
 use native.Mathlib.Omega.{arith}
 use borrow.Author.Tests.{eq-eqb, ne_eqb}
 use lib.Dec.{eqb}
@@ -18,8 +16,7 @@ use mir.Val.{SFits, of_z, to_z}
 use mir.ValLaws.{to_z_pos, to_z-of_z}
 use Rattle.text.specs.Ascii.{minus}
 use Rattle.text.specs.Numeral.{digits, value_of, is_natural, natural, negative, number}
-use Rattle.text.specs.TextReading.{starts_with, ByteIs, NaturalAt, NegativeAt, NumberAt}
-use Rattle.text.proofs.KeyLaws.{byte_drop}
+use Rattle.text.specs.TextReading.{starts_with}
 
 -- ---- a number of at most nine digits in 64 bits
 mag_neg : (n : ℕ) → n < 10 ^ 9 → mag (neg_ℤ (pos n)) < 2 ^ 63
@@ -61,55 +58,44 @@ negative_is bs = go (is_natural (digits bs))
     go true = refl
     go false = refl
 
-pub negative_none : {s : List ℕ} {at : ℕ} → NaturalAt s at None → NegativeAt s at None
+pub negative_none : (bs : List ℕ) → none ≡ natural bs → none ≡ negative bs
 unfolding negated
-negative_none {s} {at} natural_at = record { is = ap negated natural_at.is ∙ sym (negative_is (drop at s)); within = tt }
+negative_none bs e = ap negated e ∙ sym (negative_is bs)
 
-module _ {s : List ℕ} {at n next : ℕ} (natural_at : NaturalAt s at (Some (n, next))) where
-  pub natural_small : n < 10 ^ 9
-  natural_small = natural_at.within.0
-
-  pub negative_zero : n ≡ 0 → NegativeAt s at None
+module _ (bs : List ℕ) {n : ℕ} {rest : List ℕ} (is : some (pos n, rest) ≡ natural bs) where
+  pub negative_zero : n ≡ 0 → none ≡ negative bs
   unfolding negated
-  negative_zero z = record {
-    is = sym (ap (λ t. cond (not t) (some (neg_ℤ (pos n), drop next s)) none) (eq-eqb n 0 z)) ∙ ap negated natural_at.is
-        ∙ sym (negative_is (drop at s));
-    within = tt;
-  }
+  negative_zero z = sym (ap (λ t. cond (not t) (some (neg_ℤ (pos n), rest)) none) (eq-eqb n 0 z)) ∙ ap negated is ∙ sym (negative_is bs)
 
-  pub negative_some : (n ≡ 0 → ⊥) → NegativeAt s at (Some (to_z w64 (of_z w64 (pos 0 -ℤ to_z w64 n)), next))
+  pub negative_some : n < 10 ^ 9 → (n ≡ 0 → ⊥) → some (to_z w64 (of_z w64 (pos 0 -ℤ to_z w64 n)), rest) ≡ negative bs
   unfolding negated
-  negative_some z =
-      rw (neg_bits n natural_small)
-      (record {
-        is = sym (ap (λ t. cond (not t) (some (neg_ℤ (pos n), drop next s)) none) (ne_eqb n 0 z)) ∙ ap negated natural_at.is
-            ∙ sym (negative_is (drop at s));
-        within = (rw (abs_neg n) natural_small, natural_at.within.1);
-      })
+  negative_some h z =
+      rw (neg_bits n h)
+      (sym (ap (λ t. cond (not t) (some (neg_ℤ (pos n), rest)) none) (ne_eqb n 0 z)) ∙ ap negated is ∙ sym (negative_is bs))
+
+pub negative_small : {n : ℕ} → n < 10 ^ 9 → nat_abs (to_z w64 (of_z w64 (pos 0 -ℤ to_z w64 n))) < 10 ^ 9
+negative_small {n} h = rw (neg_bits n h, abs_neg n) h
 
 -- ---- `number`
-pub number_negative : {s : List ℕ} {at : ℕ} {t : Bool} {r : Std.Option (ℤ × ℕ)} → ByteIs s at minus t → t ≡ true → NegativeAt s (at + 1) r → NumberAt s at r
+pub number_negative : {bs rest : List ℕ} → bs ≡ minus ∷ rest → negative rest ≡ number bs
 unfolding number
-number_negative {s} {at} byte there n = record { is = n.is ∙ sym (ap number (byte_drop byte there)); within = n.within }
+number_negative e = sym (ap number e)
 
-module _ {s : List ℕ} {at : ℕ} {t : Bool} (byte : ByteIs s at minus t) (is_not : t ≡ false) where
-  number_is : number (drop at s) ≡ natural (drop at s)
+module _ (bs : List ℕ) (missing : starts_with (minus ∷ []) bs ≡ false) where
+  number_is : natural bs ≡ number bs
   unfolding number starts_with
-  number_is = go (drop at s) (sym is_not ∙ byte.is)
+  number_is = go bs missing
     where
-      other : (b : ℕ) (bs : List ℕ) (t : Bool) → false ≡ (t && true) → cond t (negative bs) (natural (b ∷ bs)) ≡ natural (b ∷ bs)
+      other : (b : ℕ) (bs : List ℕ) (t : Bool) → (t && true) ≡ false → natural (b ∷ bs) ≡ cond t (negative bs) (natural (b ∷ bs))
       other b bs true e = let z : ◌≡◌ {A = ℕ} 0 1 = cc in absurd (omega arith)
       other b bs false e = refl
 
-      go : (bs : List ℕ) → false ≡ starts_with (minus ∷ []) bs → number bs ≡ natural bs
+      go : (bs : List ℕ) → starts_with (minus ∷ []) bs ≡ false → natural bs ≡ number bs
       go [] e = refl
       go (b ∷ bs) e = other b bs (eqb b minus) e
 
-  pub number_none : NaturalAt s at None → NumberAt s at None
-  number_none natural_at = record { is = natural_at.is ∙ sym number_is; within = tt }
+  pub number_none : none ≡ natural bs → none ≡ number bs
+  number_none e = e ∙ number_is
 
-  pub number_some : {n next : ℕ} → NaturalAt s at (Some (n, next)) → NumberAt s at (Some (to_z w64 n, next))
-  number_some {n} {next} natural_at = rw (pos_bits n (natural_small natural_at)) (record {
-    is = natural_at.is ∙ sym number_is;
-    within = natural_at.within;
-  })
+  pub number_some : {n : ℕ} {rest : List ℕ} → n < 10 ^ 9 → some (pos n, rest) ≡ natural bs → some (to_z w64 n, rest) ≡ number bs
+  number_some {n} h e = rw (pos_bits n h) (e ∙ number_is)

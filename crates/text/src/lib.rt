@@ -1,7 +1,9 @@
-// Numbers and fixed keys read from byte slices.
+// Numbers and fixed keys at the start of a text, each with the text after it.
 #![tactic(auto)]
 
-ghost use Rattle.text.specs.TextReading.{ByteIs, Starts, DigitAt, DigitsAt, NaturalAt, NegativeAt, NumberAt};
+ghost use Rattle.std.specs.Prelude.{◌≡◌, ◌^◌, ◌<◌, ◌∷◌, [], IfSome, option_copied, nat_abs};
+ghost use Rattle.text.specs.Numeral.{natural, negative, number};
+ghost use Rattle.text.specs.TextReading.{behind, FirstDigit, FirstDigits, natural_read, number_read};
 
 // The first ten digits, or all where there are fewer: how many, and the number that they spell.
 #[derive(Clone, Copy)]
@@ -10,82 +12,86 @@ struct DigitRun {
     value: u64,
 }
 
-// Whether `b` stands at a place.
-pub fn byte_is(s: &[u8], at: usize, b: u8) -> bool
-    ensures { ByteIs s.now at b result }
+// The text after the byte `b`.
+pub fn after_byte(text: &[u8], b: u8) -> Option<&[u8]>
+    ensures { option_copied result ≡ behind (b ∷ []) text.now }
 {
-    at < s.len() && s[at] == b
+    let (first, rest) = text.split_first()?;
+    if *first == b { Some(rest) } else { None }
 }
 
-// Whether `key` stands at a place.
-pub fn starts(s: &[u8], at: usize, key: &[u8]) -> bool
-    ensures { Starts s.now at key.now result }
+// The text after `key`.
+pub fn after_key<'a>(text: &'a [u8], key: &[u8]) -> Option<&'a [u8]>
+    ensures { option_copied result ≡ behind key.now text.now }
 {
-    match s.get(at..) {
-        Some(rest) => rest.starts_with(key),
-        None => key.is_empty(),
-    }
+    text.strip_prefix(key)
 }
 
-// The digit at a place.
-fn digit(s: &[u8], at: usize) -> Option<u64>
-    ensures { DigitAt s.now at result }
+// The digit that a text starts with, and the text after it.
+fn digit(text: &[u8]) -> Option<(u64, &[u8])>
+    ensures { FirstDigit text.now result }
 {
-    let b = *s.get(at)?;
+    let (b, rest) = text.split_first()?;
     if b.is_ascii_digit() {
-        Some((b - b'0') as u64)
+        Some(((*b - b'0') as u64, rest))
     } else {
         None
     }
 }
 
-// The digits at a place, ten of them at most.
-fn digits(s: &[u8], at: usize) -> DigitRun
-    ensures { DigitsAt s.now at result.count result.value }
+// The digits that a text starts with, ten of them at most.
+fn digits(text: &[u8]) -> DigitRun
+    ensures { FirstDigits text.now result.count result.value }
 {
     let mut value: u64 = 0;
+    let mut rest = text;
     for count in 0..10 {
-        let Some(d) = digit(s, at + count) else {
+        let Some((d, others)) = digit(rest) else {
             return DigitRun { count, value };
         };
         value = value * 10 + d;
+        rest = others;
     }
     DigitRun { count: 10, value }
 }
 
 // A number of 1 to 9 digits with no leading zero save in `0` itself.
-fn natural(s: &[u8], at: usize) -> Option<(u64, usize)>
-    ensures { NaturalAt s.now at result }
+fn natural(text: &[u8]) -> Option<(u64, &[u8])>
+    ensures number { natural_read result ≡ natural text.now }
+    ensures nine_digits { IfSome result (λ r. r.0 < 10 ^ 9) }
 {
-    let run = digits(s, at);
+    let run = digits(text);
     let count = run.count;
     if count < 1 || 9 < count {
         return None;
     }
-    if 1 < count && byte_is(s, at, b'0') {
+    if 1 < count && after_byte(text, b'0').is_some() {
         return None;
     }
-    Some((run.value, at + count))
+    let (_, rest) = text.split_at(count);
+    Some((run.value, rest))
 }
 
 // What follows a `-`: a number, and not `0`.
-fn negative(s: &[u8], at: usize) -> Option<(i64, usize)>
-    ensures { NegativeAt s.now at result }
+fn negative(text: &[u8]) -> Option<(i64, &[u8])>
+    ensures number { number_read result ≡ negative text.now }
+    ensures nine_digits { IfSome result (λ r. nat_abs r.0 < 10 ^ 9) }
 {
-    let (n, next) = natural(s, at)?;
+    let (n, rest) = natural(text)?;
     if n == 0 {
         return None;
     }
-    Some((-(n as i64), next))
+    Some((-(n as i64), rest))
 }
 
-// A number and the place after it: 1 to 9 digits, a `-` in front where negative, no leading zero save in `0` itself, no `-0`.
-pub fn number(s: &[u8], at: usize) -> Option<(i64, usize)>
-    ensures { NumberAt s.now at result }
+// A number and the text after it: 1 to 9 digits, a `-` in front where negative, no leading zero save in `0` itself, no `-0`.
+pub fn number(text: &[u8]) -> Option<(i64, &[u8])>
+    ensures number { number_read result ≡ number text.now }
+    ensures nine_digits { IfSome result (λ r. nat_abs r.0 < 10 ^ 9) }
 {
-    if byte_is(s, at, b'-') {
-        return negative(s, at + 1);
+    if let Some(rest) = after_byte(text, b'-') {
+        return negative(rest);
     }
-    let (n, next) = natural(s, at)?;
-    Some((n as i64, next))
+    let (n, rest) = natural(text)?;
+    Some((n as i64, rest))
 }

@@ -32,6 +32,7 @@ use deck::{Place, Rect};
 use refusal::Refusal;
 
 // Stands for a figure that there is not.
+// kept: the C functions that the tests call take the number of a figure and give a number, so a number stands for none.
 pub const NO_FIGURE: i64 = i64::MIN;
 
 // Stands for a figure that is no number below 0, where the job is refused, or the place or rectangle is out of range or empty.

@@ -4,7 +4,7 @@ use mathlib.Core.Path.{◌≡◌, refl, sym, ap, ◌∙◌}
 use mathlib.Core.Logic.{⊎_elim}
 use mathlib.Core.List.{List, [], ◌∷◌, ◌++◌}
 use Prim.Native.Nat.{ℕ, zero, suc, ◌+◌, ◌/◌, ◌%◌, ◌^◌, ◌≤◌, ◌<◌}
-use native.Mathlib.Nat.{add-zero, pow-suc}
+use native.Mathlib.Nat.{pow-suc}
 use native.Mathlib.Numerals.{add-one}
 use native.Mathlib.Omega.{arith}
 use lib.Arith.{le→nltb}
@@ -13,13 +13,12 @@ use lib.ListN.{length, take, drop, set, get_or, length-append, length-set, drop_
 use lib.Seq.{take_at, get_or_at, take-suc, drop-cons, take_all, length-take-le}
 use mir.Val.{bool_byte}
 use Rattle.std.proofs.lemmas.Bool.Decides.{nat_tests}
+use Rattle.std.proofs.lemmas.List.{drop-set}
 use Rattle.numbers.proofs.Truth.{test, cond-true, cond-false}
 use Rattle.text.specs.Decimal.{decimal, spell_nat}
 use Rattle.text.proofs.DecimalLaws.{decimal_small, decimal_large}
 use Rattle.text.proofs.DigitCounts.{length_one, length_more}
 use Rattle.write.specs.Digits.{at_least}
-use Rattle.write.specs.Written.{written, Wrote}
-use Rattle.write.proofs.WrittenLaws.{written_nil, written_before}
 
 -- ---- how many there are
 pub below_is : (n least : ℕ) → n < least → at_least n least ≡ 0
@@ -103,39 +102,38 @@ split_last ds front j b h l e =
     )
 
 -- while they are stored: those from place i on are, and the first i are the last of what is left
-pub record Stored (out₀ : List ℕ) (at : ℕ) (ds out : List ℕ) (rest i : ℕ) : Type 0 where
+pub record Stored (ds out : List ℕ) (rest i : ℕ) : Type 0 where
+  pub long : length out ≡ length ds
   pub within : i ≤ length ds
-  pub long : length out ≡ length out₀
-  pub text : out ≡ written out₀ (at + i) (drop i ds)
+  pub done : drop i out ≡ drop i ds
   pub left : take i ds ≡ last_digits i rest
 
-module _ {out₀ : List ℕ} {at : ℕ} where
-  pub stored_none : (n : ℕ) → n < 10 ^ 20 → Stored out₀ at (spell_nat n) out₀ n (length (spell_nat n))
-  stored_none n h = let none : drop (length (spell_nat n)) (spell_nat n) ≡ [] =
-      drop_of_length-le (spell_nat n) {i = length (spell_nat n)} (omega arith) in record {
+pub stored_none : (n : ℕ) (out : List ℕ) → n < 10 ^ 20 → length out ≡ length (spell_nat n) → Stored (spell_nat n) out n (length out)
+stored_none n out h e = rw e (record {
+  long = e;
+  within = omega arith;
+  done = drop_of_length-le out {i = length (spell_nat n)} (omega arith)
+      ∙ sym (drop_of_length-le (spell_nat n) {i = length (spell_nat n)} (omega arith));
+  left = take_all (length (spell_nat n)) (spell_nat n) (omega arith) ∙ spell_last n h;
+})
+
+module _ {ds out : List ℕ} {rest i : ℕ} (s : Stored ds out rest i) where
+  pub stored_more : (j : ℕ) → i ≡ j + 1 → Stored ds (set out j (48 + rest % 10)) (rest / 10) j
+  unfolding last_digits
+  stored_more j e =
+      let w = s.within in
+      let l = s.long in
+      let digits : take (suc j) ds ≡ last_digits j (rest / 10) ++ ((48 + rest % 10) ∷ []) = rw (e, add-one) at s.left in
+      let (front, here) = split_last ds (last_digits j (rest / 10)) j (48 + rest % 10) (omega arith) (last_length j (rest / 10)) digits in
+      let next : drop j ds ≡ (48 + rest % 10) ∷ drop i ds = rw (e, add-one, ← here) (drop-cons ds j 0 (omega arith)) in
+      record {
+        long = simp length-set s.long;
         within = omega arith;
-        long = refl;
-        text = sym (ap (written out₀ (at + length (spell_nat n))) none
-            ∙ written_nil out₀ (at + length (spell_nat n)));
-        left = take_all (length (spell_nat n)) (spell_nat n) (omega arith) ∙ spell_last n h;
+        done = drop-set out j (48 + rest % 10) (omega arith)
+            ∙ ap (λ (k : ℕ). (48 + rest % 10) ∷ drop k out) (sym e)
+            ∙ ap (λ (l : List ℕ). (48 + rest % 10) ∷ l) s.done ∙ sym next;
+        left = front;
       }
 
-  module _ {ds out : List ℕ} {rest i : ℕ} (s : Stored out₀ at ds out rest i) (room : at + length ds ≤ length out₀) where
-    pub stored_more : (j : ℕ) → i ≡ j + 1 → Stored out₀ at ds (set out (at + j) (48 + rest % 10)) (rest / 10) j
-    unfolding last_digits
-    stored_more j e =
-        let w = s.within in
-        let digits : take (suc j) ds ≡ last_digits j (rest / 10) ++ ((48 + rest % 10) ∷ []) = rw (e, add-one) at s.left in
-        let (front, here) = split_last ds (last_digits j (rest / 10)) j (48 + rest % 10) (omega arith) (last_length j (rest / 10)) digits in
-        let place : at + i ≡ at + j + 1 = omega arith in
-        let next : drop j ds ≡ (48 + rest % 10) ∷ drop i ds = rw (e, add-one, ← here) (drop-cons ds j 0 (omega arith)) in
-        record {
-          within = omega arith;
-          long = simp length-set s.long;
-          text = ap (λ (o : List ℕ). set o (at + j) (48 + rest % 10)) (s.text ∙ ap (λ (k : ℕ). written out₀ k (drop i ds)) place)
-              ∙ written_before out₀ (at + j) (48 + rest % 10) (drop i ds) (omega arith) ∙ ap (written out₀ (at + j)) (sym next);
-          left = front;
-        }
-
-    pub stored_all : (end : ℕ) → i ≡ 0 → end ≡ at + length ds → Wrote out₀ at ds out end
-    stored_all end e next = record { next = next; text = s.text ∙ rw (e, add-zero) }
+  pub stored_all : i ≡ 0 → out ≡ ds
+  stored_all e = rw e at s.done

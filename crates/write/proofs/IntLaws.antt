@@ -3,9 +3,10 @@
 use mathlib.Core.Path.{◌≡◌, refl}
 use mathlib.Core.Bool.{Bool, true, false}
 use native.Mathlib.Omega.{arith}
-use lib.ListN.{length}
-use Prim.Native.Nat.{ℕ, ◌+◌}
-use mathlib.Core.List.{◌∷◌}
+use lib.ListN.{length, drop, set, drop_of_length-le}
+use borrow.Rule.Slice.PartMut.{put_mid}
+use Prim.Native.Nat.{ℕ, ◌+◌, ◌-◌, ◌<◌}
+use mathlib.Core.List.{List, [], ◌∷◌, append-nil}
 use lib.IntN.{ℤ, pos, nat_abs}
 use lib.Signed.{lt_z}
 use mir.Syntax.{w64}
@@ -35,3 +36,11 @@ int_length z n f e = go (lt_z (to_z w64 (of_z w64 z)) (pos 0)) refl
     go : (b : Bool) → lt_z (to_z w64 (of_z w64 z)) (pos 0) ≡ b → length (spell_nat n) + bool_byte b ≡ length (spell_int z)
     go true t = rw (negative z n f t e) (omega arith)
     go false t = rw (non_negative z n f t e) (omega arith)
+
+-- the `-` at the first place, and the digits over the rest
+pub signed : {digits : List ℕ} (out ds : List ℕ) → 0 < length out → digits ≡ ds →
+    put_mid 1 (length (set out 0 minus) - 1) (set out 0 minus) digits ≡ minus ∷ ds
+signed [] ds h e = absurd (omega arith)
+signed {digits} (x ∷ xs) ds h e =
+    let none : drop (length (minus ∷ xs) - 1) xs ≡ [] = drop_of_length-le xs {i = length (minus ∷ xs) - 1} (omega arith) in
+    rw (none, append-nil digits, e) refl

@@ -1,16 +1,18 @@
 -- Bytes put over a part of a buffer: the length stays, and one part after another is their join.
 -- Assumes nothing.
 use mathlib.Core.Path.{◌≡◌, refl, sym, ap, ◌∙◌}
-use Prim.Native.Nat.{ℕ, suc, ◌+◌, ◌-◌, ◌≤◌, ◌<◌}
+use Prim.Native.Nat.{ℕ, ◌+◌, ◌-◌, ◌≤◌, ◌<◌}
 use native.Mathlib.Nat.{zero-add, add-zero, add_assoc}
 use native.Mathlib.Numerals.{add-one}
 use native.Mathlib.Omega.{arith}
 use mathlib.Core.List.{List, [], ◌∷◌, ◌++◌, append_assoc, append-nil}
-use lib.ListN.{length, take, drop, set, get_or, length-append, length-drop, take-append-drop}
+use lib.ListN.{length, take, drop, set, get_or, length-append, length-set, length-take, length-drop, take-append-drop}
+use borrow.Rule.Slice.Mut.{set_vals}
 use borrow.Rule.Slice.PartMut.{put_mid}
 use Rattle.std.proofs.lemmas.Slice.{put_mid-paste}
-use lib.Seq.{take_at, drop_at, drop-drop, length-take-le, set_at, set_split, take-suc, take_all}
-use Rattle.write.specs.Written.{overwritten, written, Overwrote, Wrote}
+use lib.Seq.{take_at, drop_at, drop-drop, length-take-le, set_split, take-suc, take_all}
+use Rattle.write.specs.declared.Writer.{Writer}
+use Rattle.write.specs.Written.{overwritten, written, Overwrote, HasRoom, Wrote}
 
 -- what stands before the end of the new bytes
 length_head : (out : List ℕ) (at : ℕ) (bs : List ℕ) → at ≤ length out → length (take at out ++ bs) ≡ at + length bs
@@ -29,16 +31,6 @@ written_nil out at = rw (append-nil, add-zero) (take-append-drop at out)
 pub written_one : (out : List ℕ) (at b : ℕ) → at < length out → written out at (b ∷ []) ≡ set out at b
 unfolding written
 written_one out at b h = rw (append_assoc, add-one) (sym (set_split out at b h))
-
--- a store before what was written
-pub written_before : (out : List ℕ) (at b : ℕ) (bs : List ℕ) → at < length out → set (written out (at + 1) bs) at b ≡ written out at (b ∷ bs)
-unfolding written
-written_before out at b bs h =
-    let one : take (at + 1) out ≡ take at out ++ (get_or out at 0 ∷ []) = rw add-one (take-suc out at 0 h) in
-    let same : at + 1 + length bs ≡ at + suc (length bs) = omega arith in
-    rw (one, same, append_assoc (take at out) (get_or out at 0 ∷ []) bs, append_assoc (take at out) (get_or out at 0 ∷ bs) (drop (at + suc (length bs)) out))
-    (set_at (take at out) (get_or out at 0) (bs ++ drop (at + suc (length bs)) out) b at (length-take-le at out (omega arith))
-    ∙ sym (append_assoc (take at out) (b ∷ bs) (drop (at + suc (length bs)) out)))
 
 -- bytes, and then bytes from where those end
 pub written_append : (out : List ℕ) (at : ℕ) (a b : List ℕ) → at ≤ length out → written (written out at a) (at + length a) b ≡ written out at (a ++ b)
@@ -60,52 +52,65 @@ unfolding written overwritten
 written_front out bs = rw zero-add
 
 -- ---- calls that write, one after another
-pub wrote_nothing : (out : List ℕ) (at end : ℕ) → end ≡ at → Wrote out at [] out end
-wrote_nothing out at end e = record { next = omega arith; text = sym (written_nil out at) }
+pub wrote_nothing : (w : Writer) → Wrote w [] w
+wrote_nothing w = record { same_slice = refl; size = refl; next = omega arith; text = sym (written_nil w.out.now w.at) }
 
-pub wrote_kept : {out bs after : List ℕ} {at end : ℕ} → Wrote out at bs after end → at + length bs ≤ length out → length after ≡ length out
-wrote_kept {out} {bs} {after} {at} {end} w h = ap length w.text ∙ length_written out at bs h
+-- bytes that fit are put at the place, or are none
+append : (out : List ℕ) (at : ℕ) (a b : List ℕ) → length (written out at a) ≡ length out
+    → written (written out at a) (at + length a) b ≡ written out at (a ++ b)
+unfolding written
+append out at [] b e = rw (written_nil, add-zero) refl
+append out at (x ∷ a) b e = written_append out at (x ∷ a) b (omega (
+  arith,
+  e,
+  length-append (take at out ++ (x ∷ a)) (drop (at + length (x ∷ a)) out),
+  length-append (take at out) (x ∷ a),
+  length-take at out,
+))
 
-pub wrote_both : {out a mid b after : List ℕ} {at place end : ℕ} → Wrote out at a mid place → Wrote mid place b after end → at ≤ length out →
-    Wrote out at (a ++ b) after end
-wrote_both {out} {a} {mid} {b} {after} {at} {place} {end} v w h = record {
+pub wrote_both : {before mid after : Writer} {a b : List ℕ} → Wrote before a mid → Wrote mid b after → Wrote before (a ++ b) after
+wrote_both {before} {a = a} {b = b} v w = record {
+  same_slice = w.same_slice ∙ v.same_slice;
+  size = w.size ∙ v.size;
   next = omega (arith, v.next, w.next, length-append a b);
-  text = w.text ∙ rw (v.text, v.next) (written_append out at a b h);
+  text = w.text ∙ rw (v.text, v.next) (append before.out.now before.at a b (ap length (sym v.text) ∙ v.size));
 }
 
--- all of a text, from the start on
-pub wrote_front : {out after : List ℕ} {end : ℕ} (text : List ℕ) → Wrote out 0 text after end → Overwrote out text after end
-wrote_front {out} text w = record { number = w.next ∙ zero-add (length text); content = w.text ∙ written_front out text }
+-- all of a text, from the start of a slice on, and what is left there
+pub wrote_front : {before after : Writer} {out left : List ℕ} {count : ℕ} (text : List ℕ) → Wrote before text after → before.out.now ≡ out → before.at ≡ 0 →
+    left ≡ after.out.now → count ≡ after.at → Overwrote out text left count
+wrote_front text w o z l n = record {
+  number = n ∙ w.next ∙ rw z (zero-add (length text));
+  content = l ∙ w.text ∙ rw (o, z) (written_front _ text);
+}
 
 -- two parts behind what was written
-pub wrote_pair : {out front mid after : List ℕ} {at place end : ℕ} (a b : List ℕ) → Wrote out at front mid place →
-    Wrote mid place (a ++ b) after end → at ≤ length out → Wrote out at (front ++ a ++ b) after end
-wrote_pair {front = front} a b v w h = rw (append_assoc front a b) (wrote_both v w h)
+pub wrote_pair : {before mid after : Writer} {front : List ℕ} (a b : List ℕ) → Wrote before front mid → Wrote mid (a ++ b) after →
+    Wrote before (front ++ a ++ b) after
+wrote_pair {front = front} a b v w = rw (append_assoc front a b) (wrote_both v w)
 
--- a byte stored, and one stored where what was written ends
-pub wrote_store : (out : List ℕ) (at b : ℕ) → at < length out → Wrote out at (b ∷ []) (set out at b) (at + 1)
-wrote_store out at b h = record { next = refl; text = sym (written_one out at b h) }
+-- the part behind the place holds bs now
+pub wrote_part : {part : List ℕ} (w : Writer) (bs : List ℕ) → HasRoom w (length bs) → part ≡ bs →
+    Wrote w bs (record { out = set_vals (put_mid w.at (w.at + length bs - w.at) w.out.now part) w.out; at = w.at + length bs })
+unfolding written
+wrote_part {part} w bs h e =
+    let text : put_mid w.at (w.at + length bs - w.at) w.out.now part ≡ written w.out.now w.at bs =
+    put_mid-paste w.at (w.at + length bs - w.at) w.out.now part bs (length bs) e (omega arith) refl
+    ∙ ap (λ (l : List ℕ). take w.at w.out.now ++ l ++ drop (w.at + length bs) w.out.now) (take_all (length bs) bs (omega arith)) in
+    record { same_slice = refl; size = ap length text ∙ length_written w.out.now w.at bs h; next = refl; text = text }
 
-pub wrote_byte : {out a mid : List ℕ} {at place : ℕ} (b : ℕ) → Wrote out at a mid place → place < length out → length mid ≡ length out →
-    Wrote out at (a ++ (b ∷ [])) (set mid place b) (place + 1)
-wrote_byte {out} {a} {mid} {at} {place} b w h l = wrote_both w (wrote_store mid place b (omega arith)) (omega (arith, w.next))
+-- a byte stored at the place
+wrote_store : (w : Writer) (b : ℕ) → HasRoom w 1 → Wrote w (b ∷ []) (record { out = set_vals (set w.out.now w.at b) w.out; at = w.at + 1 })
+wrote_store w b h = record { same_slice = refl; size = length-set w.out.now w.at b; next = refl; text = sym (written_one w.out.now w.at b (omega arith)) }
 
 -- a turn of a loop that copies s
-pub wrote_turn : {out mid : List ℕ} (s : List ℕ) (at i : ℕ) → Wrote out at (take i s) mid (at + i) → at + length s ≤ length out → i < length s →
-    Wrote out at (take (i + 1) s) (set mid (at + i) (get_or s i 0)) (at + (i + 1))
-wrote_turn s at i w h k =
+pub wrote_turn : {before mid : Writer} (s : List ℕ) (i : ℕ) → Wrote before (take i s) mid → HasRoom before (length s) → i < length s →
+    Wrote before (take (i + 1) s) (record { out = set_vals (set mid.out.now mid.at (get_or s i 0)) mid.out; at = mid.at + 1 })
+wrote_turn {before} {mid} s i w h k =
     let e : take (i + 1) s ≡ take i s ++ (get_or s i 0 ∷ []) = rw add-one (take-suc s i 0 k) in
-    rw (e, ← add_assoc at i 1) (wrote_byte (get_or s i 0) w (omega arith) (wrote_kept w (omega (arith, length-take-le i s (omega arith)))))
+    let room : HasRoom mid 1 = omega (arith, w.next, w.size, length-take-le i s (omega arith)) in
+    rw e (wrote_both w (wrote_store mid (get_or s i 0) room))
 
 -- all of s
-pub wrote_all : {out mid : List ℕ} (s : List ℕ) (at i : ℕ) → Wrote out at (take i s) mid (at + i) → length s ≤ i → Wrote out at s mid (at + i)
-wrote_all s at i w h = rw (take_all i s h) at w
-
--- a part of the buffer that holds s now
-pub wrote_part : {s part : List ℕ} (out : List ℕ) (at : ℕ) → part ≡ s → Wrote out at s (put_mid at (at + length s - at) out part) (at + length s)
-unfolding written
-wrote_part {s} {part} out at e = record {
-  next = refl;
-  text = put_mid-paste at (at + length s - at) out part s (length s) e (omega arith) refl
-      ∙ ap (λ (l : List ℕ). take at out ++ l ++ drop (at + length s) out) (take_all (length s) s (omega arith));
-}
+pub wrote_all : {before mid : Writer} (s : List ℕ) (i : ℕ) → Wrote before (take i s) mid → length s ≤ i → Wrote before s mid
+wrote_all s i w h = rw (take_all i s h) at w

@@ -1,6 +1,7 @@
 -- Bytes put over the front, or over a part, of a buffer.
 -- Assumes nothing.
-use Rattle.std.specs.Prelude.{◌≡◌, ℕ, ◌+◌, List, ◌++◌, length, take, drop}
+use Rattle.std.specs.Prelude.{◌≡◌, ◌≤◌, ℕ, ◌+◌, List, ◌++◌, length, take, drop}
+use Rattle.write.specs.declared.Writer.{Writer}
 
 -- 01 "A report fills the first bytes of the output; later bytes keep their values"
 unfoldable pub overwritten : List ℕ → List ℕ → List ℕ
@@ -15,7 +16,13 @@ pub record Overwrote (out text after : List ℕ) (count : ℕ) : Type 0 where
 unfoldable pub written : List ℕ → ℕ → List ℕ → List ℕ
 written out at bs = take at out ++ bs ++ drop (at + length bs) out
 
--- what a call that writes bytes from a place on leaves of the buffer, and the place that it returns: the one after them
-pub record Wrote (out : List ℕ) (at : ℕ) (bs after : List ℕ) (end : ℕ) : Type 0 where
-  pub next : end ≡ at + length bs
-  pub text : after ≡ written out at bs
+-- n more bytes fit behind what is written
+abbrev pub HasRoom : Writer → ℕ → Type 0
+HasRoom w n = w.at + n ≤ length w.out.now
+
+-- what a call that writes bytes leaves of a writer: the same slice with the bytes at its place, and the place after them
+pub record Wrote (before : Writer) (bs : List ℕ) (after : Writer) : Type 0 where
+  pub same_slice : after.out.ghost_name ≡ before.out.ghost_name
+  pub size : length after.out.now ≡ length before.out.now
+  pub next : after.at ≡ before.at + length bs
+  pub text : after.out.now ≡ written before.out.now before.at bs

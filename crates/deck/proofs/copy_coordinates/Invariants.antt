@@ -1,9 +1,10 @@
--- The loops of `deck::copy_coordinates`.
+-- The loop of `deck::copy_coordinates`.
 use mathlib.Core.List.{map}
 use lib.IntN.{nat_abs}
+use lib.ListN.{length}
 use Rattle.numbers.specs.Integer.{times}
 use Rattle.deck.proofs.CopyLaws.{Copied}
 use Rattle.deck.proofs.copy_coordinates.Given as goal
 
 abbrev pub invariant-loop-i : goal.invariant-loop-i
-invariant-loop-i l = Copied l.initial.to l.at (map (times (nat_abs l.k)) l.from) l.n l.to l.i
+invariant-loop-i l = Copied l.initial.to 0 (map (times (nat_abs l.k)) l.from) (length (map (times (nat_abs l.k)) l.from)) l.to l.i

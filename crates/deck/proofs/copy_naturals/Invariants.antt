@@ -1,8 +1,9 @@
--- The loops of `deck::copy_naturals`.
+-- The loop of `deck::copy_naturals`.
 use mathlib.Core.List.{map}
-use lib.IntN.{pos}
+use lib.IntN.{ℤ, pos}
+use lib.ListN.{length}
 use Rattle.deck.proofs.CopyLaws.{Copied}
 use Rattle.deck.proofs.copy_naturals.Given as goal
 
 abbrev pub invariant-loop-i : goal.invariant-loop-i
-invariant-loop-i l = Copied l.initial.to l.at (map pos l.from) l.n l.to l.i
+invariant-loop-i l = Copied l.initial.to 0 (map pos l.from) (length {A = ℤ} (map pos l.from)) l.to l.i

@@ -4,4 +4,4 @@ use Rattle.deck.proofs.SoFarLaws.{better}
 use Rattle.deck.proofs.improve_nears.Given as goal
 
 abbrev pub invariant-loop-stop : goal.invariant-loop-stop
-invariant-loop-stop l = Copied l.initial.columns 1536 (better l.initial.columns (record { x = l.px; y = l.py })) l.n l.columns l.stop
+invariant-loop-stop l = Copied l.initial.columns 1536 (better l.initial.columns (record { x = l.post.x; y = l.post.y })) l.n l.columns l.stop

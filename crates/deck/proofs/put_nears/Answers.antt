@@ -1,32 +1,31 @@
 -- What `deck::put_nears` owes.
 use native.Mathlib.Omega.{arith}
-use Rattle.deck.proofs.TravelLaws.{place_word}
-use Rattle.deck.proofs.ClosestLaws.{post_range}
-use Rattle.deck.proofs.SoFarLaws.{stops_in, posts_first, posts_ranged, posts_next, posts_all}
+use Rattle.deck.proofs.SoFarLaws.{posts_first, posts_ranged, posts_next, posts_all}
 use Rattle.deck.proofs.put_nears.Goals as goal
-
-pub start_nears-requires : goal.start_nears-requires
-start_nears-requires c =
-    (c.requires.3, c.requires.4, place_word (post_range c.requires.1 c.requires.2 0 c.requires.0), c.requires.5, c.requires.6)
 
 pub loop-j-init : goal.loop-j-init
 loop-j-init c =
-    (c.requires.0, posts_first (stops_in c.requires.3 c.requires.4 c.requires.5 c.requires.6) c.requires.0 c.requires.1 c.requires.2 c.start_nears.ensures)
+    let posts = c.args.posts.now in
+    let first = rw (c.post.ensures.0, c.post.ensures.1) at c.start_nears.ensures in
+    (posts.some, posts_first c.requires posts.some posts.x_range posts.y_range first)
 
 pub improve_nears-requires : goal.improve_nears-requires
 improve_nears-requires c =
-    let now = posts_ranged (stops_in c.requires.3 c.requires.4 c.requires.5 c.requires.6) c.requires.0 c.requires.1 c.requires.2 c.start_nears.ensures
-    _ c.loop-j.invariant.1 in
-    (now.x, now.y, place_word (post_range c.requires.1 c.requires.2 _ c.loop-j-test.true), now.fit.few, now.fit.long)
+    let posts = c.args.posts.now in
+    let first = rw (c.post.ensures.0, c.post.ensures.1) at c.start_nears.ensures in
+    posts_ranged c.requires posts.some posts.x_range posts.y_range first _ c.loop-j.invariant.1
 
 pub loop-j-preserved : goal.loop-j-preserved
-loop-j-preserved c = (
-  omega arith,
-  posts_next (stops_in c.requires.3 c.requires.4 c.requires.5 c.requires.6) c.requires.0 c.requires.1 c.requires.2 c.start_nears.ensures
-      _ c.loop-j.invariant.1 c.loop-j-test.true c.improve_nears.ensures,
-)
+loop-j-preserved c =
+    let posts = c.args.posts.now in
+    let first = rw (c.post.ensures.0, c.post.ensures.1) at c.start_nears.ensures in (
+      omega arith,
+      posts_next c.requires posts.some posts.x_range posts.y_range first _ c.loop-j.invariant.1 c.loop-j-test.true
+          (rw (c.post-in-loop-j.ensures.0, c.post-in-loop-j.ensures.1) at c.improve_nears.ensures),
+    )
 
 pub returns : goal.returns
 returns c =
-    posts_all (stops_in c.requires.3 c.requires.4 c.requires.5 c.requires.6) c.requires.0 c.requires.1 c.requires.2 c.start_nears.ensures
-    _ c.loop-j.invariant.1 c.loop-j.invariant.0 c.loop-j-test.false
+    let posts = c.args.posts.now in
+    let first = rw (c.post.ensures.0, c.post.ensures.1) at c.start_nears.ensures in
+    posts_all c.requires posts.some posts.x_range posts.y_range first _ c.loop-j.invariant.1 c.loop-j.invariant.0 c.loop-j-test.false

@@ -7,4 +7,4 @@ use Rattle.deck.specs.ClosestSoFar.{columns_so_far}
 use Rattle.deck.proofs.put_nears.Given as goal
 
 abbrev pub invariant-loop-j : goal.invariant-loop-j
-invariant-loop-j l = (l.j ≤ l.k) × (l.columns ≡ columns_so_far l.initial.columns l.n (take l.j (places l.px l.py)))
+invariant-loop-j l = (l.j ≤ l.posts.count) × (l.columns ≡ columns_so_far l.initial.columns l.n (take l.j (places l.posts.x l.posts.y)))

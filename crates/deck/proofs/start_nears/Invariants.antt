@@ -5,4 +5,4 @@ use Rattle.deck.proofs.SoFarLaws.{figures}
 use Rattle.deck.proofs.start_nears.Given as goal
 
 abbrev pub invariant-loop-i : goal.invariant-loop-i
-invariant-loop-i l = Copied l.initial.columns 1536 (figures l.initial.columns (record { x = l.px; y = l.py } ∷ [])) l.n l.columns l.i
+invariant-loop-i l = Copied l.initial.columns 1536 (figures l.initial.columns (record { x = l.post.x; y = l.post.y } ∷ [])) l.n l.columns l.i

@@ -4,28 +4,44 @@ use borrow.Author.Rules.{rules}
 use Rattle.text.specs.Ascii.{bytes}
 use Rattle.job_line.specs.Kinds.{posts, post}
 use Rattle.job.proofs.RangeLaws.{count_range}
-use Rattle.job.proofs.PartLaws.{handed, filled_none, filled_more, posts_none, posts_more, posts_all, counted_in, list_no_count, list_read, list_refused}
+use Rattle.job.proofs.PartLaws.{
+  handed,
+  filled_none,
+  filled_more,
+  posts_none,
+  posts_more,
+  posts_all,
+  counted_in,
+  line_small,
+  list_no_count,
+  list_read,
+  list_refused,
+}
 use Rattle.job.proofs.read_posts.Goals as goal
 
 pub returns-in_err-count : goal.returns-in_err-count
 unfolding bytes
-returns-in_err-count c = rw (handed _ c.from_residual.ensures.1) (list_no_count posts post c.in_err-count.ensures)
+returns-in_err-count c = rw (handed _ c.from_residual.ensures.1) (list_no_count posts post c.requires.0 c.in_err-count.ensures)
 
 pub loop-i-init : goal.loop-i-init
 unfolding bytes
-loop-i-init c = ((count_range 64 _).0 (counted_in posts post c.in_ok-count.ensures), filled_none (posts_none c.requires.1))
+loop-i-init c = ((count_range 64 _).0 (counted_in posts post c.requires.0 c.in_ok-count.ensures), filled_none (posts_none c.requires.1))
 
 pub returns-in_err-post : goal.returns-in_err-post
 unfolding bytes
 returns-in_err-post c =
     rw (handed _ c.from_residual-in_err-post.ensures.1)
-    (list_refused posts post c.in_ok-count.ensures c.loop-i.invariant.1 c.loop-i-test.true c.in_err-post.ensures)
+    (list_refused posts post c.requires.0 _ c.in_ok-count.ensures c.loop-i.invariant.1 c.loop-i-test.true
+    (omega (arith, c.loop-i.invariant.0, c.loop-i-test.true))
+    c.in_err-post.ensures)
 
 pub loop-i-preserved : goal.loop-i-preserved
+unfolding bytes
 loop-i-preserved c =
     let f = c.loop-i.invariant.1 in (
       c.loop-i.invariant.0,
-      filled_more f c.loop-i-test.true c.in_ok-post.ensures
+      filled_more f c.loop-i-test.true (line_small posts post c.requires.0 _ c.in_ok-count.ensures f (omega (arith, c.loop-i.invariant.0, c.loop-i-test.true)))
+          c.in_ok-post.ensures
           (posts_more c.args.deck.now c.loop-i.deck f.lines f.count_is (search rules) (search rules) f.deck_is
           (omega (arith, c.loop-i.invariant.0))),
     )
@@ -34,5 +50,5 @@ pub returns : goal.returns
 unfolding bytes
 returns c =
     let f = c.loop-i.invariant.1 in
-    list_read posts post c.in_ok-count.ensures f (omega arith) (omega arith) c.loop-i.invariant.0
+    list_read posts post c.requires.0 _ c.in_ok-count.ensures f (omega arith) (omega arith) c.loop-i.invariant.0
     (posts_all f.lines f.count_is (omega arith) (omega arith) c.args.deck.now c.loop-i.deck f.deck_is)

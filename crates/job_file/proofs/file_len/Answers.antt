@@ -31,7 +31,7 @@ returns c =
       back deck.xlo deck.ylo (search rules) (search rules) c.place_len.ensures.value,
       back deck.xhi deck.yhi (search rules) (search rules) c.place_len-2.ensures.value,
       c.axis_len-axis_line.ensures.value,
-      c.nat_len.ensures.value,
-      c.nat_len-2.ensures.value,
-      c.nat_len-3.ensures.value,
+      c.text_len.ensures.value,
+      c.text_len-2.ensures.value,
+      c.text_len-3.ensures.value,
     )

@@ -1,5 +1,7 @@
 -- What `job_file::put_file` owes.
-use Prim.Native.Nat.{ℕ, ◌≤◌, zero-le}
+use mathlib.Core.Path.{◌≡◌, ap}
+use Prim.Native.Nat.{ℕ, ◌≤◌}
+use native.Mathlib.Omega.{arith}
 use mathlib.Core.List.{List}
 use lib.IntN.{ℤ}
 use lib.ListN.{length, take}
@@ -8,19 +10,21 @@ use mir.Syntax.{w64}
 use mir.Val.{SFits, to_z, of_z}
 use mir.ValLaws.{to_z-of_z}
 use Rattle.text.specs.Ascii.{bytes, comma, newline}
-use Rattle.write.specs.Written.{Wrote}
+use Rattle.write.specs.declared.Writer.{Writer}
+use Rattle.write.specs.Written.{HasRoom, Wrote}
 use Rattle.write.proofs.WrittenLaws.{wrote_both, wrote_front}
 use Rattle.deck.specs.declared.Deck.{Deck}
 use Rattle.deck.specs.DeckOf.{held_axis}
 use Rattle.job.specs.File.{file_text}
 use Rattle.job_file.specs.Texts.{place_text, axis_text, post_texts, stop_texts}
-use Rattle.job_file.proofs.FileLaws.{count_part, front₁, front₂, front₃, front₄, front₅, front₆, front₇, front₈, file_parts, Fronts, fronts, part_room}
+use Rattle.job_file.proofs.FileLaws.{count_part, front₁, front₂, front₃, front₄, front₅, front₆, front₇, front₈}
+use Rattle.job_file.proofs.FileLaws.{file_parts, Fronts, fronts, part_room}
 use Rattle.job_file.proofs.TextLaws.{posts_front, stops_front}
 use Rattle.job_file.proofs.put_file.Goals as goal
 
 -- a place that was read back from its bits
-back : {out after : List ℕ} {at end : ℕ} (x y : ℤ) (last : ℕ) → SFits w64 x → SFits w64 y →
-    Wrote out at (place_text (to_z w64 (of_z w64 x)) (to_z w64 (of_z w64 y)) last) after end → Wrote out at (place_text x y last) after end
+back : {before after : Writer} (x y : ℤ) (last : ℕ) → SFits w64 x → SFits w64 y →
+    Wrote before (place_text (to_z w64 (of_z w64 x)) (to_z w64 (of_z w64 y)) last) after → Wrote before (place_text x y last) after
 back x y last fx fy w = rw (to_z-of_z w64 x fx, to_z-of_z w64 y fy) at w
 
 -- the area's numbers as the code holds them, and room for as many posts and stops as there are
@@ -32,6 +36,10 @@ record Held (deck : Deck) : Type 0 where
   posts : deck.posts ≤ length deck.post_x
   stops : deck.stops ≤ length deck.stop_x
 
+held : {deck : Deck} → SFits w64 deck.xlo → SFits w64 deck.ylo → SFits w64 deck.xhi → SFits w64 deck.yhi → deck.posts ≤ length deck.post_x
+    → deck.stops ≤ length deck.stop_x → Held deck
+held a b c d m n = record { xlo = a; ylo = b; xhi = c; yhi = d; posts = m; stops = n }
+
 abbrev front_posts : Deck → List ℕ
 front_posts deck = post_texts (take deck.posts deck.post_x) (take deck.posts deck.post_y) (length (take deck.posts deck.post_x))
 
@@ -40,126 +48,126 @@ front_stops deck =
     stop_texts (take deck.stops deck.stop_x) (take deck.stops deck.stop_y) (take deck.stops deck.visits) (length (take deck.stops deck.stop_x))
 
 -- ---- what is written behind each call
-module _ {deck : Deck} (n : ℕ) (f : Held deck) {out m₁ : List ℕ} {e₁ : ℕ} (w₁ : Wrote out 0 front₁ m₁ e₁) where
-  module _ {m₂ : List ℕ} {e₂ : ℕ} (w₂ : Wrote m₁ e₁ (place_text (to_z w64 (of_z w64 deck.xlo)) (to_z w64 (of_z w64 deck.ylo)) comma) m₂ e₂) where
-    wrote₂ : Wrote out 0 (front₂ deck) m₂ e₂
-    wrote₂ = wrote_both w₁ (back deck.xlo deck.ylo comma f.xlo f.ylo w₂) zero-le
+module _ {deck : Deck} (n : ℕ) (f : Held deck) {w₀ w₁ : Writer} (v₁ : Wrote w₀ front₁ w₁) where
+  module _ {w₂ : Writer} (v₂ : Wrote w₁ (place_text (to_z w64 (of_z w64 deck.xlo)) (to_z w64 (of_z w64 deck.ylo)) comma) w₂) where
+    wrote₂ : Wrote w₀ (front₂ deck) w₂
+    wrote₂ = wrote_both v₁ (back deck.xlo deck.ylo comma f.xlo f.ylo v₂)
 
-    module _ {m₃ : List ℕ} {e₃ : ℕ} (w₃ : Wrote m₂ e₂ (place_text (to_z w64 (of_z w64 deck.xhi)) (to_z w64 (of_z w64 deck.yhi)) newline) m₃ e₃) where
-      wrote₃ : Wrote out 0 (front₃ deck) m₃ e₃
-      wrote₃ = wrote_both wrote₂ (back deck.xhi deck.yhi newline f.xhi f.yhi w₃) zero-le
+    module _ {w₃ : Writer} (v₃ : Wrote w₂ (place_text (to_z w64 (of_z w64 deck.xhi)) (to_z w64 (of_z w64 deck.yhi)) newline) w₃) where
+      wrote₃ : Wrote w₀ (front₃ deck) w₃
+      wrote₃ = wrote_both wrote₂ (back deck.xhi deck.yhi newline f.xhi f.yhi v₃)
 
-      module _ {m₄ : List ℕ} {e₄ : ℕ} (w₄ : Wrote m₃ e₃ (axis_text (held_axis deck.axis)) m₄ e₄) where
-        wrote₄ : Wrote out 0 (front₄ deck) m₄ e₄
-        wrote₄ = wrote_both wrote₃ w₄ zero-le
+      module _ {w₄ : Writer} (v₄ : Wrote w₃ (axis_text (held_axis deck.axis)) w₄) where
+        wrote₄ : Wrote w₀ (front₄ deck) w₄
+        wrote₄ = wrote_both wrote₃ v₄
 
-        module _ {m₅ : List ℕ} {e₅ : ℕ} (w₅ : Wrote m₄ e₄ (count_part (bytes "posts=") deck.posts) m₅ e₅) where
-          wrote₅ : Wrote out 0 (front₅ deck) m₅ e₅
-          wrote₅ = wrote_both wrote₄ w₅ zero-le
+        module _ {w₅ : Writer} (v₅ : Wrote w₄ (count_part (bytes "posts=") deck.posts) w₅) where
+          wrote₅ : Wrote w₀ (front₅ deck) w₅
+          wrote₅ = wrote_both wrote₄ v₅
 
-          module _ {m₆ : List ℕ} {e₆ : ℕ} (w₆ : Wrote m₅ e₅ (front_posts deck) m₆ e₆) where
-            wrote₆ : Wrote out 0 (front₆ deck) m₆ e₆
-            wrote₆ = wrote_both wrote₅ (rw (posts_front deck.posts deck.post_x deck.post_y f.posts) at w₆) zero-le
+          module _ {w₆ : Writer} (v₆ : Wrote w₅ (front_posts deck) w₆) where
+            wrote₆ : Wrote w₀ (front₆ deck) w₆
+            wrote₆ = wrote_both wrote₅ (rw (posts_front deck.posts deck.post_x deck.post_y f.posts) at v₆)
 
-            module _ {m₇ : List ℕ} {e₇ : ℕ} (w₇ : Wrote m₆ e₆ (count_part (bytes "stops=") deck.stops) m₇ e₇) where
-              wrote₇ : Wrote out 0 (front₇ deck) m₇ e₇
-              wrote₇ = wrote_both wrote₆ w₇ zero-le
+            module _ {w₇ : Writer} (v₇ : Wrote w₆ (count_part (bytes "stops=") deck.stops) w₇) where
+              wrote₇ : Wrote w₀ (front₇ deck) w₇
+              wrote₇ = wrote_both wrote₆ v₇
 
-              module _ {m₈ : List ℕ} {e₈ : ℕ} (w₈ : Wrote m₇ e₇ (front_stops deck) m₈ e₈) where
-                wrote₈ : Wrote out 0 (front₈ deck) m₈ e₈
-                wrote₈ = wrote_both wrote₇ (rw (stops_front deck.stops deck.stop_x deck.stop_y deck.visits f.stops) at w₈) zero-le
+              module _ {w₈ : Writer} (v₈ : Wrote w₇ (front_stops deck) w₈) where
+                wrote₈ : Wrote w₀ (front₈ deck) w₈
+                wrote₈ = wrote_both wrote₇ (rw (stops_front deck.stops deck.stop_x deck.stop_y deck.visits f.stops) at v₈)
 
-                module _ {m₉ : List ℕ} {e₉ : ℕ} (w₉ : Wrote m₈ e₈ (count_part (bytes "rounds=") n) m₉ e₉) where
-                  wrote₉ : Wrote out 0 (file_text deck n) m₉ e₉
-                  wrote₉ = rw file_parts (wrote_both wrote₈ w₉ zero-le)
+                module _ {w₉ : Writer} (v₉ : Wrote w₈ (count_part (bytes "rounds=") n) w₉) where
+                  wrote₉ : Wrote w₀ (file_text deck n) w₉
+                  wrote₉ = rw file_parts (wrote_both wrote₈ v₉)
+
+-- a new writer has room for as many bytes as the slice has
+start : (w : Writer) {out : List ℕ} → w.at ≡ 0 → w.out.now ≡ out → HasRoom w (length out)
+start w z o = omega (arith, z, ap length o)
 
 -- ---- the room for each part
-pub put-next-requires : goal.put-next-requires
+pub put-requires : goal.put-requires
 unfolding bytes
-put-next-requires c =
+put-requires c =
     let r : Fronts c.args.deck.now (length c.args.out.now) = fronts c.args.deck.now c.args.rounds c.requires.2 in
-    r.one
+    omega (arith, r.one, c.new-w.ensures.place, ap length c.new-w.ensures.content)
 
-pub put_place-next-requires : goal.put_place-next-requires
+pub put_place-requires : goal.put_place-requires
 unfolding bytes
-put_place-next-requires c =
-    let f : Held c.args.deck.now = record
-    { xlo = search rules; ylo = search rules; xhi = search rules; yhi = search rules; posts = search rules; stops = search rules } in
+put_place-requires c =
+    let f : Held c.args.deck.now = held (search rules) (search rules) (search rules) (search rules) (search rules) (search rules) in
     let r : Fronts c.args.deck.now (length c.args.out.now) = fronts c.args.deck.now c.args.rounds c.requires.2 in
     rw (to_z-of_z w64 c.args.deck.now.xlo f.xlo, to_z-of_z w64 c.args.deck.now.ylo f.ylo)
-    (part_room _ (place_text c.args.deck.now.xlo c.args.deck.now.ylo comma) c.put-next.ensures r.two)
+    (part_room _ (place_text c.args.deck.now.xlo c.args.deck.now.ylo comma) (start c.new-w.result c.new-w.ensures.place c.new-w.ensures.content)
+    c.put.ensures r.two)
 
-pub put_place-next-requires-2 : goal.put_place-next-requires-2
+pub put_place-requires-2 : goal.put_place-requires-2
 unfolding bytes
-put_place-next-requires-2 c =
-    let f : Held c.args.deck.now = record
-    { xlo = search rules; ylo = search rules; xhi = search rules; yhi = search rules; posts = search rules; stops = search rules } in
+put_place-requires-2 c =
+    let f : Held c.args.deck.now = held (search rules) (search rules) (search rules) (search rules) (search rules) (search rules) in
     let r : Fronts c.args.deck.now (length c.args.out.now) = fronts c.args.deck.now c.args.rounds c.requires.2 in
     rw (to_z-of_z w64 c.args.deck.now.xhi f.xhi, to_z-of_z w64 c.args.deck.now.yhi f.yhi)
-    (part_room _ (place_text c.args.deck.now.xhi c.args.deck.now.yhi newline) (wrote₂ c.args.rounds f c.put-next.ensures c.put_place-next.ensures) r.three)
+    (part_room _ (place_text c.args.deck.now.xhi c.args.deck.now.yhi newline) (start c.new-w.result c.new-w.ensures.place c.new-w.ensures.content)
+    (wrote₂ c.args.rounds f c.put.ensures c.put_place.ensures) r.three)
 
-pub put_axis-next-requires : goal.put_axis-next-requires
+pub put_axis-requires : goal.put_axis-requires
 unfolding bytes
-put_axis-next-requires c =
-    let f : Held c.args.deck.now = record
-    { xlo = search rules; ylo = search rules; xhi = search rules; yhi = search rules; posts = search rules; stops = search rules } in
+put_axis-requires c =
+    let f : Held c.args.deck.now = held (search rules) (search rules) (search rules) (search rules) (search rules) (search rules) in
     let r : Fronts c.args.deck.now (length c.args.out.now) = fronts c.args.deck.now c.args.rounds c.requires.2 in
-    part_room _ (axis_text (held_axis c.args.deck.now.axis))
-    (wrote₃ c.args.rounds f c.put-next.ensures c.put_place-next.ensures c.put_place-next-2.ensures) r.four
-
-pub put_count-next-requires : goal.put_count-next-requires
-unfolding bytes
-put_count-next-requires c =
-    let f : Held c.args.deck.now = record
-    { xlo = search rules; ylo = search rules; xhi = search rules; yhi = search rules; posts = search rules; stops = search rules } in
-    let r : Fronts c.args.deck.now (length c.args.out.now) = fronts c.args.deck.now c.args.rounds c.requires.2 in
-    part_room _ (count_part (bytes "posts=") c.args.deck.now.posts)
-    (wrote₄ c.args.rounds f c.put-next.ensures c.put_place-next.ensures c.put_place-next-2.ensures c.put_axis-next.ensures) r.five
-
-pub put_posts-next-requires : goal.put_posts-next-requires
-unfolding bytes
-put_posts-next-requires c =
-    let f : Held c.args.deck.now = record
-    { xlo = search rules; ylo = search rules; xhi = search rules; yhi = search rules; posts = search rules; stops = search rules } in
-    let r : Fronts c.args.deck.now (length c.args.out.now) = fronts c.args.deck.now c.args.rounds c.requires.2 in
-    rw (posts_front c.args.deck.now.posts c.args.deck.now.post_x c.args.deck.now.post_y f.posts)
-    (part_room _ (post_texts c.args.deck.now.post_x c.args.deck.now.post_y c.args.deck.now.posts)
-    (wrote₅ c.args.rounds f c.put-next.ensures c.put_place-next.ensures c.put_place-next-2.ensures c.put_axis-next.ensures c.put_count-next.ensures) r.six)
-
-pub put_count-next-requires-2 : goal.put_count-next-requires-2
-unfolding bytes
-put_count-next-requires-2 c =
-    let f : Held c.args.deck.now = record
-    { xlo = search rules; ylo = search rules; xhi = search rules; yhi = search rules; posts = search rules; stops = search rules } in
-    let r : Fronts c.args.deck.now (length c.args.out.now) = fronts c.args.deck.now c.args.rounds c.requires.2 in
-    part_room _ (count_part (bytes "stops=") c.args.deck.now.stops)
-    (wrote₆ c.args.rounds f c.put-next.ensures c.put_place-next.ensures c.put_place-next-2.ensures c.put_axis-next.ensures c.put_count-next.ensures
-    c.put_posts-next.ensures) r.seven
-
-pub put_stops-next-requires : goal.put_stops-next-requires
-unfolding bytes
-put_stops-next-requires c =
-    let f : Held c.args.deck.now = record
-    { xlo = search rules; ylo = search rules; xhi = search rules; yhi = search rules; posts = search rules; stops = search rules } in
-    let r : Fronts c.args.deck.now (length c.args.out.now) = fronts c.args.deck.now c.args.rounds c.requires.2 in
-    rw (stops_front c.args.deck.now.stops c.args.deck.now.stop_x c.args.deck.now.stop_y c.args.deck.now.visits f.stops)
-    (part_room _ (stop_texts c.args.deck.now.stop_x c.args.deck.now.stop_y c.args.deck.now.visits c.args.deck.now.stops)
-    (wrote₇ c.args.rounds f c.put-next.ensures c.put_place-next.ensures c.put_place-next-2.ensures c.put_axis-next.ensures c.put_count-next.ensures
-    c.put_posts-next.ensures c.put_count-next-2.ensures) r.eight)
+    part_room _ (axis_text (held_axis c.args.deck.now.axis)) (start c.new-w.result c.new-w.ensures.place c.new-w.ensures.content)
+    (wrote₃ c.args.rounds f c.put.ensures c.put_place.ensures c.put_place-2.ensures) r.four
 
 pub put_count-requires : goal.put_count-requires
 unfolding bytes
 put_count-requires c =
-    let f : Held c.args.deck.now = record
-    { xlo = search rules; ylo = search rules; xhi = search rules; yhi = search rules; posts = search rules; stops = search rules } in
-    part_room _ (count_part (bytes "rounds=") c.args.rounds)
-    (wrote₈ c.args.rounds f c.put-next.ensures c.put_place-next.ensures c.put_place-next-2.ensures c.put_axis-next.ensures c.put_count-next.ensures
-    c.put_posts-next.ensures c.put_count-next-2.ensures c.put_stops-next.ensures) (rw file_parts at c.requires.2)
+    let f : Held c.args.deck.now = held (search rules) (search rules) (search rules) (search rules) (search rules) (search rules) in
+    let r : Fronts c.args.deck.now (length c.args.out.now) = fronts c.args.deck.now c.args.rounds c.requires.2 in
+    part_room _ (count_part (bytes "posts=") c.args.deck.now.posts) (start c.new-w.result c.new-w.ensures.place c.new-w.ensures.content)
+    (wrote₄ c.args.rounds f c.put.ensures c.put_place.ensures c.put_place-2.ensures c.put_axis.ensures) r.five
+
+pub put_posts-requires : goal.put_posts-requires
+unfolding bytes
+put_posts-requires c =
+    let f : Held c.args.deck.now = held (search rules) (search rules) (search rules) (search rules) (search rules) (search rules) in
+    let r : Fronts c.args.deck.now (length c.args.out.now) = fronts c.args.deck.now c.args.rounds c.requires.2 in
+    rw (posts_front c.args.deck.now.posts c.args.deck.now.post_x c.args.deck.now.post_y f.posts)
+    (part_room _ (post_texts c.args.deck.now.post_x c.args.deck.now.post_y c.args.deck.now.posts) (start c.new-w.result
+    c.new-w.ensures.place c.new-w.ensures.content)
+    (wrote₅ c.args.rounds f c.put.ensures c.put_place.ensures c.put_place-2.ensures c.put_axis.ensures c.put_count.ensures) r.six)
+
+pub put_count-requires-2 : goal.put_count-requires-2
+unfolding bytes
+put_count-requires-2 c =
+    let f : Held c.args.deck.now = held (search rules) (search rules) (search rules) (search rules) (search rules) (search rules) in
+    let r : Fronts c.args.deck.now (length c.args.out.now) = fronts c.args.deck.now c.args.rounds c.requires.2 in
+    part_room _ (count_part (bytes "stops=") c.args.deck.now.stops) (start c.new-w.result c.new-w.ensures.place c.new-w.ensures.content)
+    (wrote₆ c.args.rounds f c.put.ensures c.put_place.ensures c.put_place-2.ensures c.put_axis.ensures c.put_count.ensures
+    c.put_posts.ensures) r.seven
+
+pub put_stops-requires : goal.put_stops-requires
+unfolding bytes
+put_stops-requires c =
+    let f : Held c.args.deck.now = held (search rules) (search rules) (search rules) (search rules) (search rules) (search rules) in
+    let r : Fronts c.args.deck.now (length c.args.out.now) = fronts c.args.deck.now c.args.rounds c.requires.2 in
+    rw (stops_front c.args.deck.now.stops c.args.deck.now.stop_x c.args.deck.now.stop_y c.args.deck.now.visits f.stops)
+    (part_room _ (stop_texts c.args.deck.now.stop_x c.args.deck.now.stop_y c.args.deck.now.visits c.args.deck.now.stops) (start
+    c.new-w.result c.new-w.ensures.place c.new-w.ensures.content)
+    (wrote₇ c.args.rounds f c.put.ensures c.put_place.ensures c.put_place-2.ensures c.put_axis.ensures c.put_count.ensures
+    c.put_posts.ensures c.put_count-2.ensures) r.eight)
+
+pub put_count-requires-3 : goal.put_count-requires-3
+unfolding bytes
+put_count-requires-3 c =
+    let f : Held c.args.deck.now = held (search rules) (search rules) (search rules) (search rules) (search rules) (search rules) in
+    part_room _ (count_part (bytes "rounds=") c.args.rounds) (start c.new-w.result c.new-w.ensures.place c.new-w.ensures.content)
+    (wrote₈ c.args.rounds f c.put.ensures c.put_place.ensures c.put_place-2.ensures c.put_axis.ensures c.put_count.ensures
+    c.put_posts.ensures c.put_count-2.ensures c.put_stops.ensures) (rw file_parts at c.requires.2)
 
 pub returns : goal.returns
 unfolding bytes
 returns c =
-    let f : Held c.args.deck.now = record
-    { xlo = search rules; ylo = search rules; xhi = search rules; yhi = search rules; posts = search rules; stops = search rules } in
-    wrote_front _ (wrote₉ c.args.rounds f c.put-next.ensures c.put_place-next.ensures c.put_place-next-2.ensures c.put_axis-next.ensures
-    c.put_count-next.ensures c.put_posts-next.ensures c.put_count-next-2.ensures c.put_stops-next.ensures c.put_count.ensures)
+    let f : Held c.args.deck.now = held (search rules) (search rules) (search rules) (search rules) (search rules) (search rules) in
+    wrote_front _ (wrote₉ c.args.rounds f c.put.ensures c.put_place.ensures c.put_place-2.ensures c.put_axis.ensures c.put_count.ensures
+    c.put_posts.ensures c.put_count-2.ensures c.put_stops.ensures c.put_count-3.ensures)
+    c.new-w.ensures.content c.new-w.ensures.place (search rules) (search rules)

@@ -14,36 +14,28 @@ use Rattle.job_file.proofs.TextLaws.{texts_none, texts_all, line_room, line_wrot
 use Rattle.job_file.proofs.put_stops.Goals as goal
 
 pub loop-x-init : goal.loop-x-init
-loop-x-init c = (
-  omega arith,
-  rw (texts_none stop_line (stops_of (places c.args.xs.now c.args.ys.now) c.args.visits.now))
-      (wrote_nothing c.args.out.now c.args.start c.args.start (omega arith)),
-)
+loop-x-init c = rw (texts_none stop_line (stops_of (places c.args.xs.now c.args.ys.now) c.args.visits.now)) (wrote_nothing c.args.w.now)
 
-pub put_stop-at-requires : goal.put_stop-at-requires
-put_stop-at-requires c =
+pub put_stop-requires : goal.put_stop-requires
+put_stop-requires c =
     let turn = YieldsList-turn (stops_yielded c.args.xs.now c.args.ys.now c.args.visits.now (search rules) (search rules) (search rules))
-    c.loop-x.yielded c.loop-x.x-iterator
-    c.loop-x.yielded_by c.next.result c.next.new.self ((c.in-Some.x, c.in-Some.y), c.in-Some.v) c.in-Some.is c.next.ensures.steps in
+    c.loop-x.yielded c.loop-x.x-iterator c.loop-x.yielded_by c.next.result c.next.new.self
+    ((c.in-Some.x, c.in-Some.y), c.in-Some.v) c.in-Some.is c.next.ensures.steps in
     line_room stop_line (stop_line_lem c.args.xs.now c.args.ys.now c.args.visits.now _ turn.0 (word_stop _ (search rules) (search rules) ∙ turn.1))
-    {n = length c.args.xs.now}
-    c.loop-x.invariant.1 (omega (arith, turn.0, stops_length c.args.xs.now c.args.ys.now c.args.visits.now)) (omega (arith, c.requires, c.loop-x.invariant.0))
+    c.loop-x.invariant (omega (arith, turn.0, stops_length c.args.xs.now c.args.ys.now c.args.visits.now)) c.requires
 
 pub loop-x-preserved : goal.loop-x-preserved
 loop-x-preserved c =
     let turn = YieldsList-turn (stops_yielded c.args.xs.now c.args.ys.now c.args.visits.now (search rules) (search rules) (search rules))
-    c.loop-x.yielded c.loop-x.x-iterator
-    c.loop-x.yielded_by c.next.result c.next.new.self ((c.in-Some.x, c.in-Some.y), c.in-Some.v) c.in-Some.is c.next.ensures.steps in (
-      c.put_stop-at.auto.out ∙ c.loop-x.invariant.0,
-      rw (length-append c.loop-x.yielded (((c.in-Some.x, c.in-Some.y), c.in-Some.v) ∷ [])) (line_wrote stop_line
-          (stop_line_lem c.args.xs.now c.args.ys.now c.args.visits.now _ turn.0 (word_stop _ (search rules) (search rules) ∙ turn.1)) c.loop-x.invariant.1
-          c.put_stop-at.ensures (omega (arith, c.requires))),
-    )
+    c.loop-x.yielded c.loop-x.x-iterator c.loop-x.yielded_by c.next.result c.next.new.self
+    ((c.in-Some.x, c.in-Some.y), c.in-Some.v) c.in-Some.is c.next.ensures.steps in
+    rw (length-append c.loop-x.yielded (((c.in-Some.x, c.in-Some.y), c.in-Some.v) ∷ [])) (line_wrote stop_line
+    (stop_line_lem c.args.xs.now c.args.ys.now c.args.visits.now _ turn.0 (word_stop _ (search rules) (search rules) ∙ turn.1)) c.loop-x.invariant
+    c.put_stop.ensures)
 
 pub returns : goal.returns
 returns c =
     let end = YieldsList-end (stops_yielded c.args.xs.now c.args.ys.now c.args.visits.now (search rules) (search rules) (search rules))
-    c.loop-x.yielded c.loop-x.x-iterator
-    c.loop-x.yielded_by c.next.result c.next.new.self c.in-None.is c.next.ensures.steps in
+    c.loop-x.yielded c.loop-x.x-iterator c.loop-x.yielded_by c.next.result c.next.new.self c.in-None.is c.next.ensures.steps in
     rw (texts_all stop_line (stops_of (places c.args.xs.now c.args.ys.now) c.args.visits.now) (length c.args.xs.now) (length c.loop-x.yielded)
-    (omega (arith, stops_length c.args.xs.now c.args.ys.now c.args.visits.now)) (omega (arith, end.1))) c.loop-x.invariant.1
+    (omega (arith, stops_length c.args.xs.now c.args.ys.now c.args.visits.now)) (omega (arith, end.1))) c.loop-x.invariant

@@ -22,7 +22,7 @@ loop-x-preserved c =
     c.next.ensures.steps in
     let more = length-append c.loop-x.yielded (((c.in-Some.x, c.in-Some.y), c.in-Some.v) ∷ []) in (
       stop_counted c.args.xs.now c.args.ys.now c.args.visits.now _ turn.0 (word_stop _ (search rules) (search rules) ∙ turn.1) c.loop-x.invariant.0
-          c.place_len.ensures.value c.nat_len.ensures.value more,
+          c.place_len.ensures.value c.text_len.ensures.value more,
       omega (arith, more),
     )
 

@@ -9,4 +9,5 @@ use Rattle.near_change.proofs.improve.Given as goal
 
 abbrev pub invariant-loop-i : goal.invariant-loop-i
 invariant-loop-i l =
-    Copied l.initial.near 0 (zip_with (near_with (held_axis l.axis) (place_of l.post)) (places l.sx l.sy) l.initial.near) (length l.sx) l.near l.i
+    Copied l.initial.near 0 (zip_with (near_with (held_axis l.axis) (place_of l.post)) (places l.stops.x.now l.stops.y.now) l.initial.near)
+    (length l.stops.x.now) l.near l.i

@@ -5,4 +5,4 @@ use Rattle.near_change.proofs.ScaledLaws.{closest_found}
 use Rattle.near_change.proofs.near_of.Goals as goal
 
 pub returns : goal.returns
-returns c = closest_found (ap held_axis c.new.ensures.axis) _ c.new.ensures.posts _ c.closest_to.ensures
+returns c = closest_found (ap held_axis c.of.ensures.axis) _ c.of.ensures.posts _ c.closest_to.ensures

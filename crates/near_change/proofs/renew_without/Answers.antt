@@ -8,6 +8,6 @@ use Rattle.near_change.proofs.renew_without.Goals as goal
 
 pub returns : goal.returns
 returns c =
-    renewed_without (ap held_axis c.new-left.ensures.axis) _ c.new-left.ensures.posts (place_of c.args.post) c.args.near.now
-    (places c.args.sx.now c.args.sy.now)
-    (length c.args.sx.now) c.reprice.ensures
+    renewed_without (ap held_axis c.of-left.ensures.axis) _ c.of-left.ensures.posts (place_of c.args.post) c.args.near.now
+    (places c.args.stops.x.now c.args.stops.y.now)
+    (length c.args.stops.x.now) c.reprice.ensures

@@ -9,5 +9,6 @@ use Rattle.near_change.proofs.reprice.Given as goal
 
 abbrev pub invariant-loop-i : goal.invariant-loop-i
 invariant-loop-i l = Copied l.initial.near 0
-    (zip_with (near_but (held_axis l.left.axis) (place_of l.post) (take l.left.count (places l.left.x l.left.y))) (places l.sx l.sy) l.initial.near)
-    (length l.sx) l.near l.i
+    (zip_with (near_but (held_axis l.left.axis) (place_of l.post) (take l.left.count (places l.left.x l.left.y))) (places l.stops.x.now l.stops.y.now)
+    l.initial.near)
+    (length l.stops.x.now) l.near l.i

@@ -7,15 +7,14 @@ use Rattle.deck.specs.Objects.{scaled_place}
 use Rattle.reach.specs.Held.{pricing_of_objects}
 use Rattle.pricing.proofs.ObjectLaws.{cost_of_sum}
 use Rattle.pricing.proofs.ColumnLaws.{passed_none}
-use Rattle.pricing.proofs.PricedWords.{place_words, place_near}
 use Rattle.pricing.proofs.TurnLaws.{cost_more}
 use Rattle.pricing.proofs.cost.Goals as goal
 
 pub loop-i-init : goal.loop-i-init
 loop-i-init c = passed_none _ _ _
 
-pub paid-sum-requires : goal.paid-sum-requires
-paid-sum-requires c = place_near c.axis-axis.ensures.range c.requires c.scaled-x.ensures c.scaled-y.ensures
+pub of-post-requires : goal.of-post-requires
+of-post-requires c = (c.axis-axis.ensures.range, c.requires)
 
 pub loop-i-preserved : goal.loop-i-preserved
 loop-i-preserved c = cost_more c.row.result c.row.ensures _ _ c.loop-i.invariant c.paid-sum.ensures
@@ -27,7 +26,8 @@ overflow_add-sum c =
 pub returns : goal.returns
 returns c =
     let full : c.loop-i.i ≡ c.args.objects.now.count = omega (arith, c.loop-i-test.false, c.loop-i.auto.i-end, c.count-i-end.ensures) in
-    let at = place_words c.axis-axis.ensures.range c.requires c.scaled-x.ensures c.scaled-y.ensures
+    let at : record { x = c.of-post.result.x; y = c.of-post.result.y } ≡ scaled_place _ (place_of c.args.at) =
+    (λ i. record { x = c.of-post.ensures.0 i; y = c.of-post.ensures.1 i })
     ∙ ap (λ (axis : AxisCosts). scaled_place axis (place_of c.args.at)) c.axis-axis.ensures.is in
     record {
       is = c.loop-i.invariant.so_far ∙ rw (full, at) (sym (cost_of_sum (pricing_of_objects c.args.objects.now) _));

@@ -4,4 +4,4 @@ use Rattle.pricing.proofs.ColumnLaws.{Passed}
 use Rattle.pricing.proofs.cost.Given as goal
 
 abbrev pub invariant-loop-i : goal.invariant-loop-i
-invariant-loop-i l = Passed (paid_by (record { x = l.x; y = l.y })) 47185200000 l.objects.columns l.sum l.i
+invariant-loop-i l = Passed (paid_by (record { x = l.post.x; y = l.post.y })) 47185200000 l.objects.columns l.sum l.i

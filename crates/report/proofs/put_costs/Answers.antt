@@ -9,27 +9,28 @@ use Rattle.text.proofs.DigitCounts.{length_spell_nat, length_spell_int}
 use Rattle.write.proofs.WrittenLaws.{wrote_pair}
 use Rattle.report.proofs.put_costs.Goals as goal
 
-pub put_key-next-requires : goal.put_key-next-requires
-put_key-next-requires c = omega (arith, c.requires, length_spell_nat c.args.high, length_spell_nat c.args.before)
+pub put_key-requires : goal.put_key-requires
+put_key-requires c = omega (arith, c.requires, length_spell_nat c.args.high, length_spell_nat c.args.before)
 
-pub put_key-next-requires-2 : goal.put_key-next-requires-2
-put_key-next-requires-2 c = omega (
+pub put_key-requires-2 : goal.put_key-requires-2
+put_key-requires-2 c = omega (
   arith,
   c.requires,
-  c.put_key-next.ensures.next,
-  c.put_key-next.auto.out,
+  c.put_key.ensures.next,
+  c.put_key.ensures.size,
   length_spell_nat c.args.high,
   length_spell_int (to_z w64 (of_z w64 c.args.low)),
+  length_spell_nat c.args.before,
 )
 
-pub put_key-requires : goal.put_key-requires
-put_key-requires c = omega (
+pub put_key-requires-3 : goal.put_key-requires-3
+put_key-requires-3 c = omega (
   arith,
   c.requires,
-  c.put_key-next.ensures.next,
-  c.put_key-next.auto.out,
-  c.put_key-next-2.ensures.next,
-  c.put_key-next-2.auto.out,
+  c.put_key.ensures.next,
+  c.put_key.ensures.size,
+  c.put_key-2.ensures.next,
+  c.put_key-2.ensures.size,
   length_spell_nat c.args.high,
   length_spell_int (to_z w64 (of_z w64 c.args.low)),
   length_spell_nat c.args.before,
@@ -38,8 +39,6 @@ put_key-requires c = omega (
 pub returns : goal.returns
 unfolding bytes
 returns c =
-    let low = rw (to_z-of_z w64 c.args.low c.ranges.low) at c.put_key-next-2.ensures in
-    let both = wrote_pair (bytes "\nlow=") (spell_int c.args.low)
-    c.put_key-next.ensures low
-    (omega (arith, c.requires)) in
-    wrote_pair (bytes "\nbefore=") (spell_nat c.args.before) both c.put_key.ensures (omega (arith, c.requires))
+    let low = rw (to_z-of_z w64 c.args.low c.ranges.low) at c.put_key-2.ensures in
+    let both = wrote_pair (bytes "\nlow=") (spell_int c.args.low) c.put_key.ensures low in
+    wrote_pair (bytes "\nbefore=") (spell_nat c.args.before) both c.put_key-3.ensures

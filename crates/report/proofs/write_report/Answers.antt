@@ -1,18 +1,21 @@
 -- What `report::write_report` owes.
-use mathlib.Core.Path.{◌≡◌}
-use Prim.Native.Nat.{ℕ, ◌^◌, ◌<◌}
+use mathlib.Core.Path.{◌≡◌, ap}
+use Prim.Native.Nat.{◌^◌, ◌<◌}
 use native.Mathlib.Omega.{arith}
-use mathlib.Core.List.{List}
 use lib.IntN.{ℤ, pos, negsuc, nat_abs}
+use lib.ListN.{length}
+use borrow.Author.Rules.{rules}
 use mir.Syntax.{w64}
 use mir.Val.{to_z, of_z}
 use mir.ValLaws.{to_z-of_z}
 use Rattle.text.specs.Ascii.{bytes}
+use Rattle.write.specs.declared.Writer.{Writer}
 use Rattle.write.specs.Written.{Wrote}
+use Rattle.write.proofs.WrittenLaws.{wrote_front}
 use Rattle.report.specs.declared.Report.{Report}
 use Rattle.query.specs.Range.{FiguresInRange}
 use Rattle.report.specs.Report.{report_state, report_figures}
-use Rattle.report.proofs.TextLaws.{place_part, costs_part, length_state, length_place, length_costs, length_rounds, report_filled}
+use Rattle.report.proofs.TextLaws.{place_part, costs_part, length_state, length_place, length_costs, length_rounds, report_wrote}
 use Rattle.report.proofs.write_report.Goals as goal
 
 -- a number in range, as it is read back from its bits
@@ -20,77 +23,96 @@ back : (z : ℤ) → nat_abs z < 2 ^ 63 → to_z w64 (of_z w64 z) ≡ z
 back (pos n) h = to_z-of_z w64 (pos n) (record { sfits = h })
 back (negsuc n) h = to_z-of_z w64 (negsuc n) (record { sfits = omega arith })
 
-place-wrote : {m m' : List ℕ} {e e' : ℕ} (r : Report) → FiguresInRange 1000 (report_figures r) →
-    Wrote m e (place_part (to_z w64 (of_z w64 r.x)) (to_z w64 (of_z w64 r.y))) m' e' → Wrote m e (place_part r.x r.y) m' e'
+place-wrote : {before after : Writer} (r : Report) → FiguresInRange 1000 (report_figures r) →
+    Wrote before (place_part (to_z w64 (of_z w64 r.x)) (to_z w64 (of_z w64 r.y))) after → Wrote before (place_part r.x r.y) after
 place-wrote r h w = rw (back r.x (omega (arith, h.place.x_range)), back r.y (omega (arith, h.place.y_range))) at w
 
-costs-wrote : {m m' : List ℕ} {e e' : ℕ} (r : Report) → FiguresInRange 1000 (report_figures r) →
-    Wrote m e (costs_part r.high (to_z w64 (of_z w64 r.low)) r.before) m' e' → Wrote m e (costs_part r.high r.low r.before) m' e'
+costs-wrote : {before after : Writer} (r : Report) → FiguresInRange 1000 (report_figures r) →
+    Wrote before (costs_part r.high (to_z w64 (of_z w64 r.low)) r.before) after → Wrote before (costs_part r.high r.low r.before) after
 costs-wrote r h w = rw (back r.low (omega (arith, h.low_limit))) at w
 
-pub put_place-end-requires : goal.put_place-end-requires
+pub put_place-requires : goal.put_place-requires
 unfolding bytes
-put_place-end-requires c = omega (
+put_place-requires c = omega (
   arith,
   c.requires.in_bounds,
-  c.put_state-end.ensures.next,
+  c.new-w.ensures.place,
+  ap length c.new-w.ensures.content,
+  c.put_state.ensures.next,
+  c.put_state.ensures.size,
   length_state (report_state c.args.r.state),
-  c.put_state-end.auto.out,
 )
 
-pub put_costs-end-requires : goal.put_costs-end-requires
+pub put_costs-requires : goal.put_costs-requires
 unfolding bytes
-put_costs-end-requires c = omega (
-  arith,
-  c.requires.in_bounds,
-  c.put_state-end.ensures.next,
-  length_state (report_state c.args.r.state),
-  c.put_state-end.auto.out,
-  (place-wrote c.args.r c.requires.figures_in_range c.put_place-end.ensures).next,
-  length_place c.args.r.x c.args.r.y c.requires.figures_in_range.place.x_range c.requires.figures_in_range.place.y_range,
-  c.put_place-end.auto.out,
-)
+put_costs-requires c =
+    let range = c.requires.figures_in_range in
+    let place = place-wrote c.args.r range c.put_place.ensures in
+    omega (
+      arith,
+      c.requires.in_bounds,
+      c.new-w.ensures.place,
+      ap length c.new-w.ensures.content,
+      c.put_state.ensures.next,
+      c.put_state.ensures.size,
+      length_state (report_state c.args.r.state),
+      place.next,
+      place.size,
+      length_place c.args.r.x c.args.r.y range.place.x_range range.place.y_range,
+    )
 
-pub put_key-end-requires : goal.put_key-end-requires
+pub put_key-requires : goal.put_key-requires
 unfolding bytes
-put_key-end-requires c = omega (
-  arith,
-  c.requires.in_bounds,
-  c.put_state-end.ensures.next,
-  length_state (report_state c.args.r.state),
-  c.put_state-end.auto.out,
-  (place-wrote c.args.r c.requires.figures_in_range c.put_place-end.ensures).next,
-  length_place c.args.r.x c.args.r.y c.requires.figures_in_range.place.x_range c.requires.figures_in_range.place.y_range,
-  c.put_place-end.auto.out,
-  (costs-wrote c.args.r c.requires.figures_in_range c.put_costs-end.ensures).next,
-  length_costs c.args.r.high c.args.r.low c.args.r.before c.requires.figures_in_range.high_limit c.requires.figures_in_range.low_limit
-      c.requires.figures_in_range.before_limit,
-  c.put_costs-end.auto.out,
-  length_rounds c.args.r.rounds c.requires.figures_in_range.rounds_limit_lem,
-)
+put_key-requires c =
+    let range = c.requires.figures_in_range in
+    let place = place-wrote c.args.r range c.put_place.ensures in
+    let costs = costs-wrote c.args.r range c.put_costs.ensures in
+    omega (
+      arith,
+      c.requires.in_bounds,
+      c.new-w.ensures.place,
+      ap length c.new-w.ensures.content,
+      c.put_state.ensures.next,
+      c.put_state.ensures.size,
+      length_state (report_state c.args.r.state),
+      place.next,
+      place.size,
+      length_place c.args.r.x c.args.r.y range.place.x_range range.place.y_range,
+      costs.next,
+      costs.size,
+      length_costs c.args.r.high c.args.r.low c.args.r.before range.high_limit range.low_limit range.before_limit,
+      length_rounds c.args.r.rounds range.rounds_limit_lem,
+    )
 
 pub put-requires : goal.put-requires
 unfolding bytes
-put-requires c = omega (
-  arith,
-  c.requires.in_bounds,
-  c.put_state-end.ensures.next,
-  length_state (report_state c.args.r.state),
-  c.put_state-end.auto.out,
-  (place-wrote c.args.r c.requires.figures_in_range c.put_place-end.ensures).next,
-  length_place c.args.r.x c.args.r.y c.requires.figures_in_range.place.x_range c.requires.figures_in_range.place.y_range,
-  c.put_place-end.auto.out,
-  (costs-wrote c.args.r c.requires.figures_in_range c.put_costs-end.ensures).next,
-  length_costs c.args.r.high c.args.r.low c.args.r.before c.requires.figures_in_range.high_limit c.requires.figures_in_range.low_limit
-      c.requires.figures_in_range.before_limit,
-  c.put_costs-end.auto.out,
-  c.put_key-end.ensures.next,
-  length_rounds c.args.r.rounds c.requires.figures_in_range.rounds_limit_lem,
-  c.put_key-end.auto.out,
-)
+put-requires c =
+    let range = c.requires.figures_in_range in
+    let place = place-wrote c.args.r range c.put_place.ensures in
+    let costs = costs-wrote c.args.r range c.put_costs.ensures in
+    omega (
+      arith,
+      c.requires.in_bounds,
+      c.new-w.ensures.place,
+      ap length c.new-w.ensures.content,
+      c.put_state.ensures.next,
+      c.put_state.ensures.size,
+      length_state (report_state c.args.r.state),
+      place.next,
+      place.size,
+      length_place c.args.r.x c.args.r.y range.place.x_range range.place.y_range,
+      costs.next,
+      costs.size,
+      length_costs c.args.r.high c.args.r.low c.args.r.before range.high_limit range.low_limit range.before_limit,
+      c.put_key.ensures.next,
+      c.put_key.ensures.size,
+      length_rounds c.args.r.rounds range.rounds_limit_lem,
+    )
 
 pub returns : goal.returns
 unfolding bytes
 returns c =
-    report_filled (report_figures c.args.r) c.put_state-end.ensures (place-wrote c.args.r c.requires.figures_in_range c.put_place-end.ensures)
-    (costs-wrote c.args.r c.requires.figures_in_range c.put_costs-end.ensures) c.put_key-end.ensures c.put.ensures
+    let range = c.requires.figures_in_range in
+    let w = report_wrote (report_figures c.args.r) c.put_state.ensures (place-wrote c.args.r range c.put_place.ensures)
+    (costs-wrote c.args.r range c.put_costs.ensures) c.put_key.ensures c.put.ensures in
+    wrote_front _ w c.new-w.ensures.content c.new-w.ensures.place (search rules) (search rules)

@@ -1,17 +1,15 @@
 -- What `text::number` owes.
-use native.Mathlib.Omega.{arith}
-use Rattle.text.proofs.KeyLaws.{byte_there}
+use mathlib.Core.Path.{◌∙◌}
+use Rattle.text.proofs.KeyLaws.{byte_there, byte_missing}
 use Rattle.text.proofs.SignLaws.{number_negative, number_none, number_some}
 use Rattle.text.proofs.number.Goals as goal
 
-pub overflow_add-at : goal.overflow_add-at
-overflow_add-at c = omega (arith, byte_there c.byte_is.ensures c.if-byte_is.true)
+pub returns-in-Some-clause-number : goal.returns-in-Some-clause-number
+returns-in-Some-clause-number c = c.negative.ensures.number ∙ number_negative (byte_there _ _ _ c.in-Some.ensures)
 
-pub returns-then-byte_is : goal.returns-then-byte_is
-returns-then-byte_is c = number_negative c.byte_is.ensures c.if-byte_is.true c.negative.ensures
+pub returns-in_err-n-clause-number : goal.returns-in_err-n-clause-number
+returns-in_err-n-clause-number c =
+    rw c.from_residual.ensures (number_none _ (byte_missing _ _ c.in_default.ensures) c.in_err-n.ensures.number)
 
-pub returns-in_err-n : goal.returns-in_err-n
-returns-in_err-n c = rw c.from_residual.ensures (number_none c.byte_is.ensures c.if-byte_is.false c.in_err-n.ensures)
-
-pub returns : goal.returns
-returns c = number_some c.byte_is.ensures c.if-byte_is.false c.in_ok-n.ensures
+pub returns-clause-number : goal.returns-clause-number
+returns-clause-number c = number_some _ (byte_missing _ _ c.in_default.ensures) c.in_ok-n.ensures.nine_digits c.in_ok-n.ensures.number
