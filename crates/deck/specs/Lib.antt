@@ -6,3 +6,4 @@ pub mod ObjectColumns
 pub mod ClosestSoFar
 pub mod Ranges
 pub mod StopFigures
+pub mod Held

@@ -226,12 +226,14 @@ pub struct ScaledPosts {
 }
 
 impl ScaledPosts {
+    ghost use Rattle.deck.specs.Held.{axis_of_posts, places_of_posts};
+
     // Posts, scaled.
     pub fn of(axis: AxisCosts, posts: Places<'_>) -> ScaledPosts
         requires { CostsInRange (held_axis axis) × PlacesInRange 64 posts.x.now posts.y.now (length posts.x.now)
             × (1 ≤ length posts.x.now) }
-        ensures axis { result.axis ≡ axis }
-        ensures posts { take result.count (places result.x result.y)
+        ensures axis { axis_of_posts result ≡ axis }
+        ensures posts { places_of_posts result
             ≡ map (scaled_place (held_axis axis)) (places posts.entry.x.now posts.entry.y.now) }
     {
         let count = posts.x.len();
@@ -244,7 +246,7 @@ impl ScaledPosts {
 
     // The axis costs.
     pub fn axis(&self) -> AxisCosts
-        ensures { result ≡ self.now.axis }
+        ensures { result ≡ axis_of_posts self.now }
     {
         self.axis
     }
@@ -263,7 +265,7 @@ impl ScaledPosts {
     // The travel from a scaled place to the closest of the posts.
     fn closest(&self, p: ScaledPlace) -> i32
         ensures { result
-            ≡ pos (closest plain (record { x = p.x; y = p.y }) (take self.now.count (places self.now.x self.now.y))) }
+            ≡ pos (closest plain (record { x = p.x; y = p.y }) (places_of_posts self.now)) }
     {
         let mut least = p.travel_to(self.post(0));
         for j in 1..self.count {
@@ -275,8 +277,8 @@ impl ScaledPosts {
     // The travel from a place to the closest of the posts.
     pub fn closest_to(&self, p: Place) -> u64
         requires { PlaceInRange (place_of p) }
-        ensures { result ≡ closest plain (scaled_place (held_axis self.now.axis) (place_of p))
-            (take self.now.count (places self.now.x self.now.y)) }
+        ensures { result ≡ closest plain (scaled_place (held_axis (axis_of_posts self.now)) (place_of p))
+            (places_of_posts self.now) }
     {
         let t = self.closest(ScaledPlace::of(self.axis, p));
         (t as u32) as u64

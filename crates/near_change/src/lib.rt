@@ -1,13 +1,14 @@
 // The near of stops with one post more, and with one less.
 #![tactic(auto)]
 
-ghost use Rattle.std.specs.Prelude.{◌≡◌, ◌≤◌, length, take};
+ghost use Rattle.std.specs.Prelude.{◌≡◌, ◌≤◌, length};
 ghost use mathlib.Core.List.{zip_with};
 ghost use Rattle.std.proofs.Math.Seq.{paste};
 ghost use Rattle.query.specs.Deck.{plain};
 ghost use Rattle.query.specs.Travel.{travel, closest};
 ghost use Rattle.query.specs.Range.{PlaceInRange};
 ghost use Rattle.deck.specs.DeckOf.{held_axis, places};
+ghost use Rattle.deck.specs.Held.{axis_of_posts, places_of_posts};
 ghost use Rattle.deck.specs.Objects.{scaled_place};
 ghost use Rattle.deck.specs.Ranges.{CostsInRange, PlacesInRange};
 ghost use Rattle.deck.specs.Rectangle.{place_of};
@@ -51,7 +52,7 @@ pub fn improve(near: &mut [u64], stops: Places<'_>, axis: AxisCosts, post: Place
 // The near of a stop without a post, where these are left: found again only where it was the travel to that post.
 fn near_without(near: u64, stop: Place, post: Place, left: &ScaledPosts) -> u64
     requires { PlaceInRange (place_of stop) × PlaceInRange (place_of post) }
-    ensures { result ≡ near_but (held_axis left.now.axis) (place_of post) (take left.now.count (places left.now.x left.now.y))
+    ensures { result ≡ near_but (held_axis (axis_of_posts left.now)) (place_of post) (places_of_posts left.now)
         (place_of stop) near }
 {
     if near == travel(left.axis(), stop, post) {
@@ -66,7 +67,7 @@ fn reprice(near: &mut [u64], stops: Places<'_>, post: Place, left: &ScaledPosts)
     requires { PlacesInRange 512 stops.x.now stops.y.now (length stops.x.now) × PlaceInRange (place_of post)
         × (length stops.x.now ≤ length near.old) }
     ensures { near.new ≡ paste near.old 0
-        (zip_with (near_but (held_axis left.now.axis) (place_of post) (take left.now.count (places left.now.x left.now.y)))
+        (zip_with (near_but (held_axis (axis_of_posts left.now)) (place_of post) (places_of_posts left.now))
         (places stops.entry.x.now stops.entry.y.now) near.old) (length stops.entry.x.now) }
 {
     for i in 0..stops.x.len() {

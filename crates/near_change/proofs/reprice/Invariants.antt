@@ -1,7 +1,8 @@
 -- The loop of `near_change::reprice`.
 use mathlib.Core.List.{zip_with}
-use lib.ListN.{length, take}
+use lib.ListN.{length}
 use Rattle.deck.specs.DeckOf.{held_axis, places}
+use Rattle.deck.specs.Held.{axis_of_posts, places_of_posts}
 use Rattle.deck.specs.Rectangle.{place_of}
 use Rattle.deck.proofs.CopyLaws.{Copied}
 use Rattle.near_change.specs.NearChange.{near_but}
@@ -9,6 +10,6 @@ use Rattle.near_change.proofs.reprice.Given as goal
 
 abbrev pub invariant-loop-i : goal.invariant-loop-i
 invariant-loop-i l = Copied l.initial.near 0
-    (zip_with (near_but (held_axis l.left.axis) (place_of l.post) (take l.left.count (places l.left.x l.left.y))) (places l.stops.x.now l.stops.y.now)
+    (zip_with (near_but (held_axis (axis_of_posts l.left)) (place_of l.post) (places_of_posts l.left)) (places l.stops.x.now l.stops.y.now)
     l.initial.near)
     (length l.stops.x.now) l.near l.i

@@ -1,0 +1,14 @@
+-- What the code holds: posts at scaled places.
+-- Assumes nothing.
+use Rattle.std.specs.Prelude.{List, take}
+use Rattle.query.specs.Place.{Place}
+use Rattle.deck.specs.DeckOf.{places}
+use Rattle.deck.specs.declared.AxisCosts.{AxisCosts}
+use Rattle.deck.specs.declared.ScaledPosts.{ScaledPosts}
+
+-- the axis costs that they are scaled by, and their places
+abbrev pub axis_of_posts : ScaledPosts → AxisCosts
+axis_of_posts p = p.axis
+
+abbrev pub places_of_posts : ScaledPosts → List Place
+places_of_posts p = take p.count (places p.x p.y)
