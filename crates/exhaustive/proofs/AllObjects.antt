@@ -22,7 +22,7 @@ use Rattle.deck.specs.ObjectColumns.{object_at, axis_in, pricing_in}
 use Rattle.deck.proofs.TravelLaws.{far, travel_plain}
 use Rattle.lines.specs.LineRecord.{FirstAtLeast}
 use Rattle.reach.specs.Columns.{ObjectInRange}
-use Rattle.reach.specs.Held.{object_of_row}
+use Rattle.reach.specs.Held.{object_of_row, columns_of_objects, count_of_objects}
 use Rattle.reach.specs.declared.columns.Objects.{Objects}
 use Rattle.reach.specs.declared.columns.Row.{Row}
 use Rattle.reach.proofs.RowLaws.{x_word, y_word}
@@ -112,15 +112,16 @@ module _ (columns : List ℤ) where
 -- ---- the first lines that are not below the first i objects
 pub record Finding (o : Objects) (ls : List ℤ) (old rows : List ℕ) (i : ℕ) : Type 0 where
   pub long : length rows ≡ 512
-  pub first : (j : ℕ) → j < i → FirstAtLeast (scaled_lines (axis_in o.columns).b ls) (object_at o.columns j).at.y (get_or rows j 0)
+  pub first : (j : ℕ) → j < i
+      → FirstAtLeast (scaled_lines (axis_in (columns_of_objects o)).b ls) (object_at (columns_of_objects o) j).at.y (get_or rows j 0)
   pub kept : (j : ℕ) → i ≤ j → get_or rows j 0 ≡ get_or old j 0
 
 pub finding_none : (o : Objects) (ls : List ℤ) (rows : List ℕ) → length rows ≡ 512 → Finding o ls rows rows 0
 finding_none o ls rows e = record { long = e; first = λ i h. absurd (omega arith); kept = λ i h. refl }
 
 module _ (o : Objects) (ls : List ℤ) {old rows : List ℕ} {i : ℕ} (so_far : Finding o ls old rows i) where
-  pub finding_more : (row : Row) {b k : ℕ} → i < o.count → object_of_row row ≡ object_at o.columns i → b ≡ (axis_in o.columns).b
-      → FirstAtLeast (scaled_lines b ls) (widened row.y) k → Finding o ls old (set rows i k) (i + 1)
+  pub finding_more : (row : Row) {b k : ℕ} → i < count_of_objects o → object_of_row row ≡ object_at (columns_of_objects o) i
+      → b ≡ (axis_in (columns_of_objects o)).b → FirstAtLeast (scaled_lines b ls) (widened row.y) k → Finding o ls old (set rows i k) (i + 1)
   finding_more row {b} {k} h at e f = record {
     long = length-set rows i k ∙ so_far.long;
     first = λ j l. ⊎_elim (λ u. rw (get_or-set_other rows i j k 0 (λ q. omega (arith, ltb→lt))) (so_far.first j (ltb→lt j i u)))
@@ -130,14 +131,15 @@ module _ (o : Objects) (ls : List ℤ) {old rows : List ℕ} {i : ℕ} (so_far :
     kept = λ j l. get_or-set_other rows i j k 0 (λ q. omega arith) ∙ so_far.kept j (omega arith);
   }
 
-  pub finding_all : i ≡ o.count → LinesFound o ls old rows
+  pub finding_all : i ≡ count_of_objects o → LinesFound o ls old rows
   finding_all e = record {
     lines = record { long = so_far.long; first = λ j h. so_far.first j (omega arith) };
     kept = λ j h. so_far.kept j (omega arith);
   }
 
-pub first_at : (o : Objects) (ls : List ℤ) {rows : List ℕ} (row : Row) {i b : ℕ} → i < o.count → object_of_row row ≡ object_at o.columns i
-    → b ≡ (axis_in o.columns).b → ObjectLines o ls rows → FirstAtLeast (scaled_lines b ls) row.y (get_or rows i 0)
+pub first_at : (o : Objects) (ls : List ℤ) {rows : List ℕ} (row : Row) {i b : ℕ} → i < count_of_objects o
+    → object_of_row row ≡ object_at (columns_of_objects o) i → b ≡ (axis_in (columns_of_objects o)).b → ObjectLines o ls rows
+    → FirstAtLeast (scaled_lines b ls) row.y (get_or rows i 0)
 first_at o ls {rows} row {i} h at e all = rw (ap (λ (s : Object). s.at.y) at, e) (all.first i h)
 
 -- ---- one object more

@@ -8,6 +8,7 @@ use Rattle.numbers.specs.Integer.{dist, times}
 use Rattle.query.specs.Range.{cost_limit, coordinate_limit, axis_cost_limit, stops_limit}
 use Rattle.deck.specs.Objects.{Pricing}
 use Rattle.deck.specs.ObjectColumns.{axis_in, object_at}
+use Rattle.reach.specs.Held.{columns_of_objects, count_of_objects}
 use Rattle.reach.specs.declared.columns.Objects.{Objects}
 use Rattle.pricing.specs.ObjectFigures.{cost_of, before_of}
 use Rattle.lines.specs.LineRecord.{LinesInOrder, FirstAtLeast}
@@ -59,12 +60,13 @@ pub record LineTable (ls : List ℤ) (table : List ℕ) : Type 0 where
 -- for each object the first line that is not below it
 pub record ObjectLines (o : Objects) (ls : List ℤ) (rows : List ℕ) : Type 0 where
   pub long : length rows ≡ stops_limit
-  pub first : (i : ℕ) → i < o.count → FirstAtLeast (scaled_lines (axis_in o.columns).b ls) (object_at o.columns i).at.y (get_or rows i 0)
+  pub first : (i : ℕ) → i < count_of_objects o
+      → FirstAtLeast (scaled_lines (axis_in (columns_of_objects o)).b ls) (object_at (columns_of_objects o) i).at.y (get_or rows i 0)
 
 -- such lines found, in an array whose entries behind them are as they were
 pub record LinesFound (o : Objects) (ls : List ℤ) (old rows : List ℕ) : Type 0 where
   pub lines : ObjectLines o ls rows
-  pub kept : (i : ℕ) → o.count ≤ i → get_or rows i 0 ≡ get_or old i 0
+  pub kept : (i : ℕ) → count_of_objects o ≤ i → get_or rows i 0 ≡ get_or old i 0
 
 -- ramps are held by line, at the first line that is not below the start: the sum of their weights, and that of weight × height of the
 -- start. Up to line j the weights times the height of that line, and the starts

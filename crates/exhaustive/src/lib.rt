@@ -7,7 +7,7 @@ ghost use Rattle.std.specs.Prelude.{◌≡◌, ◌≤◌, nat_abs, length};
 ghost use mathlib.Core.List.{flat_map};
 ghost use Rattle.query.specs.Range.{cost_limit};
 ghost use Rattle.query.specs.Exhaustive.{exhaustive};
-ghost use Rattle.reach.specs.Held.{pricing_of_objects};
+ghost use Rattle.reach.specs.Held.{count_of_objects, pricing_of_objects};
 ghost use Rattle.pricing.specs.ObjectFigures.{before_of, Figure};
 ghost use Rattle.problem.specs.ObjectProblem.{priced_of};
 ghost use Rattle.problem.specs.Prepared.{problem_of, Prepared};
@@ -78,8 +78,8 @@ impl<'a> Crossings<'a> {
     // The ramps of all objects along the vertical line at `v`, where there was none.
     fn add_objects(&self, v: i64, ramps: &mut ObjectRamps)
         requires { (nat_abs v ≤ 20000) × ObjectSums ramps.old 0 }
-        ensures { ObjectsAdded (pricing_of_objects self.now.objects.now) self.now.objects.now.count self.now.lines.at.now v
-            ramps.new }
+        ensures { ObjectsAdded (pricing_of_objects self.now.objects.now) (count_of_objects self.now.objects.now)
+            self.now.lines.at.now v ramps.new }
     {
         let axis = self.objects.axis();
         let divisor = Divisor::new(axis.b);

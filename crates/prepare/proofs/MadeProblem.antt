@@ -20,7 +20,7 @@ use Rattle.deck.proofs.DeckLaws.{stops_x, stops_y}
 use Rattle.deck.proofs.SoundLaws.{sound_columns, sound_stops}
 use Rattle.reach.specs.ObjectReach.{flags_of}
 use Rattle.reach.specs.Columns.{Ranged}
-use Rattle.reach.specs.Held.{pricing_of_objects}
+use Rattle.reach.specs.Held.{columns_of_objects, count_of_objects, pricing_of_objects}
 use Rattle.reach.specs.declared.columns.Objects.{Objects}
 use Rattle.reach.proofs.ReachLaws.{flags_law}
 use Rattle.reach.proofs.RecordLaws.{made_pricing}
@@ -61,8 +61,8 @@ module _ (deck : Deck) (h : Sound deck) (a : Rect) (ea : a ≡ record { xlo = de
   area_ranged = rw area_is (record { range = h.range.area; full = h.full })
 
   -- its objects, and which of them reach the area
-  module _ (objects : Objects) (e : objects.columns ≡ columns_of (pricing_of (deck_of deck))) (n : objects.count ≡ deck.stops)
-      (flags : List Bool) (f : flags ≡ flags_of (pricing_of_objects objects) (rect_of a)) where
+  module _ (objects : Objects) (e : columns_of_objects objects ≡ columns_of (pricing_of (deck_of deck)))
+      (n : count_of_objects objects ≡ deck.stops) (flags : List Bool) (f : flags ≡ flags_of (pricing_of_objects objects) (rect_of a)) where
     flags_are : flags ≡ padded 512 false (reached (deck_of deck) x_axis)
     unfolding deck_of
     flags_are =
@@ -87,8 +87,8 @@ module _ (deck : Deck) (h : Sound deck) (a : Rect) (ea : a ≡ record { xlo = de
         w ≡ lines_between (back a.ylo) (back a.yhi) (flagged (take deck.stops deck.stop_y) (take deck.stops flags)) →
         ◌≡◌ {A = Parts} (record {
           area = a;
-          count = objects.count;
-          columns = objects.columns;
+          count = count_of_objects objects;
+          columns = columns_of_objects objects;
           vertical = v;
           horizontal = w;
         }) (problem_record (deck_of deck))

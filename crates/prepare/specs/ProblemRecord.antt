@@ -10,6 +10,7 @@ use Rattle.deck.specs.Rectangle.{rect_record}
 use Rattle.deck.specs.declared.Rect.{Rect}
 use Rattle.deck.specs.Objects.{pricing_of}
 use Rattle.deck.specs.ObjectColumns.{columns_of}
+use Rattle.reach.specs.Held.{columns_of_objects, count_of_objects}
 use Rattle.refusal.specs.declared.Refusal.{Refusal}
 use Rattle.job.specs.Format.{Result, refused, accepted}
 use Rattle.prepare.specs.declared.Problem.{Problem}
@@ -27,8 +28,8 @@ pub record Parts : Type 0 where
 abbrev pub parts_in : Problem → Parts
 parts_in p = record {
   area = p.area;
-  count = p.objects.count;
-  columns = p.objects.columns;
+  count = count_of_objects p.objects;
+  columns = columns_of_objects p.objects;
   vertical = p.vertical;
   horizontal = p.horizontal;
 }

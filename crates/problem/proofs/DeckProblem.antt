@@ -18,7 +18,7 @@ use Rattle.deck.specs.Rectangle.{rect_of}
 use Rattle.deck.specs.Objects.{Pricing, pricing_of}
 use Rattle.deck.specs.ObjectColumns.{pricing_in, columns_of}
 use Rattle.reach.specs.Columns.{Ranged}
-use Rattle.reach.specs.Held.{pricing_of_objects}
+use Rattle.reach.specs.Held.{columns_of_objects, count_of_objects, pricing_of_objects}
 use Rattle.reach.proofs.RecordLaws.{made_pricing}
 use Rattle.pricing.specs.ObjectFigures.{cost_of, load_of}
 use Rattle.pricing.proofs.ObjectLaws.{cost_law, load_law}
@@ -81,11 +81,11 @@ module _ {p : Problem} (prepared : Prepared p) where
 
 -- ---- the problem that was made of a deck in range was prepared
 module _ (deck : Query.Deck) (p : Problem) (e : parts_in p ≡ problem_record deck) where
-  pub made_columns : p.objects.columns ≡ columns_of (pricing_of deck)
+  pub made_columns : columns_of_objects p.objects ≡ columns_of (pricing_of deck)
   unfolding problem_record
   made_columns = ap (λ (q : Parts). q.columns) e
 
-  pub made_count : p.objects.count ≡ length deck.stops
+  pub made_count : count_of_objects p.objects ≡ length deck.stops
   unfolding problem_record
   made_count = ap (λ (q : Parts). q.count) e
 

@@ -9,7 +9,7 @@ use Rattle.query.specs.Range.{InRange}
 use Rattle.deck.specs.Rectangle.{rect_of}
 use Rattle.deck.specs.Objects.{pricing_of}
 use Rattle.deck.specs.ObjectColumns.{columns_of}
-use Rattle.reach.specs.Held.{pricing_of_objects}
+use Rattle.reach.specs.Held.{columns_of_objects, count_of_objects, pricing_of_objects}
 use Rattle.lines.specs.LineRecord.{grid_of}
 use Rattle.prepare.specs.declared.Problem.{Problem}
 use Rattle.problem.specs.ObjectProblem.{object_problem}
@@ -23,8 +23,8 @@ pub record Prepared (p : Problem) : Type 0 where
   pub deck : Query.Deck
   pub range : InRange deck
   pub full : NonEmpty deck.area
-  pub columns_are : p.objects.columns ≡ columns_of (pricing_of deck)
-  pub count_is : p.objects.count ≡ length deck.stops
+  pub columns_are : columns_of_objects p.objects ≡ columns_of (pricing_of deck)
+  pub count_is : count_of_objects p.objects ≡ length deck.stops
   pub vertical_are : p.vertical ≡ lines deck x_axis
   pub horizontal_are : p.horizontal ≡ lines deck y_axis
   pub area_is : rect_of p.area ≡ deck.area

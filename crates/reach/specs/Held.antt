@@ -1,6 +1,6 @@
 -- What the code holds: objects in columns, one of them, and the scaled edges of a rectangle.
 -- Assumes nothing.
-use Rattle.std.specs.Prelude.{◌≡◌, nat_abs}
+use Rattle.std.specs.Prelude.{ℕ, ◌≡◌, List, ℤ, nat_abs}
 use Rattle.query.specs.Place.{Rect}
 use Rattle.query.specs.Deck.{AxisCosts}
 use Rattle.deck.specs.declared.AxisCosts as Code
@@ -17,9 +17,16 @@ use Rattle.reach.specs.declared.rectangle.Edges.{Edges}
 abbrev pub object_of_row : Row → Object
 object_of_row r = record { at = record { x = r.x; y = r.y }; visits = nat_abs r.visits; near = nat_abs r.near }
 
+-- the columns of objects, with the axis costs behind them, and how many objects there are
+abbrev pub columns_of_objects : Objects → List ℤ
+columns_of_objects o = o.columns
+
+abbrev pub count_of_objects : Objects → ℕ
+count_of_objects o = o.count
+
 -- what pricing needs, of objects in columns
 abbrev pub pricing_of_objects : Objects → Pricing
-pricing_of_objects o = pricing_in o.columns o.count
+pricing_of_objects o = pricing_in (columns_of_objects o) (count_of_objects o)
 
 -- axis costs as the code holds them
 pub record AxisOf (axis : AxisCosts) (held : Code.AxisCosts) : Type 0 where

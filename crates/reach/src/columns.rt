@@ -30,12 +30,12 @@ pub struct Objects {
 }
 
 impl Objects {
-    ghost use Rattle.reach.specs.Held.{object_of_row, AxisOf};
+    ghost use Rattle.reach.specs.Held.{object_of_row, columns_of_objects, count_of_objects, AxisOf};
 
     // The objects in columns that can be priced.
     pub fn new(columns: [i32; COLUMNS], count: usize) -> Objects
         requires { Priceable columns count }
-        ensures { (result.columns ≡ columns) × (result.count ≡ count) }
+        ensures { (columns_of_objects result ≡ columns) × (count_of_objects result ≡ count) }
     {
         Objects { count, columns }
     }
@@ -45,9 +45,9 @@ impl Objects {
     pub fn of_stops(axis: AxisCosts, stops: Stops<'_>) -> Objects
         requires { CostsInRange (held_axis axis) × PlacesInRange 512 stops.at.x.now stops.at.y.now (length stops.at.x.now)
             × VisitsInRange stops.visits.now (length stops.at.x.now) × NearsInRange stops.near.now (length stops.at.x.now) }
-        ensures { (result.columns
+        ensures { (columns_of_objects result
             ≡ columns_of (stored_pricing (held_axis axis) stops.entry.at.x.now stops.entry.at.y.now stops.entry.visits.now
-            stops.entry.near.now (length stops.entry.at.x.now))) × (result.count ≡ length stops.entry.at.x.now) }
+            stops.entry.near.now (length stops.entry.at.x.now))) × (count_of_objects result ≡ length stops.entry.at.x.now) }
     {
         let mut columns = [0i32; COLUMNS];
         put_columns(axis, stops, &mut columns);
@@ -59,14 +59,14 @@ impl Objects {
 
     // How many objects there are.
     pub fn count(&self) -> usize
-        ensures { result ≡ self.now.count }
+        ensures { result ≡ count_of_objects self.now }
     {
         self.count
     }
 
     // The axis costs.
     pub fn axis(&self) -> AxisCosts
-        ensures { AxisOf (axis_in self.now.columns) result }
+        ensures { AxisOf (axis_in (columns_of_objects self.now)) result }
     {
         AxisCosts {
             a: (self.columns[X_COST] as u32) as u64,
@@ -76,8 +76,8 @@ impl Objects {
 
     // The object in row i.
     pub fn row(&self, i: usize) -> Row
-        requires { i < self.now.count }
-        ensures { object_of_row result ≡ object_at self.now.columns i }
+        requires { i < count_of_objects self.now }
+        ensures { object_of_row result ≡ object_at (columns_of_objects self.now) i }
     {
         Row {
             x: self.columns[i],

@@ -18,7 +18,7 @@ use Rattle.deck.specs.Objects.{Pricing}
 use Rattle.deck.specs.declared.AxisCosts.{AxisCosts}
 use Rattle.deck.specs.DeckOf.{held_axis}
 use Rattle.deck.specs.ObjectColumns.{axis_in}
-use Rattle.reach.specs.Held.{pricing_of_objects, AxisOf}
+use Rattle.reach.specs.Held.{columns_of_objects, pricing_of_objects, AxisOf}
 use Rattle.reach.specs.declared.columns.Objects.{Objects}
 use Rattle.pricing.specs.ObjectFigures.{load_of, BoundInRange}
 use Rattle.pricing.proofs.TurnLaws.{cost_most}
@@ -75,10 +75,10 @@ bound_range h g f = record {
 }
 
 pub bound_is : (o : Objects) (axis : AxisCosts) (r : Rect) (k : Costs) (s l : ℕ) (b : ℤ) → k ≡ corner_costs (pricing_of_objects o) r
-    → AxisOf (axis_in o.columns) axis → s ≡ span (held_axis axis) r → l ≡ load_of (pricing_of_objects o) r
+    → AxisOf (axis_in (columns_of_objects o)) axis → s ≡ span (held_axis axis) r → l ≡ load_of (pricing_of_objects o) r
     → b ≡ half_up (pos (max (k.c00 + k.c11) (k.c01 + k.c10)) -ℤ pos (s * l)) → b ≡ bound_of (pricing_of_objects o) r
 unfolding bound_of
-bound_is o axis r k s l b costs held e f g = let same : s ≡ span (axis_in o.columns) r = e ∙ ap (λ (a : Query.AxisCosts). span a r) held.is in rw
+bound_is o axis r k s l b costs held e f g = let same : s ≡ span (axis_in (columns_of_objects o)) r = e ∙ ap (λ (a : Query.AxisCosts). span a r) held.is in rw
     (costs, same, f) at g
 
 pub entry_back : (P : Pricing) (r : Deck.Rect) (b : ℤ) → mag b < 2 ^ 63 → b ≡ bound_of P (rect_of r)

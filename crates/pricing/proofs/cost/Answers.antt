@@ -4,7 +4,7 @@ use native.Mathlib.Omega.{arith}
 use Rattle.query.specs.Deck.{AxisCosts}
 use Rattle.deck.specs.Rectangle.{place_of}
 use Rattle.deck.specs.Objects.{scaled_place}
-use Rattle.reach.specs.Held.{pricing_of_objects}
+use Rattle.reach.specs.Held.{count_of_objects, pricing_of_objects}
 use Rattle.pricing.proofs.ObjectLaws.{cost_of_sum}
 use Rattle.pricing.proofs.ColumnLaws.{passed_none}
 use Rattle.pricing.proofs.TurnLaws.{cost_more}
@@ -25,7 +25,7 @@ overflow_add-sum c =
 
 pub returns : goal.returns
 returns c =
-    let full : c.loop-i.i ≡ c.args.objects.now.count = omega (arith, c.loop-i-test.false, c.loop-i.auto.i-end, c.count-i-end.ensures) in
+    let full : c.loop-i.i ≡ count_of_objects c.args.objects.now = omega (arith, c.loop-i-test.false, c.loop-i.auto.i-end, c.count-i-end.ensures) in
     let at : record { x = c.of-post.result.x; y = c.of-post.result.y } ≡ scaled_place _ (place_of c.args.at) =
     (λ i. record { x = c.of-post.ensures.0 i; y = c.of-post.ensures.1 i })
     ∙ ap (λ (axis : AxisCosts). scaled_place axis (place_of c.args.at)) c.axis-axis.ensures.is in

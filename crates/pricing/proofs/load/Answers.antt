@@ -4,7 +4,7 @@ use native.Mathlib.Omega.{arith}
 use Rattle.query.specs.Deck.{AxisCosts}
 use Rattle.deck.specs.Rectangle.{rect_of}
 use Rattle.deck.specs.Objects.{scaled_rect}
-use Rattle.reach.specs.Held.{pricing_of_objects}
+use Rattle.reach.specs.Held.{count_of_objects, pricing_of_objects}
 use Rattle.pricing.proofs.ObjectLaws.{load_of_sum}
 use Rattle.pricing.proofs.ColumnLaws.{passed_none}
 use Rattle.pricing.proofs.TurnLaws.{load_more}
@@ -22,7 +22,7 @@ overflow_add-sum c =
 
 pub returns : goal.returns
 returns c =
-    let full : c.loop-i.i ≡ c.args.objects.now.count = omega (arith, c.loop-i-test.false, c.loop-i.auto.i-end, c.count-i-end.ensures) in
+    let full : c.loop-i.i ≡ count_of_objects c.args.objects.now = omega (arith, c.loop-i-test.false, c.loop-i.auto.i-end, c.count-i-end.ensures) in
     let edges = c.of-edges.ensures.are ∙ ap (λ (axis : AxisCosts). scaled_rect axis (rect_of c.args.r)) c.axis.ensures.is in
     record {
       is = c.loop-i.invariant.so_far ∙ rw (full, edges) (sym (load_of_sum (pricing_of_objects c.args.objects.now) _));

@@ -5,6 +5,7 @@ use Rattle.numbers.specs.Integer.{times}
 use Rattle.numbers.proofs.WordTests.{back}
 use Rattle.query.specs.Deck.{AxisCosts}
 use Rattle.deck.specs.ObjectColumns.{axis_in}
+use Rattle.reach.specs.Held.{columns_of_objects}
 use Rattle.reach.proofs.NarrowLaws.{scaled_small}
 use Rattle.exhaustive.proofs.ObjectRamps.{small_back}
 use Rattle.exhaustive.proofs.AllObjects.{widened, scaled_wide, first_at, objects_none, objects_more, sums_few}
@@ -27,7 +28,7 @@ add_object-requires c =
 
 pub loop-i-preserved : goal.loop-i-preserved
 loop-i-preserved c =
-    let x_is : widened c.scaled-x.result ≡ times (axis_in c.args.self.now.objects.now.columns).a (back c.args.v) =
+    let x_is : widened c.scaled-x.result ≡ times (axis_in (columns_of_objects c.args.self.now.objects.now)).a (back c.args.v) =
     scaled_wide c.args.v c.axis-axis.ensures.range.most.0 c.requires.0 c.scaled-x.ensures
     ∙ (λ i. times (c.axis-axis.ensures.is i).a (sym (small_back c.args.v (omega (arith, c.requires.0))) i)) in
     let b_is = c.new-divisor.ensures ∙ ap (λ (a : AxisCosts). a.b) c.axis-axis.ensures.is in

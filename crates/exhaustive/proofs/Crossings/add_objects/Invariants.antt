@@ -1,7 +1,8 @@
 -- The loops of `exhaustive::Crossings::add_objects`.
 use Rattle.deck.specs.ObjectColumns.{pricing_in}
+use Rattle.reach.specs.Held.{columns_of_objects}
 use Rattle.exhaustive.specs.Ramps.{ObjectsAdded}
 use Rattle.exhaustive.proofs.Crossings.add_objects.Given as goal
 
 abbrev pub invariant-loop-i : goal.invariant-loop-i
-invariant-loop-i l = ObjectsAdded (pricing_in l.self.objects.now.columns l.i) l.i l.self.lines.at.now l.v l.ramps
+invariant-loop-i l = ObjectsAdded (pricing_in (columns_of_objects l.self.objects.now) l.i) l.i l.self.lines.at.now l.v l.ramps
