@@ -10,9 +10,8 @@ use Rattle.query.specs.Travel.{travel, closest}
 use Rattle.query.specs.Range.{travel_limit}
 use Rattle.deck.specs.DeckOf.{places}
 
--- 02 card 4, a stop's "travel to the closest post so far". Before the first post it is one more than any travel, so that the first post
--- always improves it. Nobody sees that number: a deck in range has a post, and after one or more this is `closest`, by which near is
--- defined
+-- 02 card 4, a stop's "travel to the closest post so far": `closest`, by which near is defined. The number for no post, one more than any
+-- travel, is of this definition alone: the code starts with the travel to the first post
 unfoldable pub closest_so_far : List Place → Place → ℕ
 unfolding closest
 closest_so_far [] p = suc travel_limit
