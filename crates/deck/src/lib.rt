@@ -22,6 +22,7 @@ ghost use Rattle.deck.specs.StopFigures.{Nears, paid};
 use limits::{COLUMNS, NEAR_COLUMN, POSTS, STOPS, VISITS_COLUMN, X_COST, Y_COLUMN, Y_COST};
 
 // A place.
+// kept: `PlaceInRange` is no invariant, since reading, checking and writing a job also hold places that are out of range.
 #[derive(Clone, Copy, PartialEq, Eq)]
 pub struct Place {
     pub x: i64,
@@ -36,6 +37,7 @@ pub struct Stop {
 }
 
 // A rectangle, its edges included.
+// kept: `RectInRange` and `Ranged` are no invariants, since reading and checking a job also hold areas out of range or with no point.
 #[derive(Clone, Copy, PartialEq, Eq)]
 pub struct Rect {
     pub xlo: i64,

@@ -33,6 +33,7 @@ fn near_with(near: u64, axis: AxisCosts, stop: Place, post: Place) -> u64
 }
 
 // The near of stops in columns with one more post.
+// kept: one loop for this and `reprice` would take a closure, with clauses on each of its calls, which is longer than the second loop.
 pub fn improve(near: &mut [u64], stops: Places<'_>, axis: AxisCosts, post: Place)
     requires { CostsInRange (held_axis axis) × PlacesInRange 512 stops.x.now stops.y.now (length stops.x.now)
         × PlaceInRange (place_of post) × (length stops.x.now ≤ length near.old) }
@@ -63,6 +64,7 @@ fn near_without(near: u64, stop: Place, post: Place, left: &ScaledPosts) -> u64
 }
 
 // The near of stops in columns without a post, where these are left.
+// kept: a loop beside that of `improve`, for the reason given there.
 fn reprice(near: &mut [u64], stops: Places<'_>, post: Place, left: &ScaledPosts)
     requires { PlacesInRange 512 stops.x.now stops.y.now (length stops.x.now) × PlaceInRange (place_of post)
         × (length stops.x.now ≤ length near.old) }
