@@ -160,6 +160,7 @@ fn sum_of(o: &Opened, which: u64, k: u64) -> u64
 }
 
 // The sum of a kernel over k turns; -1 where the job is refused or k is above 100,000. The least number where there is no such kernel.
+// kept: the C function that the benchmarks call gives a number, so -1 and the least number stand for no sum.
 pub fn kernel_sum(job: &[u8], which: u64, k: u64) -> i64
     ensures { result ≡ kernel_sum which k (read_job job.now) }
 {

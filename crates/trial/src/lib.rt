@@ -36,6 +36,7 @@ use refusal::Refusal;
 pub const NO_FIGURE: i64 = i64::MIN;
 
 // Stands for a figure that is no number below 0, where the job is refused, or the place or rectangle is out of range or empty.
+// kept: as for NO_FIGURE.
 const REFUSED: i64 = -1;
 
 // ---- reading
@@ -186,6 +187,7 @@ pub fn trial_figure(job: &[u8], which: u64, xlo: i64, ylo: i64, xhi: i64, yhi: i
 }
 
 // Puts the lines along an axis in front of `out`: how many there are, or -1 where the job is refused or `out` is too short.
+// kept: the C function that the tests call takes a bool for the axis and gives a number, so -1 stands for no lines.
 pub fn trial_lines(job: &[u8], across: bool, out: &mut [i64]) -> i64
     ensures { record { result = result; out = out.new } ≡ lines_written across out.old (read_job job.now) }
 {
