@@ -1,6 +1,7 @@
 -- Bytes put over the front, or over a part, of a buffer.
 -- Assumes nothing.
 use Rattle.std.specs.Prelude.{◌≡◌, ◌≤◌, ℕ, ◌+◌, List, ◌++◌, length, take, drop}
+use Rattle.std.specs.Borrow.{GName}
 use Rattle.write.specs.declared.Writer.{Writer}
 
 -- 01 "A report fills the first bytes of the output; later bytes keep their values"
@@ -16,13 +17,24 @@ pub record Overwrote (out text after : List ℕ) (count : ℕ) : Type 0 where
 unfoldable pub written : List ℕ → ℕ → List ℕ → List ℕ
 written out at bs = take at out ++ bs ++ drop (at + length bs) out
 
+-- a writer's slice: its bytes, and its ghost name
+abbrev pub slice_bytes : Writer → List ℕ
+slice_bytes w = w.out.now
+
+abbrev pub slice_name : Writer → GName
+slice_name w = w.out.ghost_name
+
+-- how many bytes are written, which is the place behind them
+abbrev pub written_len : Writer → ℕ
+written_len w = w.at
+
 -- n more bytes fit behind what is written
 abbrev pub HasRoom : Writer → ℕ → Type 0
-HasRoom w n = w.at + n ≤ length w.out.now
+HasRoom w n = written_len w + n ≤ length (slice_bytes w)
 
 -- what a call that writes bytes leaves of a writer: the same slice with the bytes at its place, and the place after them
 pub record Wrote (before : Writer) (bs : List ℕ) (after : Writer) : Type 0 where
-  pub same_slice : after.out.ghost_name ≡ before.out.ghost_name
-  pub size : length after.out.now ≡ length before.out.now
-  pub next : after.at ≡ before.at + length bs
-  pub text : after.out.now ≡ written before.out.now before.at bs
+  pub same_slice : slice_name after ≡ slice_name before
+  pub size : length (slice_bytes after) ≡ length (slice_bytes before)
+  pub next : written_len after ≡ written_len before + length bs
+  pub text : slice_bytes after ≡ written (slice_bytes before) (written_len before) bs

@@ -4,7 +4,7 @@
 ghost use Rattle.std.specs.Prelude.{ℕ, List, [], ◌∷◌, ◌≤◌, ◌≡◌, length};
 ghost use Rattle.text.specs.Decimal.{spell_nat, spell_int};
 ghost use Rattle.write.specs.Digits.{at_least};
-ghost use Rattle.write.specs.Written.{HasRoom, Wrote};
+ghost use Rattle.write.specs.Written.{slice_bytes, slice_name, written_len, HasRoom, Wrote};
 
 // A slice, and the place in it behind what is written so far.
 #[derive(Drop)]
@@ -16,16 +16,16 @@ pub struct Writer<'a> {
 impl<'a> Writer<'a> {
     // At the start of `out`.
     pub fn new(out: &'a mut [u8]) -> Writer<'a>
-        ensures same_slice { result.out.ghost_name ≡ out.entry.ghost_name }
-        ensures content { result.out.now ≡ out.old }
-        ensures place { result.at ≡ 0 }
+        ensures same_slice { slice_name result ≡ out.entry.ghost_name }
+        ensures content { slice_bytes result ≡ out.old }
+        ensures place { written_len result ≡ 0 }
     {
         Writer { out, at: 0 }
     }
 
     // How many bytes are written.
     pub fn len(&self) -> usize
-        ensures { result ≡ self.now.at }
+        ensures { result ≡ written_len self.now }
     {
         self.at
     }

@@ -11,7 +11,7 @@ use mir.Val.{SFits, to_z, of_z}
 use mir.ValLaws.{to_z-of_z}
 use Rattle.text.specs.Ascii.{bytes, comma, newline}
 use Rattle.write.specs.declared.Writer.{Writer}
-use Rattle.write.specs.Written.{HasRoom, Wrote}
+use Rattle.write.specs.Written.{slice_bytes, written_len, HasRoom, Wrote}
 use Rattle.write.proofs.WrittenLaws.{wrote_both, wrote_front}
 use Rattle.deck.specs.declared.Deck.{Deck}
 use Rattle.deck.specs.DeckOf.{held_axis}
@@ -82,7 +82,7 @@ module _ {deck : Deck} (n : ℕ) (f : Held deck) {w₀ w₁ : Writer} (v₁ : Wr
                   wrote₉ = rw file_parts (wrote_both wrote₈ v₉)
 
 -- a new writer has room for as many bytes as the slice has
-start : (w : Writer) {out : List ℕ} → w.at ≡ 0 → w.out.now ≡ out → HasRoom w (length out)
+start : (w : Writer) {out : List ℕ} → written_len w ≡ 0 → slice_bytes w ≡ out → HasRoom w (length out)
 start w z o = omega (arith, z, ap length o)
 
 -- ---- the room for each part
