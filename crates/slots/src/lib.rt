@@ -4,8 +4,8 @@
 
 ghost use Rattle.std.specs.Prelude.{◌≡◌, ◌+◌, ◌*◌, ◌≤◌, ◌<◌, length, replicate};
 ghost use Rattle.slots.specs.Slot.{cell_at, costs_at, CellPut, CostsPut, EntryPut};
-ghost use Rattle.slots.specs.Numbering.{slot_numbers};
-ghost use Rattle.slots.specs.Places.{no_entry, at_place, Stored, Turned};
+ghost use Rattle.slots.specs.Numbering.{Numbered, slot_numbers};
+ghost use Rattle.slots.specs.Places.{entries_in, no_entry, at_place, Stored, Turned};
 
 use deck::Rect;
 use limits::{CELLS, CORNER_COSTS, SPACE};
@@ -152,6 +152,22 @@ impl Slots {
             cells: [0; SPACE],
             costs: [0; CORNER_COSTS],
             order: numbers(),
+        }
+    }
+
+    // Slots of what stands in a caller's arrays, in the order of its slot numbers.
+    pub fn of_arrays(
+        cells: [i64; SPACE],
+        costs: [u64; CORNER_COSTS],
+        order: [u16; CELLS],
+    ) -> Self
+        requires { Numbered order }
+        ensures { result ≡ entries_in cells costs order }
+    {
+        Slots {
+            cells,
+            costs,
+            order,
         }
     }
 
