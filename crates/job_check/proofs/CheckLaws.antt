@@ -9,13 +9,11 @@ use Prim.Native.Nat.{ℕ, ◌+◌, ◌≤◌}
 use native.Mathlib.Omega.{arith}
 use lib.IntN.{ℤ, pos}
 use lib.ListN.{length}
-use mir.Syntax.{w64}
-use mir.Val.{SFits}
-use Rattle.numbers.proofs.WordTests.{back, back_is}
 use Rattle.deck.specs.declared.Deck.{Deck}
+use Rattle.deck.specs.declared.Rect.{Rect}
 use Rattle.deck.specs.DeckOf.{Sized, held_axis, deck_of}
 use Rattle.job_line.specs.Kinds.{Range, area, axis, posts, stops, rounds, up_to, row}
-use Rattle.job_line.specs.Reading.{cost_numbers}
+use Rattle.job_line.specs.Reading.{area_numbers, cost_numbers}
 use Rattle.job.specs.Format.{area_of, read_text}
 use Rattle.job.specs.Spelling.{JobLine, count_line}
 use Rattle.job.specs.File.{writes_axis, file_text, file_lines}
@@ -26,8 +24,11 @@ use Rattle.job_check.proofs.ShortLaws.{count_most}
 use Rattle.job_check.proofs.FirstFault.{fault_none, fault_more, fault_joined, or_both, or_none, post_lines, posts_count, stop_lines, stops_count}
 
 -- ---- the parts of a record's lines
+abbrev pub area_held : Deck → Rect
+area_held deck = record { xlo = deck.xlo; ylo = deck.ylo; xhi = deck.xhi; yhi = deck.yhi }
+
 abbrev pub area_numbers_of : Deck → List ℤ
-area_numbers_of deck = deck.xlo ∷ deck.ylo ∷ deck.xhi ∷ deck.yhi ∷ []
+area_numbers_of deck = area_numbers (area_held deck)
 
 abbrev pub post_part : Deck → List JobLine
 post_part deck = count_line posts deck.posts ∷ post_lines deck.post_x deck.post_y deck.posts
@@ -123,24 +124,11 @@ module _ {deck : Deck} {n : ℕ} {part found : Option Refusal} (rest : Option Re
   pub part_refused : {why : Refusal} → found ≡ some why → some why ≡ refusal_in (read_text (file_text deck n))
   part_refused refused = sym (left.is ∙ rw (← e, refused))
 
--- the area's numbers as the code holds them
-pub record AreaFits (deck : Deck) : Type 0 where
-  pub xlo : SFits w64 deck.xlo
-  pub ylo : SFits w64 deck.ylo
-  pub xhi : SFits w64 deck.xhi
-  pub yhi : SFits w64 deck.yhi
-
-abbrev pub back_numbers : Deck → List ℤ
-back_numbers deck = back deck.xlo ∷ back deck.ylo ∷ back deck.xhi ∷ back deck.yhi ∷ []
-
-back_numbers_lem : (deck : Deck) → AreaFits deck → back_numbers deck ≡ area_numbers_of deck
-back_numbers_lem deck f = rw (back_is f.xlo, back_is f.ylo, back_is f.xhi, back_is f.yhi)
-
 -- of all of a file, found by its lines
-pub all_left : (deck : Deck) (n : ℕ) → AreaFits deck →
+pub all_left : {deck : Deck} (n : ℕ) {r : Rect} → r ≡ area_held deck →
     refusal_in (read_text (file_text deck n)) ≡ or_else (first_fault 1 (file_lines deck n)) (parts_fault (deck_of deck).area deck.posts deck.stops) →
-    Left deck n (or_else (numbers_fault (row area).ranges 1 (back_numbers deck)) (behind_area deck n))
-all_left deck n fits whole = record { is = whole ∙ lines_fault deck n ∙ rw (back_numbers_lem deck fits) }
+    Left deck n (or_else (numbers_fault (row area).ranges 1 (area_numbers r)) (behind_area deck n))
+all_left {deck} n e whole = record { is = whole ∙ lines_fault deck n ∙ rw e }
 
 -- the number of the next line, as the code finds it
 pub posts_behind : {deck : Deck} {n line : ℕ} → line ≡ posts_at deck → Left deck n (behind_axis deck n (posts_at deck)) →
@@ -163,8 +151,7 @@ module _ {deck : Deck} {n : ℕ} (sized : Sized deck) (line : ℕ) where
         (omega (arith, sized.visits)),
   )) left
 
-pub parts_answer : {deck : Deck} {n : ℕ} {found : Option Refusal} → AreaFits deck →
+pub parts_answer : {deck : Deck} {n : ℕ} {r : Rect} {found : Option Refusal} → r ≡ area_held deck →
     Left deck n (parts_fault (deck_of deck).area deck.posts deck.stops) →
-    found ≡ parts_fault (area_of (back_numbers deck)) deck.posts deck.stops → found ≡ refusal_in (read_text (file_text deck n))
-parts_answer {deck} fits left e = e ∙ ap (λ (ns : List ℤ). parts_fault (area_of ns) deck.posts deck.stops) (back_numbers_lem deck fits)
-    ∙ sym (left.is ∙ rw area_is)
+    found ≡ parts_fault (area_of (area_numbers r)) deck.posts deck.stops → found ≡ refusal_in (read_text (file_text deck n))
+parts_answer {deck} e left f = f ∙ ap (λ (r : Rect). parts_fault (area_of (area_numbers r)) deck.posts deck.stops) e ∙ sym (left.is ∙ rw area_is)

@@ -1,28 +1,24 @@
 -- The first fault of lines one after another: by what is left of them, and of lines joined end to end; and the faults behind all lines.
 -- Assumes nothing.
-use mathlib.Core.Path.{◌≡◌, refl, sym, ap, ◌∙◌}
+use mathlib.Core.Path.{◌≡◌, refl, sym, ap, ap₂, ◌∙◌}
 use mathlib.Core.Bool.{Bool, true, false}
 use mathlib.Core.List.{List, [], ◌∷◌, ◌++◌, map}
 use mathlib.Core.Option.{Option, none, some}
 use Prim.Native.Nat.{ℕ, ◌+◌, ◌≤◌, ◌<◌}
 use native.Mathlib.Omega.{arith}
 use borrow.Author.Tests.{eq-eqb, ne_eqb}
-use lib.IntN.{ℤ, pos}
+use lib.IntN.{ℤ}
 use lib.ListN.{length, get_or, take, drop, length-take, length-map, drop_of_length-le, get_or-map}
-use lib.Seq.{get_or-take, length-take-le}
 use Rattle.numbers.proofs.Joined.{drop_next}
-use Rattle.query.specs.Place.{Place, Rect}
-use Rattle.query.specs.Deck.{Stop}
+use Rattle.query.specs.Place.{Rect}
 use Rattle.deck.specs.DeckOf.{places, stops_of}
-use Rattle.deck.proofs.ClosestLaws.{places_length}
-use Rattle.deck.proofs.ColumnLoops.{places_taken, stops_taken}
-use Rattle.deck.proofs.DeckLaws.{stops_length}
-use Rattle.job_line.specs.Kinds.{post, stop, row}
+use Rattle.deck.proofs.ClosestLaws.{zip_take, places_length}
+use Rattle.deck.proofs.DeckLaws.{place_of, stop_of, stops_length}
 use Rattle.job.specs.Format.{empty_area}
 use Rattle.job.specs.Spelling.{JobLine, post_line, stop_line}
 use Rattle.refusal.specs.declared.Refusal.{Refusal}
 use Rattle.refusal.specs.declared.Refusal.TheVariants.{EmptyArea, NoPosts, NoStops}
-use Rattle.job_check.specs.LineFaults.{numbers_fault, line_fault, or_else, first_fault, parts_fault}
+use Rattle.job_check.specs.LineFaults.{line_fault, or_else, first_fault, parts_fault}
 
 -- ---- lines
 pub fault_none : (n : ℕ) → first_fault n [] ≡ none
@@ -76,88 +72,53 @@ module _ {first : ℕ} {lines : List JobLine} {i : ℕ} (passed : Passed first l
   line_refused : {why : Refusal} → found ≡ some why → some why ≡ first_fault first lines
   line_refused refused = sym (here ∙ rw refused)
 
+-- a loop over items, each of which has a line
+module _ {A : Type 0} (line_of : A → JobLine) (xs : List A) {first i : ℕ} (passed : Passed first (map line_of xs) i) where
+  pub items_passed : i ≡ length xs → none ≡ first_fault first (map line_of xs)
+  items_passed h = all_passed passed (omega (arith, length-map xs line_of))
+
+  -- item i, as the code read it
+  module _ (d : A) (h : i < length xs) {x : A} (at : x ≡ get_or xs i d) {line : ℕ} (l : line ≡ first + i) {found : Option Refusal}
+      (e : found ≡ line_fault line (line_of x)) where
+    item_fault : found ≡ line_fault (first + i) (get_or (map line_of xs) i (line_of d))
+    item_fault = e ∙ rw (l, at, get_or-map line_of xs i d)
+
+    pub item_passed : {j : ℕ} → j ≡ i + 1 → found ≡ none → Passed first (map line_of xs) j
+    item_passed k fine = rw k (line_passed passed (omega (arith, length-map xs line_of)) (line_of d) item_fault fine)
+
+    pub item_refused : {why : Refusal} → found ≡ some why → some why ≡ first_fault first (map line_of xs)
+    item_refused = line_refused passed (omega (arith, length-map xs line_of)) (line_of d) item_fault
+
 -- ---- the lines of the first n posts
 abbrev pub post_lines : List ℤ → List ℤ → ℕ → List JobLine
 post_lines xs ys n = map post_line (take n (places xs ys))
 
-module _ (xs ys : List ℤ) (n : ℕ) (hx : n ≤ length xs) (hy : n ≤ length ys) where
-  pub posts_count : length (post_lines xs ys n) ≡ n
-  posts_count = omega (arith, length-map (take n (places xs ys)) post_line, length-take n (places xs ys), places_length xs ys)
+module _ (xs ys : List ℤ) (n : ℕ) where
+  pub posts_count : n ≤ length xs → n ≤ length ys → length (post_lines xs ys n) ≡ n
+  posts_count hx hy = omega (arith, length-map (take n (places xs ys)) post_line, length-take n (places xs ys), places_length xs ys)
 
--- those of all posts, of which a loop has come to one
-module _ (xs ys : List ℤ) {first i : ℕ} (passed : Passed first (post_lines xs ys (length xs)) i) where
-  post_count : length (post_lines xs ys (length xs)) ≡ length (places xs ys)
-  post_count = omega (arith, length-map (take (length xs) (places xs ys)) post_line, length-take (length xs) (places xs ys), places_length xs ys)
-
-  pub all_posts_passed : i ≡ length (places xs ys) → none ≡ first_fault first (post_lines xs ys (length xs))
-  all_posts_passed h = all_passed passed (omega (arith, post_count))
-
-  module _ (d : Place) (h : i < length (places xs ys)) {p : Place} (at : p ≡ get_or (places xs ys) i d) {line : ℕ} (l : line ≡ first + i)
-      {found : Option Refusal} (e : found ≡ numbers_fault (row post).ranges line (p.x ∷ p.y ∷ [])) where
-    post_fault : found ≡ line_fault (first + i) (get_or (post_lines xs ys (length xs)) i (post_line d))
-    post_fault = e ∙ rw (l, get_or-map post_line (take (length xs) (places xs ys)) i d, get_or-take (length xs) (places xs ys) i d within)
-        (ap (λ (q : Place). line_fault (first + i) (post_line q)) at)
-      where
-        within : i < length xs
-        within = omega (arith, places_length xs ys)
-
-    pub post_passed : {j : ℕ} → j ≡ i + 1 → found ≡ none → Passed first (post_lines xs ys (length xs)) j
-    post_passed k fine = rw k (line_passed passed (omega (arith, post_count)) (post_line d) post_fault fine)
-
-    pub post_refused : {why : Refusal} → found ≡ some why → some why ≡ first_fault first (post_lines xs ys (length xs))
-    post_refused = line_refused passed (omega (arith, post_count)) (post_line d) post_fault
+  -- in columns of them alone
+  pub posts_given : {us vs : List ℤ} → us ≡ take n xs → vs ≡ take n ys → map post_line (places us vs) ≡ post_lines xs ys n
+  unfolding places
+  posts_given e f = ap₂ (λ (us vs : List ℤ). map post_line (places us vs)) e f ∙ ap (map post_line) (sym (zip_take _ n xs ys))
 
 -- ---- the lines of the first n stops
 abbrev pub stop_lines : List ℤ → List ℤ → List ℕ → ℕ → List JobLine
 stop_lines xs ys vs n = map stop_line (take n (stops_of (places xs ys) vs))
 
-module _ (xs ys : List ℤ) (vs : List ℕ) (n : ℕ) (hx : n ≤ length xs) (hy : n ≤ length ys) (hv : n ≤ length vs) where
-  pub stops_count : length (stop_lines xs ys vs n) ≡ n
-  stops_count = omega (
+module _ (xs ys : List ℤ) (vs : List ℕ) (n : ℕ) where
+  pub stops_count : n ≤ length xs → n ≤ length ys → n ≤ length vs → length (stop_lines xs ys vs n) ≡ n
+  stops_count hx hy hv = omega (
     arith,
     length-map (take n (stops_of (places xs ys) vs)) stop_line,
     length-take n (stops_of (places xs ys) vs),
     stops_length xs ys vs,
   )
 
--- those of all stops
-module _ (xs ys : List ℤ) (vs : List ℕ) {first i : ℕ} (passed : Passed first (stop_lines xs ys vs (length xs)) i) where
-  stop_count : length (stop_lines xs ys vs (length xs)) ≡ length (stops_of (places xs ys) vs)
-  stop_count = omega (
-    arith,
-    length-map (take (length xs) (stops_of (places xs ys) vs)) stop_line,
-    length-take (length xs) (stops_of (places xs ys) vs),
-    stops_length xs ys vs,
-  )
-
-  pub all_stops_passed : i ≡ length (stops_of (places xs ys) vs) → none ≡ first_fault first (stop_lines xs ys vs (length xs))
-  all_stops_passed h = all_passed passed (omega (arith, stop_count))
-
-  module _ (d : Stop) (h : i < length (stops_of (places xs ys) vs)) {s : Stop} (at : s ≡ get_or (stops_of (places xs ys) vs) i d) {line : ℕ}
-      (l : line ≡ first + i) {found : Option Refusal} (e : found ≡ numbers_fault (row stop).ranges line (s.at.x ∷ s.at.y ∷ pos s.visits ∷ [])) where
-    stop_fault : found ≡ line_fault (first + i) (get_or (stop_lines xs ys vs (length xs)) i (stop_line d))
-    stop_fault = e ∙ rw (
-      l,
-      get_or-map stop_line (take (length xs) (stops_of (places xs ys) vs)) i d,
-      get_or-take (length xs) (stops_of (places xs ys) vs) i d within,
-    ) (ap (λ (q : Stop). line_fault (first + i) (stop_line q)) at)
-      where
-        within : i < length xs
-        within = omega (arith, stops_length xs ys vs)
-
-    pub stop_passed : {j : ℕ} → j ≡ i + 1 → found ≡ none → Passed first (stop_lines xs ys vs (length xs)) j
-    stop_passed k fine = rw k (line_passed passed (omega (arith, stop_count)) (stop_line d) stop_fault fine)
-
-    pub stop_refused : {why : Refusal} → found ≡ some why → some why ≡ first_fault first (stop_lines xs ys vs (length xs))
-    stop_refused = line_refused passed (omega (arith, stop_count)) (stop_line d) stop_fault
-
--- ---- the lines of columns that are given only as far as they count
-pub posts_given : (n : ℕ) (xs ys : List ℤ) → n ≤ length xs → post_lines (take n xs) (take n ys) (length (take n xs)) ≡ post_lines xs ys n
-posts_given n xs ys h = rw (length-take-le n xs h) (ap (map post_line) (places_taken n xs ys))
-
-pub stops_given : (n : ℕ) (xs ys : List ℤ) (vs : List ℕ) → n ≤ length xs →
-    stop_lines (take n xs) (take n ys) (take n vs) (length (take n xs)) ≡ stop_lines xs ys vs n
-stops_given n xs ys vs h = rw (length-take-le n xs h) (ap (map stop_line) (stops_taken n xs ys vs))
+  pub stops_given : {us ws : List ℤ} {ms : List ℕ} → us ≡ take n xs → ws ≡ take n ys → ms ≡ take n vs →
+      map stop_line (stops_of (places us ws) ms) ≡ stop_lines xs ys vs n
+  unfolding places stops_of
+  stops_given e f g = ap (map stop_line) (rw (e, f, g, zip_take stop_of n (places xs ys) vs, zip_take place_of n xs ys))
 
 -- ---- the area and the counts, once every line is read
 module _ (r : Rect) (p s : ℕ) {empty : Bool} (e : empty ≡ empty_area r) where

@@ -11,7 +11,7 @@ ghost use Rattle.job.specs.File.{writes_axis, file_text};
 ghost use Rattle.job_check.specs.LineFaults.{short, all_short, tested_fault, numbers_fault, first_fault};
 ghost use Rattle.job_check.specs.LineFaults.{parts_fault, refusal_in, checked_as};
 
-use deck::{AxisCosts, Deck, Place, Rect, Stop};
+use deck::{AxisCosts, Deck, Place, Places, Rect, Stop, Stops};
 use limits::{MOST_ROUNDS, POSTS, STOPS};
 use refusal::Refusal;
 
@@ -103,13 +103,13 @@ fn stop_line(s: Stop, line: u64) -> Result<(), Refusal>
 // ---- many lines
 
 // The lines of posts, from line `first` on.
-fn post_lines(xs: &[i64], ys: &[i64], first: u64) -> Result<(), Refusal>
-    requires { (length xs.now ≤ 512) × (first ≤ 1000) }
-    ensures { checked_as result ≡ first_fault first (map post_line (take (length xs.now) (places xs.now ys.now))) }
+fn post_lines(posts: Places<'_>, first: u64) -> Result<(), Refusal>
+    requires { (length posts.x.now ≤ 512) × (first ≤ 1000) }
+    ensures { checked_as result ≡ first_fault first (map post_line (places posts.entry.x.now posts.entry.y.now)) }
 {
     // kept: the number of the line goes on from the lines before, so an index by `enumerate` would be added to it in each turn
     let mut line = first;
-    for (x, y) in xs.iter().zip(ys) {
+    for (x, y) in posts.x.iter().zip(posts.y) {
         post_line(Place { x: *x, y: *y }, line)?;
         line += 1;
     }
@@ -117,14 +117,14 @@ fn post_lines(xs: &[i64], ys: &[i64], first: u64) -> Result<(), Refusal>
 }
 
 // The lines of stops, from line `first` on.
-fn stop_lines(xs: &[i64], ys: &[i64], visits: &[u64], first: u64) -> Result<(), Refusal>
-    requires { (length xs.now ≤ 512) × (first ≤ 1000) }
-    ensures { checked_as result
-        ≡ first_fault first (map stop_line (take (length xs.now) (stops_of (places xs.now ys.now) visits.now))) }
+fn stop_lines(stops: Stops<'_>, first: u64) -> Result<(), Refusal>
+    requires { (length stops.at.x.now ≤ 512) × (first ≤ 1000) }
+    ensures { checked_as result ≡ first_fault first
+        (map stop_line (stops_of (places stops.entry.at.x.now stops.entry.at.y.now) stops.entry.visits.now)) }
 {
     // kept: the number of the line, as in `post_lines`
     let mut line = first;
-    for ((x, y), v) in xs.iter().zip(ys).zip(visits) {
+    for ((x, y), v) in stops.at.x.iter().zip(stops.at.y).zip(stops.visits) {
         let stop = Stop {
             at: Place { x: *x, y: *y },
             visits: *v,
@@ -136,23 +136,23 @@ fn stop_lines(xs: &[i64], ys: &[i64], visits: &[u64], first: u64) -> Result<(), 
 }
 
 // The line `posts=n`, which is line `line`, and the lines of the posts.
-fn all_posts(xs: &[i64], ys: &[i64], n: usize, line: u64) -> Result<(), Refusal>
-    requires { (64 ≤ length xs.now) × (64 ≤ length ys.now) × (line ≤ 900) }
-    ensures { checked_as result
-        ≡ first_fault line (count_line posts n ∷ map post_line (take n (places xs.now ys.now))) }
+fn all_posts(deck: &Deck, line: u64) -> Result<(), Refusal>
+    requires { line ≤ 900 }
+    ensures { checked_as result ≡ first_fault line
+        (count_line posts deck.now.posts ∷ map post_line (take deck.now.posts (places deck.now.post_x deck.now.post_y))) }
 {
-    count_line(n as u64, POSTS, line)?;
-    post_lines(&xs[..n], &ys[..n], line + 1)
+    count_line(deck.posts as u64, POSTS, line)?;
+    post_lines(deck.post_places(), line + 1)
 }
 
 // The line `stops=n`, which is line `line`, and the lines of the stops.
-fn all_stops(xs: &[i64], ys: &[i64], visits: &[u64], n: usize, line: u64) -> Result<(), Refusal>
-    requires { (512 ≤ length xs.now) × (512 ≤ length ys.now) × (512 ≤ length visits.now) × (line ≤ 900) }
-    ensures { checked_as result ≡ first_fault line
-        (count_line stops n ∷ map stop_line (take n (stops_of (places xs.now ys.now) visits.now))) }
+fn all_stops(deck: &Deck, line: u64) -> Result<(), Refusal>
+    requires { line ≤ 900 }
+    ensures { checked_as result ≡ first_fault line (count_line stops deck.now.stops
+        ∷ map stop_line (take deck.now.stops (stops_of (places deck.now.stop_x deck.now.stop_y) deck.now.visits))) }
 {
-    count_line(n as u64, STOPS, line)?;
-    stop_lines(&xs[..n], &ys[..n], &visits[..n], line + 1)
+    count_line(deck.stops as u64, STOPS, line)?;
+    stop_lines(deck.stop_columns(), line + 1)
 }
 
 // ---- the file
@@ -184,19 +184,14 @@ fn missing_part(a: Rect, posts: usize, stops: usize) -> Result<(), Refusal>
 pub fn check(deck: &Deck, rounds: u64) -> Result<(), Refusal>
     ensures { checked_as result ≡ refusal_in (read_text (file_text deck.now rounds)) }
 {
-    let area = Rect {
-        xlo: deck.xlo,
-        ylo: deck.ylo,
-        xhi: deck.xhi,
-        yhi: deck.yhi,
-    };
+    let area = deck.area();
     area_line(area)?;
     // costs of 1 and 1, which have no line, have no fault either
     axis_line(deck.axis)?;
     let first = posts_at(deck.axis);
-    all_posts(&deck.post_x, &deck.post_y, deck.posts, first)?;
+    all_posts(deck, first)?;
     let line = first + 1 + deck.posts as u64;
-    all_stops(&deck.stop_x, &deck.stop_y, &deck.visits, deck.stops, line)?;
+    all_stops(deck, line)?;
     count_line(rounds, MOST_ROUNDS, line + 1 + deck.stops as u64)?;
     missing_part(area, deck.posts, deck.stops)
 }

@@ -6,26 +6,27 @@ use native.Mathlib.Omega.{arith}
 use borrow.Author.Rules.{rules}
 use Rattle.deck.specs.DeckOf.{Sized, held_axis}
 use Rattle.deck.specs.declared.Deck.{Deck}
+use Rattle.deck.specs.declared.Rect.{Rect}
 use Rattle.job_line.specs.Kinds.{area, axis, row}
-use Rattle.job_line.specs.Reading.{cost_numbers}
+use Rattle.job_line.specs.Reading.{area_numbers, cost_numbers}
 use Rattle.job.specs.File.{writes_axis}
 use Rattle.refusal.specs.declared.Refusal.{Refusal}
 use Rattle.job_check.specs.LineFaults.{first_fault, numbers_fault, or_else, checked_as}
 use Rattle.job_check.proofs.AxisLaws.{third_line}
 use Rattle.job_check.proofs.FileFaults.{file_fault}
-use Rattle.job_check.proofs.CheckLaws.{AreaFits, back_numbers, behind_area, behind_axis, behind_posts, behind_stops, posts_most, stops_most}
+use Rattle.job_check.proofs.CheckLaws.{area_held, behind_area, behind_axis, behind_posts, behind_stops, posts_most, stops_most}
 use Rattle.job_check.proofs.CheckLaws.{Left, part_fine, part_refused, all_left, post_part, posts_at, posts_behind, stop_part, stops_behind, rounds_behind}
 use Rattle.job_check.proofs.CheckLaws.{parts_answer}
 use Rattle.job_check.proofs.ShortLaws.{passed_on}
 use Rattle.job_check.proofs.check.Goals as goal
 
 -- ---- what is left of the refusal, part after part
-module _ {deck : Deck} {n : ℕ} (sized : Sized deck) (fits : AreaFits deck) where
-  left : Left deck n (or_else (numbers_fault (row area).ranges 1 (back_numbers deck)) (behind_area deck n))
-  left = all_left _ _ fits (file_fault _ _ sized)
+module _ {deck : Deck} {n : ℕ} (sized : Sized deck) {r : Rect} (area_is : r ≡ area_held deck) where
+  left : Left deck n (or_else (numbers_fault (row area).ranges 1 (area_numbers r)) (behind_area deck n))
+  left = all_left _ area_is (file_fault _ _ sized)
 
   -- behind the area
-  module _ {a : Option Refusal} (a_is : a ≡ numbers_fault (row area).ranges 1 (back_numbers deck)) (a_fine : a ≡ none) where
+  module _ {a : Option Refusal} (a_is : a ≡ numbers_fault (row area).ranges 1 (area_numbers r)) (a_fine : a ≡ none) where
     left-area : Left deck n (behind_area deck n)
     left-area = part_fine _ left a_is a_fine
 
@@ -56,26 +57,24 @@ pub returns-in_err-area_line : goal.returns-in_err-area_line
 returns-in_err-area_line c =
     let s : Sized c.args.deck.now = record
     { post_x = search rules; post_y = search rules; stop_x = search rules; stop_y = search rules; visits = search rules } in
-    let f : AreaFits c.args.deck.now = record { xlo = search rules; ylo = search rules; xhi = search rules; yhi = search rules } in
     passed_on _ c.from_residual.ensures.1
-    ∙ part_refused _ (left s f) c.area_line.ensures (ap checked_as c.in_err-area_line.was)
+    ∙ part_refused _ (left s c.area-area.ensures) c.area_line.ensures (ap checked_as c.in_err-area_line.was)
 
 pub returns-in_err-axis_line : goal.returns-in_err-axis_line
 returns-in_err-axis_line c =
     let s : Sized c.args.deck.now = record
     { post_x = search rules; post_y = search rules; stop_x = search rules; stop_y = search rules; visits = search rules } in
-    let f : AreaFits c.args.deck.now = record { xlo = search rules; ylo = search rules; xhi = search rules; yhi = search rules } in
     passed_on _ c.from_residual-in_err-axis_line.ensures.1
-    ∙ part_refused _ (left-area s f c.area_line.ensures (ap checked_as c.in_ok-area_line.was)) c.axis_line.ensures (ap checked_as c.in_err-axis_line.was)
+    ∙ part_refused _ (left-area s c.area-area.ensures c.area_line.ensures (ap checked_as c.in_ok-area_line.was)) c.axis_line.ensures
+    (ap checked_as c.in_err-axis_line.was)
 
 pub returns-in_err-all_posts : goal.returns-in_err-all_posts
 returns-in_err-all_posts c =
     let s : Sized c.args.deck.now = record
     { post_x = search rules; post_y = search rules; stop_x = search rules; stop_y = search rules; visits = search rules } in
-    let f : AreaFits c.args.deck.now = record { xlo = search rules; ylo = search rules; xhi = search rules; yhi = search rules } in
     passed_on _ c.from_residual-in_err-all_posts.ensures.1
-    ∙ part_refused _ (left-axis s f c.area_line.ensures (ap checked_as c.in_ok-area_line.was) c.axis_line.ensures (ap checked_as c.in_ok-axis_line.was)
-    c.posts_at-first.ensures) c.all_posts.ensures (ap checked_as c.in_err-all_posts.was)
+    ∙ part_refused _ (left-axis s c.area-area.ensures c.area_line.ensures (ap checked_as c.in_ok-area_line.was) c.axis_line.ensures
+    (ap checked_as c.in_ok-axis_line.was) c.posts_at-first.ensures) c.all_posts.ensures (ap checked_as c.in_err-all_posts.was)
 
 pub overflow_add-line-2 : goal.overflow_add-line-2
 overflow_add-line-2 c =
@@ -84,19 +83,16 @@ overflow_add-line-2 c =
 
 pub all_stops-requires : goal.all_stops-requires
 all_stops-requires c =
-    let s : Sized c.args.deck.now = record
-    { post_x = search rules; post_y = search rules; stop_x = search rules; stop_y = search rules; visits = search rules } in
     let few : c.args.deck.now.posts ≤ 64 = posts_most c.args.deck.now _ c.all_posts.ensures (ap checked_as c.in_ok-all_posts.was) in
-    (omega (arith, s.stop_x), omega (arith, s.stop_y), omega (arith, s.visits), omega (arith, line_few c.args.deck.now c.posts_at-first.ensures few))
+    omega (arith, line_few c.args.deck.now c.posts_at-first.ensures few)
 
 pub returns-in_err-all_stops : goal.returns-in_err-all_stops
 returns-in_err-all_stops c =
     let s : Sized c.args.deck.now = record
     { post_x = search rules; post_y = search rules; stop_x = search rules; stop_y = search rules; visits = search rules } in
-    let f : AreaFits c.args.deck.now = record { xlo = search rules; ylo = search rules; xhi = search rules; yhi = search rules } in
     passed_on _ c.from_residual-in_err-all_stops.ensures.1
-    ∙ part_refused _ (left-posts s f c.area_line.ensures (ap checked_as c.in_ok-area_line.was) c.axis_line.ensures (ap checked_as c.in_ok-axis_line.was)
-    c.posts_at-first.ensures
+    ∙ part_refused _ (left-posts s c.area-area.ensures c.area_line.ensures (ap checked_as c.in_ok-area_line.was) c.axis_line.ensures
+    (ap checked_as c.in_ok-axis_line.was) c.posts_at-first.ensures
     c.all_posts.ensures (ap checked_as c.in_ok-all_posts.was)) c.all_stops.ensures (ap checked_as c.in_err-all_stops.was)
 
 pub overflow_add-line-3 : goal.overflow_add-line-3
@@ -114,10 +110,9 @@ pub returns-in_err-count_line : goal.returns-in_err-count_line
 returns-in_err-count_line c =
     let s : Sized c.args.deck.now = record
     { post_x = search rules; post_y = search rules; stop_x = search rules; stop_y = search rules; visits = search rules } in
-    let f : AreaFits c.args.deck.now = record { xlo = search rules; ylo = search rules; xhi = search rules; yhi = search rules } in
     passed_on _ c.from_residual-in_err-count_line.ensures.1
-    ∙ part_refused _ (left-stops s f c.area_line.ensures (ap checked_as c.in_ok-area_line.was) c.axis_line.ensures (ap checked_as c.in_ok-axis_line.was)
-    c.posts_at-first.ensures
+    ∙ part_refused _ (left-stops s c.area-area.ensures c.area_line.ensures (ap checked_as c.in_ok-area_line.was) c.axis_line.ensures
+    (ap checked_as c.in_ok-axis_line.was) c.posts_at-first.ensures
     c.all_posts.ensures (ap checked_as c.in_ok-all_posts.was) c.all_stops.ensures (ap checked_as c.in_ok-all_stops.was)) c.count_line.ensures
     (ap checked_as c.in_err-count_line.was)
 
@@ -125,10 +120,8 @@ pub returns : goal.returns
 returns c =
     let s : Sized c.args.deck.now = record
     { post_x = search rules; post_y = search rules; stop_x = search rules; stop_y = search rules; visits = search rules } in
-    let f : AreaFits c.args.deck.now = record { xlo = search rules; ylo = search rules; xhi = search rules; yhi = search rules } in
-    parts_answer f (part_fine _ (left-stops s f c.area_line.ensures (ap checked_as c.in_ok-area_line.was) c.axis_line.ensures
-    (ap checked_as c.in_ok-axis_line.was)
-    c.posts_at-first.ensures
+    parts_answer c.area-area.ensures (part_fine _ (left-stops s c.area-area.ensures c.area_line.ensures (ap checked_as c.in_ok-area_line.was)
+    c.axis_line.ensures (ap checked_as c.in_ok-axis_line.was) c.posts_at-first.ensures
     c.all_posts.ensures (ap checked_as c.in_ok-all_posts.was) c.all_stops.ensures (ap checked_as c.in_ok-all_stops.was)) c.count_line.ensures
     (ap checked_as c.in_ok-count_line.was))
     c.missing_part.ensures
