@@ -1,7 +1,7 @@
 -- The forms of a line at the start of a text, and a line by its form and its ranges.
 -- Assumes nothing.
-use mathlib.Core.Path.{◌≡◌, refl, sym, ap, ◌∙◌}
-use mathlib.Core.Bool.{Bool, true, false, cond, ◌&&◌}
+use mathlib.Core.Path.{◌≡◌, refl, sym, ap, subst, ◌∙◌}
+use mathlib.Core.Bool.{Bool, true, false, cond, ◌&&◌, true≢false}
 use mathlib.Core.List.{List, [], ◌∷◌, ◌++◌}
 use mathlib.Core.Option.{Option, none, some, bind}
 use Prim.Native.Nat.{ℕ, ◌+◌, ◌<◌, ◌^◌}
@@ -13,8 +13,10 @@ use lib.Signed.{lt_z, non_neg, pos-nat_abs}
 use mir.Syntax.{w64}
 use mir.Val.{Fits, SFits}
 use Rattle.std.specs.Prelude as Std
-use Rattle.std.specs.Prelude.{Some, None, Result, Ok, Err, IsErrAnd}
+use Rattle.std.specs.Prelude.{Some, None, IfSome, Result, Ok, Err, IsErrAnd}
 use Rattle.std.specs.Borrow.{Bor}
+use Rattle.std.specs.Option.{ok_or}
+use Rattle.std.specs.Result.{result_ok, is_ok}
 use Rattle.text.specs.Ascii.{newline}
 use Rattle.text.specs.Numeral.{number}
 use Rattle.text.specs.TextReading.{starts_with, behind}
@@ -27,6 +29,22 @@ use Rattle.refusal.specs.declared.Refusal.{Refusal}
 use Rattle.refusal.specs.declared.Refusal.TheVariants.{Malformed, OutOfRange}
 use Rattle.job_line.proofs.RangeTests.{natural}
 use Rattle.numbers.proofs.WordTests.{back, back_is}
+
+-- ---- an option as a result
+pub ok_or_some : {A E : Type 0} (o : Std.Option A) (e : E) {a : A} → ok_or o e ≡ Ok a → o ≡ Some a
+ok_or_some (Some x) e h = ap result_ok h
+ok_or_some None e h = absurd (true≢false (sym (ap is_ok h)))
+
+pub ok_or_none : {A E : Type 0} (o : Std.Option A) {e w : E} → ok_or o e ≡ Err w → (o ≡ None) × (w ≡ e)
+ok_or_none (Some x) h = absurd (true≢false (ap is_ok h))
+ok_or_none {E = E} None {w = w} h = (refl, sym (ap (err_or w) h))
+  where
+    err_or : {A : Type 0} → E → Result A E → E
+    err_or d (Ok a) = d
+    err_or d (Err e) = e
+
+pub if_some : {A : Type 0} (P : A → Type 0) {o : Std.Option A} {a : A} → o ≡ Some a → IfSome o P → P a
+if_some {A} P e h = subst (λ (o : Std.Option A). IfSome o P) e h
 
 -- ---- bytes and keys
 abbrev found : Std.Option (List ℕ) → Option (Unit {0} × List ℕ)
@@ -57,8 +75,10 @@ module _ (name : List ℕ) (unread : Unread) where
   pub key_found : {rest : Bor (List ℕ)} → Some rest.now ≡ behind name unread.text.now → KeyAt name unread (Ok (record { text = rest; line = unread.line }))
   key_found e = record { is = ap found e ∙ sym (key_behind name unread.text.now); in_line = refl }
 
-  pub key_missing : None ≡ behind name unread.text.now → KeyAt name unread (Err (Malformed unread.line))
-  key_missing e = record { is = ap found e ∙ sym (key_behind name unread.text.now); in_line = refl }
+  pub key_missing : None ≡ behind name unread.text.now → {why : Refusal} → why ≡ Malformed unread.line →
+      (r : Result Unread Refusal) → IsErrAnd r (λ e. e ≡ why) → KeyAt name unread r
+  key_missing e f (Ok left) h = absurd h
+  key_missing e f (Err why) h = record { is = ap found e ∙ sym (key_behind name unread.text.now); in_line = h ∙ f }
 
 -- ---- fields
 -- a number of at most nine digits fits 64 bits
@@ -74,14 +94,18 @@ abbrev number_then : ℤ → List ℕ → Option (ℤ × List ℕ)
 number_then z rest = some (z, rest)
 
 module _ (end : ℕ) (unread : Unread) where
-  pub field_none : none ≡ number unread.text.now → FieldAt end unread (Err (Malformed unread.line))
-  unfolding bind
-  field_none e = record { is = rw (field_is, ← e); nine_digits = tt; in_line = refl }
+  module _ {why : Refusal} (f : why ≡ Malformed unread.line) where
+    pub field_none : none ≡ number unread.text.now → (r : Result (ℤ × Unread) Refusal) → IsErrAnd r (λ e. e ≡ why) → FieldAt end unread r
+    unfolding bind
+    field_none e (Ok a) h = absurd h
+    field_none e (Err why) h = record { is = rw (field_is, ← e); nine_digits = tt; in_line = h ∙ f }
 
   module _ (z : ℤ) (rest : List ℕ) (is_number : number_then z rest ≡ number unread.text.now) where
-    pub field_off : None ≡ behind (end ∷ []) rest → FieldAt end unread (Err (Malformed unread.line))
+    pub field_off : None ≡ behind (end ∷ []) rest → {why : Refusal} → why ≡ Malformed unread.line →
+        (r : Result (ℤ × Unread) Refusal) → IsErrAnd r (λ e. e ≡ why) → FieldAt end unread r
     unfolding bind
-    field_off e = record { is = rw (field_is, ← is_number, byte_behind end rest, ← e); nine_digits = tt; in_line = refl }
+    field_off e f (Ok a) h = absurd h
+    field_off e f (Err why) h = record { is = rw (field_is, ← is_number, byte_behind end rest, ← e); nine_digits = tt; in_line = h ∙ f }
 
     pub field_on : nat_abs z < 10 ^ 9 → {left : Bor (List ℕ)} → Some left.now ≡ behind (end ∷ []) rest →
         FieldAt end unread (Ok (back z, record { text = left; line = unread.line }))

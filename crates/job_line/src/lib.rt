@@ -70,9 +70,7 @@ fn after<'a>(unread: Unread<'a>, key: &[u8]) -> Result<Unread<'a>, Refusal>
     ensures { KeyAt key.now unread.entry result }
 {
     let line = unread.line;
-    let Some(text) = text::after_key(unread.text, key) else {
-        return Err(Refusal::Malformed(line));
-    };
+    let text = text::after_key(unread.text, key).ok_or(Refusal::Malformed(line))?;
     Ok(Unread { text, line })
 }
 
@@ -81,12 +79,8 @@ fn field(unread: Unread<'_>, end: u8) -> Result<(i64, Unread<'_>), Refusal>
     ensures { FieldAt end unread.entry result }
 {
     let line = unread.line;
-    let Some((z, behind)) = text::number(unread.text) else {
-        return Err(Refusal::Malformed(line));
-    };
-    let Some(text) = text::after_byte(behind, end) else {
-        return Err(Refusal::Malformed(line));
-    };
+    let (z, behind) = text::number(unread.text).ok_or(Refusal::Malformed(line))?;
+    let text = text::after_byte(behind, end).ok_or(Refusal::Malformed(line))?;
     Ok((z, Unread { text, line }))
 }
 
