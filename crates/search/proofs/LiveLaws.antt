@@ -33,14 +33,14 @@ use Rattle.cells.proofs.SpaceLaws.{keep_insert_in, keep_insert_out, keep_agree, 
 module _ (G : Grid) (best : Priced) (e : Entry) (l : Live) where
   pub added_none : (r : Bool) → r ≡ is_live G best (entry_cell e) → r ≡ false → Added G best e l l
   unfolding with_live
-  added_none r f g = let dead : is_live G best (entry_cell e) ≡ false = sym f ∙ g in record { by_one = omega arith; entries_are = rw dead }
+  added_none r f g = let dead : is_live G best (entry_cell e) ≡ false = sym f ∙ g in record { down = omega arith; by_one = omega arith; entries_are = rw dead }
 
   pub added_one : (r : Bool) → r ≡ is_live G best (entry_cell e) → r ≡ true → (l' : Live) → l' ≡ with_entry e l → Added G best e l l'
   unfolding with_live with_entry
   added_one r f g l' q =
       let live : is_live G best (entry_cell e) ≡ true = sym f ∙ g in
       let free : l'.free ≡ l.free - 1 = ap (λ (x : Live). x.free) q in
-      record { by_one = omega arith; entries_are = ap (λ (x : Live). x.entries) q ∙ sym (rw live) }
+      record { down = omega arith; by_one = omega arith; entries_are = ap (λ (x : Live). x.entries) q ∙ sym (rw live) }
 
 and_right : (b : Bool) → b ≡ b && true
 and_right true = refl

@@ -29,6 +29,7 @@ pub record Addable (l : Live) (e : Entry) (best : Spot) : Type 0 where
 
 -- the live entries after are those before and e, if it is live; at most one slot more is taken
 pub record Added (G : Grid) (best : Priced) (e : Entry) (l l' : Live) : Type 0 where
+  pub down : l'.free ≤ l.free
   pub by_one : l.free ≤ l'.free + 1
   pub entries_are : l'.entries ≡ with_live G best e l.entries
 
