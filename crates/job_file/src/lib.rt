@@ -98,7 +98,8 @@ fn put_number<T: Decimal>(w: &mut Writer, n: T, end: u8)
     w.put_byte(end);
 }
 
-// Two numbers, with a comma behind the first.
+// Two numbers, with a comma behind the first. Always inlined, without which writing takes longer.
+#[inline(always)]
 fn put_place(w: &mut Writer, p: Place, end: u8)
     requires { HasRoom w.old (length (place_text p.x p.y end)) }
     ensures { Wrote w.old (place_text p.x p.y end) w.new }

@@ -100,7 +100,7 @@ wrote_part {part} w bs h e =
     record { same_slice = refl; size = ap length text ∙ length_written w.out.now w.at bs h; next = refl; text = text }
 
 -- a byte stored at the place
-wrote_store : (w : Writer) (b : ℕ) → HasRoom w 1 → Wrote w (b ∷ []) (record { out = set_vals (set w.out.now w.at b) w.out; at = w.at + 1 })
+pub wrote_store : (w : Writer) (b : ℕ) → HasRoom w 1 → Wrote w (b ∷ []) (record { out = set_vals (set w.out.now w.at b) w.out; at = w.at + 1 })
 wrote_store w b h = record { same_slice = refl; size = length-set w.out.now w.at b; next = refl; text = sym (written_one w.out.now w.at b (omega arith)) }
 
 -- a turn of a loop that copies s

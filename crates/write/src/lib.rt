@@ -43,7 +43,8 @@ impl<'a> Writer<'a> {
         requires { HasRoom self.old 1 }
         ensures { Wrote self.old (byte ∷ []) self.new }
     {
-        self.put(&[byte]);
+        self.out[self.at] = byte;
+        self.at += 1;
     }
 
     pub fn put_decimal<T: Decimal>(&mut self, n: T)
@@ -113,14 +114,11 @@ impl Decimal for i64 {
         self.unsigned_abs().text_len() + usize::from(self < 0)
     }
 
+    // The sign first: where there is none, the digits are put over it.
     fn put_text(self, out: &mut [u8]) {
-        let size = self.unsigned_abs();
-        if self < 0 {
-            out[0] = b'-';
-            size.put_text(&mut out[1..]);
-        } else {
-            size.put_text(out);
-        }
+        let sign = usize::from(self < 0);
+        out[0] = b'-';
+        self.unsigned_abs().put_text(&mut out[sign..]);
     }
 }
 
