@@ -198,9 +198,12 @@ module _ (xs ys : List ℤ) (vs : List ℕ) (d : Stop) {i : ℕ} {s : Stop} (h :
   stop_counted f g m k = rw k (omega (arith, f, g, m, line_counted stop_line stop_line_lem, length_stop s.at.x s.at.y s.visits))
 
 -- ---- the lines of the first n, where the columns are given only as far
-pub posts_front : (n : ℕ) (xs ys : List ℤ) → n ≤ length xs → post_texts (take n xs) (take n ys) (length (take n xs)) ≡ post_texts xs ys n
-posts_front n xs ys h = rw (length-take-le n xs h) (ap (λ (l : List Place). flat_map spell_line (map post_line l)) (places_taken n xs ys))
+pub posts_front : {ps qs : List ℤ} (n : ℕ) (xs ys : List ℤ) → n ≤ length xs → ps ≡ take n xs → qs ≡ take n ys →
+    post_texts ps qs (length ps) ≡ post_texts xs ys n
+posts_front n xs ys h e f =
+    rw (e, f, length-take-le n xs h) (ap (λ (l : List Place). flat_map spell_line (map post_line l)) (places_taken n xs ys))
 
-pub stops_front : (n : ℕ) (xs ys : List ℤ) (vs : List ℕ) → n ≤ length xs →
-    stop_texts (take n xs) (take n ys) (take n vs) (length (take n xs)) ≡ stop_texts xs ys vs n
-stops_front n xs ys vs h = rw (length-take-le n xs h) (ap (λ (l : List Stop). flat_map spell_line (map stop_line l)) (stops_taken n xs ys vs))
+pub stops_front : {ps qs : List ℤ} {us : List ℕ} (n : ℕ) (xs ys : List ℤ) (vs : List ℕ) → n ≤ length xs → ps ≡ take n xs → qs ≡ take n ys →
+    us ≡ take n vs → stop_texts ps qs us (length ps) ≡ stop_texts xs ys vs n
+stops_front n xs ys vs h e f g =
+    rw (e, f, g, length-take-le n xs h) (ap (λ (l : List Stop). flat_map spell_line (map stop_line l)) (stops_taken n xs ys vs))

@@ -9,7 +9,7 @@ ghost use Rattle.deck.specs.DeckOf.{held_axis};
 ghost use Rattle.job.specs.File.{file_text};
 ghost use Rattle.job_file.specs.Texts.{number_text, place_text, axis_text, post_text, stop_text, post_texts, stop_texts};
 
-use deck::{AxisCosts, Deck, Place, Stop};
+use deck::{AxisCosts, Deck, Place, Places, Stop, Stops};
 use write::{Decimal, Writer};
 
 // ---- lengths
@@ -35,26 +35,27 @@ fn axis_len(c: AxisCosts) -> usize
 }
 
 // The lines of posts.
-fn posts_len(xs: &[i64], ys: &[i64]) -> usize
-    requires { length xs.now ≤ 512 }
-    ensures value { result ≡ length (post_texts xs.now ys.now (length xs.now)) }
-    ensures upper_bound { result ≤ length xs.now * 49 }
+fn posts_len(posts: Places<'_>) -> usize
+    requires { length posts.x.now ≤ 512 }
+    ensures value { result ≡ length (post_texts posts.entry.x.now posts.entry.y.now (length posts.entry.x.now)) }
+    ensures upper_bound { result ≤ length posts.entry.x.now * 49 }
 {
     let mut len: usize = 0;
-    for (x, y) in xs.iter().zip(ys) {
+    for (x, y) in posts.x.iter().zip(posts.y) {
         len += 5 + place_len(Place { x: *x, y: *y });
     }
     len
 }
 
 // The lines of stops.
-fn stops_len(xs: &[i64], ys: &[i64], visits: &[u64]) -> usize
-    requires { length xs.now ≤ 512 }
-    ensures value { result ≡ length (stop_texts xs.now ys.now visits.now (length xs.now)) }
-    ensures upper_bound { result ≤ length xs.now * 70 }
+fn stops_len(stops: Stops<'_>) -> usize
+    requires { length stops.at.x.now ≤ 512 }
+    ensures value { result
+        ≡ length (stop_texts stops.entry.at.x.now stops.entry.at.y.now stops.entry.visits.now (length stops.entry.at.x.now)) }
+    ensures upper_bound { result ≤ length stops.entry.at.x.now * 70 }
 {
     let mut len: usize = 0;
-    for ((x, y), v) in xs.iter().zip(ys).zip(visits) {
+    for ((x, y), v) in stops.at.x.iter().zip(stops.at.y).zip(stops.visits) {
         len += 5 + place_len(Place { x: *x, y: *y }) + v.text_len() + 1;
     }
     len
@@ -65,12 +66,8 @@ pub fn file_len(deck: &Deck, rounds: u64) -> usize
     requires { (deck.now.posts ≤ 64) × (deck.now.stops ≤ 512) }
     ensures { result ≡ length (file_text deck.now rounds) }
 {
-    let posts = posts_len(&deck.post_x[..deck.posts], &deck.post_y[..deck.posts]);
-    let stops = stops_len(
-        &deck.stop_x[..deck.stops],
-        &deck.stop_y[..deck.stops],
-        &deck.visits[..deck.stops],
-    );
+    let posts = posts_len(deck.post_places());
+    let stops = stops_len(deck.stop_columns());
     let low = Place {
         x: deck.xlo,
         y: deck.ylo,
@@ -152,21 +149,22 @@ fn put_stop(w: &mut Writer, s: Stop)
 // ---- many lines
 
 // The lines of posts.
-fn put_posts(w: &mut Writer, xs: &[i64], ys: &[i64])
-    requires { HasRoom w.old (length (post_texts xs.now ys.now (length xs.now))) }
-    ensures { Wrote w.old (post_texts xs.now ys.now (length xs.now)) w.new }
+fn put_posts(w: &mut Writer, posts: Places<'_>)
+    requires { HasRoom w.old (length (post_texts posts.x.now posts.y.now (length posts.x.now))) }
+    ensures { Wrote w.old (post_texts posts.entry.x.now posts.entry.y.now (length posts.entry.x.now)) w.new }
 {
-    for (x, y) in xs.iter().zip(ys) {
+    for (x, y) in posts.x.iter().zip(posts.y) {
         put_post(w, Place { x: *x, y: *y });
     }
 }
 
 // The lines of stops.
-fn put_stops(w: &mut Writer, xs: &[i64], ys: &[i64], visits: &[u64])
-    requires { HasRoom w.old (length (stop_texts xs.now ys.now visits.now (length xs.now))) }
-    ensures { Wrote w.old (stop_texts xs.now ys.now visits.now (length xs.now)) w.new }
+fn put_stops(w: &mut Writer, stops: Stops<'_>)
+    requires { HasRoom w.old (length (stop_texts stops.at.x.now stops.at.y.now stops.visits.now (length stops.at.x.now))) }
+    ensures { Wrote w.old
+        (stop_texts stops.entry.at.x.now stops.entry.at.y.now stops.entry.visits.now (length stops.entry.at.x.now)) w.new }
 {
-    for ((x, y), v) in xs.iter().zip(ys).zip(visits) {
+    for ((x, y), v) in stops.at.x.iter().zip(stops.at.y).zip(stops.visits) {
         let at = Place { x: *x, y: *y };
         put_stop(w, Stop { at, visits: *v });
     }
@@ -193,19 +191,9 @@ pub fn put_file(deck: &Deck, rounds: u64, out: &mut [u8]) -> usize
     put_place(&mut w, high, b'\n');
     put_axis(&mut w, deck.axis);
     put_count(&mut w, b"posts=", deck.posts as u64);
-    put_posts(
-        &mut w,
-        &deck.post_x[..deck.posts],
-        &deck.post_y[..deck.posts],
-    );
+    put_posts(&mut w, deck.post_places());
     put_count(&mut w, b"stops=", deck.stops as u64);
-    let count = deck.stops;
-    put_stops(
-        &mut w,
-        &deck.stop_x[..count],
-        &deck.stop_y[..count],
-        &deck.visits[..count],
-    );
+    put_stops(&mut w, deck.stop_columns());
     put_count(&mut w, b"rounds=", rounds);
     w.len()
 }

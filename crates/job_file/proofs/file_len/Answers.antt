@@ -25,9 +25,10 @@ returns c =
       arith,
       length_file deck c.args.rounds,
       c.posts_len-posts.ensures.value,
-      ap length (posts_front deck.posts deck.post_x deck.post_y (search rules)),
+      ap length (posts_front deck.posts deck.post_x deck.post_y (search rules) c.post_places.ensures.x c.post_places.ensures.y),
       c.stops_len-stops.ensures.value,
-      ap length (stops_front deck.stops deck.stop_x deck.stop_y deck.visits (search rules)),
+      ap length (stops_front deck.stops deck.stop_x deck.stop_y deck.visits (search rules) c.stop_columns.ensures.x c.stop_columns.ensures.y
+          c.stop_columns.ensures.visits),
       back deck.xlo deck.ylo (search rules) (search rules) c.place_len.ensures.value,
       back deck.xhi deck.yhi (search rules) (search rules) c.place_len-2.ensures.value,
       c.axis_len-axis_line.ensures.value,

@@ -6,4 +6,4 @@ use Rattle.job_file.specs.Texts.{post_texts}
 use Rattle.job_file.proofs.posts_len.Given as goal
 
 abbrev pub invariant-loop-x : goal.invariant-loop-x
-invariant-loop-x l = (l.len ≡ length (post_texts l.xs l.ys (length l.yielded))) × (l.len ≤ length l.yielded * 49)
+invariant-loop-x l = (l.len ≡ length (post_texts l.posts.x.now l.posts.y.now (length l.yielded))) × (l.len ≤ length l.yielded * 49)

@@ -40,13 +40,6 @@ held : {deck : Deck} → SFits w64 deck.xlo → SFits w64 deck.ylo → SFits w64
     → deck.stops ≤ length deck.stop_x → Held deck
 held a b c d m n = record { xlo = a; ylo = b; xhi = c; yhi = d; posts = m; stops = n }
 
-abbrev front_posts : Deck → List ℕ
-front_posts deck = post_texts (take deck.posts deck.post_x) (take deck.posts deck.post_y) (length (take deck.posts deck.post_x))
-
-abbrev front_stops : Deck → List ℕ
-front_stops deck =
-    stop_texts (take deck.stops deck.stop_x) (take deck.stops deck.stop_y) (take deck.stops deck.visits) (length (take deck.stops deck.stop_x))
-
 -- ---- what is written behind each call
 module _ {deck : Deck} (n : ℕ) (f : Held deck) {w₀ w₁ : Writer} (v₁ : Wrote w₀ front₁ w₁) where
   module _ {w₂ : Writer} (v₂ : Wrote w₁ (place_text (to_z w64 (of_z w64 deck.xlo)) (to_z w64 (of_z w64 deck.ylo)) comma) w₂) where
@@ -65,17 +58,20 @@ module _ {deck : Deck} (n : ℕ) (f : Held deck) {w₀ w₁ : Writer} (v₁ : Wr
           wrote₅ : Wrote w₀ (front₅ deck) w₅
           wrote₅ = wrote_both wrote₄ v₅
 
-          module _ {w₆ : Writer} (v₆ : Wrote w₅ (front_posts deck) w₆) where
+          module _ {w₆ : Writer} {ps qs : List ℤ} (ep : ps ≡ take deck.posts deck.post_x) (eq : qs ≡ take deck.posts deck.post_y)
+              (v₆ : Wrote w₅ (post_texts ps qs (length ps)) w₆) where
             wrote₆ : Wrote w₀ (front₆ deck) w₆
-            wrote₆ = wrote_both wrote₅ (rw (posts_front deck.posts deck.post_x deck.post_y f.posts) at v₆)
+            wrote₆ = wrote_both wrote₅ (rw (posts_front deck.posts deck.post_x deck.post_y f.posts ep eq) at v₆)
 
             module _ {w₇ : Writer} (v₇ : Wrote w₆ (count_part (bytes "stops=") deck.stops) w₇) where
               wrote₇ : Wrote w₀ (front₇ deck) w₇
               wrote₇ = wrote_both wrote₆ v₇
 
-              module _ {w₈ : Writer} (v₈ : Wrote w₇ (front_stops deck) w₈) where
+              module _ {w₈ : Writer} {xs ys : List ℤ} {vs : List ℕ} (ex : xs ≡ take deck.stops deck.stop_x)
+                  (ey : ys ≡ take deck.stops deck.stop_y) (ev : vs ≡ take deck.stops deck.visits)
+                  (v₈ : Wrote w₇ (stop_texts xs ys vs (length xs)) w₈) where
                 wrote₈ : Wrote w₀ (front₈ deck) w₈
-                wrote₈ = wrote_both wrote₇ (rw (stops_front deck.stops deck.stop_x deck.stop_y deck.visits f.stops) at v₈)
+                wrote₈ = wrote_both wrote₇ (rw (stops_front deck.stops deck.stop_x deck.stop_y deck.visits f.stops ex ey ev) at v₈)
 
                 module _ {w₉ : Writer} (v₉ : Wrote w₈ (count_part (bytes "rounds=") n) w₉) where
                   wrote₉ : Wrote w₀ (file_text deck n) w₉
@@ -131,7 +127,8 @@ unfolding bytes
 put_posts-requires c =
     let f : Held c.args.deck.now = held (search rules) (search rules) (search rules) (search rules) (search rules) (search rules) in
     let r : Fronts c.args.deck.now (length c.args.out.now) = fronts c.args.deck.now c.args.rounds c.requires.2 in
-    rw (posts_front c.args.deck.now.posts c.args.deck.now.post_x c.args.deck.now.post_y f.posts)
+    let p = c.post_places.ensures in
+    rw (posts_front c.args.deck.now.posts c.args.deck.now.post_x c.args.deck.now.post_y f.posts p.x p.y)
     (part_room _ (post_texts c.args.deck.now.post_x c.args.deck.now.post_y c.args.deck.now.posts) (start c.new-w.result
     c.new-w.ensures.place c.new-w.ensures.content)
     (wrote₅ c.args.rounds f c.put.ensures c.put_place.ensures c.put_place-2.ensures c.put_axis.ensures c.put_count.ensures) r.six)
@@ -140,34 +137,41 @@ pub put_count-requires-2 : goal.put_count-requires-2
 unfolding bytes
 put_count-requires-2 c =
     let f : Held c.args.deck.now = held (search rules) (search rules) (search rules) (search rules) (search rules) (search rules) in
+    let p = c.post_places.ensures in
     let r : Fronts c.args.deck.now (length c.args.out.now) = fronts c.args.deck.now c.args.rounds c.requires.2 in
     part_room _ (count_part (bytes "stops=") c.args.deck.now.stops) (start c.new-w.result c.new-w.ensures.place c.new-w.ensures.content)
     (wrote₆ c.args.rounds f c.put.ensures c.put_place.ensures c.put_place-2.ensures c.put_axis.ensures c.put_count.ensures
-    c.put_posts.ensures) r.seven
+    p.x p.y c.put_posts.ensures) r.seven
 
 pub put_stops-requires : goal.put_stops-requires
 unfolding bytes
 put_stops-requires c =
     let f : Held c.args.deck.now = held (search rules) (search rules) (search rules) (search rules) (search rules) (search rules) in
     let r : Fronts c.args.deck.now (length c.args.out.now) = fronts c.args.deck.now c.args.rounds c.requires.2 in
-    rw (stops_front c.args.deck.now.stops c.args.deck.now.stop_x c.args.deck.now.stop_y c.args.deck.now.visits f.stops)
+    let p = c.post_places.ensures in
+    let s = c.stop_columns.ensures in
+    rw (stops_front c.args.deck.now.stops c.args.deck.now.stop_x c.args.deck.now.stop_y c.args.deck.now.visits f.stops s.x s.y s.visits)
     (part_room _ (stop_texts c.args.deck.now.stop_x c.args.deck.now.stop_y c.args.deck.now.visits c.args.deck.now.stops) (start
     c.new-w.result c.new-w.ensures.place c.new-w.ensures.content)
     (wrote₇ c.args.rounds f c.put.ensures c.put_place.ensures c.put_place-2.ensures c.put_axis.ensures c.put_count.ensures
-    c.put_posts.ensures c.put_count-2.ensures) r.eight)
+    p.x p.y c.put_posts.ensures c.put_count-2.ensures) r.eight)
 
 pub put_count-requires-3 : goal.put_count-requires-3
 unfolding bytes
 put_count-requires-3 c =
     let f : Held c.args.deck.now = held (search rules) (search rules) (search rules) (search rules) (search rules) (search rules) in
+    let p = c.post_places.ensures in
+    let s = c.stop_columns.ensures in
     part_room _ (count_part (bytes "rounds=") c.args.rounds) (start c.new-w.result c.new-w.ensures.place c.new-w.ensures.content)
     (wrote₈ c.args.rounds f c.put.ensures c.put_place.ensures c.put_place-2.ensures c.put_axis.ensures c.put_count.ensures
-    c.put_posts.ensures c.put_count-2.ensures c.put_stops.ensures) (rw file_parts at c.requires.2)
+    p.x p.y c.put_posts.ensures c.put_count-2.ensures s.x s.y s.visits c.put_stops.ensures) (rw file_parts at c.requires.2)
 
 pub returns : goal.returns
 unfolding bytes
 returns c =
     let f : Held c.args.deck.now = held (search rules) (search rules) (search rules) (search rules) (search rules) (search rules) in
+    let p = c.post_places.ensures in
+    let s = c.stop_columns.ensures in
     wrote_front _ (wrote₉ c.args.rounds f c.put.ensures c.put_place.ensures c.put_place-2.ensures c.put_axis.ensures c.put_count.ensures
-    c.put_posts.ensures c.put_count-2.ensures c.put_stops.ensures c.put_count-3.ensures)
+    p.x p.y c.put_posts.ensures c.put_count-2.ensures s.x s.y s.visits c.put_stops.ensures c.put_count-3.ensures)
     c.new-w.ensures.content c.new-w.ensures.place (search rules) (search rules)

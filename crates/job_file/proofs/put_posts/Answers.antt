@@ -14,25 +14,25 @@ use Rattle.job_file.proofs.TextLaws.{texts_none, texts_all, line_room, line_wrot
 use Rattle.job_file.proofs.put_posts.Goals as goal
 
 pub loop-x-init : goal.loop-x-init
-loop-x-init c = rw (texts_none post_line (places c.args.xs.now c.args.ys.now)) (wrote_nothing c.args.w.now)
+loop-x-init c = rw (texts_none post_line (places c.args.posts.x.now c.args.posts.y.now)) (wrote_nothing c.args.w.now)
 
 pub put_post-requires : goal.put_post-requires
 put_post-requires c =
-    let turn = YieldsList-turn (places_yielded c.args.xs.now c.args.ys.now (search rules) (search rules)) c.loop-x.yielded c.loop-x.x-iterator
+    let turn = YieldsList-turn (places_yielded c.args.posts.x.now c.args.posts.y.now (search rules) (search rules)) c.loop-x.yielded c.loop-x.x-iterator
     c.loop-x.yielded_by c.next.result c.next.new.self (c.in-Some.x, c.in-Some.y) c.in-Some.is c.next.ensures.steps in
-    line_room post_line (post_line_lem c.args.xs.now c.args.ys.now _ turn.0 (word_place (search rules) (search rules) ∙ turn.1))
-    c.loop-x.invariant (omega (arith, turn.0, places_length c.args.xs.now c.args.ys.now)) c.requires
+    line_room post_line (post_line_lem c.args.posts.x.now c.args.posts.y.now _ turn.0 (word_place (search rules) (search rules) ∙ turn.1))
+    c.loop-x.invariant (omega (arith, turn.0, places_length c.args.posts.x.now c.args.posts.y.now)) c.requires
 
 pub loop-x-preserved : goal.loop-x-preserved
 loop-x-preserved c =
-    let turn = YieldsList-turn (places_yielded c.args.xs.now c.args.ys.now (search rules) (search rules)) c.loop-x.yielded c.loop-x.x-iterator
+    let turn = YieldsList-turn (places_yielded c.args.posts.x.now c.args.posts.y.now (search rules) (search rules)) c.loop-x.yielded c.loop-x.x-iterator
     c.loop-x.yielded_by c.next.result c.next.new.self (c.in-Some.x, c.in-Some.y) c.in-Some.is c.next.ensures.steps in
     rw (length-append c.loop-x.yielded ((c.in-Some.x, c.in-Some.y) ∷ [])) (line_wrote post_line
-    (post_line_lem c.args.xs.now c.args.ys.now _ turn.0 (word_place (search rules) (search rules) ∙ turn.1)) c.loop-x.invariant c.put_post.ensures)
+    (post_line_lem c.args.posts.x.now c.args.posts.y.now _ turn.0 (word_place (search rules) (search rules) ∙ turn.1)) c.loop-x.invariant c.put_post.ensures)
 
 pub returns : goal.returns
 returns c =
-    let end = YieldsList-end (places_yielded c.args.xs.now c.args.ys.now (search rules) (search rules)) c.loop-x.yielded c.loop-x.x-iterator
+    let end = YieldsList-end (places_yielded c.args.posts.x.now c.args.posts.y.now (search rules) (search rules)) c.loop-x.yielded c.loop-x.x-iterator
     c.loop-x.yielded_by c.next.result c.next.new.self c.in-None.is c.next.ensures.steps in
-    rw (texts_all post_line (places c.args.xs.now c.args.ys.now) (length c.args.xs.now) (length c.loop-x.yielded)
-    (omega (arith, places_length c.args.xs.now c.args.ys.now)) (omega (arith, end.1))) c.loop-x.invariant
+    rw (texts_all post_line (places c.args.posts.x.now c.args.posts.y.now) (length c.args.posts.x.now) (length c.loop-x.yielded)
+    (omega (arith, places_length c.args.posts.x.now c.args.posts.y.now)) (omega (arith, end.1))) c.loop-x.invariant

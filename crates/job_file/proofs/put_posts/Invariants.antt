@@ -5,4 +5,4 @@ use Rattle.job_file.specs.Texts.{post_texts}
 use Rattle.job_file.proofs.put_posts.Given as goal
 
 abbrev pub invariant-loop-x : goal.invariant-loop-x
-invariant-loop-x l = Wrote l.initial.w (post_texts l.xs l.ys (length l.yielded)) l.w
+invariant-loop-x l = Wrote l.initial.w (post_texts l.posts.x.now l.posts.y.now (length l.yielded)) l.w

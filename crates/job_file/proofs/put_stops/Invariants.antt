@@ -5,4 +5,4 @@ use Rattle.job_file.specs.Texts.{stop_texts}
 use Rattle.job_file.proofs.put_stops.Given as goal
 
 abbrev pub invariant-loop-x : goal.invariant-loop-x
-invariant-loop-x l = Wrote l.initial.w (stop_texts l.xs l.ys l.visits (length l.yielded)) l.w
+invariant-loop-x l = Wrote l.initial.w (stop_texts l.stops.at.x.now l.stops.at.y.now l.stops.visits.now (length l.yielded)) l.w

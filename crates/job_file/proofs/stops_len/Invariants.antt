@@ -6,4 +6,4 @@ use Rattle.job_file.specs.Texts.{stop_texts}
 use Rattle.job_file.proofs.stops_len.Given as goal
 
 abbrev pub invariant-loop-x : goal.invariant-loop-x
-invariant-loop-x l = (l.len ≡ length (stop_texts l.xs l.ys l.visits (length l.yielded))) × (l.len ≤ length l.yielded * 70)
+invariant-loop-x l = (l.len ≡ length (stop_texts l.stops.at.x.now l.stops.at.y.now l.stops.visits.now (length l.yielded))) × (l.len ≤ length l.yielded * 70)
