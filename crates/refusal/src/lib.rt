@@ -18,6 +18,7 @@ pub enum Refusal {
 }
 
 // Document 01's number of a refusal, and its line.
+// kept: two functions, since the C entry answers with the number alone and only two reasons hold a line; a pair would be taken apart again.
 pub fn number_of(why: Refusal) -> u64
     ensures { result ≡ number_of why }
 {

@@ -7,6 +7,7 @@ ghost use Rattle.write.specs.Digits.{at_least};
 ghost use Rattle.write.specs.Written.{slice_bytes, slice_name, written_len, HasRoom, Wrote};
 
 // A slice, and the place in it behind what is written so far.
+// kept: `HasRoom` is a clause of each call and no invariant, since the room that a call needs is the length of its own text.
 #[derive(Drop)]
 pub struct Writer<'a> {
     out: &'a mut [u8],
