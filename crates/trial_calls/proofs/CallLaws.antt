@@ -1,10 +1,12 @@
 -- The calls `report` and `exhaustive` as the tests see them: what their answers carry, as numbers.
 -- Assumes nothing.
-use Prim.Native.Nat.{ℕ, ◌≤◌}
+use Prim.Native.Nat.{ℕ, ◌-◌, ◌≤◌, ◌<◌}
 use mathlib.Core.Path.{◌≡◌, refl, sym, ap, subst, ◌∙◌}
 use mathlib.Core.List.{List}
 use native.Mathlib.Omega.{arith}
 use lib.IntN.{ℤ}
+use lib.ListN.{length-replicate, get_or, replicate}
+use Rattle.std.proofs.lemmas.List.{get_or-replicate, get_or_append_left, get_or-append_right}
 use Rattle.query.specs.Place.{In}
 use Rattle.query.specs.Order.{Priced}
 use Rattle.query.specs.Problem.{problem}
@@ -30,6 +32,8 @@ use Rattle.calls.specs.Demands.{Applies, in_reading, small_space, short_output}
 use Rattle.calls.proofs.AnswerLaws.{same_given, not_refused}
 use Rattle.calls.proofs.Demands.{job_limits, read_exactly, accepted_one, figures_are, demands}
 use Rattle.calls.proofs.ExhaustiveCall.{exhaustive_call_law}
+use Rattle.trial.specs.Trial.{least, refusal_numbers}
+use Rattle.trial_calls.specs.Calls.{refused_numbers}
 
 -- ---- the line of a refusal
 line_few : (why : Refusal) (job : List ℕ) (cells : List ℤ) (out : List ℕ) → Applies job cells out why → line_of why ≤ 16385
@@ -86,3 +90,12 @@ module _ (job : List ℕ) (answer : Std.Result Spot Refusal) (e : cheapest_answe
 
   pub exhaustive_line : (why : Refusal) → answer ≡ Err why → line_of why ≤ 16385
   exhaustive_line why a = condition_line job why (((exhaustive_call_law job).refused_exactly why).0 (sym e ∙ ap cheapest_answer a))
+
+-- ---- a refused call
+module _ (figures : ℕ) (why : Refusal) (which : ℕ) where
+  pub no_figure : which < figures → least ≡ get_or (refused_numbers figures why) which least
+  no_figure h = sym (get_or_append_left (replicate figures least) (refusal_numbers why) least which (omega (arith, length-replicate figures least))
+      ∙ get_or-replicate figures which least least h)
+
+  pub behind_figures : figures ≤ which → get_or (refusal_numbers why) (which - figures) least ≡ get_or (refused_numbers figures why) which least
+  behind_figures h = sym (get_or-append_right (replicate figures least) (refusal_numbers why) figures which least (length-replicate figures least) h)

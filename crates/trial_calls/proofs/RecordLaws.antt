@@ -1,13 +1,12 @@
 -- The calls `read` and `write` as the tests see them: a record's numbers in two lists, and what the answers carry.
 -- Assumes nothing.
-use Prim.Native.Nat.{ℕ, suc, ◌+◌, ◌-◌, ◌≤◌}
+use Prim.Native.Nat.{ℕ, ◌+◌, ◌-◌, ◌≤◌}
 use mathlib.Core.Path.{◌≡◌, refl, sym, ap, ◌∙◌}
 use mathlib.Core.Bool.{Bool, true, cond}
-use mathlib.Core.Logic.{◌≢◌}
 use mathlib.Core.List.{List, [], ◌∷◌, ◌++◌, append-nil, append_assoc}
 use native.Mathlib.Omega.{arith}
 use lib.IntN.{ℤ, pos}
-use lib.ListN.{length, length-append, get_or, take, drop, set, replicate, length-set, length-drop, drop_of_length-le, replicate}
+use lib.ListN.{length, length-append, take, drop, set, replicate, length-set, length-drop, drop_of_length-le, replicate}
 use lib.Seq.{take_all, take_at, drop_at, take-suc-set, length-take-le}
 use borrow.Author.Tests.{eq-eqb}
 use Rattle.deck.specs.DeckOf.{Sized, deck_record, empty_deck}
@@ -21,16 +20,14 @@ use borrow.Rule.Slice.PartMut.{put_mid}
 use Rattle.job.specs.declared.Job as Held
 use Rattle.job.proofs.JobLaws.{most_rounds}
 use Rattle.job.proofs.RefusalLaws.{condition_line}
-use Rattle.calls.specs.Answers.{AnswerOf, refusal, read_answer, written_answer}
+use Rattle.calls.specs.Answers.{refusal, read_answer, written_answer}
 use Rattle.calls.specs.ReadCall.{Read, read_deck, read_call}
 use Rattle.calls.specs.WriteCall.{Saved, write_call}
 use Rattle.calls.specs.SavingLaw.{WriteLaw}
 use Rattle.calls.proofs.Demands.{read_exactly}
 use Rattle.calls.proofs.SavingLaw.{read_law, write_law}
-use Rattle.trial.specs.Trial.{least, refusal_numbers}
-use Rattle.trial.proofs.NumberLaws.{number_at}
-use Rattle.trial_calls.specs.Records.{coordinates_of, naturals_of, is_record, deck_from, count_numbers, count_figure, read_into, trial_read, wrote_from}
-use Rattle.trial_calls.specs.Records.{trial_write}
+use Rattle.trial.specs.Trial.{least}
+use Rattle.trial_calls.specs.Records.{coordinates_of, naturals_of, is_record, deck_from, count_figure, read_into, trial_read}
 
 -- ---- the numbers of a record, put into lists one part after another
 -- a part behind those that are done
@@ -107,14 +104,6 @@ deck_sized zs ns h k = record {
   visits = part_long 4 512 ns (omega arith);
 }
 
--- ---- the numbers of an answer
-module _ (why : Refusal) {answer : AnswerOf ℕ} (a : answer ≡ refusal why) (which : ℕ) where
-  pub no_count : which ≡ 0 → least ≡ count_figure which answer
-  no_count e = rw a (number_at (count_numbers (refusal why)) which 0 least e refl)
-
-  pub refusal_count : which ≢ 0 → get_or (refusal_numbers why) (which - 1) least ≡ count_figure which answer
-  refusal_count h = rw a (number_at (count_numbers (refusal why)) which (suc (which - 1)) _ (omega arith) refl)
-
 -- ---- lists that are as long as a record's
 module _ (zs : List ℤ) (ns : List ℕ) where
   as_long : length zs ≡ 1156 → length ns ≡ 1029 → is_record zs ns ≡ true
@@ -164,11 +153,6 @@ module _ (zs : List ℤ) (ns : List ℕ) (rounds : ℕ) (out : List ℕ) (deck :
     (e : record { answer = written_answer answer; out = out' } ≡ write_call deck rounds out) (h : length zs ≡ 1156) (k : length ns ≡ 1029) where
   call_is : record { answer = written_answer answer; out = out' } ≡ write_call (deck_from zs ns) rounds out
   call_is = e ∙ ap (λ (r : Deck). write_call r rounds out) d
-
-  pub write_is : (which : ℕ) {v : ℤ} → v ≡ count_figure which (written_answer answer) → record { result = v; out = out' } ≡ trial_write zs ns rounds out which
-  write_is which f =
-      ap (λ (v : ℤ). record { result = v; out = out' }) f ∙ ap (wrote_from which) call_is
-      ∙ ap (λ (b : Bool). cond b (wrote_from which (write_call (deck_from zs ns) rounds out)) (record { result = least; out = out })) (sym (as_long zs ns h k))
 
   law : WriteLaw (deck_from zs ns) rounds out
   law = write_law (deck_from zs ns) rounds out (deck_sized zs ns h k)

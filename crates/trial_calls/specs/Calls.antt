@@ -1,12 +1,13 @@
 -- What the functions over the calls `report` and `exhaustive` answer: a figure of the answer, and what `report` leaves of the memory that
--- it is lent.
+-- it is lent. And the numbers of any refused call.
 -- Assumes nothing.
-use Rattle.std.specs.Prelude.{ℕ, List, [], ◌∷◌, ℤ, pos, get_or}
+use Rattle.std.specs.Prelude.{ℕ, List, [], ◌∷◌, ◌++◌, ℤ, pos, get_or, replicate}
 use Rattle.query.specs.Order.{Priced}
 use Rattle.query.specs.Figures.{Figures, State, done, stopped}
 use Rattle.calls.specs.Answers.{AnswerOf, gives, refuses}
 use Rattle.calls.specs.Call.{Left}
-use Rattle.trial.specs.Trial.{least}
+use Rattle.refusal.specs.declared.Refusal.{Refusal}
+use Rattle.trial.specs.Trial.{least, refusal_numbers}
 
 -- a result, with the cell space and the output as the call leaves them
 pub record Called : Type 0 where
@@ -48,3 +49,8 @@ cheapest_numbers (refuses number line) = least ∷ least ∷ least ∷ pos numbe
 -- number `which` of them, counted from 0; the least number where there is none
 abbrev pub cheapest_figure : ℕ → AnswerOf Priced → ℤ
 cheapest_figure which answer = get_or (cheapest_numbers answer) which least
+
+-- ---- a refused call
+-- none of its figures, so many, then the number and the line of the refusal
+abbrev pub refused_numbers : ℕ → Refusal → List ℤ
+refused_numbers figures why = replicate figures least ++ refusal_numbers why

@@ -5,6 +5,7 @@ ghost use Rattle.calls.specs.EstimateCall.{estimate_call};
 ghost use Rattle.trial.specs.Trial.{least};
 ghost use Rattle.trial_calls.specs.Estimates.{SmallEstimate, needs_numbers, estimate_figure};
 
+use crate::refused_figure;
 use calls::Estimate;
 use trial::NO_FIGURE;
 
@@ -30,11 +31,6 @@ pub fn trial_estimate(job: &[u8], which: u64) -> i64
 {
     match siting::estimate(job) {
         Ok(e) => needs_figure(e, which),
-        Err(why) => {
-            if which < 4 {
-                return NO_FIGURE;
-            }
-            trial::refusal_figure(why, which - 4)
-        }
+        Err(why) => refused_figure(4, why, which),
     }
 }

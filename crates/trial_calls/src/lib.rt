@@ -7,6 +7,7 @@ pub mod estimates;
 pub mod records;
 
 ghost use Rattle.std.specs.Prelude.{◌≡◌, ◌≤◌, get_or};
+ghost use Rattle.refusal.specs.Refusal.{line_of};
 ghost use Rattle.report.specs.Report.{report_state, report_figures};
 ghost use Rattle.problem.specs.ObjectProblem.{priced_of};
 ghost use Rattle.query.specs.Range.{PlaceInRange, FiguresInRange, cost_limit};
@@ -14,10 +15,24 @@ ghost use Rattle.calls.specs.Call.{report_call};
 ghost use Rattle.calls.specs.CheapestCall.{exhaustive_call};
 ghost use Rattle.trial.specs.Trial.{least};
 ghost use Rattle.trial_calls.specs.Calls.{called, state_number, report_numbers, figure_for, spot_numbers, cheapest_figure};
+ghost use Rattle.trial_calls.specs.Calls.{refused_numbers};
 
 use problem::Spot;
+use refusal::Refusal;
 use report::{Report, State};
 use trial::NO_FIGURE;
+
+// Of a refused call: none of the so many figures that its answer has otherwise, then the number of the refusal and its line. The least
+// number where there is no such figure.
+fn refused_figure(figures: u64, why: Refusal, which: u64) -> i64
+    requires { line_of why ≤ 16385 }
+    ensures { result ≡ get_or (refused_numbers figures why) which least }
+{
+    if which < figures {
+        return NO_FIGURE;
+    }
+    trial::refusal_figure(why, which - figures)
+}
 
 fn state_number(state: State) -> i64
     ensures { result ≡ state_number (report_state state) }
@@ -54,12 +69,7 @@ pub fn trial_report(job: &[u8], cells: &mut [i64], out: &mut [u8], which: u64) -
 {
     match siting::report(job, cells, out) {
         Ok(r) => figure(r, which),
-        Err(why) => {
-            if which < 7 {
-                return NO_FIGURE;
-            }
-            trial::refusal_figure(why, which - 7)
-        }
+        Err(why) => refused_figure(7, why, which),
     }
 }
 
@@ -84,11 +94,6 @@ pub fn trial_exhaustive(job: &[u8], which: u64) -> i64
 {
     match siting::exhaustive(job) {
         Ok(s) => spot_figure(s, which),
-        Err(why) => {
-            if which < 3 {
-                return NO_FIGURE;
-            }
-            trial::refusal_figure(why, which - 3)
-        }
+        Err(why) => refused_figure(3, why, which),
     }
 }

@@ -5,6 +5,7 @@ ghost use Rattle.std.specs.Prelude.{◌≡◌, ◌≤◌, length, get_or};
 ghost use Rattle.calls.specs.Answers.{gives};
 ghost use Rattle.trial_calls.specs.Records.{coordinates_of, naturals_of, deck_from, count_figure, trial_read, trial_write};
 
+use crate::refused_figure;
 use deck::{AxisCosts, Deck};
 use limits::{POSTS, STOPS};
 use trial::NO_FIGURE;
@@ -113,10 +114,7 @@ pub fn trial_read(job: &[u8], coordinates: &mut [i64], naturals: &mut [u64], whi
         Err(why) => {
             coordinates.fill(0);
             naturals.fill(0);
-            if which == 0 {
-                return NO_FIGURE;
-            }
-            trial::refusal_figure(why, which - 1)
+            refused_figure(1, why, which)
         }
     }
 }
@@ -141,11 +139,6 @@ pub fn trial_write(
     }
     match siting::write(deck_from(coordinates, naturals), rounds, out) {
         Ok(bytes) => count_figure(bytes as u64, which),
-        Err(why) => {
-            if which == 0 {
-                return NO_FIGURE;
-            }
-            trial::refusal_figure(why, which - 1)
-        }
+        Err(why) => refused_figure(1, why, which),
     }
 }

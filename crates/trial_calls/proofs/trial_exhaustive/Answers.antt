@@ -5,5 +5,5 @@ use Rattle.trial_calls.proofs.trial_exhaustive.Goals as goal
 pub spot_figure-requires : goal.spot_figure-requires
 spot_figure-requires c = spot_limits _ _ c.exhaustive.ensures _ c.in-Ok.is
 
-pub refusal_figure-requires : goal.refusal_figure-requires
-refusal_figure-requires c = exhaustive_line _ _ c.exhaustive.ensures _ c.in-Err.is
+pub refused_figure-requires : goal.refused_figure-requires
+refused_figure-requires c = exhaustive_line _ _ c.exhaustive.ensures _ c.in-Err.is

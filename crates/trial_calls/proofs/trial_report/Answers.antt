@@ -5,5 +5,5 @@ use Rattle.trial_calls.proofs.trial_report.Goals as goal
 pub figure-requires : goal.figure-requires
 figure-requires c = limits _ _ _ _ _ _ c.report.ensures _ c.in-Ok.is
 
-pub refusal_figure-requires : goal.refusal_figure-requires
-refusal_figure-requires c = report_line _ _ _ _ _ _ c.report.ensures _ c.in-Err.is
+pub refused_figure-requires : goal.refused_figure-requires
+refused_figure-requires c = report_line _ _ _ _ _ _ c.report.ensures _ c.in-Err.is
