@@ -51,7 +51,7 @@ extern "C" {
  *
  * Where several apply: -1 comes first, then -2 and -3 line by line from the top, -2 before -3 in a line, then -4, -5, -6, -8.
  * The program siting_cli tells the line of a -2 or a -3. -7, too small a cell space, is a refusal of the library's call in Rattle, to
- * which the caller lends that space; this entry has its own, enough for 1000 rounds, and never gives it.
+ * which the caller lends that space; this entry asks for none, whatever the rounds, and never gives it.
  *
  * A report fills the first bytes of out, and the bytes behind it keep their values. A refusal changes no byte of out. The job's bytes
  * are only read.

@@ -1,4 +1,4 @@
--- The cell space of the C entry and of the program is enough for every job, so that the call then gives no 7.
+-- The cell space that the C entry and the program answer as if lent is enough for every job, so that the call then gives no 7.
 -- Assumes nothing.
 use Prim.Native.Nat.{ℕ, ◌≤◌}
 use mathlib.Core.Path.{◌≡◌}

@@ -50,6 +50,6 @@ unfoldable pub report_call : List ℕ → List ℤ → List ℕ → Left
 unfolding read_job answered
 report_call job cells out = answered (read_job job) cells out
 
--- the cell space that the C entry and the program have of their own, enough for every job: 5,005 numbers
+-- the C entry and the program have no cell space: they answer as the call that is lent this one, 5,005 numbers, enough for every job
 abbrev pub own_space : List ℤ
 own_space = replicate (5 * (rounds_limit + 1)) (pos 0)

@@ -68,7 +68,7 @@ pub record EstimateTable : Type 0 where
   pub refused_4 : estimate_call (ended (set case_a 0 "area=8,2,2,8")) ≡ refuses 4 0
   pub refused_5 : estimate_call (many_posts "posts=0" 0) ≡ refuses 5 0
   pub refused_6 : estimate_call (many_stops "stops=0" 0) ≡ refuses 6 0
-  -- refusal 7 beside them; the C entry and the program have space for the most cells
+  -- refusal 7 beside them; the C entry and the program answer as with space for the most cells
   pub axis_14 : answer_to (beside "axis=1,2") 14 128 ≡ (7, 0)
   pub axis_15 : answer_to (beside "axis=1,2") 15 128 ≡ (0, 0)
   pub most_5004 : answer_to many_gaps 5004 128 ≡ (7, 0)

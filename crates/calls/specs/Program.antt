@@ -12,7 +12,7 @@ unfolding report_text refusal_text
 text_of (gives f) = report_text f
 text_of (refuses number line) = refusal_text number line
 
--- for the input job: as with cell space and output enough for every job
+-- for the input job, as the call that is lent cell space and output enough for every job
 unfoldable pub answer_text : List ℕ → List ℕ
 unfolding report_call text_of
 answer_text job = text_of (report_call job own_space (replicate output_size 0)).answer

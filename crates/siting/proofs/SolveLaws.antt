@@ -241,7 +241,7 @@ module _ (bytes : List ℕ) (g : Given) (e : given_by (Ok g) ≡ given_for (read
       subst (λ (z : List ℤ). Responded (report_call bytes cells out) out z out' r) (sym k.cells_are)
       (responded cells out (omega (arith, fit.enough, needed_is)) k.live out' r k.answered)
 
-  -- that of a call with a cell space of its own
+  -- that of one that has no cell space
   pub responded_alone : (out out' : List ℕ) (r : Std.Result Response Refusal) → AnsweredAlone g out out' r →
       RespondedAlone (report_call bytes own_space out) out out' r
   responded_alone out out' r k =

@@ -97,6 +97,6 @@ pub record Responded (call : Left) (out : List ℕ) (cells' : List ℤ) (out' : 
   pub filled : Overwrote out (text_written r) out' (bytes_written r)
   pub few : bytes_written r ≤ 128
 
--- the same of a call with a cell space of its own, which it does not hand out
+-- the same of one that has no cell space: it answers as a call that has, whose cells nobody sees
 abbrev pub RespondedAlone : Left → List ℕ → List ℕ → Std.Result Response Refusal → Type 0
 RespondedAlone call out out' r = Responded call out call.cells out' r
