@@ -168,6 +168,8 @@ fn cheaper(best: Spot, p: Spot) -> Spot
 }
 
 // The cheapest of a spot and the crossings of the vertical line at `v`, the first among equals, from their costs.
+// Not inlined, as `cheapest`.
+#[inline(never)]
 fn choose(lines: &NumberedLines, v: i64, costs: &[u64; LINES], first: Spot) -> Spot
     ensures { Chosen lines.now.at.now v costs.now first result }
 {
@@ -180,7 +182,8 @@ fn choose(lines: &NumberedLines, v: i64, costs: &[u64; LINES], first: Spot) -> S
 }
 
 // The cheapest crossing of the lines of a deck's problem, the earliest among equals, with its cost. `before` is what the objects pay with
-// the posts that there are.
+// the posts that there are. Not inlined: within a caller, its loops lay where they took up to 1.14 times as long.
+#[inline(never)]
 pub fn cheapest(problem: &Problem, before: u64) -> Spot
     requires { Prepared problem.now
         × Figure (before_of (pricing_of_objects problem.now.objects)) cost_limit before }
