@@ -32,7 +32,7 @@ use Rattle.problem.specs.ObjectProblem.{bound_of}
 use Rattle.problem.proofs.DeckProblem.{bound_law}
 use Rattle.std.specs.Prelude.{Option, None}
 use Rattle.std.specs.Option.{option_map}
-use Rattle.trial.specs.Opened.{Whole, parts_of, opened_record}
+use Rattle.trial.specs.Opened.{parts_of, opened_record}
 use Rattle.trial.specs.Trial.{on_job, minus_one, least}
 use Rattle.trial.specs.declared.opened.Opened.{Opened}
 use Rattle.trial.proofs.OpenLaws.{whole_pricing, open_refused, on_job_lem}
@@ -80,25 +80,25 @@ summed_all {f} {k} {sum} {t} s h few =
     record { is = s.is ∙ ap (sum_to f) e; within = omega (arith, s.most) }
 
 -- ---- a figure of the objects or the lines of an opened job is that of its deck
-module _ {o : Opened} (w : Whole o) (t : ℕ) {n : ℕ} where
+module _ (o : Opened) (t : ℕ) {n : ℕ} where
   pub cost_found : {p : Place} → p ≡ place_at t → Figure (cost_of (pricing_of_objects o.problem.objects) p) cost_limit n →
       Figure (cost_turn (deck_of o.deck) t) cost_limit n
   cost_found e fig = record {
-    is = fig.is ∙ (λ i. cost_of (whole_pricing w i) (e i)) ∙ cost_law (deck_of o.deck) (place_at t);
+    is = fig.is ∙ (λ i. cost_of (whole_pricing o i) (e i)) ∙ cost_law (deck_of o.deck) (place_at t);
     within = fig.within;
   }
 
   pub load_found : {r : Rect} → r ≡ rect_at t → Figure (load_of (pricing_of_objects o.problem.objects) r) load_limit n →
       Figure (load_turn (deck_of o.deck) t) cost_limit n
   load_found e fig = record {
-    is = fig.is ∙ (λ i. load_of (whole_pricing w i) (e i)) ∙ load_law (deck_of o.deck) (rect_at t);
+    is = fig.is ∙ (λ i. load_of (whole_pricing o i) (e i)) ∙ load_law (deck_of o.deck) (rect_at t);
     within = omega (arith, fig.within);
   }
 
   pub bound_found : {r : Rect} → r ≡ rect_at t → Figure (positive (bound_of (pricing_of_objects o.problem.objects) r)) 1 n →
       Figure (bound_turn (deck_of o.deck) t) cost_limit n
   bound_found e fig = record {
-    is = fig.is ∙ ap positive ((λ i. bound_of (whole_pricing w i) (e i)) ∙ bound_law (deck_of o.deck) (rect_at t));
+    is = fig.is ∙ ap positive ((λ i. bound_of (whole_pricing o i) (e i)) ∙ bound_law (deck_of o.deck) (rect_at t));
     within = omega (arith, fig.within);
   }
 

@@ -7,7 +7,6 @@ ghost use Rattle.query.specs.Range.{cost_limit};
 ghost use Rattle.job.specs.Format.{read_job};
 ghost use Rattle.deck.specs.DeckOf.{deck_of};
 ghost use Rattle.pricing.specs.ObjectFigures.{Figure};
-ghost use Rattle.trial.specs.Opened.{Whole};
 ghost use Rattle.kernels.specs.Sums.{
   sum_to,
   Sampled,
@@ -68,7 +67,6 @@ trait Kernel {
     ghost figure: { Query.Deck → ℕ → ℕ };
 
     fn at(o: &Opened, t: u64) -> u64
-        requires { Whole o.now }
         ensures { Figure (figure (deck_of o.now.deck) t) cost_limit result };
 }
 
@@ -112,7 +110,7 @@ impl Kernel for Cut {
     ghost figure = { cut_turn };
 
     fn at(o: &Opened, t: u64) -> u64 {
-        match opened::cut_of(o, turn_rect(t)) {
+        match o.cut_of(turn_rect(t)) {
             Some(cut) => positive(cut.at),
             None => 0,
         }
@@ -134,7 +132,7 @@ impl Kernel for Near {
 
 // What a kernel gives over k turns, summed.
 fn sum_turns<K: Kernel>(o: &Opened, k: u64) -> u64
-    requires { Whole o.now × (k ≤ 100000) }
+    requires { k ≤ 100000 }
     ensures { Figure (sum_to (K.figure (deck_of o.now.deck)) k) (100000 * cost_limit) result }
 {
     let mut sum = 0;
@@ -147,7 +145,7 @@ fn sum_turns<K: Kernel>(o: &Opened, k: u64) -> u64
 // The sum by the kernel's number.
 // kept: the number comes from a C function, and here it picks the type whose kernel is summed.
 fn sum_of(o: &Opened, which: u64, k: u64) -> u64
-    requires { Whole o.now × (which ≤ 4) × (k ≤ 100000) }
+    requires { (which ≤ 4) × (k ≤ 100000) }
     ensures { Figure (sum_to (turn (deck_of o.now.deck) which) k) (100000 * cost_limit) result }
 {
     match which {
@@ -167,7 +165,7 @@ pub fn kernel_sum(job: &[u8], which: u64, k: u64) -> i64
     if 4 < which {
         return NO_FIGURE;
     }
-    let Some(o) = opened::open_job(job) else {
+    let Some(o) = Opened::of_job(job) else {
         return -1;
     };
     if 100000 < k {

@@ -24,7 +24,7 @@ use Rattle.prepare.specs.ProblemRecord.{Parts, problem_record}
 use Rattle.cuts.specs.CutRecord.{axis_of, axis_record, cut_at, cut_record}
 use Rattle.cuts.specs.declared.Cut.{Cut}
 use Rattle.cuts.proofs.CutRecordLaws.{cut_record_found, cut_record_cut}
-use Rattle.trial.specs.Opened.{rect_allowed}
+use Rattle.trial.specs.Ranges.{rect_allowed}
 use Rattle.trial.specs.Trial.{minus_one, least, axis_number, cut_axis_figure, cut_line_figure, Written, lines_axis, lines_written}
 use Rattle.trial.specs.declared.opened.Opened.{Opened}
 use Rattle.job.proofs.ReadDeck.{Spelt, spelt_range}

@@ -30,11 +30,11 @@ use Rattle.pricing.specs.ObjectFigures.{cost_of, load_of, Figure}
 use Rattle.pricing.proofs.ObjectLaws.{cost_law, load_law}
 use Rattle.problem.specs.ObjectProblem.{bound_of}
 use Rattle.problem.proofs.DeckProblem.{bound_law}
-use Rattle.trial.specs.Opened.{place_in_range, rect_allowed}
+use Rattle.trial.specs.Ranges.{place_in_range, rect_allowed}
 use Rattle.trial.specs.Trial.{minus_one, least, before_figure, near_figure, cost_figure, load_figure, bound_figure}
 use Rattle.trial.specs.declared.opened.Opened.{Opened}
 use Rattle.job.proofs.ReadDeck.{Spelt, spelt_range}
-use Rattle.trial.proofs.OpenLaws.{Open, whole_pricing, open_deck, open_held, open_whole, on_job_lem, inside}
+use Rattle.trial.proofs.OpenLaws.{Open, whole_pricing, open_deck, open_held, on_job_lem, inside}
 
 -- a figure as a signed word
 figure_word : {figure n : ℕ} → Figure figure cost_limit n → to_z w64 n ≡ pos figure
@@ -46,7 +46,7 @@ module _ {bytes : List ℕ} {o : Opened} (w : Open bytes o) where
   s = w.job
 
   pricing_is : pricing_of_objects o.problem.objects ≡ pricing_of s.job.deck
-  pricing_is = whole_pricing (open_whole w) ∙ ap pricing_of (open_deck w)
+  pricing_is = whole_pricing o ∙ ap pricing_of (open_deck w)
 
   pub cost_answer : (at : Place) {n : ℕ} → place_in_range at ≡ true → Figure (cost_of (pricing_of_objects o.problem.objects) at) cost_limit n →
       to_z w64 n ≡ cost_figure at (read_job bytes)
@@ -92,7 +92,7 @@ module _ {bytes : List ℕ} {o : Opened} (w : Open bytes o) where
       (omega (arith, length-map s.job.deck.stops (near s.job.deck), count_is))
 
   pub near_small : (i : ℕ) → i < o.deck.stops → get_or o.deck.near i 0 ≤ 720000
-  near_small i h = (sound_nears (open_whole w).sound).range i h
+  near_small i h = (sound_nears o.sound).range i h
 
   near_figure_lem : (i : ℕ) →
       cond (ltb i (length s.job.deck.stops)) (pos (get_or (map (near s.job.deck) s.job.deck.stops) i 0)) minus_one ≡ near_figure i (read_job bytes)

@@ -62,5 +62,8 @@ near_refused (pos i) r e = e
 near_refused (negsuc i) r e = refl
 
 module _ {z : ℤ} (f : SFits w64 z) where
+  pub near_negative : (r : Result) → lt_z (back z) (pos 0) ≡ true → minus_one ≡ near_at z r
+  near_negative r e = negative_none z r (rw (back_is f) at e)
+
   pub near_natural : (r : Result) → lt_z (back z) (pos 0) ≡ false → near_figure (nat_abs (back z)) r ≡ near_at z r
   near_natural r e = rw (back_is f) (natural_near z r (rw (back_is f) at e))

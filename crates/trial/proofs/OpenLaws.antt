@@ -1,6 +1,6 @@
 -- A job that was opened: what the record says of the bytes, and of the deck that they spell.
 -- Assumes nothing.
-use mathlib.Core.Path.{◌≡◌, refl, sym, ap, subst, ◌∙◌}
+use mathlib.Core.Path.{◌≡◌, refl, sym, ap, ◌∙◌}
 use mathlib.Core.Bool.{Bool, true, false, cond}
 use mathlib.Core.List.{List}
 use Prim.Native.Nat.{ℕ, ◌≤◌}
@@ -18,9 +18,7 @@ use Rattle.job.proofs.Meaning.{accepted_job}
 use Rattle.deck.specs.DeckOf.{deck_of, deck_record}
 use Rattle.deck.specs.Sound.{Sound}
 use Rattle.deck.proofs.DeckLaws.{held_deck}
-use Rattle.deck.proofs.SoundLaws.{record_sound}
-use Rattle.job.proofs.ReadDeck.{Spelt, spelt_range}
-use Rattle.job.proofs.ReadDeck.{read_accepted, read_deck, read_rounds}
+use Rattle.job.proofs.ReadDeck.{Spelt, read_accepted, read_deck, read_deck_of, read_sound, read_rounds}
 use Rattle.prepare.specs.declared.Given.{Given}
 use Rattle.prepare.specs.ProblemRecord.{parts_in, problem_record, given_by, given_for}
 use Rattle.prepare.proofs.JobProblem.{spelt, problem_same, given_refused}
@@ -30,7 +28,7 @@ use Rattle.deck.specs.Objects.{pricing_of}
 use Rattle.reach.specs.Held.{pricing_of_objects}
 use Rattle.problem.specs.Prepared.{Prepared}
 use Rattle.problem.proofs.DeckProblem.{made_prepared, prepared_pricing, prepared_grid}
-use Rattle.trial.specs.Opened.{Whole, OpenedParts, parts_of, opened_deck, opened_record}
+use Rattle.trial.specs.Opened.{OpenedParts, parts_of, opened_deck, opened_record}
 use Rattle.trial.specs.Trial.{on_job}
 use Rattle.trial.specs.declared.opened.Opened.{Opened}
 
@@ -65,18 +63,28 @@ module _ (bytes : List ℕ) (q : Std.Result Given Refusal) (f : given_by q ≡ g
     unfolding job_result
     read_too why k = let same = e ∙ ap job_result (spelt bytes g given).read in cc
 
-    pub opened : (j : Held.Job) → r ≡ Ok j → Some (record { deck = j.deck; problem = parts_in g.problem }) ≡ opened_record (read_job bytes)
-    unfolding opened_record opened_deck
-    opened j k =
-        let s = spelt bytes g given in
-        let deck = read_deck bytes j (sym k ∙ e) s in
-        let problem = problem_same bytes g given in
-        (λ i. Some (record { deck = deck i; problem = problem i })) ∙ sym (ap opened_record s.read)
+    module _ (j : Held.Job) (k : r ≡ Ok j) where
+      read : Ok j ≡ job_result (read_job bytes)
+      read = sym k ∙ e
+
+      pub opened_sound : Sound j.deck
+      opened_sound = read_sound (spelt bytes g given) j read
+
+      pub opened_problem : parts_in g.problem ≡ problem_record (deck_of j.deck)
+      opened_problem = problem_same bytes g given ∙ ap problem_record (sym (read_deck_of (spelt bytes g given) j read))
+
+      pub opened : Some (record { deck = j.deck; problem = parts_in g.problem }) ≡ opened_record (read_job bytes)
+      unfolding opened_record opened_deck
+      opened =
+          let s = spelt bytes g given in
+          let deck = read_deck bytes j read s in
+          let problem = problem_same bytes g given in
+          (λ i. Some (record { deck = deck i; problem = problem i })) ∙ sym (ap opened_record s.read)
 
 -- ---- the objects and the lines of a problem are those of the deck that is held
-module _ {o : Opened} (w : Whole o) where
+module _ (o : Opened) where
   abbrev prepared : Prepared o.problem
-  prepared = made_prepared (deck_of o.deck) w.sound.range w.sound.full o.problem w.problem_is
+  prepared = made_prepared (deck_of o.deck) o.sound.range o.sound.full o.problem o.problem_is
 
   pub whole_pricing : pricing_of_objects o.problem.objects ≡ pricing_of (deck_of o.deck)
   whole_pricing = prepared_pricing prepared
@@ -124,12 +132,6 @@ module _ {bytes : List ℕ} {o : Opened} (w : Open bytes o) where
   pub open_problem : parts_in o.problem ≡ problem_record w.job.job.deck
   unfolding opened_deck
   open_problem = ap (λ (k : OpenedParts). k.problem) w.is
-
-  pub open_whole : Whole o
-  open_whole = record {
-    sound = subst Sound (sym open_held) (record_sound w.job.job.deck (spelt_range w.job) w.job.allowed.area_full);
-    problem_is = open_problem ∙ ap problem_record (sym open_deck);
-  }
 
 -- a figure of the job, where the place or rectangle is allowed and where it is not
 pub on_job_lem : {A : Type 0} {bytes : List ℕ} (none : A) (f : Job → A) (s : Spelt bytes) → f s.job ≡ on_job none f (read_job bytes)

@@ -17,7 +17,7 @@ use Rattle.numbers.proofs.WordTests.{back, back_is}
 use Rattle.reach.specs.Columns.{Ranged}
 use Rattle.deck.specs.Rectangle.{rect_of}
 use Rattle.deck.specs.declared.Rect as Held
-use Rattle.trial.specs.Opened.{place_in_range, rect_allowed}
+use Rattle.trial.specs.Ranges.{place_in_range, rect_allowed}
 
 -- the test holds of the places that are in range, and of no others
 pub place_range : (p : Place) → T (place_in_range p) ↔ PlaceInRange p

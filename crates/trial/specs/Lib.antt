@@ -1,2 +1,3 @@
+pub mod Ranges
 pub mod Opened
 pub mod Trial

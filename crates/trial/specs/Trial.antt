@@ -12,7 +12,7 @@ use Rattle.query.specs.Cut.{can_cut, cut_line}
 use Rattle.refusal.specs.Refusal.{number_of, line_of}
 use Rattle.refusal.specs.declared.Refusal.{Refusal}
 use Rattle.job.specs.Format.{Job, Result, refused, accepted}
-use Rattle.trial.specs.Opened.{place_in_range, rect_allowed}
+use Rattle.trial.specs.Ranges.{place_in_range, rect_allowed}
 
 -- a figure of an accepted job, and none where the job is refused
 abbrev pub on_job : {A : Type 0} → A → (Job → A) → Result → A

@@ -29,6 +29,7 @@ ghost use Rattle.trial.specs.Trial.{
 
 use cuts::Axis;
 use deck::{Place, Rect};
+use opened::Opened;
 use refusal::Refusal;
 
 // Stands for a figure that there is not.
@@ -78,7 +79,7 @@ pub fn trial_reading(job: &[u8], which: u64) -> i64
 fn before(job: &[u8]) -> Option<i64>
     ensures { figure_or minus_one result ≡ before_figure (read_job job.now) }
 {
-    let o = opened::open_job(job)?;
+    let o = Opened::of_job(job)?;
     Some(o.deck.before as i64)
 }
 
@@ -86,7 +87,7 @@ fn before(job: &[u8]) -> Option<i64>
 fn near(job: &[u8], i: i64) -> Option<i64>
     ensures { figure_or minus_one result ≡ near_at i (read_job job.now) }
 {
-    let o = opened::open_job(job)?;
+    let o = Opened::of_job(job)?;
     if i < 0 {
         return None;
     }
@@ -102,7 +103,7 @@ fn near(job: &[u8], i: i64) -> Option<i64>
 fn cost(job: &[u8], at: Place) -> Option<i64>
     ensures { figure_or minus_one result ≡ cost_figure (place_of at) (read_job job.now) }
 {
-    let o = opened::open_job(job)?;
+    let o = Opened::of_job(job)?;
     if !opened::place_in_range(at) {
         return None;
     }
@@ -113,7 +114,7 @@ fn cost(job: &[u8], at: Place) -> Option<i64>
 fn load(job: &[u8], rect: Rect) -> Option<i64>
     ensures { figure_or minus_one result ≡ load_figure (rect_of rect) (read_job job.now) }
 {
-    let o = opened::open_job(job)?;
+    let o = Opened::of_job(job)?;
     if !opened::rect_allowed(rect) {
         return None;
     }
@@ -124,7 +125,7 @@ fn load(job: &[u8], rect: Rect) -> Option<i64>
 fn bound(job: &[u8], rect: Rect) -> Option<i64>
     ensures { figure_or least result ≡ bound_figure (rect_of rect) (read_job job.now) }
 {
-    let o = opened::open_job(job)?;
+    let o = Opened::of_job(job)?;
     if !opened::rect_allowed(rect) {
         return None;
     }
@@ -144,11 +145,11 @@ fn axis_number(axis: Axis) -> i64
 fn cut_axis(job: &[u8], rect: Rect) -> Option<i64>
     ensures { figure_or minus_one result ≡ cut_axis_figure (rect_of rect) (read_job job.now) }
 {
-    let o = opened::open_job(job)?;
+    let o = Opened::of_job(job)?;
     if !opened::rect_allowed(rect) {
         return None;
     }
-    match opened::cut_of(&o, rect) {
+    match o.cut_of(rect) {
         Some(cut) => Some(axis_number(cut.axis)),
         None => Some(0),
     }
@@ -158,11 +159,11 @@ fn cut_axis(job: &[u8], rect: Rect) -> Option<i64>
 fn cut_line(job: &[u8], rect: Rect) -> Option<i64>
     ensures { figure_or least result ≡ cut_line_figure (rect_of rect) (read_job job.now) }
 {
-    let o = opened::open_job(job)?;
+    let o = Opened::of_job(job)?;
     if !opened::rect_allowed(rect) {
         return None;
     }
-    let cut = opened::cut_of(&o, rect)?;
+    let cut = o.cut_of(rect)?;
     Some(cut.at)
 }
 
@@ -191,7 +192,7 @@ pub fn trial_figure(job: &[u8], which: u64, xlo: i64, ylo: i64, xhi: i64, yhi: i
 pub fn trial_lines(job: &[u8], across: bool, out: &mut [i64]) -> i64
     ensures { record { result = result; out = out.new } ≡ lines_written across out.old (read_job job.now) }
 {
-    let Some(o) = opened::open_job(job) else {
+    let Some(o) = Opened::of_job(job) else {
         return REFUSED;
     };
     let p = &o.problem;

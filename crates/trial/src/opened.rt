@@ -5,12 +5,14 @@ ghost use Rattle.query.specs.Grid.{grid};
 ghost use Rattle.job_line.specs.Kinds.{coordinates, in_range};
 ghost use Rattle.job.specs.Format.{read_job};
 ghost use Rattle.deck.specs.DeckOf.{deck_of};
+ghost use Rattle.deck.specs.Sound.{Sound};
 ghost use Rattle.deck.specs.Rectangle.{place_of, rect_of};
 ghost use Rattle.reach.specs.Columns.{Ranged};
 ghost use Rattle.reach.specs.Held.{pricing_of_objects};
 ghost use Rattle.cuts.specs.CutRecord.{cut_record};
+ghost use Rattle.prepare.specs.ProblemRecord.{parts_in, problem_record};
 ghost use Rattle.problem.specs.ObjectProblem.{bound_of};
-ghost use Rattle.trial.specs.Opened.{Whole, parts_of, opened_record, place_in_range, rect_allowed};
+ghost use Rattle.trial.specs.Ranges.{place_in_range, rect_allowed};
 
 use cuts::Cut;
 use deck::{Deck, Place, Rect};
@@ -24,18 +26,33 @@ use slots::Costs;
 pub struct Opened {
     pub deck: Deck,
     pub problem: Problem,
+    pub ghost sound: { Sound deck },
+    pub ghost problem_is: { parts_in problem ≡ problem_record (deck_of deck) },
 }
 
-// None where the job is refused.
-pub fn open_job(bytes: &[u8]) -> Option<Opened>
-    ensures { option_map parts_of result ≡ opened_record (read_job bytes.now) }
-{
-    let given = prepare::of_job(bytes).ok()?;
-    let job = job::read(bytes).ok()?;
-    Some(Opened {
-        deck: job.deck,
-        problem: given.problem,
-    })
+impl Opened {
+    ghost use Rattle.trial.specs.Opened.{parts_of, opened_record};
+
+    // None where the job is refused.
+    pub fn of_job(bytes: &[u8]) -> Option<Opened>
+        ensures { option_map parts_of result ≡ opened_record (read_job bytes.now) }
+    {
+        let given = prepare::of_job(bytes).ok()?;
+        let job = job::read(bytes).ok()?;
+        Some(Opened {
+            deck: job.deck,
+            problem: given.problem,
+        })
+    }
+
+    // The cut of a rectangle, if it has one.
+    pub fn cut_of(&self, r: Rect) -> Option<Cut>
+        requires { Ranged (rect_of r) }
+        ensures { result ≡ cut_record (grid (deck_of self.now.deck)) (rect_of r) }
+    {
+        let p = &self.problem;
+        cuts::find_cut(p.vertical.as_slice(), p.horizontal.as_slice(), r)
+    }
 }
 
 // ---- ranges
@@ -74,12 +91,4 @@ pub fn bound_in(objects: &Objects, r: Rect) -> i64
     };
     let load = pricing::load(objects, r);
     pricing::bound(corners, pricing::span(objects.axis(), r), load)
-}
-
-pub fn cut_of(o: &Opened, r: Rect) -> Option<Cut>
-    requires { Whole o.now × Ranged (rect_of r) }
-    ensures { result ≡ cut_record (grid (deck_of o.now.deck)) (rect_of r) }
-{
-    let p = &o.problem;
-    cuts::find_cut(p.vertical.as_slice(), p.horizontal.as_slice(), r)
 }

@@ -2,7 +2,7 @@
 use Rattle.numbers.proofs.Words.{is_true}
 use mathlib.Core.Path.{◌≡◌, sym, ◌∙◌}
 use mathlib.Core.Bool.{true}
-use Rattle.trial.specs.Opened.{place_in_range}
+use Rattle.trial.specs.Ranges.{place_in_range}
 use Rattle.deck.specs.Rectangle.{place_of}
 use Rattle.trial.proofs.OpenLaws.{open_accepted, open_refused}
 use Rattle.trial.proofs.RectLaws.{place_range}
@@ -10,7 +10,7 @@ use Rattle.trial.proofs.FigureLaws.{cost_answer}
 use Rattle.trial.proofs.cost.Goals as goal
 
 pub returns-in_err-o : goal.returns-in_err-o
-returns-in_err-o c = rw c.from_residual.ensures (open_refused _ _ c.open_job.ensures _ _ c.in_err-o.was)
+returns-in_err-o c = rw c.from_residual.ensures (open_refused _ _ c.of_job.ensures _ _ c.in_err-o.was)
 
 pub cost-requires : goal.cost-requires
 cost-requires c =
@@ -20,4 +20,4 @@ cost-requires c =
 pub returns : goal.returns
 returns c =
     let on : place_in_range (place_of c.args.at) ≡ true = sym c.place_in_range.ensures ∙ c.if-not-place_in_range.false in
-    cost_answer (open_accepted _ _ c.open_job.ensures _ c.in_ok-o.was) _ on c.cost.ensures
+    cost_answer (open_accepted _ _ c.of_job.ensures _ c.in_ok-o.was) _ on c.cost.ensures

@@ -3,8 +3,8 @@ use mathlib.Core.Path.{◌≡◌, sym, ◌∙◌}
 use mathlib.Core.Bool.{true}
 use Rattle.numbers.proofs.Words.{is_true}
 use Rattle.deck.specs.Rectangle.{rect_of}
-use Rattle.trial.specs.Opened.{rect_allowed}
-use Rattle.trial.proofs.OpenLaws.{open_accepted, open_whole, open_refused}
+use Rattle.trial.specs.Ranges.{rect_allowed}
+use Rattle.trial.proofs.OpenLaws.{open_accepted, open_refused}
 use Rattle.trial.proofs.RectLaws.{rect_range}
 use mir.Syntax.{w64}
 use mir.ValLaws.{to_z-of_z}
@@ -13,20 +13,20 @@ use Rattle.trial.proofs.CutLaws.{line_none, line_answer}
 use Rattle.trial.proofs.cut_line.Goals as goal
 
 pub returns-in_err-o : goal.returns-in_err-o
-returns-in_err-o c = rw c.from_residual.ensures (open_refused _ _ c.open_job.ensures _ _ c.in_err-o.was)
+returns-in_err-o c = rw c.from_residual.ensures (open_refused _ _ c.of_job.ensures _ _ c.in_err-o.was)
 
 pub cut_of-requires : goal.cut_of-requires
 cut_of-requires c =
     let on : rect_allowed (rect_of c.args.rect) ≡ true = sym c.rect_allowed.ensures ∙ c.if-not-rect_allowed.false in
-    (open_whole (open_accepted _ _ c.open_job.ensures _ c.in_ok-o.was), (rect_range _).0 (is_true _ on))
+    (rect_range _).0 (is_true _ on)
 
 pub returns-in_err-cut : goal.returns-in_err-cut
 returns-in_err-cut c =
     let on : rect_allowed (rect_of c.args.rect) ≡ true = sym c.rect_allowed.ensures ∙ c.if-not-rect_allowed.false in
     rw c.from_residual-in_err-cut.ensures
-    (line_none (open_accepted _ _ c.open_job.ensures _ c.in_ok-o.was) _ on c.cut_of.ensures c.in_err-cut.was)
+    (line_none (open_accepted _ _ c.of_job.ensures _ c.in_ok-o.was) _ on c.cut_of.ensures c.in_err-cut.was)
 
 pub returns : goal.returns
 returns c =
     let on : rect_allowed (rect_of c.args.rect) ≡ true = sym c.rect_allowed.ensures ∙ c.if-not-rect_allowed.false in
-    to_z-of_z w64 _ (search rules) ∙ line_answer (open_accepted _ _ c.open_job.ensures _ c.in_ok-o.was) _ on c.cut_of.ensures c.in_ok-cut.was
+    to_z-of_z w64 _ (search rules) ∙ line_answer (open_accepted _ _ c.of_job.ensures _ c.in_ok-o.was) _ on c.cut_of.ensures c.in_ok-cut.was

@@ -16,11 +16,11 @@ abbrev now : Bor (List ℤ) → List ℤ
 now lines = lines.now
 
 pub returns-in_default : goal.returns-in_default
-returns-in_default c = open_refused _ _ c.open_job.ensures _ _ c.in_default.is
+returns-in_default c = open_refused _ _ c.of_job.ensures _ _ c.in_default.is
 
 pub returns-then-out-n : goal.returns-then-out-n
 returns-then-out-n c =
-    let w : Open c.args.job.now c.in-Some.o = open_accepted _ _ c.open_job.ensures _ c.in-Some.is in
+    let w : Open c.args.job.now c.in-Some.o = open_accepted _ _ c.of_job.ensures _ c.in-Some.is in
     let they : c.if-across.lines.now ≡ lines w.job.job.deck (lines_axis c.args.across) =
     elim c.if-across.branch [
       | then-across b ↦ ap now b.lines-is ∙ b.as_slice-lines.ensures.lines ∙ vertical_lines w c.args.across b.if-across.true
@@ -30,7 +30,7 @@ returns-then-out-n c =
 
 pub returns : goal.returns
 returns c =
-    let w : Open c.args.job.now c.in-Some.o = open_accepted _ _ c.open_job.ensures _ c.in-Some.is in
+    let w : Open c.args.job.now c.in-Some.o = open_accepted _ _ c.of_job.ensures _ c.in-Some.is in
     let they : c.if-across.lines.now ≡ lines w.job.job.deck (lines_axis c.args.across) =
     elim c.if-across.branch [
       | then-across b ↦ ap now b.lines-is ∙ b.as_slice-lines.ensures.lines ∙ vertical_lines w c.args.across b.if-across.true

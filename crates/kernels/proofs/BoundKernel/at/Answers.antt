@@ -8,7 +8,7 @@ use Rattle.kernels.proofs.BoundKernel.at.Goals as goal
 
 pub returns : goal.returns
 returns c =
-    bound_found c.requires c.args.t c.turn_rect.ensures.is (record {
+    bound_found c.args.o.now c.args.t c.turn_rect.ensures.is (record {
       is = c.positive.ensures.is ∙ ap positive (to_z-of_z w64 _ (record { sfits = c.bound_in.type_inv }) ∙ c.bound_in.ensures);
       within = c.positive.ensures.within;
     })

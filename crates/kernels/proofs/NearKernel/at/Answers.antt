@@ -13,14 +13,14 @@ use Rattle.deck.proofs.SoundLaws.{found_nears, sound_columns, sound_posts, sound
 use Rattle.kernels.proofs.NearKernel.at.Goals as goal
 
 pub post_places-requires : goal.post_places-requires
-post_places-requires c = (sound_columns c.requires.sound).posts
+post_places-requires c = (sound_columns c.args.o.now.sound).posts
 
 pub stop_columns-requires : goal.stop_columns-requires
-stop_columns-requires c = (sound_columns c.requires.sound).stops
+stop_columns-requires c = (sound_columns c.args.o.now.sound).stops
 
 pub nears_of-near-requires : goal.nears_of-near-requires
 nears_of-near-requires c =
-    let sound = c.requires.sound in
+    let sound = c.args.o.now.sound in
     let columns = sound_columns sound in
     let posts = c.post_places.ensures in
     let stops = c.stop_columns.ensures in
@@ -39,9 +39,9 @@ returns c =
     let posts = c.post_places.ensures in
     let stops = c.stop_columns.ensures in
     let found : c.nears_of-near.result ≡ padded 512 0 (map (near deck) deck.stops) =
-    found_nears _ (sound_columns c.requires.sound) (nears_given (given_places record_of.posts record_of.post_x record_of.post_y posts.x posts.y)
+    found_nears _ (sound_columns c.args.o.now.sound) (nears_given (given_places record_of.posts record_of.post_x record_of.post_y posts.x posts.y)
     (given_places record_of.stops record_of.stop_x record_of.stop_y stops.x stops.y) c.nears_of-near.ensures) in
-    let most : get_or c.nears_of-near.result i 0 ≤ 720000 = rw found (sound_limit c.requires.sound i) in
+    let most : get_or c.nears_of-near.result i 0 ≤ 720000 = rw found (sound_limit c.args.o.now.sound i) in
     record {
       is = ap (λ (l : List ℕ). get_or l i 0) found;
       within = omega (arith, most);

@@ -4,7 +4,7 @@ use mathlib.Core.Bool.{◌&&◌}
 use lib.Signed.{le_z}
 use borrow.Author.Rules.{rules}
 use Rattle.numbers.proofs.WordTests.{back}
-use Rattle.trial.specs.Opened.{place_in_range}
+use Rattle.trial.specs.Ranges.{place_in_range}
 use Rattle.trial.proofs.RectLaws.{and_then, and_else, rect_tests}
 use Rattle.trial.proofs.opened.rect_allowed.Goals.{then-place_in_range, else-place_in_range, then-place_in_range-2, else-place_in_range-2}
 use Rattle.trial.proofs.opened.rect_allowed.Goals as goal
