@@ -1,21 +1,25 @@
--- A rectangle that is allowed, and its numbers as machine words.
+-- A place or rectangle that is allowed, by the tests of a job's lines.
 -- Assumes nothing.
-use mathlib.Core.Path.{◌≡◌, refl}
-use mathlib.Core.Bool.{Bool, true, false, ◌&&◌}
-use mathlib.Core.Logic.{◌↔◌}
+use mathlib.Core.Path.{◌≡◌, refl, ◌∙◌}
+use mathlib.Core.Bool.{Bool, true, false, not, ◌&&◌, ◌||◌}
+use mathlib.Core.Logic.{◌⊎◌, inl, inr, ◌↔◌}
+use mathlib.Core.List.{[], ◌∷◌}
+use native.Mathlib.Omega.{arith}
 use lib.Dec.{T}
 use lib.IntN.{ℤ}
-use lib.Signed.{le_z, ◌≤ℤ◌}
-use mir.Syntax.{w64}
-use mir.Val.{SFits}
-use Rattle.numbers.proofs.Truth.{and_iff}
+use lib.Signed.{le_z, lt_z, ◌≤ℤ◌}
+use Rattle.numbers.proofs.Truth.{and_iff, test, holds, fails}
+use Rattle.numbers.proofs.Integer.{order}
 use Rattle.query.specs.Place.{Place, Rect, corner}
 use Rattle.query.specs.Range.{PlaceInRange}
-use Rattle.job_line.specs.Kinds.{coordinates, in_range}
+use Rattle.job_line.specs.Kinds.{area, post, coordinates, row, in_range, in_ranges}
+use Rattle.job_line.specs.Reading.{area_numbers, place_numbers}
+use Rattle.job_line.proofs.RangeTests.{in_two, in_more}
+use Rattle.job.specs.Format.{area_of, empty_area}
 use Rattle.job.proofs.RangeLaws.{coordinate_range}
-use Rattle.numbers.proofs.WordTests.{back, back_is}
 use Rattle.reach.specs.Columns.{Ranged}
-use Rattle.deck.specs.Rectangle.{rect_of}
+use Rattle.deck.specs.Rectangle.{place_of, rect_of}
+use Rattle.deck.specs.declared.Place as Code
 use Rattle.deck.specs.declared.Rect as Held
 use Rattle.trial.specs.Ranges.{place_in_range, rect_allowed}
 
@@ -41,22 +45,38 @@ rect_range r =
       λ h. four.1 (h.range.low_corner_law, (h.range.high_corner_law, (h.full.across, h.full.deep))),
     )
 
--- ---- tests that are joined by `&&`, as the code joins them
-pub and_then : (a b : Bool) → a ≡ true → b ≡ a && b
-and_then a b e = rw e
+-- ---- the tests by those of a job's lines and area
+pub place_test : (at : Code.Place) → in_ranges (row post).ranges (place_numbers at) ≡ place_in_range (place_of at)
+unfolding place_in_range
+place_test at = in_two coordinates coordinates at.x at.y
 
-pub and_else : (a b : Bool) → a ≡ false → a ≡ a && b
-and_else a b e = rw e
+not_less : (a b : ℤ) → not (lt_z b a) ≡ le_z a b
+not_less a b = go (test (lt_z b a))
+  where
+    go : T (lt_z b a) ⊎ T (not (lt_z b a)) → not (lt_z b a) ≡ le_z a b
+    go (inl t) = rw (holds (lt_z b a) t, fails (le_z a b) (omega (arith, order)))
+    go (inr t) = rw (fails (lt_z b a) t, holds (le_z a b) (omega (arith, order)))
 
-grouped : (a b c d : Bool) → ((a && b) && c) && d ≡ a && (b && (c && d))
-grouped true true c d = refl
-grouped true false c d = refl
-grouped false b c d = refl
+neither : (a b : Bool) → not (a || b) ≡ not a && not b
+neither true b = refl
+neither false b = refl
 
-pub rect_tests : (r : Held.Rect) → SFits w64 r.xlo → SFits w64 r.ylo → SFits w64 r.xhi → SFits w64 r.yhi → {low corners across : Bool} →
-    low ≡ place_in_range (record { x = back r.xlo; y = back r.ylo }) →
-    corners ≡ low && place_in_range (record { x = back r.xhi; y = back r.yhi }) → across ≡ corners && le_z (back r.xlo) (back r.xhi) →
-    across && le_z (back r.ylo) (back r.yhi) ≡ rect_allowed (rect_of r)
-unfolding rect_allowed
-rect_tests r f g h k low corners across = rw (across, corners, low, back_is f, back_is g, back_is h, back_is k)
-    (grouped (place_in_range (record { x = r.xlo; y = r.ylo })) (place_in_range (record { x = r.xhi; y = r.yhi })) (le_z r.xlo r.xhi) (le_z r.ylo r.yhi))
+grouped : (a b c : Bool) → (a && b) && c ≡ a && (b && c)
+grouped true b c = refl
+grouped false b c = refl
+
+module _ (r : Held.Rect) where
+  corners_test : in_ranges (row area).ranges (area_numbers r) ≡ place_in_range (corner (rect_of r)) && place_in_range (record { x = r.xhi; y = r.yhi })
+  corners_test =
+      in_more coordinates coordinates r.xlo r.ylo (coordinates ∷ coordinates ∷ []) (r.xhi ∷ r.yhi ∷ [])
+      ∙ (λ i. place_test (record { x = r.xlo; y = r.ylo }) i && place_test (record { x = r.xhi; y = r.yhi }) i)
+
+  full_test : not (empty_area (area_of (area_numbers r))) ≡ le_z r.xlo r.xhi && le_z r.ylo r.yhi
+  unfolding empty_area
+  full_test = neither (lt_z r.xhi r.xlo) (lt_z r.yhi r.ylo) ∙ (λ i. not_less r.xlo r.xhi i && not_less r.ylo r.yhi i)
+
+  pub rect_test : in_ranges (row area).ranges (area_numbers r) && not (empty_area (area_of (area_numbers r))) ≡ rect_allowed (rect_of r)
+  unfolding rect_allowed
+  rect_test =
+      (λ i. corners_test i && full_test i)
+      ∙ grouped (place_in_range (corner (rect_of r))) (place_in_range (record { x = r.xhi; y = r.yhi })) (le_z r.xlo r.xhi && le_z r.ylo r.yhi)

@@ -2,7 +2,6 @@
 ghost use Rattle.std.specs.Prelude.{◌≡◌};
 ghost use Rattle.std.specs.Option.{option_map};
 ghost use Rattle.query.specs.Grid.{grid};
-ghost use Rattle.job_line.specs.Kinds.{coordinates, in_range};
 ghost use Rattle.job.specs.Format.{read_job};
 ghost use Rattle.deck.specs.DeckOf.{deck_of};
 ghost use Rattle.deck.specs.Sound.{Sound};
@@ -16,7 +15,6 @@ ghost use Rattle.trial.specs.Ranges.{place_in_range, rect_allowed};
 
 use cuts::Cut;
 use deck::{Deck, Place, Rect};
-use limits::{LEAST_COORDINATE, MOST_COORDINATE};
 use prepare::Problem;
 use reach::Objects;
 use slots::Costs;
@@ -57,24 +55,16 @@ impl Opened {
 
 // ---- ranges
 
-fn coordinate_in_range(v: i64) -> bool
-    ensures { result ≡ in_range coordinates v }
-{
-    LEAST_COORDINATE <= v && v <= MOST_COORDINATE
-}
-
 pub fn place_in_range(at: Place) -> bool
     ensures { result ≡ place_in_range (place_of at) }
 {
-    coordinate_in_range(at.x) && coordinate_in_range(at.y)
+    job_line::place_in_range(at)
 }
 
 pub fn rect_allowed(r: Rect) -> bool
     ensures { result ≡ rect_allowed (rect_of r) }
 {
-    let low = Place { x: r.xlo, y: r.ylo };
-    let high = Place { x: r.xhi, y: r.yhi };
-    place_in_range(low) && place_in_range(high) && r.xlo <= r.xhi && r.ylo <= r.yhi
+    job_line::area_in_range(r) && !job::empty_area(r)
 }
 
 // ---- figures of a problem
