@@ -1,7 +1,7 @@
 -- The cut that is found for an opened job is that of its deck, and so are the lines that are written out.
 -- Assumes nothing.
 use mathlib.Core.Path.{◌≡◌, refl, sym, ap, ◌∙◌}
-use mathlib.Core.Bool.{Bool, true, false, cond}
+use mathlib.Core.Bool.{Bool, true, false, cond, ◌&&◌}
 use mathlib.Core.List.{List, ◌++◌}
 use Prim.Native.Nat.{ℕ, ◌≤◌, ◌<◌}
 use native.Mathlib.Omega.{arith}
@@ -17,7 +17,7 @@ use Rattle.query.specs.Place.{Rect, Axis, x_axis, y_axis}
 use Rattle.query.specs.Lines.{lines}
 use Rattle.query.specs.Grid.{grid}
 use Rattle.query.specs.Cut.{can_cut, cut_line}
-use Rattle.job.specs.Format.{Job, read_job}
+use Rattle.job.specs.Format.{Job, Result, refused, accepted, read_job}
 use Rattle.deck.specs.DeckOf.{deck_of}
 use Rattle.lines.proofs.DeckLines.{lines_in_order}
 use Rattle.prepare.specs.ProblemRecord.{Parts, problem_record}
@@ -25,10 +25,10 @@ use Rattle.cuts.specs.CutRecord.{axis_of, axis_record, cut_at, cut_record}
 use Rattle.cuts.specs.declared.Cut.{Cut}
 use Rattle.cuts.proofs.CutRecordLaws.{cut_record_found, cut_record_cut}
 use Rattle.trial.specs.Ranges.{rect_allowed}
-use Rattle.trial.specs.Trial.{minus_one, least, axis_number, cut_axis_figure, cut_line_figure, Written, lines_axis, lines_written}
+use Rattle.trial.specs.Trial.{on_job, minus_one, least, axis_number, cut_axis_figure, cut_line_figure, Written, lines_axis, lines_written}
 use Rattle.trial.specs.declared.opened.Opened.{Opened}
 use Rattle.job.proofs.ReadDeck.{Spelt, spelt_range}
-use Rattle.trial.proofs.OpenLaws.{Open, open_deck, open_problem, on_job_lem, inside}
+use Rattle.trial.proofs.OpenLaws.{Open, OpenIn, open_deck, open_problem, on_job_lem, inside}
 
 -- ---- the answers
 same_cut : {c d : Cut} → ◌≡◌ {A = Option Cut} (Some c) (Some d) → c ≡ d
@@ -38,13 +38,24 @@ axis_back : (axis : Axis) → axis_of (axis_record axis) ≡ axis
 axis_back x_axis = refl
 axis_back y_axis = refl
 
-module _ {bytes : List ℕ} {o : Opened} (w : Open bytes o) (rect : Rect) (on : rect_allowed rect ≡ true) {cut : Option Cut}
+-- no line where the job is refused or the rectangle is not allowed
+pub no_line : (rect : Rect) (r : Result) →
+    least ≡ on_job least (λ job. cond (rect_allowed rect) (cond (can_cut (grid job.deck) rect) (cut_line (grid job.deck) rect).at least) least) r →
+    least ≡ cut_line_figure rect r
+no_line rect (refused why) e = refl
+no_line rect (accepted job) e = e ∙ go (rect_allowed rect) (can_cut (grid job.deck) rect) (cut_line (grid job.deck) rect).at
+  where
+    go : (b t : Bool) (z : ℤ) → cond b (cond t z least) least ≡ cond (b && t) z least
+    go true t z = refl
+    go false t z = refl
+
+module _ {bytes : List ℕ} {rect : Rect} {o : Opened} (w : OpenIn bytes rect o) {cut : Option Cut}
     (found : cut ≡ cut_record (grid (deck_of o.deck)) rect) where
   abbrev s : Spelt bytes
-  s = w.job
+  s = w.opened.job
 
   cut_is : cut ≡ cut_record (grid s.job.deck) rect
-  cut_is = found ∙ rw (open_deck w)
+  cut_is = found ∙ rw (open_deck w.opened)
 
   can_cut_lem : {t : Bool} → is_some cut ≡ t → can_cut (grid s.job.deck) rect ≡ t
   can_cut_lem g = sym (ap is_some cut_is ∙ cut_record_found (grid s.job.deck) rect) ∙ g
@@ -58,7 +69,7 @@ module _ {bytes : List ℕ} {o : Opened} (w : Open bytes o) (rect : Rect) (on : 
   axis_inside : cond (can_cut (grid s.job.deck) rect) (axis_number axis) (pos 0) ≡ cut_axis_figure rect (read_job bytes)
   axis_inside =
       inside minus_one (rect_allowed rect)
-      (λ job. cond (can_cut (grid job.deck) rect) (axis_number (cut_line (grid job.deck) rect).axis) (pos 0)) s on
+      (λ job. cond (can_cut (grid job.deck) rect) (axis_number (cut_line (grid job.deck) rect).axis) (pos 0)) s w.allowed
 
   pub axis_none : cut ≡ None → pos 0 ≡ cut_axis_figure rect (read_job bytes)
   axis_none e = rw (can_cut_lem (ap is_some e)) at axis_inside
@@ -71,10 +82,10 @@ module _ {bytes : List ℕ} {o : Opened} (w : Open bytes o) (rect : Rect) (on : 
   line_none e = line_off (can_cut_lem (ap is_some e))
     where
       line_off : can_cut (grid s.job.deck) rect ≡ false → least ≡ cut_line_figure rect (read_job bytes)
-      line_off k = rw (s.read, on, k)
+      line_off k = rw (s.read, w.allowed, k)
 
   pub line_answer : {c : Cut} → cut ≡ Some c → c.at ≡ cut_line_figure rect (read_job bytes)
-  line_answer e = ap (λ (c : Cut). c.at) (cut_at_lem e) ∙ rw (s.read, on, can_cut_lem (ap is_some e))
+  line_answer e = ap (λ (c : Cut). c.at) (cut_at_lem e) ∙ rw (s.read, w.allowed, can_cut_lem (ap is_some e))
 
 -- ---- the lines of the problem along an axis
 -- what is left of an output that they are written to

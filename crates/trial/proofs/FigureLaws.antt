@@ -1,20 +1,22 @@
 -- The figures of an opened job's record and problem are those of its deck.
 -- Assumes nothing.
-use mathlib.Core.Path.{◌≡◌, ap, ◌∙◌}
+use mathlib.Core.Path.{◌≡◌, sym, ap, subst, ◌∙◌}
 use mathlib.Core.Bool.{true, cond}
 use mathlib.Core.List.{List, map}
 use Prim.Native.Nat.{ℕ, ◌≤◌, ◌<◌}
 use native.Mathlib.Omega.{arith}
 use lib.Dec.{ltb}
 use lib.IntN.{ℤ, pos}
-use lib.ListN.{length, get_or, length-map}
+use lib.ListN.{length, get_or, take, length-map}
 use borrow.Author.Tests.{lt-ltb, le-ltb}
 use mir.Syntax.{w64}
 use mir.Val.{to_z}
 use mir.ValLaws.{to_z_pos}
-use Rattle.numbers.proofs.Padded.{padded_at}
+use Rattle.numbers.specs.Padded.{padded}
+use Rattle.numbers.proofs.Padded.{padded_front, padded_at}
 use Rattle.query.proofs.Ranges.{figure_limits}
 use Rattle.query.specs.Place.{Place, Rect}
+use Rattle.query.specs.Deck as Query
 use Rattle.query.specs.Travel.{near}
 use Rattle.query.specs.Cost.{cost, before}
 use Rattle.query.specs.Reach.{load}
@@ -24,7 +26,7 @@ use Rattle.job.specs.Format.{read_job}
 use Rattle.deck.specs.declared.Deck.{Deck}
 use Rattle.deck.specs.DeckOf.{deck_record}
 use Rattle.deck.specs.Objects.{Pricing, pricing_of}
-use Rattle.deck.proofs.SoundLaws.{sound_nears}
+use Rattle.deck.proofs.SoundLaws.{sound_limit}
 use Rattle.reach.specs.Held.{pricing_of_objects}
 use Rattle.pricing.specs.ObjectFigures.{cost_of, load_of, Figure}
 use Rattle.pricing.proofs.ObjectLaws.{cost_law, load_law}
@@ -34,7 +36,7 @@ use Rattle.trial.specs.Ranges.{place_in_range, rect_allowed}
 use Rattle.trial.specs.Trial.{minus_one, least, before_figure, near_figure, cost_figure, load_figure, bound_figure}
 use Rattle.trial.specs.declared.opened.Opened.{Opened}
 use Rattle.job.proofs.ReadDeck.{Spelt, spelt_range}
-use Rattle.trial.proofs.OpenLaws.{Open, whole_pricing, open_deck, open_held, on_job_lem, inside}
+use Rattle.trial.proofs.OpenLaws.{Open, OpenIn, whole_pricing, open_deck, open_held, on_job_lem, inside}
 
 -- a figure as a signed word
 figure_word : {figure n : ℕ} → Figure figure cost_limit n → to_z w64 n ≡ pos figure
@@ -54,18 +56,6 @@ module _ {bytes : List ℕ} {o : Opened} (w : Open bytes o) where
       figure_word fig ∙ ap pos (ap (λ (P : Pricing). cost_of P at) pricing_is ∙ cost_law s.job.deck at)
       ∙ inside minus_one (place_in_range at) (λ job. pos (cost job.deck at)) s t
 
-  pub load_answer : (r : Rect) {n : ℕ} → rect_allowed r ≡ true → Figure (load_of (pricing_of_objects o.problem.objects) r) load_limit n →
-      to_z w64 n ≡ load_figure r (read_job bytes)
-  load_answer r t fig =
-      figure_word (record { is = fig.is; within = omega (arith, fig.within) })
-      ∙ ap pos (ap (λ (P : Pricing). load_of P r) pricing_is ∙ load_law s.job.deck r)
-      ∙ inside minus_one (rect_allowed r) (λ job. pos (load job.deck r)) s t
-
-  pub bound_answer : (r : Rect) {b : ℤ} → rect_allowed r ≡ true → b ≡ bound_of (pricing_of_objects o.problem.objects) r →
-      b ≡ bound_figure r (read_job bytes)
-  bound_answer r t is =
-      is ∙ ap (λ (P : Pricing). bound_of P r) pricing_is ∙ bound_law s.job.deck r ∙ inside least (rect_allowed r) (λ job. bound job.deck r) s t
-
   -- ---- from the record
   held_before : o.deck.before ≡ before s.job.deck
   unfolding deck_record
@@ -84,28 +74,53 @@ module _ {bytes : List ℕ} {o : Opened} (w : Open bytes o) where
   pub few_stops : o.deck.stops ≤ 512
   few_stops = omega (arith, count_is, (spelt_range s).most_stops)
 
-  near_at_lem : (i : ℕ) → i < o.deck.stops → get_or o.deck.near i 0 ≡ get_or (map (near s.job.deck) s.job.deck.stops) i 0
+  -- the nears of the stops that there are
+  near_column : take o.deck.stops o.deck.near ≡ map (near s.job.deck) s.job.deck.stops
   unfolding deck_record
-  near_at_lem i h =
-      ap (λ (d : Deck). get_or d.near i 0) (open_held w)
-      ∙ padded_at 512 0 (map (near s.job.deck) s.job.deck.stops) i
-      (omega (arith, length-map s.job.deck.stops (near s.job.deck), count_is))
-
-  pub near_small : (i : ℕ) → i < o.deck.stops → get_or o.deck.near i 0 ≤ 720000
-  near_small i h = (sound_nears o.sound).range i h
+  near_column =
+      let nears = map (near s.job.deck) s.job.deck.stops in
+      ap (λ (d : Deck). take d.stops d.near) (open_held w)
+      ∙ ap (λ (n : ℕ). take n (padded 512 0 nears)) (sym (length-map s.job.deck.stops (near s.job.deck))) ∙ padded_front 512 0 nears
 
   near_figure_lem : (i : ℕ) →
       cond (ltb i (length s.job.deck.stops)) (pos (get_or (map (near s.job.deck) s.job.deck.stops) i 0)) minus_one ≡ near_figure i (read_job bytes)
   near_figure_lem i =
       on_job_lem minus_one (λ job. cond (ltb i (length job.deck.stops)) (pos (get_or (map (near job.deck) job.deck.stops) i 0)) minus_one) s
 
-  pub near_answer : (i : ℕ) → i < o.deck.stops → to_z w64 (get_or o.deck.near i 0) ≡ near_figure i (read_job bytes)
-  near_answer i h =
-      let few : i < length s.job.deck.stops = omega (arith, count_is) in
-      to_z_pos w64 _ (omega (arith, near_small i h)) ∙ ap pos (near_at_lem i h)
-      ∙ rw (lt-ltb i (length s.job.deck.stops) few) at (near_figure_lem i)
+  module _ {column : List ℕ} (e : column ≡ take o.deck.stops o.deck.near) (i : ℕ) where
+    column_is : column ≡ map (near s.job.deck) s.job.deck.stops
+    column_is = e ∙ near_column
 
-  pub near_none : (i : ℕ) → o.deck.stops ≤ i → minus_one ≡ near_figure i (read_job bytes)
-  near_none i h =
-      let many : length s.job.deck.stops ≤ i = omega (arith, count_is) in
-      rw (le-ltb i (length s.job.deck.stops) many) at (near_figure_lem i)
+    as_many : length column ≡ length s.job.deck.stops
+    as_many = ap length column_is ∙ length-map s.job.deck.stops (near s.job.deck)
+
+    pub near_small : i < length column → get_or column i 0 ≤ 720000
+    near_small h =
+        let nears = map (near s.job.deck) s.job.deck.stops in
+        let few : i < length nears = omega (arith, as_many, length-map s.job.deck.stops (near s.job.deck)) in
+        rw (column_is, ← padded_at 512 0 nears i few)
+        (subst (λ (d : Query.Deck). get_or (padded 512 0 (map (near d) d.stops)) i 0 ≤ 720000) (open_deck w) (sound_limit o.sound i))
+
+    pub near_answer : i < length column → to_z w64 (get_or column i 0) ≡ near_figure i (read_job bytes)
+    near_answer h =
+        let few : i < length s.job.deck.stops = omega (arith, as_many) in
+        to_z_pos w64 _ (omega (arith, near_small h)) ∙ ap (λ (l : List ℕ). pos (get_or l i 0)) column_is
+        ∙ rw (lt-ltb i (length s.job.deck.stops) few) at (near_figure_lem i)
+
+    pub near_none : length column ≤ i → minus_one ≡ near_figure i (read_job bytes)
+    near_none h =
+        let many : length s.job.deck.stops ≤ i = omega (arith, as_many) in
+        rw (le-ltb i (length s.job.deck.stops) many) at (near_figure_lem i)
+
+-- ---- of a rectangle
+module _ {bytes : List ℕ} {rect : Rect} {o : Opened} (w : OpenIn bytes rect o) where
+  pub load_answer : {n : ℕ} → Figure (load_of (pricing_of_objects o.problem.objects) rect) load_limit n → to_z w64 n ≡ load_figure rect (read_job bytes)
+  load_answer fig =
+      figure_word (record { is = fig.is; within = omega (arith, fig.within) })
+      ∙ ap pos (ap (λ (P : Pricing). load_of P rect) (pricing_is w.opened) ∙ load_law w.opened.job.job.deck rect)
+      ∙ inside minus_one (rect_allowed rect) (λ job. pos (load job.deck rect)) w.opened.job w.allowed
+
+  pub bound_answer : {b : ℤ} → b ≡ bound_of (pricing_of_objects o.problem.objects) rect → b ≡ bound_figure rect (read_job bytes)
+  bound_answer is =
+      is ∙ ap (λ (P : Pricing). bound_of P rect) (pricing_is w.opened) ∙ bound_law w.opened.job.job.deck rect
+      ∙ inside least (rect_allowed rect) (λ job. bound job.deck rect) w.opened.job w.allowed

@@ -1,5 +1,5 @@
-pub mod OpenLaws
 pub mod RectLaws
+pub mod OpenLaws
 pub mod FigureLaws
 pub mod CutLaws
 pub mod NumberLaws

@@ -1,21 +1,20 @@
 -- The numbers that `refusal_figure`, `trial_reading` and `trial_figure` choose from, by their place.
 -- Assumes nothing.
 use Prim.Native.Nat.{ℕ, zero, suc, ◌<◌}
-use mathlib.Core.Path.{◌≡◌, refl}
-use mathlib.Core.Bool.{true, false}
+use mathlib.Core.Path.{◌≡◌, refl, ap, ◌∙◌}
 use mathlib.Core.Logic.{◌≢◌}
 use mathlib.Core.List.{List}
 use native.Mathlib.Omega.{arith}
 use lib.IntN.{ℤ, pos, negsuc, nat_abs}
-use lib.Signed.{lt_z}
 use lib.ListN.{get_or}
 use mir.Syntax.{w64}
 use mir.Val.{SFits}
-use borrow.Author.Tests.{ltb-true}
+use Rattle.std.specs.Prelude.{Ok, Err, OkIff}
+use Rattle.std.specs.Prelude as Std
+use Rattle.std.specs.Int.{FitsUnsignedBits}
+use Rattle.numbers.proofs.WordTests.{back, back_is}
 use Rattle.job.specs.Format.{Job, Result, refused, accepted}
 use Rattle.refusal.specs.declared.Refusal.{Refusal}
-use Rattle.numbers.proofs.WordTests.{back, back_is}
-use Rattle.job.proofs.ReadDeck.{differ}
 use Rattle.trial.specs.Trial.{minus_one, least, refusal_numbers, reading_numbers, near_figure, near_at}
 
 pub number_at : (numbers : List ℤ) (which k : ℕ) (z : ℤ) → which ≡ k → z ≡ get_or numbers k least → z ≡ get_or numbers which least
@@ -49,21 +48,18 @@ module _ {r : Result} {why : Refusal} (e : r ≡ refused why) (which : ℕ) wher
   refusal_number h = rw e (refusal_same why which h)
 
 -- ---- a stop by its signed number
-negative_none : (z : ℤ) (r : Result) → lt_z z (pos 0) ≡ true → minus_one ≡ near_at z r
-negative_none (pos i) r e = absurd (omega (arith, ltb-true i 0 e))
-negative_none (negsuc i) r e = refl
-
-natural_near : (z : ℤ) (r : Result) → lt_z z (pos 0) ≡ false → near_figure (nat_abs z) r ≡ near_at z r
-natural_near (pos i) r e = refl
-natural_near (negsuc i) r e = differ e
-
 pub near_refused : (z : ℤ) (r : Result) → minus_one ≡ near_figure (nat_abs z) r → minus_one ≡ near_at z r
 near_refused (pos i) r e = e
 near_refused (negsuc i) r e = refl
 
-module _ {z : ℤ} (f : SFits w64 z) where
-  pub near_negative : (r : Result) → lt_z (back z) (pos 0) ≡ true → minus_one ≡ near_at z r
-  near_negative r e = negative_none z r (rw (back_is f) at e)
+-- the number that `try_from` makes of it
+number_tried : {E : Type 0} (q : Std.Result ℕ E) (z : ℤ) → OkIff q (FitsUnsignedBits 64 z) (nat_abs z) → (n : ℕ) → q ≡ Ok n → (r : Result) →
+    near_figure n r ≡ near_at z r
+number_tried (Ok m) (pos k) h n e r = let same : n ≡ k = cc in rw same
+number_tried (Ok m) (negsuc k) h n e r = absurd h.0
+number_tried (Err why) z h n e r = cc
 
-  pub near_natural : (r : Result) → lt_z (back z) (pos 0) ≡ false → near_figure (nat_abs (back z)) r ≡ near_at z r
-  near_natural r e = rw (back_is f) (natural_near z r (rw (back_is f) at e))
+module _ {z : ℤ} (f : SFits w64 z) where
+  pub near_number : {E : Type 0} (q : Std.Result ℕ E) → OkIff q (FitsUnsignedBits 64 (back z)) (nat_abs (back z)) → (n : ℕ) → q ≡ Ok n → (r : Result) →
+      near_figure n r ≡ near_at z r
+  near_number q h n e r = number_tried q (back z) h n e r ∙ ap (λ (z : ℤ). near_at z r) (back_is f)

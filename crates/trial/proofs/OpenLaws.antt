@@ -28,6 +28,11 @@ use Rattle.deck.specs.Objects.{pricing_of}
 use Rattle.reach.specs.Held.{pricing_of_objects}
 use Rattle.problem.specs.Prepared.{Prepared}
 use Rattle.problem.proofs.DeckProblem.{made_prepared, prepared_pricing, prepared_grid}
+use Rattle.numbers.proofs.Words.{is_true}
+use Rattle.query.specs.Place.{Rect}
+use Rattle.reach.specs.Columns.{Ranged}
+use Rattle.trial.specs.Ranges.{rect_allowed}
+use Rattle.trial.proofs.RectLaws.{rect_range}
 use Rattle.trial.specs.Opened.{OpenedParts, parts_of, opened_deck, opened_record}
 use Rattle.trial.specs.Trial.{on_job}
 use Rattle.trial.specs.declared.opened.Opened.{Opened}
@@ -144,3 +149,33 @@ inside none b f s e = rw e (on_job_lem none f s)
 pub outside : {A : Type 0} (none : A) (b : Bool) (f : Job → A) (r : Result) → b ≡ false → none ≡ on_job none (λ job. cond b (f job) none) r
 outside none b f (refused why) e = refl
 outside none b f (accepted job) e = rw e
+
+-- ---- a job that was opened for a rectangle that is allowed
+pub record OpenIn (bytes : List ℕ) (rect : Rect) (o : Opened) : Type 0 where
+  pub opened : Open bytes o
+  pub allowed : rect_allowed rect ≡ true
+  pub ranged : Ranged rect
+
+module _ (rect : Rect) (bytes : List ℕ) (r : Option Opened)
+    (e : option_map parts_of r ≡ cond (rect_allowed rect) (opened_record (read_job bytes)) None) where
+  by_test : (b : Bool) → rect_allowed rect ≡ b → option_map parts_of r ≡ cond b (opened_record (read_job bytes)) None
+  by_test b on = e ∙ ap (λ (b : Bool). cond b (opened_record (read_job bytes)) None) on
+
+  pub open_in : (o : Opened) → r ≡ Some o → OpenIn bytes rect o
+  open_in o f = go (rect_allowed rect) refl
+    where
+      go : (b : Bool) → rect_allowed rect ≡ b → OpenIn bytes rect o
+      go true on = record {
+        opened = open_accepted bytes r (by_test true on) o f;
+        allowed = on;
+        ranged = (rect_range rect).0 (is_true _ on);
+      }
+      go false off = some_none (sym (ap (option_map parts_of) f) ∙ by_test false off)
+
+  -- where it is refused or not allowed
+  pub none_in : {A : Type 0} (none : A) (f : Job → A) → r ≡ None → none ≡ on_job none (λ job. cond (rect_allowed rect) (f job) none) (read_job bytes)
+  none_in none f g = go (rect_allowed rect) refl
+    where
+      go : (b : Bool) → rect_allowed rect ≡ b → none ≡ on_job none (λ job. cond (rect_allowed rect) (f job) none) (read_job bytes)
+      go true on = rw on (open_refused bytes r (by_test true on) none f g)
+      go false off = outside none (rect_allowed rect) f (read_job bytes) off

@@ -4,11 +4,14 @@
 
 pub mod opened;
 
-ghost use Rattle.std.specs.Prelude.{◌≡◌, ◌≤◌, get_or};
+ghost use Rattle.std.specs.Prelude.{◌≡◌, ◌≤◌, cond, get_or, None};
+ghost use Rattle.std.specs.Option.{option_map};
 ghost use Rattle.refusal.specs.Refusal.{line_of};
 ghost use Rattle.job.specs.Format.{read_job};
 ghost use Rattle.deck.specs.Rectangle.{place_of, rect_of};
 ghost use Rattle.cuts.specs.CutRecord.{axis_of};
+ghost use Rattle.trial.specs.Ranges.{rect_allowed};
+ghost use Rattle.trial.specs.Opened.{parts_of, opened_record};
 ghost use Rattle.trial.specs.Trial.{
   axis_number,
   least,
@@ -88,15 +91,9 @@ fn near(job: &[u8], i: i64) -> Option<i64>
     ensures { figure_or minus_one result ≡ near_at i (read_job job.now) }
 {
     let o = Opened::of_job(job)?;
-    if i < 0 {
-        return None;
-    }
-    let i = i as usize;
-    if i < o.deck.stops {
-        Some(o.deck.near[i] as i64)
-    } else {
-        None
-    }
+    let i = usize::try_from(i).ok()?;
+    let near = o.deck.stop_columns().near.get(i)?;
+    Some(*near as i64)
 }
 
 // The cost of a place.
@@ -110,14 +107,21 @@ fn cost(job: &[u8], at: Place) -> Option<i64>
     Some(pricing::cost(&o.problem.objects, at) as i64)
 }
 
+// The opened job, where the rectangle is allowed.
+fn opened_in(job: &[u8], rect: Rect) -> Option<Opened>
+    ensures { option_map parts_of result ≡ cond (rect_allowed (rect_of rect)) (opened_record (read_job job.now)) None }
+{
+    if !opened::rect_allowed(rect) {
+        return None;
+    }
+    Opened::of_job(job)
+}
+
 // The load of a rectangle.
 fn load(job: &[u8], rect: Rect) -> Option<i64>
     ensures { figure_or minus_one result ≡ load_figure (rect_of rect) (read_job job.now) }
 {
-    let o = Opened::of_job(job)?;
-    if !opened::rect_allowed(rect) {
-        return None;
-    }
+    let o = opened_in(job, rect)?;
     Some(pricing::load(&o.problem.objects, rect) as i64)
 }
 
@@ -125,10 +129,7 @@ fn load(job: &[u8], rect: Rect) -> Option<i64>
 fn bound(job: &[u8], rect: Rect) -> Option<i64>
     ensures { figure_or least result ≡ bound_figure (rect_of rect) (read_job job.now) }
 {
-    let o = Opened::of_job(job)?;
-    if !opened::rect_allowed(rect) {
-        return None;
-    }
+    let o = opened_in(job, rect)?;
     Some(opened::bound_in(&o.problem.objects, rect))
 }
 
@@ -145,10 +146,7 @@ fn axis_number(axis: Axis) -> i64
 fn cut_axis(job: &[u8], rect: Rect) -> Option<i64>
     ensures { figure_or minus_one result ≡ cut_axis_figure (rect_of rect) (read_job job.now) }
 {
-    let o = Opened::of_job(job)?;
-    if !opened::rect_allowed(rect) {
-        return None;
-    }
+    let o = opened_in(job, rect)?;
     match o.cut_of(rect) {
         Some(cut) => Some(axis_number(cut.axis)),
         None => Some(0),
@@ -159,10 +157,7 @@ fn cut_axis(job: &[u8], rect: Rect) -> Option<i64>
 fn cut_line(job: &[u8], rect: Rect) -> Option<i64>
     ensures { figure_or least result ≡ cut_line_figure (rect_of rect) (read_job job.now) }
 {
-    let o = Opened::of_job(job)?;
-    if !opened::rect_allowed(rect) {
-        return None;
-    }
+    let o = opened_in(job, rect)?;
     let cut = o.cut_of(rect)?;
     Some(cut.at)
 }

@@ -1,32 +1,23 @@
 -- What `trial::cut_line` owes.
-use mathlib.Core.Path.{◌≡◌, sym, ◌∙◌}
-use mathlib.Core.Bool.{true}
-use Rattle.numbers.proofs.Words.{is_true}
-use Rattle.deck.specs.Rectangle.{rect_of}
-use Rattle.trial.specs.Ranges.{rect_allowed}
-use Rattle.trial.proofs.OpenLaws.{open_accepted, open_refused}
-use Rattle.trial.proofs.RectLaws.{rect_range}
+use mathlib.Core.Path.{◌∙◌}
 use mir.Syntax.{w64}
 use mir.ValLaws.{to_z-of_z}
 use borrow.Author.Rules.{rules}
-use Rattle.trial.proofs.CutLaws.{line_none, line_answer}
+use Rattle.trial.proofs.OpenLaws.{open_in, none_in}
+use Rattle.trial.proofs.CutLaws.{no_line, line_none, line_answer}
 use Rattle.trial.proofs.cut_line.Goals as goal
 
 pub returns-in_err-o : goal.returns-in_err-o
-returns-in_err-o c = rw c.from_residual.ensures (open_refused _ _ c.of_job.ensures _ _ c.in_err-o.was)
+returns-in_err-o c = rw c.from_residual.ensures (no_line _ _ (none_in _ _ _ c.opened_in.ensures _ _ c.in_err-o.was))
 
 pub cut_of-requires : goal.cut_of-requires
-cut_of-requires c =
-    let on : rect_allowed (rect_of c.args.rect) ≡ true = sym c.rect_allowed.ensures ∙ c.if-not-rect_allowed.false in
-    (rect_range _).0 (is_true _ on)
+cut_of-requires c = (open_in _ _ _ c.opened_in.ensures _ c.in_ok-o.was).ranged
 
 pub returns-in_err-cut : goal.returns-in_err-cut
 returns-in_err-cut c =
-    let on : rect_allowed (rect_of c.args.rect) ≡ true = sym c.rect_allowed.ensures ∙ c.if-not-rect_allowed.false in
     rw c.from_residual-in_err-cut.ensures
-    (line_none (open_accepted _ _ c.of_job.ensures _ c.in_ok-o.was) _ on c.cut_of.ensures c.in_err-cut.was)
+    (line_none (open_in _ _ _ c.opened_in.ensures _ c.in_ok-o.was) c.cut_of.ensures c.in_err-cut.was)
 
 pub returns : goal.returns
 returns c =
-    let on : rect_allowed (rect_of c.args.rect) ≡ true = sym c.rect_allowed.ensures ∙ c.if-not-rect_allowed.false in
-    to_z-of_z w64 _ (search rules) ∙ line_answer (open_accepted _ _ c.of_job.ensures _ c.in_ok-o.was) _ on c.cut_of.ensures c.in_ok-cut.was
+    to_z-of_z w64 _ (search rules) ∙ line_answer (open_in _ _ _ c.opened_in.ensures _ c.in_ok-o.was) c.cut_of.ensures c.in_ok-cut.was
