@@ -7,6 +7,7 @@ ghost use Rattle.query.specs.Range.{cost_limit};
 ghost use Rattle.job.specs.Format.{read_job};
 ghost use Rattle.deck.specs.DeckOf.{deck_of};
 ghost use Rattle.pricing.specs.ObjectFigures.{Figure};
+ghost use Rattle.trial.specs.Trial.{minus_one, figure_or};
 ghost use Rattle.kernels.specs.Sums.{
   sum_to,
   Sampled,
@@ -37,7 +38,7 @@ fn sample(t: u64, factor: u64, less: u64) -> i64
 fn positive(z: i64) -> u64
     ensures { Figure (positive z) 1 result }
 {
-    if 0 < z { 1 } else { 0 }
+    u64::from(0 < z)
 }
 
 // The place of a turn.
@@ -142,6 +143,18 @@ fn sum_turns<K: Kernel>(o: &Opened, k: u64) -> u64
     sum
 }
 
+// The sum for a job. None where the job is refused or k is above 100,000.
+fn sum_of_job(job: &[u8], which: u64, k: u64) -> Option<i64>
+    requires { which ≤ 4 }
+    ensures { figure_or minus_one result ≡ kernel_sum which k (read_job job.now) }
+{
+    let o = Opened::of_job(job)?;
+    if 100000 < k {
+        return None;
+    }
+    Some(sum_of(&o, which, k) as i64)
+}
+
 // The sum by the kernel's number.
 // kept: the number comes from a C function, and here it picks the type whose kernel is summed.
 fn sum_of(o: &Opened, which: u64, k: u64) -> u64
@@ -165,11 +178,5 @@ pub fn kernel_sum(job: &[u8], which: u64, k: u64) -> i64
     if 4 < which {
         return NO_FIGURE;
     }
-    let Some(o) = Opened::of_job(job) else {
-        return -1;
-    };
-    if 100000 < k {
-        return -1;
-    }
-    sum_of(&o, which, k) as i64
+    sum_of_job(job, which, k).unwrap_or(-1)
 }
