@@ -24,7 +24,7 @@ use Rattle.calls.specs.Answers.{gives, estimate_numbers, estimated_answer}
 use Rattle.calls.specs.EstimateCall.{estimate_call}
 use Rattle.calls.proofs.Demands.{read_exactly}
 use Rattle.calls.proofs.EstimateCall.{call_accepted, call_refused, given_one}
-use Rattle.estimate.specs.LineCounts.{LineCounts, estimate_by}
+use Rattle.estimate.specs.LineCounts.{LineCounts, estimate_by, GivenCounts, given_estimate}
 use Rattle.estimate.proofs.LineCounts.{deck_counted, deck_small}
 
 -- ---- a deck's problem that was made
@@ -52,12 +52,10 @@ module _ (deck : Deck) (p : Parts) (e : p ≡ problem_record deck) where
 -- ---- the call
 module _ (job : List ℕ) where
   module _ (g : Given) (e : given_by (Ok g) ≡ given_for (read_job job)) where
-    pub job_counts : LineCounts (length g.problem.vertical) (length g.problem.horizontal) g.rounds
+    pub job_counts : GivenCounts g
     job_counts = counts _ _ (problem_same job g e) (spelt_range (spelt job g e)).most_stops g.rounds (rounds_limit_lem job g e)
 
-    pub estimate_given : (x : Estimate) →
-        estimate_numbers x ≡ estimate_by (length g.problem.vertical) (length g.problem.horizontal) g.rounds →
-        estimated_answer (Ok x) ≡ estimate_call job
+    pub estimate_given : (x : Estimate) → estimate_numbers x ≡ given_estimate g → estimated_answer (Ok x) ≡ estimate_call job
     estimate_given x f =
         let s = spelt job g e in
         ap gives (f ∙ deck_estimate _ _ (problem_same job g e) g.rounds ∙ ap (estimate s.job.deck) (rounds_same job g e))

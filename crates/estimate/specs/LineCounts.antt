@@ -1,8 +1,9 @@
 -- The estimate of document 02, card 3, by how many lines there are.
 -- Assumes nothing.
-use Rattle.std.specs.Prelude.{ℕ, ◌+◌, ◌-◌, ◌*◌, min, max, ◌≤◌}
+use Rattle.std.specs.Prelude.{ℕ, ◌+◌, ◌-◌, ◌*◌, min, max, ◌≤◌, length}
 use Rattle.query.specs.Estimate.{Estimate}
 use Rattle.query.specs.Range.{stops_limit, rounds_limit}
+use Rattle.prepare.specs.declared.Given.{Given}
 
 -- lines of a deck in range, two more than stops at most, and rounds of a job
 pub record LineCounts (nv nh rounds : ℕ) : Type 0 where
@@ -20,3 +21,10 @@ estimate_by nv nh rounds = record {
   limit = gaps_by nv * gaps_by nh - 1;
   cells = min (rounds + 1) (gaps_by nv * gaps_by nh);
 }
+
+-- ---- of what a job gives
+abbrev pub GivenCounts : Given → Type 0
+GivenCounts g = LineCounts (length g.problem.vertical) (length g.problem.horizontal) g.rounds
+
+abbrev pub given_estimate : Given → Estimate
+given_estimate g = estimate_by (length g.problem.vertical) (length g.problem.horizontal) g.rounds

@@ -4,9 +4,10 @@
 ghost use Rattle.std.specs.Prelude.{◌≡◌};
 ghost use Rattle.calls.specs.Answers.{estimate_numbers, estimated_answer};
 ghost use Rattle.calls.specs.EstimateCall.{estimate_call};
-ghost use Rattle.estimate.specs.LineCounts.{LineCounts, estimate_by};
+ghost use Rattle.estimate.specs.LineCounts.{LineCounts, estimate_by, GivenCounts, given_estimate};
 
 use calls::Estimate;
+use prepare::Given;
 use refusal::Refusal;
 
 // The estimate by the number of vertical lines, that of horizontal ones, and the rounds.
@@ -27,15 +28,23 @@ pub fn of_lines(nv: usize, nh: usize, rounds: u64) -> Estimate
     }
 }
 
+// The estimate of what a job gives.
+pub fn of_given(given: &Given) -> Estimate
+    requires { GivenCounts given.now }
+    ensures { estimate_numbers result ≡ given_estimate given.now }
+{
+    let problem = &given.problem;
+    of_lines(
+        problem.vertical.len(),
+        problem.horizontal.len(),
+        given.rounds,
+    )
+}
+
 // The estimate of a job, or the refusal of the job.
 pub fn of_job(job: &[u8]) -> Result<Estimate, Refusal>
     ensures { estimated_answer result ≡ estimate_call job.now }
 {
     let given = prepare::of_job(job)?;
-    let problem = &given.problem;
-    Ok(of_lines(
-        problem.vertical.len(),
-        problem.horizontal.len(),
-        given.rounds,
-    ))
+    Ok(of_given(&given))
 }

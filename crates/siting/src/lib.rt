@@ -101,10 +101,7 @@ fn respond(job: &[u8], cells: &mut [i64], out: &mut [u8]) -> Result<Response, Re
         out.new result }
 {
     let given = prepare::of_job(job)?;
-    let problem = &given.problem;
-    let vertical = problem.vertical.len();
-    let horizontal = problem.horizontal.len();
-    let needs = estimate::of_lines(vertical, horizontal, given.rounds);
+    let needs = estimate::of_given(&given);
     if (cells.len() as u64) < CELL_NUMBERS as u64 * needs.cells {
         return Err(Refusal::SmallSpace);
     }

@@ -9,11 +9,9 @@ pub returns-in_err-given : goal.returns-in_err-given
 returns-in_err-given c =
     rw (handed _ c.from_residual.ensures.1) (estimate_refused _ _ (ap given_by (sym c.in_err-given.was) ∙ c.of_job.ensures))
 
-pub of_lines-requires : goal.of_lines-requires
-of_lines-requires c =
-    rw (c.len.ensures, c.len-2.ensures) (job_counts _ c.in_ok-given.given (ap given_by (sym c.in_ok-given.was) ∙ c.of_job.ensures))
+pub of_given-requires : goal.of_given-requires
+of_given-requires c = job_counts _ c.in_ok-given.given (ap given_by (sym c.in_ok-given.was) ∙ c.of_job.ensures)
 
 pub returns : goal.returns
 returns c =
-    let needs = rw (c.len.ensures, c.len-2.ensures) at c.of_lines.ensures in
-    estimate_given _ c.in_ok-given.given (ap given_by (sym c.in_ok-given.was) ∙ c.of_job.ensures) c.of_lines.result needs
+    estimate_given _ c.in_ok-given.given (ap given_by (sym c.in_ok-given.was) ∙ c.of_job.ensures) c.of_given.result c.of_given.ensures

@@ -14,24 +14,20 @@ returns-in_err-given c =
     let refused = given_refused _ _ (ap given_by (sym c.in_err-given.was) ∙ c.of_job.ensures) in
     rw (handed _ c.from_residual.ensures.1) (respond_refused _ _ _ _ (refused_call _ _ _ _ refused))
 
-pub of_lines-needs-requires : goal.of_lines-needs-requires
-of_lines-needs-requires c =
-    rw (c.len-vertical.ensures, c.len-horizontal.ensures) (job_counts _ c.in_ok-given.given (ap given_by (sym c.in_ok-given.was) ∙ c.of_job.ensures))
+pub of_given-needs-requires : goal.of_given-needs-requires
+of_given-needs-requires c = job_counts _ c.in_ok-given.given (ap given_by (sym c.in_ok-given.was) ∙ c.of_job.ensures)
 
 pub overflow_mul-needs : goal.overflow_mul-needs
 overflow_mul-needs c =
-    let needs = rw (c.len-vertical.ensures, c.len-horizontal.ensures) at c.of_lines-needs.ensures in
-    omega (arith, few_cells _ c.in_ok-given.given (ap given_by (sym c.in_ok-given.was) ∙ c.of_job.ensures) c.of_lines-needs.result needs)
+    omega (arith, few_cells _ c.in_ok-given.given (ap given_by (sym c.in_ok-given.was) ∙ c.of_job.ensures) c.of_given-needs.result c.of_given-needs.ensures)
 
 pub returns-then-cells-needs : goal.returns-then-cells-needs
 returns-then-cells-needs c =
-    let needs = rw (c.len-vertical.ensures, c.len-horizontal.ensures) at c.of_lines-needs.ensures in
     let given = ap given_by (sym c.in_ok-given.was) ∙ c.of_job.ensures in
-    respond_refused _ _ _ _ (small _ c.in_ok-given.given given c.of_lines-needs.result needs _ _ (omega (arith, c.if-cells-needs.true)))
+    respond_refused _ _ _ _ (small _ c.in_ok-given.given given c.of_given-needs.result c.of_given-needs.ensures _ _ (omega (arith, c.if-cells-needs.true)))
 
 pub returns : goal.returns
 returns c =
-    let needs = rw (c.len-vertical.ensures, c.len-horizontal.ensures) at c.of_lines-needs.ensures in
     let given = ap given_by (sym c.in_ok-given.was) ∙ c.of_job.ensures in
-    let fit = fits _ c.in_ok-given.given given c.of_lines-needs.result needs _ (omega (arith, c.if-cells-needs.false)) in
+    let fit = fits _ c.in_ok-given.given given c.of_given-needs.result c.of_given-needs.ensures _ (omega (arith, c.if-cells-needs.false)) in
     responded_in _ c.in_ok-given.given given _ _ fit _ _ _ c.respond_in.ensures
