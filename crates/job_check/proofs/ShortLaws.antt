@@ -104,8 +104,8 @@ module _ (ranges : List Range) (n : ℕ) (ns : List ℤ) where
 -- a count
 pub count_tested : (most n : ℕ) → leb n most ≡ in_ranges (up_to most ∷ []) (pos n ∷ [])
 count_tested most n = ⊎_elim
-    (λ t. let h = ltb→lt most n t in lt-leb n most h ∙ sym (count_above most (pos n) tt h))
-    (λ t. let h = nltb→le most n t in le-leb n most h ∙ sym (count_within most (pos n) tt h)) (test (ltb most n))
+    (λ t. let h = ltb→lt most n t in lt-leb n most h ∙ sym (count_above most n h))
+    (λ t. let h = nltb→le most n t in le-leb n most h ∙ sym (count_within most n h)) (test (ltb most n))
 
 -- one without a fault
 some_none : {why : Refusal} → some why ≡ none → ⊥

@@ -13,8 +13,9 @@ use lib.Signed.{lt_z, non_neg, pos-nat_abs}
 use mir.Syntax.{w64}
 use mir.Val.{Fits, SFits}
 use Rattle.std.specs.Prelude as Std
-use Rattle.std.specs.Prelude.{Some, None, IfSome, Result, Ok, Err, IsErrAnd}
+use Rattle.std.specs.Prelude.{Some, None, IfSome, Result, Ok, Err, IsErrAnd, unsigned_abs}
 use Rattle.std.specs.Borrow.{Bor}
+use Rattle.std.specs.Int.{FitsUnsignedBits}
 use Rattle.std.specs.Option.{ok_or}
 use Rattle.std.specs.Result.{result_ok, is_ok}
 use Rattle.text.specs.Ascii.{newline}
@@ -27,7 +28,6 @@ use Rattle.job_line.specs.Reading.{KeyAt, FieldAt, NextLine, reading_of, in_64_b
 use Rattle.job_line.specs.declared.Unread.{Unread}
 use Rattle.refusal.specs.declared.Refusal.{Refusal}
 use Rattle.refusal.specs.declared.Refusal.TheVariants.{Malformed, OutOfRange}
-use Rattle.job_line.proofs.RangeTests.{natural}
 use Rattle.numbers.proofs.WordTests.{back, back_is}
 
 -- ---- an option as a result
@@ -124,8 +124,13 @@ module _ {end : ℕ} {unread left : Unread} {z : ℤ} (field_at : FieldAt end un
   field_reads : field end unread.text.now ≡ number_then (back z) left.text.now
   field_reads = rw field_back (sym field_at.is)
 
-  pub field_natural : lt_z (back z) (pos 0) ≡ false → T (non_neg (back z))
-  field_natural = natural (back z)
+  -- it is negative where `try_from` finds that no unsigned word holds it
+  pub field_below : (FitsUnsignedBits 64 (back z) → ⊥) → lt_z (back z) (pos 0) ≡ true
+  field_below f = go (back z) (rw field_back field_at.nine_digits) f
+    where
+      go : (v : ℤ) → nat_abs v < 10 ^ 9 → (FitsUnsignedBits 64 v → ⊥) → lt_z v (pos 0) ≡ true
+      go (pos n) h f = absurd (f (omega arith))
+      go (negsuc n) h f = refl
 
   pub field_cast : T (non_neg (back z)) → T (non_neg (back z)) × Fits w64 (nat_abs (back z))
   field_cast t = (t, record { fits = rw field_back (omega (arith, field_at.nine_digits)) })
@@ -197,10 +202,20 @@ module _ {row : Row} {unread : Unread} where
     unfolding bind
     key_then f = record { is = rw (form_is, ← is_key.is) f.is; in_line = f.in_line ∙ is_key.in_line }
 
--- two numbers that are not negative, by their sizes
-pub both_natural : {row : Row} {unread left : Unread} (x y : ℤ) → T (non_neg x) → T (non_neg y) →
-    HasForm row unread (x ∷ y ∷ []) left → HasForm row unread (pos (nat_abs x) ∷ pos (nat_abs y) ∷ []) left
-both_natural x y t u f = rw (pos-nat_abs x t, pos-nat_abs y u) f
+-- numbers, as unsigned words hold them
+abbrev Natural : ℤ → ℕ → Type 0
+Natural z n = FitsUnsignedBits 64 z × (n ≡ unsigned_abs z)
+
+natural_is : (z : ℤ) {n : ℕ} → Natural z n → z ≡ pos n
+natural_is (pos m) h = ap pos (sym h.1)
+natural_is (negsuc m) h = absurd h.0
+
+module _ {row : Row} {unread left : Unread} where
+  pub one_natural : {z : ℤ} {n : ℕ} → Natural z n → HasForm row unread (z ∷ []) left → HasForm row unread (pos n ∷ []) left
+  one_natural {z} h f = rw (natural_is z h) at f
+
+  pub two_naturals : {x y : ℤ} {a b : ℕ} → Natural x a → Natural y b → HasForm row unread (x ∷ y ∷ []) left → HasForm row unread (pos a ∷ pos b ∷ []) left
+  two_naturals {x} {y} g h f = rw (natural_is x g, natural_is y h) at f
 
 module _ {row : Row} {unread : Unread} where
   -- where a part is not there, and `?` hands its refusal on

@@ -1,13 +1,13 @@
 -- The tests of ranges, number by number.
 -- Assumes nothing.
-use mathlib.Core.Path.{◌≡◌, refl, sym, ap}
+use mathlib.Core.Path.{◌≡◌, refl, ap}
 use mathlib.Core.Bool.{Bool, true, false, ◌&&◌}
 use mathlib.Core.List.{List, [], ◌∷◌}
 use Prim.Native.Nat.{ℕ, ◌≤◌, ◌<◌}
 use native.Mathlib.Omega.{arith}
 use borrow.Author.Tests.{ltb-true, le-leb, lt-leb}
 use lib.Dec.{T, leb}
-use lib.IntN.{ℤ, pos, negsuc, nat_abs}
+use lib.IntN.{ℤ, pos, negsuc}
 use lib.Signed.{le_z, lt_z, non_neg}
 use mir.Syntax.{w64}
 use mir.Val.{SFits}
@@ -106,21 +106,15 @@ stop_natural x y v e = go v (and_left (in_range visits v) true (and_right (in_ra
     go (negsuc v) t = absurd t
 
 -- ---- a count
-pub natural : (z : ℤ) → lt_z z (pos 0) ≡ false → T (non_neg z)
-natural (pos n) e = tt
-natural (negsuc n) e = absurd (is_true _ (sym e))
-
 pub count_below : (most : ℕ) (z : ℤ) → lt_z z (pos 0) ≡ true → in_ranges (up_to most ∷ []) (z ∷ []) ≡ false
 unfolding in_ranges
 count_below most (pos n) e = absurd (omega (arith, ltb-true n 0 e))
 count_below most (negsuc n) e = refl
 
-pub count_above : (most : ℕ) (z : ℤ) → T (non_neg z) → most < nat_abs z → in_ranges (up_to most ∷ []) (z ∷ []) ≡ false
+pub count_above : (most n : ℕ) → most < n → in_ranges (up_to most ∷ []) (pos n ∷ []) ≡ false
 unfolding in_ranges
-count_above most (pos n) t h = rw (le-leb 0 n (omega arith), lt-leb n most h)
-count_above most (negsuc n) t h = absurd t
+count_above most n h = rw (le-leb 0 n (omega arith), lt-leb n most h)
 
-pub count_within : (most : ℕ) (z : ℤ) → T (non_neg z) → nat_abs z ≤ most → in_ranges (up_to most ∷ []) (z ∷ []) ≡ true
+pub count_within : (most n : ℕ) → n ≤ most → in_ranges (up_to most ∷ []) (pos n ∷ []) ≡ true
 unfolding in_ranges
-count_within most (pos n) t h = rw (le-leb 0 n (omega arith), le-leb n most h)
-count_within most (negsuc n) t h = absurd t
+count_within most n h = rw (le-leb 0 n (omega arith), le-leb n most h)

@@ -119,11 +119,9 @@ pub fn axis_line(unread: Unread<'_>) -> Result<(AxisCosts, Unread<'_>), Refusal>
     let unread = after(unread, b"axis=")?;
     let (x_cost, unread) = field(unread, b',')?;
     let (y_cost, unread) = field(unread, b'\n')?;
-    if x_cost < 0 || y_cost < 0 {
+    let (Ok(a), Ok(b)) = (u64::try_from(x_cost), u64::try_from(y_cost)) else {
         return Err(Refusal::OutOfRange(unread.line));
-    }
-    let a = x_cost as u64;
-    let b = y_cost as u64;
+    };
     let costs = AxisCosts { a, b };
     if !axis_in_range(costs) {
         return Err(Refusal::OutOfRange(unread.line));
@@ -141,10 +139,9 @@ pub fn count_line<'a>(
 {
     let unread = after(unread, key)?;
     let (z, unread) = field(unread, b'\n')?;
-    if z < 0 {
+    let Ok(n) = usize::try_from(z) else {
         return Err(Refusal::OutOfRange(unread.line));
-    }
-    let n = z as usize;
+    };
     if most < n {
         return Err(Refusal::OutOfRange(unread.line));
     }
