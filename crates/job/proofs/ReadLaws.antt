@@ -1,18 +1,19 @@
 -- From the parts to the job: refusals 4, 5 and 6, and the whole reading.
 -- Assumes nothing.
 use mathlib.Core.Path.{◌≡◌, refl, sym, ap, subst, ◌∙◌}
-use mathlib.Core.Bool.{Bool, true, false}
+use mathlib.Core.Bool.{Bool, true, false, cond, not}
 use mathlib.Core.List.{List, [], ◌∷◌, map, map-map}
 use Prim.Native.Nat.{ℕ, zero, suc, ◌≤◌, ◌<◌}
 use native.Mathlib.Omega.{arith}
-use borrow.Author.Tests.{lt-ltb}
+use borrow.Author.Tests.{lt-ltb, eq-eqb, ne_eqb}
+use lib.Dec.{eqb, eqb-suc-zero}
 use lib.IntN.{ℤ, pos}
 use lib.ListN.{length, take, replicate, length-map}
 use lib.Signed.{lt_z}
 use mir.Syntax.{w64}
 use mir.Val.{SFits}
 use Rattle.std.specs.Prelude as Std
-use Rattle.std.specs.Prelude.{Ok, Err}
+use Rattle.std.specs.Prelude.{Ok, Err, IfOk}
 use Rattle.numbers.specs.Lists.{non_empty}
 use Rattle.numbers.specs.Padded.{padded}
 use Rattle.job_line.specs.Kinds.{area, axis, posts, stops, rounds, row}
@@ -22,12 +23,13 @@ use Rattle.job_line.specs.declared.Unread.{Unread}
 use Rattle.job_line.proofs.LineLaws.{line_at_is, line_counts}
 use Rattle.job.specs.Reader.{and_then, optional, end}
 use Rattle.job.specs.Format as Format
-use Rattle.job.specs.Format.{accepted, area_of, axis_costs_of, axis_numbers, count_of, post_of, stop_of, job_of, empty_area, checked, job_lines}
-use Rattle.job.specs.Format.{reading_result, read_with, missing_axis, read_job}
+use Rattle.job.specs.Format.{refused, accepted, area_of, axis_costs_of, axis_numbers, count_of, post_of, stop_of, job_of, empty_area, check_parts, checked}
+use Rattle.job.specs.Format.{job_lines, reading_result, read_with, missing_axis, read_job}
 use Rattle.job.specs.JobRecord.{job_result}
 use Rattle.job.specs.ManyLines.{post_lines, stop_lines, counted_lines, all_posts, all_stops, last_line, rest_lines, with_posts, with_stops}
 use Rattle.job.specs.ManyLines.{lines_read, last_read, job_unless, AxisAt, PostsAt, StopsAt, LastAt, CheckedAt, RestAt}
 use Rattle.query.specs.Deck as Query
+use Rattle.query.specs.Place as Place
 use Rattle.query.specs.Travel as Travel
 use Rattle.query.specs.Cost.{before}
 use Rattle.deck.specs.DeckOf.{held_axis, axis_record, places}
@@ -54,51 +56,56 @@ module _ {a : Rect} (xlo : SFits w64 a.xlo) (ylo : SFits w64 a.ylo) (xhi : SFits
   empty_deep e = rw (rw (back_is xhi, back_is xlo) at e, back_is yhi, back_is ylo)
 
 -- ---- refusals 4, 5 and 6, in this order
-module _ {A : Type 0} where
-  no_elements : (xs : List A) → length xs ≡ 0 → non_empty xs ≡ false
-  no_elements [] e = refl
-  no_elements (x ∷ xs) e = absurd (omega arith)
-
-  some_elements : (xs : List A) → (length xs ≡ 0 → ⊥) → non_empty xs ≡ true
-  some_elements [] e = absurd (e refl)
-  some_elements (x ∷ xs) e = refl
-
--- lines are some, or none, by their count
-module _ {A : Type 0} (f : List ℤ → A) {count : ℕ} (ls : List (List ℤ)) (e : count ≡ length ls) where
-  some_lines : (count ≡ 0 → ⊥) → non_empty (map f ls) ≡ true
-  some_lines some = some_elements (map f ls) (λ z. some (e ∙ sym (length-map ls f) ∙ z))
-
-  none_lines : count ≡ 0 → non_empty (map f ls) ≡ false
-  none_lines z = no_elements (map f ls) (length-map ls f ∙ sym e ∙ z)
-
-module _ {a : Rect} {k m : ℕ} {t : Bool} (is_empty : t ≡ empty_area (area_of (area_numbers a))) where
-  pub checked_empty : t ≡ true → CheckedAt a k m (Err EmptyArea)
-  unfolding checked
-  checked_empty on = record { is = λ c ps ss n p s. rw (← is_empty, on); posts_some = tt }
+module _ (r : Place.Rect) (k m : ℕ) {t : Bool} (is_empty : t ≡ empty_area r) where
+  pub parts_empty : t ≡ true → Err EmptyArea ≡ check_parts r k m
+  unfolding check_parts
+  parts_empty on = rw (← is_empty, on)
 
   module _ (off : t ≡ false) where
-    pub checked_no_posts : k ≡ 0 → CheckedAt a k m (Err NoPosts)
-    unfolding checked
-    checked_no_posts z = record { is = λ c ps ss n p s. rw (← is_empty, off, none_lines post_of ps p z); posts_some = tt }
+    pub parts_no_posts : k ≡ 0 → Err NoPosts ≡ check_parts r k m
+    unfolding check_parts
+    parts_no_posts z = rw (← is_empty, off, eq-eqb k 0 z)
 
     module _ (some_posts : k ≡ 0 → ⊥) where
-      pub checked_no_stops : m ≡ 0 → CheckedAt a k m (Err NoStops)
-      unfolding checked
-      checked_no_stops z = record {
-        is = λ c ps ss n p s. rw (← is_empty, off, some_lines post_of ps p some_posts, none_lines stop_of ss s z);
-        posts_some = tt;
-      }
+      pub parts_no_stops : m ≡ 0 → Err NoStops ≡ check_parts r k m
+      unfolding check_parts
+      parts_no_stops z = rw (← is_empty, off, ne_eqb k 0 some_posts, eq-eqb m 0 z)
 
-      pub checked_accepted : (m ≡ 0 → ⊥) → CheckedAt a k m (Ok tt)
-      unfolding checked
-      checked_accepted some_stops = record {
-        is = λ c ps ss n p s. rw (← is_empty, off, some_lines post_of ps p some_posts, some_lines stop_of ss s some_stops);
-        posts_some = at_least k some_posts;
-      }
-        where
-          at_least : (k : ℕ) → (k ≡ 0 → ⊥) → 1 ≤ k
-          at_least zero h = absurd (h refl)
-          at_least (suc k) h = omega arith
+      pub parts_there : (m ≡ 0 → ⊥) → Ok tt ≡ check_parts r k m
+      unfolding check_parts
+      parts_there some_stops = rw (← is_empty, off, ne_eqb k 0 some_posts, ne_eqb m 0 some_stops)
+
+-- lines are some, or none, by their count
+lines_some : {A : Type 0} (f : List ℤ → A) {count : ℕ} (ls : List (List ℤ)) → count ≡ length ls → non_empty (map f ls) ≡ not (eqb count 0)
+lines_some f [] e = rw e refl
+lines_some f (l ∷ ls) e = rw (e, eqb-suc-zero (length ls)) refl
+
+pub checked_parts : {r : Rect} {k m : ℕ} {found : Std.Result (Unit {0}) Refusal} → found ≡ check_parts (area_of (area_numbers r)) k m → CheckedAt r k m found
+unfolding checked check_parts
+checked_parts {r} {k} {m} e = rw e (record {
+  is = λ c ps ss n p s. rw (lines_some post_of ps p, lines_some stop_of ss s)
+      (go (job_of (area_numbers r) c ps ss n) (empty_area (area_of (area_numbers r))) (eqb k 0) (eqb m 0));
+  posts_some = some k;
+})
+  where
+    go : (job : Format.Job) (s t u : Bool) → cond s (refused EmptyArea) (cond (not t) (cond (not u) (accepted job) (refused NoStops)) (refused NoPosts))
+        ≡ job_unless job (cond s (Err EmptyArea) (cond t (Err NoPosts) (cond u (Err NoStops) (Ok tt))))
+    go job true t u = refl
+    go job false true u = refl
+    go job false false true = refl
+    go job false false false = refl
+
+    any : (k : ℕ) (found : Std.Result (Unit {0}) Refusal) → IfOk found (λ u. 1 ≤ suc k)
+    any k (Ok u) = omega arith
+    any k (Err why) = tt
+
+    some : (k : ℕ) → IfOk (check_parts (area_of (area_numbers r)) k m) (λ u. 1 ≤ k)
+    some zero = no_posts (empty_area (area_of (area_numbers r)))
+      where
+        no_posts : (s : Bool) → IfOk (cond s (Err EmptyArea) (Err NoPosts)) (λ (u : Unit {0}). 1 ≤ 0)
+        no_posts true = tt
+        no_posts false = tt
+    some (suc k) = any k _
 
 -- ---- the lines of a job, part by part
 -- one reading after another

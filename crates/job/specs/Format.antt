@@ -1,6 +1,7 @@
 -- Document 01, "Job and report" and "Turned down", and document 02, card 2: what a job's bytes are read as.
 -- Assumes nothing.
-use Rattle.std.specs.Prelude.{ℕ, Bool, cond, ◌||◌, List, [], ◌∷◌, map, ltb, length, get_or, ℤ, pos, nat_abs}
+use Rattle.std.specs.Prelude as Std
+use Rattle.std.specs.Prelude.{Ok, Err, ℕ, Bool, cond, ◌||◌, List, [], ◌∷◌, map, eqb, ltb, length, get_or, ℤ, pos, nat_abs}
 use Rattle.std.specs.Int.Signed.{lt_z}
 use Rattle.numbers.specs.Lists.{non_empty}
 use Rattle.query.specs.Place.{Place, Rect}
@@ -75,7 +76,12 @@ pub data Result : Type 0 where
 unfoldable pub empty_area : Rect → Bool
 empty_area r = lt_z r.xhi r.xlo || lt_z r.yhi r.ylo
 
--- 01 refusals 4, 5 and 6, in this order, once every line is read
+-- 01 refusals 4, 5 and 6 of an area and of so many posts and stops, in this order
+unfoldable pub check_parts : Rect → ℕ → ℕ → Std.Result (Unit {0}) Refusal
+unfolding empty_area
+check_parts r n m = cond (empty_area r) (Err EmptyArea) (cond (eqb n 0) (Err NoPosts) (cond (eqb m 0) (Err NoStops) (Ok tt)))
+
+-- the same of a job, once every line is read
 unfoldable pub checked : Job → Result
 unfolding empty_area
 checked job = cond (empty_area job.deck.area) (refused EmptyArea)

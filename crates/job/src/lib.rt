@@ -7,9 +7,9 @@ ghost use Rattle.deck.specs.DeckOf.{held_axis};
 ghost use Rattle.deck.specs.Ranges.{CostsInRange};
 ghost use Rattle.job_line.specs.Reading.{area_numbers};
 ghost use Rattle.job.specs.File.{writes_axis};
-ghost use Rattle.job.specs.Format.{area_of, empty_area, read_with, read_job};
+ghost use Rattle.job.specs.Format.{area_of, empty_area, check_parts, read_with, read_job};
 ghost use Rattle.job.specs.JobRecord.{job_result};
-ghost use Rattle.job.specs.ManyLines.{AxisAt, NoPostsYet, NoStopsYet, PostsAt, StopsAt, LastAt, CheckedAt, RestAt};
+ghost use Rattle.job.specs.ManyLines.{AxisAt, NoPostsYet, NoStopsYet, PostsAt, StopsAt, LastAt, RestAt};
 
 use deck::{AxisCosts, Deck, Rect};
 use job_line::Unread;
@@ -91,8 +91,8 @@ pub fn empty_area(a: Rect) -> bool
 }
 
 // Refusals 4, 5 and 6, in this order.
-fn check(area: Rect, posts: usize, stops: usize) -> Result<(), Refusal>
-    ensures { CheckedAt area posts stops result }
+pub fn check_parts(area: Rect, posts: usize, stops: usize) -> Result<(), Refusal>
+    ensures { result ≡ check_parts (area_of (area_numbers area)) posts stops }
 {
     if empty_area(area) {
         return Err(Refusal::EmptyArea);
@@ -132,7 +132,7 @@ fn read_rest(unread: Unread<'_>, area: Rect, axis: AxisCosts) -> Result<Job, Ref
     let unread = read_posts(unread, &mut deck)?;
     let unread = read_stops(unread, &mut deck)?;
     let rounds = last_line(unread)?;
-    check(area, deck.posts, deck.stops)?;
+    check_parts(area, deck.posts, deck.stops)?;
     deck.near = deck::nears_of(axis, deck.post_places(), deck.stop_columns().at);
     let filled = deck.stop_columns();
     deck.before = deck::before_of(filled.visits, filled.near);

@@ -9,16 +9,17 @@ use Prim.Native.Nat.{ℕ, ◌+◌, ◌≤◌}
 use native.Mathlib.Omega.{arith}
 use lib.IntN.{ℤ, pos}
 use lib.ListN.{length}
+use Rattle.std.specs.Prelude as Std
 use Rattle.deck.specs.declared.Deck.{Deck}
 use Rattle.deck.specs.declared.Rect.{Rect}
 use Rattle.deck.specs.DeckOf.{Sized, held_axis, deck_of}
 use Rattle.job_line.specs.Kinds.{Range, area, axis, posts, stops, rounds, up_to, row}
 use Rattle.job_line.specs.Reading.{area_numbers, cost_numbers}
-use Rattle.job.specs.Format.{area_of, read_text}
+use Rattle.job.specs.Format.{area_of, check_parts, read_text}
 use Rattle.job.specs.Spelling.{JobLine, count_line}
 use Rattle.job.specs.File.{writes_axis, file_text, file_lines}
 use Rattle.refusal.specs.declared.Refusal.{Refusal}
-use Rattle.job_check.specs.LineFaults.{numbers_fault, line_fault, or_else, first_fault, parts_fault, refusal_in}
+use Rattle.job_check.specs.LineFaults.{numbers_fault, line_fault, or_else, first_fault, parts_fault, refusal_in, checked_as}
 use Rattle.job_check.proofs.AxisLaws.{axis_lines, axis_fault, axis_end}
 use Rattle.job_check.proofs.ShortLaws.{count_most}
 use Rattle.job_check.proofs.FirstFault.{fault_none, fault_more, fault_joined, or_both, or_none, post_lines, posts_count, stop_lines, stops_count}
@@ -151,7 +152,10 @@ module _ {deck : Deck} {n : ℕ} (sized : Sized deck) (line : ℕ) where
         (omega (arith, sized.visits)),
   )) left
 
-pub parts_answer : {deck : Deck} {n : ℕ} {r : Rect} {found : Option Refusal} → r ≡ area_held deck →
+-- refusals 4 to 6, which the code found
+pub parts_answer : {deck : Deck} {n : ℕ} {r : Rect} {found : Std.Result (Unit {0}) Refusal} → r ≡ area_held deck →
     Left deck n (parts_fault (deck_of deck).area deck.posts deck.stops) →
-    found ≡ parts_fault (area_of (area_numbers r)) deck.posts deck.stops → found ≡ refusal_in (read_text (file_text deck n))
-parts_answer {deck} e left f = f ∙ ap (λ (r : Rect). parts_fault (area_of (area_numbers r)) deck.posts deck.stops) e ∙ sym (left.is ∙ rw area_is)
+    found ≡ check_parts (area_of (area_numbers r)) deck.posts deck.stops → checked_as found ≡ refusal_in (read_text (file_text deck n))
+unfolding parts_fault
+parts_answer {deck} e left f =
+    ap checked_as f ∙ ap (λ (r : Rect). parts_fault (area_of (area_numbers r)) deck.posts deck.stops) e ∙ sym (left.is ∙ rw area_is)

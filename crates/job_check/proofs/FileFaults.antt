@@ -11,6 +11,7 @@ use native.Mathlib.Omega.{arith}
 use lib.Dec.{T, ltb, eqb, ltb→lt, nltb→le, eqb-suc-zero}
 use lib.IntN.{ℤ, nat_abs}
 use lib.ListN.{length, replicate, length-append, length-map}
+use Rattle.std.specs.Prelude.{Ok, Err}
 use Rattle.numbers.proofs.Truth.{test, holds, fails}
 use Rattle.numbers.proofs.Members.{each_cons}
 use Rattle.numbers.specs.Lists.{non_empty}
@@ -35,7 +36,7 @@ use Rattle.job.proofs.Meaning.{text_fault, text_checked, text_accepted, missing_
 use Rattle.refusal.specs.Refusal.{line_of}
 use Rattle.refusal.specs.declared.Refusal.{Refusal}
 use Rattle.refusal.specs.declared.Refusal.TheVariants.{Malformed, OutOfRange, EmptyArea, NoPosts, NoStops}
-use Rattle.job_check.specs.LineFaults.{all_short, numbers_fault, line_fault, or_else, first_fault, parts_fault, refusal_in}
+use Rattle.job_check.specs.LineFaults.{all_short, numbers_fault, line_fault, or_else, first_fault, parts_fault, refusal_in, checked_as}
 use Rattle.job_check.proofs.AxisLaws.{left_out, axis_lines, axis_end, third_line}
 
 -- ---- one line
@@ -167,7 +168,7 @@ parts_line : (r : Rect) (p s : ℕ) (why : Refusal) → parts_fault r p s ≡ so
 unfolding parts_fault
 parts_line r p s why = go (empty_area r) (eqb p 0) (eqb s 0)
   where
-    go : (b c d : Bool) → cond b (some EmptyArea) (cond c (some NoPosts) (cond d (some NoStops) none)) ≡ some why → line_of why ≡ 0
+    go : (b c d : Bool) → checked_as (cond b (Err EmptyArea) (cond c (Err NoPosts) (cond d (Err NoStops) (Ok tt)))) ≡ some why → line_of why ≡ 0
     go true c d f = ap line_of (sym (some_same f))
     go false true d f = ap line_of (sym (some_same f))
     go false false true f = ap line_of (sym (some_same f))
@@ -252,7 +253,7 @@ module _ (deck : Deck) (rounds-held : ℕ) (sized : Sized deck) where
     where
       go : (b : Bool) (ps : List Place) (ss : List Stop) → refusal_in (cond b (refused EmptyArea) (cond (non_empty ps)
           (cond (non_empty ss) (accepted (held_job deck rounds-held)) (refused NoStops)) (refused NoPosts)))
-          ≡ cond b (some EmptyArea) (cond (eqb (length ps) 0) (some NoPosts) (cond (eqb (length ss) 0) (some NoStops) none))
+          ≡ checked_as (cond b (Err EmptyArea) (cond (eqb (length ps) 0) (Err NoPosts) (cond (eqb (length ss) 0) (Err NoStops) (Ok tt))))
       go true ps ss = refl
       go false [] ss = refl
       go false (p ∷ ps) [] = rw (eqb-suc-zero (length ps))

@@ -1,24 +1,19 @@
--- The first fault of lines one after another: by what is left of them, and of lines joined end to end; and the faults behind all lines.
+-- The first fault of lines one after another: by what is left of them, and of lines joined end to end.
 -- Assumes nothing.
 use mathlib.Core.Path.{◌≡◌, refl, sym, ap, ap₂, ◌∙◌}
-use mathlib.Core.Bool.{Bool, true, false}
 use mathlib.Core.List.{List, [], ◌∷◌, ◌++◌, map}
 use mathlib.Core.Option.{Option, none, some}
 use Prim.Native.Nat.{ℕ, ◌+◌, ◌≤◌, ◌<◌}
 use native.Mathlib.Omega.{arith}
-use borrow.Author.Tests.{eq-eqb, ne_eqb}
 use lib.IntN.{ℤ}
 use lib.ListN.{length, get_or, take, drop, length-take, length-map, drop_of_length-le, get_or-map}
 use Rattle.numbers.proofs.Joined.{drop_next}
-use Rattle.query.specs.Place.{Rect}
 use Rattle.deck.specs.DeckOf.{places, stops_of}
 use Rattle.deck.proofs.ClosestLaws.{zip_take, places_length}
 use Rattle.deck.proofs.DeckLaws.{place_of, stop_of, stops_length}
-use Rattle.job.specs.Format.{empty_area}
 use Rattle.job.specs.Spelling.{JobLine, post_line, stop_line}
 use Rattle.refusal.specs.declared.Refusal.{Refusal}
-use Rattle.refusal.specs.declared.Refusal.TheVariants.{EmptyArea, NoPosts, NoStops}
-use Rattle.job_check.specs.LineFaults.{line_fault, or_else, first_fault, parts_fault}
+use Rattle.job_check.specs.LineFaults.{line_fault, or_else, first_fault}
 
 -- ---- lines
 pub fault_none : (n : ℕ) → first_fault n [] ≡ none
@@ -119,23 +114,3 @@ module _ (xs ys : List ℤ) (vs : List ℕ) (n : ℕ) where
       map stop_line (stops_of (places us ws) ms) ≡ stop_lines xs ys vs n
   unfolding places stops_of
   stops_given e f g = ap (map stop_line) (rw (e, f, g, zip_take stop_of n (places xs ys) vs, zip_take place_of n xs ys))
-
--- ---- the area and the counts, once every line is read
-module _ (r : Rect) (p s : ℕ) {empty : Bool} (e : empty ≡ empty_area r) where
-  pub empty_refused : empty ≡ true → some EmptyArea ≡ parts_fault r p s
-  unfolding parts_fault
-  empty_refused on = rw (← e, on)
-
-  module _ (off : empty ≡ false) where
-    pub no_posts : p ≡ 0 → some NoPosts ≡ parts_fault r p s
-    unfolding parts_fault
-    no_posts zero = rw (← e, off, eq-eqb p 0 zero)
-
-    module _ (posts : p ≡ 0 → ⊥) where
-      pub no_stops : s ≡ 0 → some NoStops ≡ parts_fault r p s
-      unfolding parts_fault
-      no_stops zero = rw (← e, off, ne_eqb p 0 posts, eq-eqb s 0 zero)
-
-      pub parts_there : (s ≡ 0 → ⊥) → none ≡ parts_fault r p s
-      unfolding parts_fault
-      parts_there stops = rw (← e, off, ne_eqb p 0 posts, ne_eqb s 0 stops)

@@ -1,14 +1,14 @@
 -- What reading finds in lines that numbers were spelled in: their first refusal, by the numbers themselves.
 -- Assumes nothing.
 use Rattle.std.specs.Prelude as Std
-use Rattle.std.specs.Prelude.{Ok, Err, ℕ, ◌+◌, Bool, true, cond, ◌&&◌, List, [], ◌∷◌, eqb, ltb, ℤ, nat_abs}
+use Rattle.std.specs.Prelude.{Ok, Err, ℕ, ◌+◌, Bool, true, cond, ◌&&◌, List, [], ◌∷◌, ltb, ℤ, nat_abs}
 use Rattle.std.proofs.Math.Option.{Option, none, some}
 use Rattle.query.specs.Place.{Rect}
 use Rattle.job_line.specs.Kinds.{Range, row, in_ranges}
-use Rattle.job.specs.Format.{Result, refused, accepted, empty_area}
+use Rattle.job.specs.Format.{Result, refused, accepted, check_parts}
 use Rattle.job.specs.Spelling.{JobLine}
 use Rattle.refusal.specs.declared.Refusal.{Refusal}
-use Rattle.refusal.specs.declared.Refusal.TheVariants.{Malformed, OutOfRange, EmptyArea, NoPosts, NoStops}
+use Rattle.refusal.specs.declared.Refusal.TheVariants.{Malformed, OutOfRange}
 
 -- 01 "A number has 1 to 9 digits"
 unfoldable pub short : ℤ → Bool
@@ -41,12 +41,6 @@ unfolding numbers_fault
 first_fault n [] = none
 first_fault n (l ∷ ls) = or_else (line_fault n l) (first_fault (n + 1) ls)
 
--- refusals 4, 5 and 6 of an area and of so many posts and stops, in this order
-unfoldable pub parts_fault : Rect → ℕ → ℕ → Option Refusal
-unfolding empty_area
-parts_fault r posts stops =
-    cond (empty_area r) (some EmptyArea) (cond (eqb posts 0) (some NoPosts) (cond (eqb stops 0) (some NoStops) none))
-
 -- the refusal of a reading
 abbrev pub refusal_in : Result → Option Refusal
 refusal_in (refused why) = some why
@@ -56,3 +50,8 @@ refusal_in (accepted job) = none
 abbrev pub checked_as : Std.Result (Unit {0}) Refusal → Option Refusal
 checked_as (Ok u) = none
 checked_as (Err why) = some why
+
+-- refusals 4, 5 and 6 of an area and of so many posts and stops
+unfoldable pub parts_fault : Rect → ℕ → ℕ → Option Refusal
+unfolding check_parts
+parts_fault r posts stops = checked_as (check_parts r posts stops)

@@ -5,11 +5,11 @@ ghost use Rattle.std.specs.Prelude.{◌≡◌, cond, [], ◌∷◌, map, ◌≤�
 ghost use Rattle.deck.specs.DeckOf.{held_axis, places, stops_of};
 ghost use Rattle.job_line.specs.Kinds.{area, axis, posts, post, stops, stop, up_to, row};
 ghost use Rattle.job_line.specs.Reading.{area_numbers, cost_numbers, place_numbers, stop_numbers};
-ghost use Rattle.job.specs.Format.{area_of, read_text};
+ghost use Rattle.job.specs.Format.{read_text};
 ghost use Rattle.job.specs.Spelling.{count_line, post_line, stop_line};
 ghost use Rattle.job.specs.File.{writes_axis, file_text};
 ghost use Rattle.job_check.specs.LineFaults.{short, all_short, tested_fault, numbers_fault, first_fault};
-ghost use Rattle.job_check.specs.LineFaults.{parts_fault, refusal_in, checked_as};
+ghost use Rattle.job_check.specs.LineFaults.{refusal_in, checked_as};
 
 use deck::{AxisCosts, Deck, Place, Places, Rect, Stop, Stops};
 use limits::{MOST_ROUNDS, POSTS, STOPS};
@@ -164,22 +164,6 @@ fn posts_at(c: AxisCosts) -> u64
     if job::writes_axis(c) { 3 } else { 2 }
 }
 
-// Refusals 4, 5 and 6, in this order.
-fn missing_part(a: Rect, posts: usize, stops: usize) -> Result<(), Refusal>
-    ensures { checked_as result ≡ parts_fault (area_of (area_numbers a)) posts stops }
-{
-    if job::empty_area(a) {
-        return Err(Refusal::EmptyArea);
-    }
-    if posts == 0 {
-        return Err(Refusal::NoPosts);
-    }
-    if stops == 0 {
-        return Err(Refusal::NoStops);
-    }
-    Ok(())
-}
-
 // The refusal that reading the file of a record and rounds would give, its size aside.
 pub fn check(deck: &Deck, rounds: u64) -> Result<(), Refusal>
     ensures { checked_as result ≡ refusal_in (read_text (file_text deck.now rounds)) }
@@ -193,5 +177,5 @@ pub fn check(deck: &Deck, rounds: u64) -> Result<(), Refusal>
     let line = first + 1 + deck.posts as u64;
     all_stops(deck, line)?;
     count_line(rounds, MOST_ROUNDS, line + 1 + deck.stops as u64)?;
-    missing_part(area, deck.posts, deck.stops)
+    job::check_parts(area, deck.posts, deck.stops)
 }

@@ -13,7 +13,8 @@ use Rattle.deck.specs.declared.Deck.{Deck}
 use Rattle.deck.proofs.Fronts.{given_range, given_places, given_naturals, given_count, naturals_count, nears_given, paid_given}
 use Rattle.job.proofs.PartLaws.{handed}
 use Rattle.job.proofs.FilledLaws.{nears_range}
-use Rattle.job.proofs.ReadLaws.{rest_no_posts, rest_no_stops, rest_no_rounds, filled_posts, filled_stops, filled_visits, rest_unchecked, rest_read}
+use Rattle.job.proofs.ReadLaws.{rest_no_posts, rest_no_stops, rest_no_rounds, filled_posts, filled_stops, filled_visits, checked_parts}
+use Rattle.job.proofs.ReadLaws.{rest_unchecked, rest_read}
 use Rattle.job.proofs.read_rest.Goals as goal
 
 pub returns-in_err-unread : goal.returns-in_err-unread
@@ -27,10 +28,10 @@ returns-in_err-rounds c =
     rw (handed _ c.from_residual-in_err-rounds.ensures.1)
     (rest_no_rounds c.in_ok-unread.ensures c.in_ok-unread-2.ensures c.in_err-rounds.ensures)
 
-pub returns-in_err-check : goal.returns-in_err-check
-returns-in_err-check c =
-    rw (handed _ c.from_residual-in_err-check.ensures.1)
-    (rest_unchecked c.in_ok-unread.ensures c.in_ok-unread-2.ensures c.in_ok-rounds.ensures c.in_err-check.ensures)
+pub returns-in_err-check_parts : goal.returns-in_err-check_parts
+returns-in_err-check_parts c =
+    rw (handed _ c.from_residual-in_err-check_parts.ensures.1)
+    (rest_unchecked c.in_ok-unread.ensures c.in_ok-unread-2.ensures c.in_ok-rounds.ensures (checked_parts c.in_err-check_parts.ensures))
 
 pub post_places-requires : goal.post_places-requires
 post_places-requires c = (filled_posts c.in_ok-unread.ensures c.in_ok-unread-2.ensures).few
@@ -45,7 +46,7 @@ nears_of-deck-requires c =
       c.requires.1,
       given_range c.post_places.ensures.x c.post_places.ensures.y posts,
       given_range c.stop_columns.ensures.x c.stop_columns.ensures.y stops,
-      omega (arith, given_count c.post_places.ensures.x posts, c.in_ok-check.ensures.posts_some),
+      omega (arith, given_count c.post_places.ensures.x posts, (checked_parts c.in_ok-check_parts.ensures).posts_some),
     )
 
 pub stop_columns-filled-requires : goal.stop_columns-filled-requires
@@ -78,6 +79,7 @@ returns c =
     let filled = c.stop_columns-filled.ensures in
     let posts-given = c.post_places.ensures in
     let stops-given = c.stop_columns.ensures in
-    rest_read c.in_ok-unread.ensures c.in_ok-unread-2.ensures c.in_ok-rounds.ensures c.in_ok-check.ensures refl (search rules) (search rules)
-    (search rules) (search rules) (found_of c.read_stops.new.deck posts-given.x posts-given.y stops-given.x stops-given.y c.nears_of-deck.ensures)
+    rest_read c.in_ok-unread.ensures c.in_ok-unread-2.ensures c.in_ok-rounds.ensures (checked_parts c.in_ok-check_parts.ensures) refl
+    (search rules) (search rules) (search rules) (search rules)
+    (found_of c.read_stops.new.deck posts-given.x posts-given.y stops-given.x stops-given.y c.nears_of-deck.ensures)
     (c.before_of.ensures ∙ paid_given _ _ _ filled.visits filled.near (naturals_count filled.visits visits))

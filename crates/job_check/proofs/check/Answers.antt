@@ -124,4 +124,4 @@ returns c =
     c.axis_line.ensures (ap checked_as c.in_ok-axis_line.was) c.posts_at-first.ensures
     c.all_posts.ensures (ap checked_as c.in_ok-all_posts.was) c.all_stops.ensures (ap checked_as c.in_ok-all_stops.was)) c.count_line.ensures
     (ap checked_as c.in_ok-count_line.was))
-    c.missing_part.ensures
+    c.check_parts.ensures
