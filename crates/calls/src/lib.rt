@@ -18,7 +18,7 @@ pub struct Estimate {
 }
 
 // A text of at most REPORT_BYTES bytes: the first `length` of `bytes`; the others are 0.
-// kept: a rule of the project, no heap, asks for a buffer with a length beside it in place of a String
+// kept: a buffer with a length beside it, since reports are written into a slice; an `ArrayVec` lends none of what is not filled yet.
 #[derive(Drop)]
 pub struct Text {
     length: usize,

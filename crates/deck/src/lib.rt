@@ -47,7 +47,7 @@ pub struct Rect {
 }
 
 // What a tenth costs in x and in y.
-// kept: their range is no invariant, since a record that a caller hands over may hold any costs, and a type beside this one is no plainer.
+// kept: their range is no invariant, since a record that a caller hands over may hold any costs.
 #[derive(Clone, Copy, PartialEq, Eq)]
 pub struct AxisCosts {
     pub a: u64,
@@ -55,7 +55,7 @@ pub struct AxisCosts {
 }
 
 // The columns of some places: their x, and their y beside it.
-// kept: their range is no invariant, since a record may hold any places; what computes with them asks for the range that it needs.
+// kept: neither their range nor that both are as long is an invariant, since columns that a caller holds may be any.
 #[derive(Clone, Copy)]
 pub struct Places<'a> {
     pub x: &'a [i64],
@@ -63,6 +63,7 @@ pub struct Places<'a> {
 }
 
 // The columns of some stops: where they are, their visits, and the near that is kept with each.
+// kept: no invariant, as of `Places`.
 #[derive(Clone, Copy)]
 pub struct Stops<'a> {
     pub at: Places<'a>,
@@ -72,7 +73,7 @@ pub struct Stops<'a> {
 
 // A deck, one array a field. The first `posts` and `stops` elements of the arrays count; in a record that reading made the others are 0.
 // `near` has each stop's near, and `before` is the deck's.
-// kept: counts beside arrays, since memory is fixed, and one array a field, since each pass over the stops reads single columns.
+// kept: counts beside arrays, since a caller's record may hold any counts, and one array a field, since each pass reads single columns.
 #[derive(Clone, Copy)]
 pub struct Deck {
     pub axis: AxisCosts,
@@ -214,7 +215,7 @@ impl ScaledPlace {
 }
 
 // Posts at scaled places, in columns of which the first `count` elements count. There is one at least.
-// kept: a count beside arrays, since memory is fixed.
+// kept: a count beside two columns: an `ArrayVec` of each would hold it twice, and one of places needs a place to fill it with.
 #[derive(Drop)]
 pub struct ScaledPosts {
     axis: AxisCosts,
@@ -287,7 +288,7 @@ impl ScaledPosts {
     }
 }
 
-// kept: here and below the columns are one array with the count of their rows, as pricing reads them, so that the passes are vectorised.
+// kept: here and below the columns are one array with the count of their rows, as definitions have them; four arrays are no quicker.
 // The first post: the travel to it is the figure of each of the first n stops, in the last column.
 fn start_nears(columns: &mut [i32], n: usize, post: ScaledPlace)
     requires { StopsInRange columns.old n }

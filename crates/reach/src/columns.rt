@@ -21,7 +21,7 @@ pub struct Row {
 }
 
 // The objects of a deck at scaled places, and its axis costs. The first `count` rows of the columns count.
-// kept: one array of columns in place of a slice of rows, since the passes over it are vectorised and the project has no heap.
+// kept: one array of columns and the count of its rows, as `deck::put_columns` promises it; four arrays are no quicker.
 #[derive(Drop)]
 pub struct Objects {
     count: usize,
