@@ -57,6 +57,13 @@ impl Objects {
         }
     }
 
+    // The columns, and the axis costs behind them.
+    pub fn columns(&self) -> &[i32; COLUMNS]
+        ensures { result.now ≡ columns_of_objects self.now }
+    {
+        &self.columns
+    }
+
     // How many objects there are.
     pub fn count(&self) -> usize
         ensures { result ≡ count_of_objects self.now }
