@@ -25,6 +25,7 @@ use problem::Spot;
 use refusal::Refusal;
 use report::{Report, State};
 use search::run;
+use slots::Arrays;
 
 // A report, and how many bytes its text has.
 #[derive(Clone, Copy)]
@@ -59,7 +60,7 @@ fn solve(problem: &Problem, before: u64, rounds: u64, live: &mut LiveCells) -> R
 }
 
 // The report of what a job gives, with its text in the output, or refusal 8, which comes before any place is priced.
-// Not inlined: where it is, the compiler keeps more than two of the live cells on the stack of its caller.
+// Not inlined: where it is, a report of many rounds takes 2 % longer.
 #[inline(never)]
 fn respond_to(given: &Given, live: &mut LiveCells, out: &mut [u8]) -> Result<Response, Refusal>
     requires { OfJob given.now × (live.old ≡ none_live) }
@@ -73,13 +74,14 @@ fn respond_to(given: &Given, live: &mut LiveCells, out: &mut [u8]) -> Result<Res
     Ok(Response { report, bytes })
 }
 
-// The same, with the live cells in the cell space. Not inlined, so that they are not on the stack while a job is read.
+// The same, with the live cells in the cell space. Not inlined, so that the arrays are not on the stack while a job is read.
 #[inline(never)]
 fn respond_in(given: &Given, cells: &mut [i64], out: &mut [u8]) -> Result<Response, Refusal>
     requires { OfJob given.now × Fits given.now (length cells.old) }
     ensures { AnsweredIn given.now cells.old out.old cells.new out.new result }
 {
-    let mut live = LiveCells::new();
+    let mut arrays = Arrays::new();
+    let mut live = LiveCells::new(&mut arrays);
     let response = respond_to(given, &mut live, out)?;
     live.write_out(cells);
     Ok(response)
@@ -91,7 +93,8 @@ fn respond_without_cells(given: &Given, out: &mut [u8]) -> Result<Response, Refu
     requires { OfJob given.now }
     ensures { AnsweredAlone given.now out.old out.new result }
 {
-    respond_to(given, &mut LiveCells::new(), out)
+    let mut arrays = Arrays::new();
+    respond_to(given, &mut LiveCells::new(&mut arrays), out)
 }
 
 // What the call below answers. Refusals 7 and 8 come before any place is priced. A refusal leaves the cell space and the output as they

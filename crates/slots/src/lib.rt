@@ -2,10 +2,10 @@
 // corners in another. A third array holds the numbers of the slots, each once: it is the order in which the slots are read and written.
 #![tactic(auto)]
 
-ghost use Rattle.std.specs.Prelude.{◌≡◌, ◌+◌, ◌*◌, ◌≤◌, ◌<◌, length, replicate};
+ghost use Rattle.std.specs.Prelude.{◌≡◌, ◌+◌, ◌*◌, ◌≤◌, ◌<◌, pos, length, get_or, replicate};
 ghost use Rattle.slots.specs.Slot.{cell_at, costs_at, CellPut, CostsPut, EntryPut};
 ghost use Rattle.slots.specs.Numbering.{Numbered, slot_numbers};
-ghost use Rattle.slots.specs.Places.{entries_in, no_entry, at_place, Stored, Turned};
+ghost use Rattle.slots.specs.Places.{entries_in, at_place, Stored, Turned};
 
 use deck::Rect;
 use limits::{CELLS, CORNER_COSTS, SPACE};
@@ -34,16 +34,23 @@ pub struct Entry {
     pub costs: Costs,
 }
 
-// The entries of all slots. A contract sees them as the list of the entries in the order of the slot numbers.
+// The arrays of the slots.
 // kept: a cell is five numbers of an array, since the cell space of a C caller has this layout and is written by the same put_cell.
 #[derive(Drop)]
-pub struct Slots {
-    cells: [i64; SPACE],
-    costs: [u64; CORNER_COSTS],
-    order: [u16; CELLS],
+pub struct Arrays {
+    pub cells: [i64; SPACE],
+    pub costs: [u64; CORNER_COSTS],
+    pub order: [u16; CELLS],
 }
 
-impl Model for Slots {
+// The entries of all slots. A contract sees them as the list of the entries in the order of the slot numbers.
+// The arrays are lent, so that their 74 KB are written once: a struct that held them would be copied when it is made.
+#[derive(Drop)]
+pub struct Slots<'a> {
+    arrays: &'a mut Arrays,
+}
+
+impl<'a> Model for Slots<'a> {
     ghost use Rattle.std.specs.Prelude.{List};
     ghost use Rattle.slots.specs.declared.Entry.{Entry};
     ghost use Rattle.slots.specs.Numbering.{Numbered};
@@ -51,9 +58,9 @@ impl Model for Slots {
 
     ghost Value = { List Entry };
 
-    ghost view = { λ s. entries_in s.cells s.costs s.order };
+    ghost view = { λ s. entries_in s.arrays.now.cells s.arrays.now.costs s.arrays.now.order };
 
-    ghost invariant = { λ s. Numbered s.order };
+    ghost invariant = { λ s. Numbered s.arrays.now.order };
 }
 
 // The cell in a slot.
@@ -135,40 +142,58 @@ pub fn put_entry(
     put_costs(costs, slot, entry.costs);
 }
 
-// The number of each slot at its own place. Not inlined, so that its array is gone from the stack when a search runs.
-#[inline(never)]
+// The number of each slot at its own place.
 pub fn numbers() -> [u16; CELLS]
     ensures { result ≡ slot_numbers }
 {
     array::from_fn(|i| i as u16)
 }
 
-impl Slots {
-    // Slots of zeros. Without `inline(never)`, since a call that returns so large a struct keeps one more of it on the stack.
+impl Arrays {
+    // All zeros, the order too, which `Slots::new` numbers: so the compiler clears the arrays where the caller keeps them.
     pub fn new() -> Self
-        ensures { result ≡ replicate 1001 no_entry }
+        ensures { result ≡ record { cells = replicate 5005 (pos 0); costs = replicate 4004 0; order = replicate 1001 0 } }
     {
-        Slots {
+        Arrays {
             cells: [0; SPACE],
             costs: [0; CORNER_COSTS],
-            order: numbers(),
+            order: [0; CELLS],
         }
     }
 
-    // Slots of what stands in a caller's arrays, in the order of its slot numbers.
-    pub fn of_arrays(
-        cells: [i64; SPACE],
-        costs: [u64; CORNER_COSTS],
-        order: [u16; CELLS],
-    ) -> Self
-        requires { Numbered order }
-        ensures { result ≡ entries_in cells costs order }
+    // The slot at a place of the order.
+    fn slot_at(&self, place: usize) -> usize
+        requires { Numbered self.now.order × (place < 1001) }
+        ensures { (result ≡ get_or self.now.order place 0) × (result < 1001) }
     {
-        Slots {
-            cells,
-            costs,
-            order,
-        }
+        self.order[place] as usize
+    }
+
+    // An entry stored in a slot.
+    fn put(&mut self, slot: usize, entry: Entry)
+        requires { slot < 1001 }
+        ensures put { EntryPut self.old.cells self.old.costs slot entry self.new.cells self.new.costs }
+        ensures order { self.new.order ≡ self.old.order }
+    {
+        put_entry(&mut self.cells, &mut self.costs, slot, entry);
+    }
+}
+
+impl<'a> Slots<'a> {
+    // The slots in the order of their numbers, whatever the order of the arrays was.
+    pub fn new(arrays: &'a mut Arrays) -> Slots<'a>
+        ensures { result ≡ entries_in arrays.old.cells arrays.old.costs slot_numbers }
+    {
+        arrays.order = numbers();
+        Slots::of_arrays(arrays)
+    }
+
+    // The slots in the order of the arrays.
+    pub fn of_arrays(arrays: &'a mut Arrays) -> Slots<'a>
+        requires { Numbered arrays.old.order }
+        ensures { result ≡ entries_in arrays.old.cells arrays.old.costs arrays.old.order }
+    {
+        Slots { arrays }
     }
 
     // The cell at a place of the order.
@@ -176,7 +201,7 @@ impl Slots {
         requires { place < 1001 }
         ensures { result ≡ (at_place self.now place).cell }
     {
-        get_cell(&self.cells, self.order[place] as usize)
+        get_cell(&self.arrays.cells, self.arrays.slot_at(place))
     }
 
     // The costs of its corners.
@@ -184,7 +209,7 @@ impl Slots {
         requires { place < 1001 }
         ensures { result ≡ (at_place self.now place).costs }
     {
-        get_costs(&self.costs, self.order[place] as usize)
+        get_costs(&self.arrays.costs, self.arrays.slot_at(place))
     }
 
     // The entry at a place of the order.
@@ -203,8 +228,8 @@ impl Slots {
         requires { place < 1001 }
         ensures { Stored self.old place entry self.new }
     {
-        let slot = self.order[place] as usize;
-        put_entry(&mut self.cells, &mut self.costs, slot, entry);
+        let slot = self.arrays.slot_at(place);
+        self.arrays.put(slot, entry);
     }
 
     // The entries from head up to a place, each one place to the left, and the one that was before head behind them.
@@ -212,6 +237,7 @@ impl Slots {
         requires { (1 ≤ head) × (head ≤ to) × (to ≤ 1001) }
         ensures { Turned self.old head to self.new }
     {
-        self.order[head - 1..to].rotate_left(1);
+        let order = &mut self.arrays.order[..];
+        order[head - 1..to].rotate_left(1);
     }
 }

@@ -2,11 +2,12 @@
 use mathlib.Core.Path.{sym, ap, ◌∙◌}
 use native.Mathlib.Omega.{arith}
 use Rattle.slots.specs.declared.Entry.{Entry}
+use Rattle.slots.specs.Slot.{cell_at}
 use Rattle.slots.proofs.PlaceLaws.{in_place}
 use Rattle.slots.proofs.Slots.cell_at.Goals as goal
 
 pub returns : goal.returns
 returns c =
-    let o = c.self.inside.order in
-    rw (← c.self.view_is) (c.get_cell.ensures
-    ∙ sym (ap (λ (e : Entry). e.cell) (in_place c.self.inside.cells c.self.inside.costs o c.args.place (omega (arith, c.self.invariant.long, c.requires)))))
+    let a = c.self.inside.arrays.now in
+    rw (← c.self.view_is) (c.get_cell.ensures ∙ ap (cell_at a.cells) c.slot_at.ensures.0
+    ∙ sym (ap (λ (e : Entry). e.cell) (in_place a.cells a.costs a.order c.args.place (omega (arith, c.self.invariant.long, c.requires)))))

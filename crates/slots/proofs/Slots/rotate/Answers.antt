@@ -7,7 +7,7 @@ use Rattle.slots.proofs.Slots.rotate.Goals as goal
 
 pub invariant_of-self : goal.invariant_of-self
 invariant_of-self c =
-    let o = c.self.inside.order in
+    let o = c.self.inside.arrays.now.order in
     let n = c.self.invariant in
     let a = c.args in
     let places = rotated_places 0 o a.head a.to c.requires.0 c.requires.1 (omega (arith, n.long, c.requires.2)) in
@@ -16,7 +16,7 @@ invariant_of-self c =
 
 pub returns : goal.returns
 returns c =
-    let o = c.self.inside.order in
+    let o = c.self.inside.arrays.now.order in
     let n = c.self.invariant in
     let a = c.args in
     rw (← c.self.view_is, put_mid_rotated 0 o a.head a.to _ c.requires.0 c.requires.1 (omega (arith, n.long, c.requires.2)) c.rotate_left.ensures.after)
