@@ -46,6 +46,28 @@ pub struct Rect {
     pub yhi: i64,
 }
 
+impl Rect {
+    // The corner of the low edges.
+    pub fn low(self) -> Place
+        ensures { result ≡ record { x = self.xlo; y = self.ylo } }
+    {
+        Place {
+            x: self.xlo,
+            y: self.ylo,
+        }
+    }
+
+    // The corner of the high edges.
+    pub fn high(self) -> Place
+        ensures { result ≡ record { x = self.xhi; y = self.yhi } }
+    {
+        Place {
+            x: self.xhi,
+            y: self.yhi,
+        }
+    }
+}
+
 // What a tenth costs in x and in y.
 // kept: their range is no invariant, since a record that a caller hands over may hold any costs.
 #[derive(Clone, Copy, PartialEq, Eq)]

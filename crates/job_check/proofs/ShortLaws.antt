@@ -42,11 +42,6 @@ both_on {u = u} e f on = f ∙ ap (λ (b : Bool). b && u) (sym on ∙ e)
 pub both_off : {r s : Bool} (u : Bool) → r ≡ s → r ≡ false → r ≡ s && u
 both_off u e off = off ∙ ap (λ (b : Bool). b && u) (sym off ∙ e)
 
--- ---- a test of two numbers that words hold, and of others behind them
-pub words_two : (f : List ℤ → Bool) {x y : ℤ} (rest : List ℤ) → SFits w64 x → SFits w64 y → {r : Bool} → r ≡ f (back x ∷ back y ∷ rest) →
-    r ≡ f (x ∷ y ∷ rest)
-words_two f rest fx fy e = e ∙ ap₂ (λ (u v : ℤ). f (u ∷ v ∷ rest)) (back_is fx) (back_is fy)
-
 -- ---- some numbers
 and_true : (t : Bool) → t && true ≡ t
 and_true true = refl

@@ -35,7 +35,7 @@ fn short_place(p: Place) -> bool
 fn short_area(a: Rect) -> bool
     ensures { result ≡ all_short (area_numbers a) }
 {
-    short_place(Place { x: a.xlo, y: a.ylo }) && short_place(Place { x: a.xhi, y: a.yhi })
+    short_place(a.low()) && short_place(a.high())
 }
 
 fn short_costs(c: AxisCosts) -> bool

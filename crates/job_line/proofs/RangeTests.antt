@@ -15,7 +15,7 @@ use Rattle.numbers.specs.Integer.{between}
 use Rattle.numbers.proofs.Words.{is_true}
 use Rattle.numbers.proofs.WordTests.{back, back_is}
 use Rattle.numbers.proofs.Truth.{and_left, and_right}
-use Rattle.job_line.specs.Kinds.{axis, stop, post, Range, coordinates, axis_costs, visits, up_to, row, in_range, in_ranges}
+use Rattle.job_line.specs.Kinds.{axis, stop, Range, coordinates, axis_costs, visits, up_to, row, in_range, in_ranges}
 
 module _ {lo hi v : ℤ} (l : SFits w64 lo) (h : SFits w64 hi) (f : SFits w64 v) where
   pub between_on : le_z (back lo) (back v) ≡ true → le_z (back v) (back hi) ≡ between lo hi v
@@ -30,13 +30,9 @@ pub range_held : (range : Range) {v : ℤ} {r : Bool} → SFits w64 v → r ≡ 
 unfolding in_range
 range_held range f e = rw (back_is f) at e
 
--- a number, or a place, of a record
+-- a number of a record
 pub held : (range : Range) {v : ℤ} {r : Bool} → SFits w64 v → r ≡ in_range range (back v) → r ≡ in_range range v
 held range f e = rw (back_is f) at e
-
-pub place_held : {x y : ℤ} {r : Bool} → SFits w64 x → SFits w64 y → r ≡ in_ranges (row post).ranges (back x ∷ back y ∷ []) →
-    r ≡ in_ranges (row post).ranges (x ∷ y ∷ [])
-place_held f g e = rw (back_is f, back_is g) at e
 
 -- ---- one test after another
 pub and_on : {r t a b : Bool} → r ≡ a → r ≡ true → t ≡ b → t ≡ a && b

@@ -42,7 +42,7 @@ pub fn place_in_range(p: Place) -> bool
 pub fn area_in_range(a: Rect) -> bool
     ensures { result ≡ in_ranges (row area).ranges (area_numbers a) }
 {
-    place_in_range(Place { x: a.xlo, y: a.ylo }) && place_in_range(Place { x: a.xhi, y: a.yhi })
+    place_in_range(a.low()) && place_in_range(a.high())
 }
 
 fn cost_in_range(v: u64) -> bool
