@@ -7,8 +7,6 @@ use lib.Dec.{T}
 use lib.IntN.{ℤ, nat_abs}
 use lib.Signed.{◌<ℤ◌}
 use Rattle.std.specs.Prelude.{Option, Some, IsSome, is_some}
-use Rattle.numbers.proofs.WordTests.{back}
-use Rattle.problem.proofs.Coordinates.{spot_back, near_places}
 use Rattle.numbers.proofs.Truth.{holds}
 use Rattle.numbers.proofs.Integer.{order, abs_range}
 use Rattle.query.specs.Place.{Place, Rect, corner, Axis, x_axis, y_axis, low_edge, high_edge}
@@ -16,8 +14,9 @@ use Rattle.query.specs.Grid.{Grid}
 use Rattle.query.specs.Cut.{Line, can_cut, cut_line, cut_before, cut_after, low_corner, high_corner}
 use Rattle.query.specs.Range.{PlaceInRange, RectInRange}
 use Rattle.query.proofs.CutLaws.{cut_law}
+use Rattle.deck.specs.declared.Place as Code
 use Rattle.deck.specs.declared.Rect as Deck
-use Rattle.deck.specs.Rectangle.{rect_of, rect_record}
+use Rattle.deck.specs.Rectangle.{place_of, rect_of, rect_record}
 use Rattle.deck.specs.Objects.{Pricing}
 use Rattle.reach.specs.Columns.{Ranged}
 use Rattle.pricing.specs.ObjectFigures.{cost_of}
@@ -146,27 +145,27 @@ module _ (P : Pricing) (G : Grid) (r : Rect) (k : Costs) (h : Cutting P G r k) w
         ∙ ap (corner_costs P) (sym is_part)
 
   -- a corner of a part, priced, is a new corner of the cut
-  pub low_place : (p : Deck.Rect) → IsPart Behind p → PlaceInRange (record { x = back p.xlo; y = back p.ylo })
-  low_place p e = let range = (part_ranged Behind p e).range.low_corner_law in near_places p.xlo p.ylo range.x_range range.y_range
+  module _ (p : Deck.Rect) (e : IsPart Behind p) (at : Code.Place) (low : at ≡ record { x = p.xlo; y = p.ylo }) where
+    pub low_place : PlaceInRange (place_of at)
+    low_place = subst (λ (a : Code.Place). PlaceInRange (place_of a)) (sym low) (part_ranged Behind p e).range.low_corner_law
 
-  pub new_low : (p : Deck.Rect) → IsPart Behind p → (spot : Spot) → spot ≡ spot_of P (record { x = back p.xlo; y = back p.ylo })
-      → spot ≡ spot_of P (low_corner line.axis line.at r)
-  new_low p e spot q =
-      let range = (part_ranged Behind p e).range.low_corner_law in
-      spot_back P p.xlo p.ylo spot range.x_range range.y_range q
-      ∙ ap (λ (s : Rect). spot_of P (corner s)) e
-      ∙ ap (spot_of P) (low_is_corner line.axis line.at r)
+    pub new_low : (spot : Spot) → spot ≡ spot_of P (place_of at) → spot ≡ spot_of P (low_corner line.axis line.at r)
+    new_low spot q =
+        q
+        ∙ ap (λ (a : Code.Place). spot_of P (place_of a)) low
+        ∙ ap (λ (s : Rect). spot_of P (corner s)) e
+        ∙ ap (spot_of P) (low_is_corner line.axis line.at r)
 
-  pub high_place : (p : Deck.Rect) → IsPart Before p → PlaceInRange (record { x = back p.xhi; y = back p.yhi })
-  high_place p e = let range = (part_ranged Before p e).range.high_corner_law in near_places p.xhi p.yhi range.x_range range.y_range
+  module _ (p : Deck.Rect) (e : IsPart Before p) (at : Code.Place) (high : at ≡ record { x = p.xhi; y = p.yhi }) where
+    pub high_place : PlaceInRange (place_of at)
+    high_place = subst (λ (a : Code.Place). PlaceInRange (place_of a)) (sym high) (part_ranged Before p e).range.high_corner_law
 
-  pub new_high : (p : Deck.Rect) → IsPart Before p → (spot : Spot) → spot ≡ spot_of P (record { x = back p.xhi; y = back p.yhi })
-      → spot ≡ spot_of P (high_corner line.axis line.at r)
-  new_high p e spot q =
-      let range = (part_ranged Before p e).range.high_corner_law in
-      spot_back P p.xhi p.yhi spot range.x_range range.y_range q
-      ∙ ap (λ (s : Rect). spot_of P (record { x = s.xhi; y = s.yhi })) e
-      ∙ ap (spot_of P) (high_is_corner line.axis line.at r)
+    pub new_high : (spot : Spot) → spot ≡ spot_of P (place_of at) → spot ≡ spot_of P (high_corner line.axis line.at r)
+    new_high spot q =
+        q
+        ∙ ap (λ (a : Code.Place). spot_of P (place_of a)) high
+        ∙ ap (λ (s : Rect). spot_of P (record { x = s.xhi; y = s.yhi })) e
+        ∙ ap (spot_of P) (high_is_corner line.axis line.at r)
 
   pub halves_are : (low high : Spot) → low ≡ spot_of P (low_corner line.axis line.at r) → high ≡ spot_of P (high_corner line.axis line.at r)
       → (before behind : Deck.Rect) → IsPart Before before → IsPart Behind behind → (first second : Entry) → first ≡ entry_for P (rect_of before)

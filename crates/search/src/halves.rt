@@ -15,7 +15,7 @@ ghost use Rattle.search.specs.CutCell.{cut_part, part_costs, halves_of, Cutting}
 
 use cells::Key;
 use cuts::{Axis, Cut};
-use deck::{Place, Rect};
+use deck::Rect;
 use prepare::Problem;
 use problem::Spot;
 use reach::Objects;
@@ -136,17 +136,9 @@ pub(crate) fn halve(problem: &Problem, entry: Entry) -> Halves
     let cut = cut_of(problem, rect).unwrap();
     let before = rect_part(rect, cut, Part::Before);
     let behind = rect_part(rect, cut, Part::Behind);
-    let low_corner = Place {
-        x: behind.xlo,
-        y: behind.ylo,
-    };
-    let high_corner = Place {
-        x: before.xhi,
-        y: before.yhi,
-    };
     let objects = &problem.objects;
-    let low = problem::priced(objects, low_corner);
-    let high = problem::priced(objects, high_corner);
+    let low = problem::priced(objects, behind.low());
+    let high = problem::priced(objects, before.high());
     let first_costs = costs_part(k, cut.axis, Part::Before, low.cost, high.cost);
     let second_costs = costs_part(k, cut.axis, Part::Behind, low.cost, high.cost);
     let first = bounded(objects, before, first_costs);
