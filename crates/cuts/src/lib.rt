@@ -12,6 +12,7 @@ ghost use Rattle.lines.proofs.OneProof.{in_order_prop};
 
 use deck::Rect;
 use lines::first_at_least;
+use numbers::half_up;
 
 #[derive(Clone, Copy, PartialEq)]
 pub enum Axis {
@@ -48,7 +49,7 @@ impl<'a> Side<'a> {
     fn middle(&self) -> i64
         ensures { result ≡ half_up (self.now.lo +ℤ self.now.hi) }
     {
-        (self.lo + self.hi + 1) >> 1
+        half_up(self.lo + self.hi)
     }
 
     // The line before index `at`, or the low edge where that is greater or there is none.
@@ -56,20 +57,16 @@ impl<'a> Side<'a> {
         requires { at ≤ length self.now.lines.now }
         ensures { LineBefore self.now.lines.now at self.now.lo result }
     {
-        if at == 0 {
-            return self.lo;
-        }
-        self.lines[at - 1].max(self.lo)
+        let lo = self.lo;
+        self.lines[..at].last().map_or(lo, |line| lo.max(*line))
     }
 
     // The line at index `at`, or the high edge where that is smaller or there is none.
     fn line_from(&self, at: usize) -> i64
         ensures { LineFrom self.now.lines.now at self.now.hi result }
     {
-        if self.lines.len() <= at {
-            return self.hi;
-        }
-        self.lines[at].min(self.hi)
+        let hi = self.hi;
+        self.lines.get(at).map_or(hi, |line| hi.min(*line))
     }
 
     // The line strictly between the edges that is closest to their middle, the smaller one on a tie.
@@ -112,7 +109,7 @@ fn first_of(first: &Side<'_>, second: &Side<'_>) -> Option<Cut>
         (cut_along second.now.axis second.now.lo second.now.hi
         (keep (strictly_between second.now.lo second.now.hi) second.now.lines.now)) }
 {
-    // kept: a closure for `or_else` would have to state the contract of `cut` once more.
+    // kept: of a closure that takes in a `Side`, which has ghost fields, nothing is inferred: for `or_else` it would state `cut`'s clause again.
     match first.cut() {
         Some(cut) => Some(cut),
         None => second.cut(),

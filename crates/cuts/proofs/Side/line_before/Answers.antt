@@ -1,18 +1,16 @@
 -- What `cuts::Side::line_before` owes.
 use native.Mathlib.Omega.{arith}
-use mathlib.Core.Path.{◌≡◌, ◌∙◌}
-use Prim.Native.Nat.{◌-◌}
-use lib.IntN.{ℤ, pos}
-use lib.ListN.{get_or}
+use mathlib.Core.Path.{◌≡◌}
+use borrow.Author.Rules.{rules}
 use Rattle.std.specs.Int.{int_max}
+use Rattle.std.specs.Option.{MatchOption}
 use Rattle.numbers.proofs.WordTests.{back, fitting}
 use Rattle.cuts.proofs.CutRecordLaws.{back_low}
-use Rattle.cuts.proofs.NextLaws.{before_larger}
+use Rattle.cuts.proofs.NextLaws.{before_last}
 use Rattle.cuts.proofs.Side.line_before.Goals as goal
 
 pub returns : goal.returns
 returns c =
-    let line : ℤ = get_or c.args.self.now.lines.now (c.args.at - 1) (pos 0) in
-    let read : back line ≡ line = fitting line c.max-arg-1.given in
-    before_larger c.args.self.now.lines.now c.args.at c.args.self.now.lo (omega arith)
-    (fitting _ c.max.type_inv ∙ c.max.ensures.value ∙ (λ k. int_max (read k) (back_low c.args.self.now.edges k)))
+    let larger : MatchOption c.last.result (back c.map_or.result ≡ c.args.self.now.lo) (λ x. back c.map_or.result ≡ int_max c.args.self.now.lo x.now)
+    = search (rules, back_low, fitting) in
+    before_last c.args.self.now.lines.now c.args.at c.args.self.now.lo (omega arith) c.last.result c.last.ensures.item larger
