@@ -84,14 +84,7 @@ impl Decimal for u64 {
         if n < 100000 {
             return 1 + at_least(n, 10) + at_least(n, 100) + at_least(n, 1000) + at_least(n, 10000);
         }
-        // kept: a `for` has no range here: how many turns there are is what the loop finds out.
-        let mut rest = n / 100000;
-        let mut len = 6;
-        while 10 <= rest {
-            rest /= 10;
-            len += 1;
-        }
-        len
+        1 + n.ilog10() as usize
     }
 
     // From the last digit to the first.
