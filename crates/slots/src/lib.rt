@@ -196,6 +196,14 @@ impl<'a> Slots<'a> {
         Slots { arrays }
     }
 
+    // The arrays, in which the slots stand.
+    pub fn arrays(&self) -> &Arrays
+        ensures numbered { Numbered result.now.order }
+        ensures entries { entries_in result.now.cells result.now.costs result.now.order ≡ self.now }
+    {
+        &*self.arrays
+    }
+
     // The cell at a place of the order.
     pub fn cell_at(&self, place: usize) -> Cell
         requires { place < 1001 }
