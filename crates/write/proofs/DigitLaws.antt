@@ -3,7 +3,7 @@
 use mathlib.Core.Path.{◌≡◌, refl, sym, ap, ◌∙◌}
 use mathlib.Core.Logic.{⊎_elim}
 use mathlib.Core.List.{List, [], ◌∷◌, ◌++◌}
-use Prim.Native.Nat.{ℕ, zero, suc, ◌+◌, ◌*◌, ◌/◌, ◌%◌, ◌^◌, ◌≤◌, ◌<◌}
+use Prim.Native.Nat.{ℕ, zero, suc, ◌+◌, ◌/◌, ◌%◌, ◌^◌, ◌≤◌, ◌<◌}
 use native.Mathlib.Nat.{pow-suc}
 use native.Mathlib.Numerals.{add-one}
 use native.Mathlib.Omega.{arith}
@@ -17,7 +17,7 @@ use Rattle.std.proofs.lemmas.List.{drop-set}
 use Rattle.numbers.proofs.Truth.{test, cond-true, cond-false}
 use Rattle.text.specs.Decimal.{decimal, spell_nat}
 use Rattle.text.proofs.DecimalLaws.{decimal_small, decimal_large}
-use Rattle.text.proofs.DigitCounts.{length_one, length_more, length_decimal_from, length_spell_nat_below}
+use Rattle.text.proofs.DigitCounts.{length_one, length_more}
 use Rattle.write.specs.Digits.{at_least}
 
 -- ---- how many there are
@@ -59,12 +59,6 @@ length_few n h = below 10 (λ k. rw (below_is n 10 k, below_is n 100 (omega arit
   where
     below : {P : Type 0} (k : ℕ) → (n < k → P) → (k ≤ n → P) → P
     below k f g = ⊎_elim (λ t. f (ltb→lt n k t)) (λ t. g (nltb→le n k t)) (test (ltb n k))
-
--- by the whole part of the decimal logarithm
-pub length_log : (k n : ℕ) → 10 ^ k ≤ n → n < 10 * 10 ^ k → k < 20 → length (spell_nat n) ≡ 1 + k
-unfolding spell_nat
-length_log k n low high few =
-    omega (arith, length_decimal_from k 20 n low few, length_spell_nat_below k n (omega (arith, pow-suc 10 k)))
 
 -- ---- from the last one to the first
 -- the last k digits of n, with leading zeros

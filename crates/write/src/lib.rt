@@ -84,7 +84,14 @@ impl Decimal for u64 {
         if n < 100000 {
             return 1 + at_least(n, 10) + at_least(n, 100) + at_least(n, 1000) + at_least(n, 10000);
         }
-        1 + n.ilog10() as usize
+        // kept: by `ilog10`, here or of all numbers, the largest job was written in 20.8 or 22.4 µs in place of 19.2; a `for` has no range.
+        let mut rest = n / 100000;
+        let mut len = 6;
+        while 10 <= rest {
+            rest /= 10;
+            len += 1;
+        }
+        len
     }
 
     // From the last digit to the first.
