@@ -109,7 +109,7 @@ fn first_of(first: &Side<'_>, second: &Side<'_>) -> Option<Cut>
         (cut_along second.now.axis second.now.lo second.now.hi
         (keep (strictly_between second.now.lo second.now.hi) second.now.lines.now)) }
 {
-    // kept: nothing is inferred of a closure that takes in a `Side`, with its ghost fields: for `or_else` it would state `cut`'s clause again.
+    // kept: nothing is inferred of a closure over a `Side`, which has ghost fields: for `or_else` it would state `cut`'s clause again.
     match first.cut() {
         Some(cut) => Some(cut),
         None => second.cut(),
