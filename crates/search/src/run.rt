@@ -39,6 +39,7 @@ pub struct Found {
 }
 
 // The corners of a rectangle, priced: c00 at (xlo, ylo), c01 at (xlo, yhi), c10 at (xhi, ylo), c11 at (xhi, yhi).
+// kept: beside `slots::Costs`: a type over what stands at a corner would be named for each of the two all the same.
 #[derive(Clone, Copy)]
 struct Corners {
     c00: Spot,

@@ -59,6 +59,7 @@ impl<'a> Writer<'a> {
 }
 
 // A whole number, and its decimal text.
+// kept: beside std's `Display`, which tells no length before it writes, and refusal 8 comes before a byte is written.
 pub trait Decimal: Copy {
     ghost spelling: { Self → List ℕ };
 
