@@ -35,7 +35,7 @@ pub struct Entry {
 }
 
 // The arrays of the slots.
-// kept: a cell is five numbers of an array, since the cell space of a C caller has this layout and is written by the same put_cell.
+// kept: a cell is five numbers, as in the cell space of the call `report`, which `put_cell` writes too, and as callers held these arrays.
 #[derive(Drop)]
 pub struct Arrays {
     pub cells: [i64; SPACE],
