@@ -6,7 +6,7 @@ use mathlib.Core.List.{List, [], ◌∷◌}
 use Prim.Native.Nat.{ℕ, ◌≤◌, ◌<◌}
 use native.Mathlib.Omega.{arith}
 use borrow.Author.Tests.{ltb-true, le-leb, lt-leb}
-use lib.Dec.{T, leb}
+use lib.Dec.{T}
 use lib.IntN.{ℤ, pos, negsuc}
 use lib.Signed.{le_z, lt_z, non_neg}
 use mir.Syntax.{w64}
@@ -65,14 +65,6 @@ unfolding in_ranges
 in_one p x = and_nothing (in_range p x)
 
 -- ---- axis costs
-pub cost_on : {v : ℕ} → 1 ≤ v → leb v 9 ≡ in_range axis_costs (pos v)
-unfolding in_range
-cost_on {v} h = rw (le-leb 1 v h)
-
-pub cost_off : {v : ℕ} → v < 1 → leb 1 v ≡ in_range axis_costs (pos v)
-unfolding in_range
-cost_off {v} h = rw (lt-leb 1 v h)
-
 -- a negative one
 cost_below : (z : ℤ) → lt_z z (pos 0) ≡ true → in_range axis_costs z ≡ false
 unfolding in_range

@@ -24,7 +24,7 @@ pub struct Unread<'a> {
 fn between(lo: i64, hi: i64, v: i64) -> bool
     ensures { result ≡ between lo hi v }
 {
-    lo <= v && v <= hi
+    (lo..=hi).contains(&v)
 }
 
 fn coordinate_in_range(v: i64) -> bool
@@ -48,7 +48,7 @@ pub fn area_in_range(a: Rect) -> bool
 fn cost_in_range(v: u64) -> bool
     ensures { result ≡ in_range axis_costs (pos v) }
 {
-    1 <= v && v <= MOST_AXIS_COST
+    (1..=MOST_AXIS_COST).contains(&v)
 }
 
 pub fn axis_in_range(c: AxisCosts) -> bool
