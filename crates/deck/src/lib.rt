@@ -310,7 +310,7 @@ impl ScaledPosts {
     }
 }
 
-// kept: here and below the columns are one array with the count of their rows, as definitions have them; four arrays are no quicker.
+// kept: here and below the columns are one array with the count of their rows, as what is promised of near post by post has them.
 // The first post: the travel to it is the figure of each of the first n stops, in the last column.
 fn start_nears(columns: &mut [i32], n: usize, post: ScaledPlace)
     requires { StopsInRange columns.old n }

@@ -17,15 +17,6 @@ use Rattle.numbers.proofs.WordTests.{back, back_is}
 use Rattle.numbers.proofs.Truth.{and_left, and_right}
 use Rattle.job_line.specs.Kinds.{axis, stop, Range, coordinates, axis_costs, visits, up_to, row, in_range, in_ranges}
 
-module _ {lo hi v : ℤ} (l : SFits w64 lo) (h : SFits w64 hi) (f : SFits w64 v) where
-  pub between_on : le_z (back lo) (back v) ≡ true → le_z (back v) (back hi) ≡ between lo hi v
-  unfolding between
-  between_on t = let t = rw (back_is l, back_is f) at t in rw (back_is f, back_is h, t)
-
-  pub between_off : le_z (back lo) (back v) ≡ false → false ≡ between lo hi v
-  unfolding between
-  between_off t = let t = rw (back_is l, back_is f) at t in rw t
-
 pub range_held : (range : Range) {v : ℤ} {r : Bool} → SFits w64 v → r ≡ between range.low range.high (back v) → r ≡ in_range range v
 unfolding in_range
 range_held range f e = rw (back_is f) at e

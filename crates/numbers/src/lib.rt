@@ -5,7 +5,7 @@ ghost use Rattle.std.specs.Prelude.{◌≡◌, ◌^◌, ◌≤◌, nat_abs};
 ghost use Rattle.numbers.specs.Integer.{dist, half_up};
 
 // |u − v|, for numbers whose difference fits.
-// kept: the library's `abs_diff` says as much and asks nothing, but the must-fail edit `range_too_wide` is of the range that is asked here.
+// kept: beside the library's `abs_diff`, by the rule that an edit keeps its meaning: `range_too_wide` is of the range that is asked here.
 pub fn abs_diff(u: i64, v: i64) -> u64
     requires { (nat_abs u ≤ 2 ^ 61) × (nat_abs v ≤ 2 ^ 61) }
     ensures { result ≡ dist u v }

@@ -25,6 +25,7 @@ fn paid(row: Row, post: ScaledPlace) -> u64
     let at = ScaledPlace { x: row.x, y: row.y };
     let t = at.travel_to(post);
     let m = t.min(row.near);
+    // kept: casts, since `unsigned_abs` would test the sign of each number in a pass
     ((row.visits as u32) as u64) * ((m as u32) as u64)
 }
 

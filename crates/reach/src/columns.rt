@@ -21,7 +21,7 @@ pub struct Row {
 }
 
 // The objects of a deck at scaled places, and its axis costs. The first `count` rows of the columns count.
-// kept: one array of columns and the count of its rows, as `deck::put_columns` promises it; four arrays are no quicker.
+// kept: one array of columns and the count of its rows, as `deck::put_columns` promises it.
 #[derive(Drop)]
 pub struct Objects {
     count: usize,
@@ -82,6 +82,7 @@ impl Objects {
     }
 
     // The object in row i.
+    // kept: rows by their index, since an iterator over columns would be a struct with a proof of its own.
     pub fn row(&self, i: usize) -> Row
         requires { i < count_of_objects self.now }
         ensures { object_of_row result ≡ object_at (columns_of_objects self.now) i }

@@ -178,7 +178,7 @@ fn answer(live: &LiveCells, st: Running) -> Found
 
 // The search of a deck's problem, for at most so many rounds: its answer. It begins with no live cell, and leaves those that are live.
 // kept: `Prepared` is a clause and no ghost field of `Problem`, since it gives the deck, and a ghost field only that there is one.
-// kept: the live cells are lent empty and not returned: a call that returns so large a struct keeps one more of it on the stack.
+// kept: the live cells are lent empty: a search that made them of lent arrays would give back a pair.
 pub fn search(problem: &Problem, rounds: u64, live: &mut LiveCells) -> Found
     requires { Prepared problem.now × (rounds ≤ rounds_limit) × (live.old ≡ none_live) }
     ensures { Searched (problem_of problem.now) rounds live.new result }
