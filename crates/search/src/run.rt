@@ -30,6 +30,7 @@ pub struct Running {
 }
 
 // What a search has found when it ends: whether no cell is live, the best place, the low figure and the cuts made.
+// kept: a flag, since best, low and cuts are there either way; `siting` makes the report's state of it.
 #[derive(Clone, Copy)]
 pub struct Found {
     pub done: bool,

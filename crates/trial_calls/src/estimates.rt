@@ -10,6 +10,7 @@ use calls::Estimate;
 use trial::NO_FIGURE;
 
 // A number of an estimate: gaps across, gaps deep, cut limit, cells; then 0 twice, for no refusal. The least number behind them.
+// kept: `which` is a number, as the C functions that the tests call take it.
 fn needs_figure(e: Estimate, which: u64) -> i64
     requires { SmallEstimate (estimate_numbers e) }
     ensures { result ≡ get_or (needs_numbers (estimate_numbers e)) which least }

@@ -44,6 +44,7 @@ fn state_number(state: State) -> i64
 }
 
 // A number that a report carries: state, x, y, high, low, before, rounds; then 0 twice, for no refusal. The least number behind them.
+// kept: `which` is a number, as the C functions that the tests call take it.
 fn figure(r: Report, which: u64) -> i64
     requires { FiguresInRange 1000 (report_figures r) }
     ensures { result ≡ get_or (report_numbers (report_figures r)) which least }

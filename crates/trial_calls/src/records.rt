@@ -81,6 +81,7 @@ fn put_naturals(deck: &Deck, naturals: &mut [u64])
 }
 
 // A number that goes with a count: the count itself; then 0 twice, for no refusal. The least number behind them.
+// kept: `which` is a number, as the C functions that the tests call take it.
 fn count_figure(n: u64, which: u64) -> i64
     requires { n ≤ 20000 }
     ensures { result ≡ count_figure which (gives n) }
