@@ -18,7 +18,7 @@ pub struct Estimate {
 }
 
 // A text of at most REPORT_BYTES bytes: the first `length` of `bytes`; the others are 0.
-// kept: a buffer with a length beside it, since reports are written into a slice; an `ArrayVec` lends none of what is not filled yet.
+// kept: a buffer with a length beside it: with the kit's `ArrayVec`, which would do, a reader of the answer had that to believe too.
 #[derive(Drop)]
 pub struct Text {
     length: usize,
