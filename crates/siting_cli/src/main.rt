@@ -11,6 +11,7 @@ use limits::JOB_BYTES;
 use std::io::{Read, Write};
 
 // How many bytes were read: all that there are, or that fit; or only a part of them, since a read failed.
+// kept: no `Result<usize, usize>`, whose `Err` would hold the count of bytes in place of what went wrong.
 #[derive(Clone, Copy)]
 enum Filled {
     Whole(usize),
@@ -29,8 +30,7 @@ impl Filled {
         ensures { result ≡ count_in self }
     {
         match self {
-            Filled::Whole(count) => count,
-            Filled::Part(count) => count,
+            Filled::Whole(count) | Filled::Part(count) => count,
         }
     }
 }
@@ -64,10 +64,9 @@ fn answer<R: Read, W: Write>(input: &mut R, output: &mut W) -> Result<(), Failur
     let mut job = [0u8; JOB_BYTES + 1];
     let filled = read_full(input, &mut job);
     let text = siting::answer_text(&job[..filled.count()]);
-    match output.write_all(text.as_bytes()) {
-        Ok(_) => {}
-        Err(_) => return Err(Failure::Writing),
-    }
+    output
+        .write_all(text.as_bytes())
+        .map_err(|_| Failure::Writing)?;
     match filled {
         Filled::Whole(_) => Ok(()),
         Filled::Part(_) => Err(Failure::Reading),
