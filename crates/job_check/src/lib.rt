@@ -107,11 +107,8 @@ fn post_lines(posts: Places<'_>, first: u64) -> Result<(), Refusal>
     requires { (length posts.x.now ≤ 512) × (first ≤ 1000) }
     ensures { checked_as result ≡ first_fault first (map post_line (places posts.entry.x.now posts.entry.y.now)) }
 {
-    // kept: proved with `.zip(first..)` too, which took 64 lines more of proofs, on what such a chain yields
-    let mut line = first;
-    for (x, y) in posts.x.iter().zip(posts.y) {
+    for ((x, y), line) in posts.x.iter().zip(posts.y).zip(first..) {
         post_line(Place { x: *x, y: *y }, line)?;
-        line += 1;
     }
     Ok(())
 }
@@ -122,15 +119,13 @@ fn stop_lines(stops: Stops<'_>, first: u64) -> Result<(), Refusal>
     ensures { checked_as result ≡ first_fault first
         (map stop_line (stops_of (places stops.entry.at.x.now stops.entry.at.y.now) stops.entry.visits.now)) }
 {
-    // kept: the number of the line, as in `post_lines`
-    let mut line = first;
-    for ((x, y), v) in stops.at.x.iter().zip(stops.at.y).zip(stops.visits) {
+    let columns = stops.at.x.iter().zip(stops.at.y).zip(stops.visits);
+    for (((x, y), v), line) in columns.zip(first..) {
         let stop = Stop {
             at: Place { x: *x, y: *y },
             visits: *v,
         };
         stop_line(stop, line)?;
-        line += 1;
     }
     Ok(())
 }

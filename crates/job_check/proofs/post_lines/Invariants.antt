@@ -1,7 +1,5 @@
 -- The loop of `job_check::post_lines`.
-use mathlib.Core.Path.{◌≡◌}
 use mathlib.Core.List.{map}
-use Prim.Native.Nat.{◌+◌, ◌≤◌}
 use lib.ListN.{length}
 use Rattle.deck.specs.DeckOf.{places}
 use Rattle.job.specs.Spelling.{post_line}
@@ -10,4 +8,4 @@ use Rattle.job_check.proofs.post_lines.Given as goal
 
 abbrev pub invariant-loop-x : goal.invariant-loop-x
 invariant-loop-x l =
-    (l.line ≡ l.first + length l.yielded) × (l.line ≤ 1512) × Passed l.first (map post_line (places l.posts.x.now l.posts.y.now)) (length l.yielded)
+    Passed l.first (map post_line (places l.posts.x.now l.posts.y.now)) (length l.yielded)

@@ -1,7 +1,5 @@
 -- The loop of `job_check::stop_lines`.
-use mathlib.Core.Path.{◌≡◌}
 use mathlib.Core.List.{map}
-use Prim.Native.Nat.{◌+◌, ◌≤◌}
 use lib.ListN.{length}
 use Rattle.deck.specs.DeckOf.{places, stops_of}
 use Rattle.job.specs.Spelling.{stop_line}
@@ -9,5 +7,4 @@ use Rattle.job_check.proofs.FirstFault.{Passed}
 use Rattle.job_check.proofs.stop_lines.Given as goal
 
 abbrev pub invariant-loop-x : goal.invariant-loop-x
-invariant-loop-x l = (l.line ≡ l.first + length l.yielded) × (l.line ≤ 1512)
-    × Passed l.first (map stop_line (stops_of (places l.stops.at.x.now l.stops.at.y.now) l.stops.visits.now)) (length l.yielded)
+invariant-loop-x l = Passed l.first (map stop_line (stops_of (places l.stops.at.x.now l.stops.at.y.now) l.stops.visits.now)) (length l.yielded)
