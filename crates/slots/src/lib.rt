@@ -5,12 +5,11 @@
 ghost use Rattle.std.specs.Prelude.{◌≡◌, ◌+◌, ◌*◌, ◌≤◌, ◌<◌, pos, length, get_or, replicate};
 ghost use Rattle.slots.specs.Slot.{cell_at, costs_at, CellPut, CostsPut, EntryPut};
 ghost use Rattle.slots.specs.Numbering.{Numbered, slot_numbers};
-ghost use Rattle.slots.specs.Places.{entries_in, at_place, Stored, Turned};
+ghost use Rattle.slots.specs.Places.{entries_in, at_place, rotated};
 
 use deck::Rect;
 use limits::{CELLS, CORNER_COSTS, SPACE};
 use std::array;
-use std::marker::Model;
 
 #[derive(Clone, Copy)]
 pub struct Cell {
@@ -34,33 +33,14 @@ pub struct Entry {
     pub costs: Costs,
 }
 
-// The arrays of the slots.
+// The arrays of the slots. They are made by the caller and lent, so that their 74 KB are written once.
+// kept: no invariant of the order, since a caller may lend arrays that are numbered only then (`number`).
 // kept: a cell is five numbers, as in the cell space of the call `report`, which `put_cell` writes too, and as callers held these arrays.
 #[derive(Drop)]
 pub struct Arrays {
     pub cells: [i64; SPACE],
     pub costs: [u64; CORNER_COSTS],
     pub order: [u16; CELLS],
-}
-
-// The entries of all slots. A contract sees them as the list of the entries in the order of the slot numbers.
-// The arrays are lent, so that their 74 KB are written once: a struct that held them would be copied when it is made.
-#[derive(Drop)]
-pub struct Slots<'a> {
-    arrays: &'a mut Arrays,
-}
-
-impl<'a> Model for Slots<'a> {
-    ghost use Rattle.std.specs.Prelude.{List};
-    ghost use Rattle.slots.specs.declared.Entry.{Entry};
-    ghost use Rattle.slots.specs.Numbering.{Numbered};
-    ghost use Rattle.slots.specs.Places.{entries_in};
-
-    ghost Value = { List Entry };
-
-    ghost view = { λ s. entries_in s.arrays.now.cells s.arrays.now.costs s.arrays.now.order };
-
-    ghost invariant = { λ s. Numbered s.arrays.now.order };
 }
 
 // The cell in a slot.
@@ -150,7 +130,7 @@ pub fn numbers() -> [u16; CELLS]
 }
 
 impl Arrays {
-    // All zeros, the order too, which `Slots::new` numbers: so the compiler clears the arrays where the caller keeps them.
+    // All zeros, the order too, which `number` makes: so the compiler clears the arrays where the caller keeps them.
     pub fn new() -> Self
         ensures { result ≡ record { cells = replicate 5005 (pos 0); costs = replicate 4004 0; order = replicate 1001 0 } }
     {
@@ -161,6 +141,13 @@ impl Arrays {
         }
     }
 
+    // The slots in the order of their numbers.
+    pub fn number(&mut self)
+        ensures { self.new ≡ record { cells = self.old.cells; costs = self.old.costs; order = slot_numbers } }
+    {
+        self.order = numbers();
+    }
+
     // The slot at a place of the order.
     fn slot_at(&self, place: usize) -> usize
         requires { Numbered self.now.order × (place < 1001) }
@@ -169,61 +156,26 @@ impl Arrays {
         self.order[place] as usize
     }
 
-    // An entry stored in a slot.
-    fn put(&mut self, slot: usize, entry: Entry)
-        requires { slot < 1001 }
-        ensures put { EntryPut self.old.cells self.old.costs slot entry self.new.cells self.new.costs }
-        ensures order { self.new.order ≡ self.old.order }
-    {
-        put_entry(&mut self.cells, &mut self.costs, slot, entry);
-    }
-}
-
-impl<'a> Slots<'a> {
-    // The slots in the order of their numbers, whatever the order of the arrays was.
-    pub fn new(arrays: &'a mut Arrays) -> Slots<'a>
-        ensures { result ≡ entries_in arrays.old.cells arrays.old.costs slot_numbers }
-    {
-        arrays.order = numbers();
-        Slots::of_arrays(arrays)
-    }
-
-    // The slots in the order of the arrays.
-    pub fn of_arrays(arrays: &'a mut Arrays) -> Slots<'a>
-        requires { Numbered arrays.old.order }
-        ensures { result ≡ entries_in arrays.old.cells arrays.old.costs arrays.old.order }
-    {
-        Slots { arrays }
-    }
-
-    // The arrays, in which the slots stand.
-    pub fn arrays(&self) -> &Arrays
-        ensures numbered { Numbered result.now.order }
-        ensures entries { entries_in result.now.cells result.now.costs result.now.order ≡ self.now }
-    {
-        &*self.arrays
-    }
-
     // The cell at a place of the order.
     pub fn cell_at(&self, place: usize) -> Cell
-        requires { place < 1001 }
-        ensures { result ≡ (at_place self.now place).cell }
+        requires { Numbered self.now.order × (place < 1001) }
+        ensures { result ≡ (at_place (entries_in self.now.cells self.now.costs self.now.order) place).cell }
     {
-        get_cell(&self.arrays.cells, self.arrays.slot_at(place))
+        get_cell(&self.cells, self.slot_at(place))
     }
 
     // The costs of its corners.
     pub fn costs_at(&self, place: usize) -> Costs
-        requires { place < 1001 }
-        ensures { result ≡ (at_place self.now place).costs }
+        requires { Numbered self.now.order × (place < 1001) }
+        ensures { result ≡ (at_place (entries_in self.now.cells self.now.costs self.now.order) place).costs }
     {
-        get_costs(&self.arrays.costs, self.arrays.slot_at(place))
+        get_costs(&self.costs, self.slot_at(place))
     }
 
     // The entry at a place of the order.
     pub fn get(&self, place: usize) -> Entry
-        requires { place < 1001 }
-        ensures { result ≡ at_place self.now place }
+        requires { Numbered self.now.order × (place < 1001) }
+        ensures { result ≡ at_place (entries_in self.now.cells self.now.costs self.now.order) place }
     {
         Entry {
             cell: self.cell_at(place),
@@ -231,21 +183,23 @@ impl<'a> Slots<'a> {
         }
     }
 
-    // An entry stored at a place of the order.
+    // An entry stored in the slot at a place of the order.
     pub fn store(&mut self, place: usize, entry: Entry)
-        requires { place < 1001 }
-        ensures { Stored self.old place entry self.new }
+        requires { Numbered self.old.order × (place < 1001) }
+        ensures put { EntryPut self.old.cells self.old.costs (get_or self.old.order place 0) entry self.new.cells self.new.costs }
+        ensures order { self.new.order ≡ self.old.order }
     {
-        let slot = self.arrays.slot_at(place);
-        self.arrays.put(slot, entry);
+        let slot = self.slot_at(place);
+        put_entry(&mut self.cells, &mut self.costs, slot, entry);
     }
 
-    // The entries from head up to a place, each one place to the left, and the one that was before head behind them.
+    // The slots from head up to a place, each one place to the left, and the one that was before head behind them.
     pub fn rotate(&mut self, head: usize, to: usize)
         requires { (1 ≤ head) × (head ≤ to) × (to ≤ 1001) }
-        ensures { Turned self.old head to self.new }
+        ensures order { self.new.order ≡ rotated 0 self.old.order head to }
+        ensures cells { self.new.cells ≡ self.old.cells }
+        ensures costs { self.new.costs ≡ self.old.costs }
     {
-        let order = &mut self.arrays.order[..];
-        order[head - 1..to].rotate_left(1);
+        self.order[head - 1..to].rotate_left(1);
     }
 }
