@@ -192,6 +192,7 @@ fn copy_naturals(from: &[u64], to: &mut [i32])
 }
 
 // |u − v|
+// kept: `Near180000` is of two numbers of a call, which no type holds together.
 fn apart(u: i32, v: i32) -> i32
     requires { Near180000 u v }
     ensures { result ≡ pos (dist u v) }
@@ -311,6 +312,7 @@ impl ScaledPosts {
 }
 
 // kept: here and below the columns are one array with the count of their rows, as what is promised of near post by post has them.
+// kept: `StopsInRange` is asked of them, since they are a slice that `nears_of` lends, with figures in it that are not near yet.
 // The first post: the travel to it is the figure of each of the first n stops, in the last column.
 fn start_nears(columns: &mut [i32], n: usize, post: ScaledPlace)
     requires { StopsInRange columns.old n }

@@ -58,6 +58,7 @@ pub(crate) struct ObjectRamps {
     pub(crate) down: Ramps,
 }
 
+// kept: `ObjectSums` is asked of them, since it is of how many objects they are of, which is another number at each call.
 impl ObjectRamps {
     // Adds the ramps of an object along the vertical line that is at `v` when it is scaled. An object that is not nearer to the line than
     // to its closest post has none. `line` is the first line that, scaled, is not below the object.

@@ -20,6 +20,7 @@ pub struct Edges {
 }
 
 // How far a lies above b.
+// kept: `Near180000`, here and below, is of numbers of a call, which no type holds together.
 fn excess(a: i32, b: i32) -> i32
     requires { Near180000 a b }
     ensures { result ≡ pos (excess_of a b) }

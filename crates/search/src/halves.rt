@@ -72,6 +72,7 @@ pub(crate) fn bounded(objects: &Objects, rect: Rect, k: Costs) -> Entry
 }
 
 // Where a cell is cut, if it can be.
+// kept: beside `trial::opened::Opened::cut_of`, since each is one call.
 pub(crate) fn cut_of(problem: &Problem, rect: Rect) -> Option<Cut>
     requires { RectInRange (rect_of rect) }
     ensures { result ≡ cut_record (problem_of problem.now).rules.grid (rect_of rect) }

@@ -61,6 +61,7 @@ fn solve(problem: &Problem, before: u64, rounds: u64, live: &mut LiveCells) -> R
 
 // The report of what a job gives, with its text in the output, or refusal 8, which comes before any place is priced.
 // Not inlined: where it is, a report of many rounds takes 2 % longer.
+// kept: `OfJob`, here and below, is a clause and no ghost field of `Given`, since it gives the job, and a field only that there is one.
 #[inline(never)]
 fn respond_to(given: &Given, live: &mut LiveCells, out: &mut [u8]) -> Result<Response, Refusal>
     requires { OfJob given.now × (live.old ≡ none_live) }

@@ -64,6 +64,7 @@ fn figure(r: Report, which: u64) -> i64
 
 // Of the report call's answer: state, x, y, high, low, before, rounds, the number of the refusal and its line (0 for a report). The least
 // number where there is no such figure.
+// kept: beside `trial_exhaustive` and `trial_estimate`, since each is a call and a `match` of two arms.
 pub fn trial_report(job: &[u8], cells: &mut [i64], out: &mut [u8], which: u64) -> i64
     ensures { record { result = result; cells = cells.new; out = out.new }
         ≡ called (figure_for which) (report_call job.now cells.old out.old) }
