@@ -180,7 +180,7 @@ fn nears(job: &Job) -> Vec<i64> {
 fn near_with_each_further_post() {
     let mut random = Random::new(seed());
     let (mut improved, mut left) = (0, 0);
-    // a deck may have few posts: as many more as both counts need
+    // a deck may have few posts: up to 20 more, until both counts are reached
     for (deck, stops) in [1, 2, 3, 4, 5, 7, 8, 31, 64, 64, 200, 200].into_iter().chain([200; 20]).enumerate() {
         if deck >= 12 && improved > 200 && left > 5_000 {
             break;
