@@ -27,7 +27,7 @@ pub record Addable (l : Live) (e : Entry) (best : Spot) : Type 0 where
   pub ranged : RectInRange (rect_in e.cell)
   pub cost_limit_lem : best.cost ≤ cost_limit
 
--- the live entries after are those before and e, if it is live; at most one slot more is taken
+-- the live entries after are those before and e, if it is live; at most one slot more is taken, and none comes free
 pub record Added (G : Grid) (best : Priced) (e : Entry) (l l' : Live) : Type 0 where
   pub down : l'.free ≤ l.free
   pub by_one : l.free ≤ l'.free + 1
