@@ -1,4 +1,4 @@
-// The reasons for a refusal, and document 01's number and line for each.
+// The reasons for a refusal, and the documents' number and line for each.
 #![tactic(auto)]
 
 ghost use Rattle.std.specs.Prelude.{◌≡◌};
@@ -15,9 +15,11 @@ pub enum Refusal {
     NoStops,
     SmallSpace,
     ShortOutput,
+    NotHeld,
+    Full,
 }
 
-// Document 01's number of a refusal, and its line.
+// The documents' number of a refusal, and its line.
 // kept: two functions, since the C entry answers with the number alone and only two reasons hold a line; a pair would be taken apart again.
 pub fn number_of(why: Refusal) -> u64
     ensures { result ≡ number_of why }
@@ -31,6 +33,8 @@ pub fn number_of(why: Refusal) -> u64
         Refusal::NoStops => 6,
         Refusal::SmallSpace => 7,
         Refusal::ShortOutput => 8,
+        Refusal::NotHeld => 9,
+        Refusal::Full => 10,
     }
 }
 

@@ -6,13 +6,11 @@ use native.Mathlib.Omega.{arith}
 use lib.ListN.{length, length-append}
 use Rattle.query.specs.Figures.{Figures}
 use Rattle.text.specs.Ascii.{bytes}
-use Rattle.text.proofs.DigitCounts.{length_spell_nat}
-use Rattle.refusal.specs.Refusal.{line_of}
 use Rattle.report.specs.Text.{report_text}
 use Rattle.query.specs.Range.{FiguresInRange}
 use Rattle.report.specs.Limits.{ReportFits}
 use Rattle.report.proofs.TextLaws.{state_part, place_part, costs_part, rounds_part, report_parts, refusal_parts, length_five, length_state, length_place}
-use Rattle.report.proofs.TextLaws.{length_costs, length_rounds, length_number}
+use Rattle.report.proofs.TextLaws.{length_costs, length_rounds, length_refusal}
 
 longest : (f : Figures) → FiguresInRange 1000 f → length (report_text f) ≤ 105
 unfolding bytes
@@ -32,5 +30,5 @@ report_fits = record {
   report_fits = λ f r. omega (arith, longest f r);
   report_longest = longest;
   report_widest = refl;
-  refusal_longest = λ why. rw refusal_parts (simp length-append (omega (arith, length_number why, length_spell_nat (line_of why))));
+  refusal_longest = λ why. rw refusal_parts (simp length-append (omega (arith, length_refusal why)));
 }

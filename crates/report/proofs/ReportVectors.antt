@@ -8,4 +8,4 @@ use Rattle.report.specs.ReportVectors.{ReportVectors}
 
 pub vectors : ReportVectors
 unfolding report_text refusal_text figures bytes
-vectors = record { case_a_law = refl; case_a_0 = refl; too_long = refl; malformed = refl }
+vectors = record { case_a_law = refl; case_a_0 = refl; too_long = refl; malformed = refl; full = refl }

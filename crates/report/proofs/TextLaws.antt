@@ -3,6 +3,7 @@
 use mathlib.Core.Path.{◌≡◌, refl, sym, ap, ◌∙◌}
 use Prim.Native.Nat.{ℕ, ◌+◌, ◌≤◌, ◌<◌, ◌^◌}
 use native.Mathlib.Omega.{arith}
+use mathlib.Core.Logic.{◌⊎◌, inl, inr}
 use mathlib.Core.List.{List, [], ◌∷◌, ◌++◌, flatten, append_assoc, append-nil}
 use mathlib.Core.Option.{Option, none, some}
 use lib.ListN.{length, length-append, get_or, drop}
@@ -15,11 +16,11 @@ use Rattle.text.specs.Numeral.{digits, natural}
 use Rattle.write.specs.declared.Writer.{Writer}
 use Rattle.write.specs.Written.{Wrote}
 use Rattle.text.proofs.NumeralLaws.{natural_spelled}
-use Rattle.text.proofs.DigitCounts.{length_spell_nat_below, length_spell_int_below}
+use Rattle.text.proofs.DigitCounts.{length_spell_nat, length_spell_nat_below, length_spell_int_below}
 use Rattle.write.proofs.WrittenLaws.{wrote_both}
-use Rattle.refusal.specs.Refusal.{number_of}
+use Rattle.refusal.specs.Refusal.{number_of, line_of}
 use Rattle.refusal.specs.declared.Refusal.{Refusal}
-use Rattle.refusal.proofs.Numbers.{number_most}
+use Rattle.refusal.proofs.Numbers.{number_most, one_digit}
 use Rattle.report.specs.Text.{state_text, report_text, refusal_text}
 
 -- ---- the parts
@@ -110,8 +111,13 @@ pub length_rounds : (n : ℕ) → n ≤ 1000 → length (rounds_part n) ≤ 12
 unfolding bytes
 length_rounds n h = simp length-append (omega (arith, length_spell_nat_below 3 n (omega arith)))
 
-pub length_number : (why : Refusal) → length (spell_nat (number_of why)) ≤ 1
-length_number why = length_spell_nat_below 0 (number_of why) (omega (arith, number_most why))
+-- a refusal's number and line: at most 21 digits, since a number of two has line 0
+pub length_refusal : (why : Refusal) → length (spell_nat (number_of why)) + length (spell_nat (line_of why)) ≤ 21
+length_refusal why = go (number_of why) (line_of why) (number_most why) (one_digit why)
+  where
+    go : (n l : ℕ) → n ≤ 10 → (n ≤ 9) ⊎ (l ≡ 0) → length (spell_nat n) + length (spell_nat l) ≤ 21
+    go n l h (inl s) = omega (arith, length_spell_nat_below 0 n (omega arith), length_spell_nat l)
+    go n l h (inr z) = omega (arith, length_spell_nat_below 1 n (omega arith), length_spell_nat_below 0 l (omega arith))
 
 -- ---- a text written part by part
 pub report_wrote :

@@ -1,4 +1,4 @@
--- Document 01, "Job and report": the report of case A, whole, as bytes.
+-- Document 01, "Job and report": the report of case A, whole, as bytes, and the two lines of refusals.
 -- Assumes nothing.
 use Rattle.std.specs.Prelude.{◌≡◌}
 use Rattle.query.specs.Figures.{figures}
@@ -11,3 +11,5 @@ pub record ReportVectors : Type 0 where
   pub case_a_0 : report_text (figures deck_a 0) ≡ bytes "state=stopped\nat=8,8\nhigh=18\nlow=4\nbefore=34\nrounds=0\n"
   pub too_long : refusal_text 1 0 ≡ bytes "refused=1\nline=0\n"
   pub malformed : refusal_text 2 12 ≡ bytes "refused=2\nline=12\n"
+  -- 02 card 6, a number of two digits
+  pub full : refusal_text 10 0 ≡ bytes "refused=10\nline=0\n"
