@@ -1,14 +1,15 @@
 -- Document 02, card 6: the changes of a deck's record, of any numbers that it holds.
 -- Assumes nothing.
-use Rattle.std.specs.Prelude.{ℕ, suc, ◌-◌, ◌≤◌, Bool, true, false, cond, ◌&&◌, leb, ℤ, pos, take, set}
+use Rattle.std.specs.Prelude.{ℕ, suc, ◌-◌, Bool, true, false, cond, ◌&&◌, leb, ℤ, pos, take, set, Ok, Err}
+use Rattle.std.specs.Prelude as Std
+use Rattle.std.specs.List.{list_all}
 use mathlib.Core.List.{List, [], ◌∷◌, zip_with}
 use Rattle.std.proofs.Math.Option.{Option, none, some}
 use Rattle.std.proofs.Math.Seq.{paste}
 use Rattle.query.specs.Place.{Place}
 use Rattle.query.specs.Travel.{closest}
-use Rattle.query.specs.Range.{InRange, posts_limit, stops_limit, travel_limit}
+use Rattle.query.specs.Range.{travel_limit}
 use Rattle.deck.specs.DeckOf.{held_axis, places, deck_of}
-use Rattle.deck.specs.Ranges.{NearsInRange}
 use Rattle.deck.specs.StopFigures.{paid}
 use Rattle.deck.specs.declared.Deck.{Deck}
 use Rattle.job.specs.Format.{job_lines, checked, read_text}
@@ -19,8 +20,6 @@ use Rattle.refusal.specs.declared.Refusal.TheVariants.{OutOfRange}
 use Rattle.change.specs.Change.{Change, add_post, remove_post, add_stop, remove_stop, change_refusal}
 use Rattle.items.specs.Items.{is_same_place, is_same_stop, remove_first, first_place, taken_out_at}
 use Rattle.near_change.specs.NearChange.{near_with, near_without}
-use Rattle.change.specs.declared.Changed.{Changed}
-use Rattle.change.specs.declared.Verdict.TheVariants as Verdict
 
 -- ---- which records can be changed
 -- those whose file, with 0 rounds, the reader would accept, and in which near is no more than a travel can be. Every sound record is one.
@@ -29,13 +28,9 @@ abbrev pub is_none : Option Refusal → Bool
 is_none none = true
 is_none (some why) = false
 
-unfoldable pub all_up_to : ℕ → List ℕ → Bool
-all_up_to most [] = true
-all_up_to most (n ∷ ns) = let later = all_up_to most ns in leb n most && later
-
 unfoldable pub usable : Deck → Bool
-unfolding job_lines checked file_text all_up_to
-usable deck = is_none (refusal_in (read_text (file_text deck 0))) && all_up_to travel_limit (take deck.stops deck.near)
+unfolding job_lines checked file_text
+usable deck = is_none (refusal_in (read_text (file_text deck 0))) && list_all (λ n. leb n travel_limit) (take deck.stops deck.near)
 
 -- ---- the numbers that a change leaves
 -- a record with other columns of posts and other near, and one with other columns of stops: "The stored near and `before` are brought up
@@ -107,19 +102,16 @@ unfoldable pub record_refusal : Change → Deck → Option Refusal
 unfolding usable deck_of change_refusal
 record_refusal change deck = cond (usable deck) (change_refusal change (deck_of deck)) (some (OutOfRange 0))
 
+-- the answer, and the record as it is then
+pub record Changed : Type 0 where
+  pub answer : Std.Result (Unit {0}) Refusal
+  pub deck : Deck
+
 -- "A refused change leaves the record unaltered"
 abbrev pub answered : Option Refusal → Deck → Deck → Changed
-answered none before after = record { verdict = Verdict.Made; deck = after }
-answered (some why) before after = record { verdict = Verdict.Refused why; deck = before }
+answered none before after = record { answer = Ok tt; deck = after }
+answered (some why) before after = record { answer = Err why; deck = before }
 
 unfoldable pub changed_record : Change → Deck → Changed
 unfolding record_refusal stored
 changed_record change deck = answered (record_refusal change deck) deck (stored change deck)
-
--- ---- what the functions of this crate ask for
--- a record that can be changed
-pub record Usable (deck : Deck) : Type 0 where
-  pub few_posts : deck.posts ≤ posts_limit
-  pub few_stops : deck.stops ≤ stops_limit
-  pub range : InRange (deck_of deck)
-  pub nears : NearsInRange deck.near deck.stops
