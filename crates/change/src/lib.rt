@@ -7,6 +7,7 @@ ghost use Rattle.std.proofs.Math.Option.{none, some};
 ghost use Rattle.query.specs.Range.{PlaceInRange, StopInRange, travel_limit};
 ghost use Rattle.deck.specs.DeckOf.{deck_of, with_figures};
 ghost use Rattle.deck.specs.StopFigures.{paid};
+ghost use Rattle.deck.specs.Ranges.{VisitsInRange, NearsInRange};
 ghost use Rattle.deck.specs.Rectangle.{place_of, stop_of};
 ghost use Rattle.items.specs.Items.{is_same_place, first_place, taken_out_at};
 ghost use Rattle.job_check.specs.LineFaults.{checked_as};
@@ -60,7 +61,8 @@ fn check_range(deck: &Deck, in_range: bool) -> Result<(), Refusal>
 
 // Brings `before` up to date.
 fn renew_before(deck: &mut Deck)
-    requires { Usable deck.old }
+    requires { VisitsInRange deck.old.visits deck.old.stops × NearsInRange deck.old.near deck.old.stops
+        × (deck.old.stops ≤ 512) }
     ensures { deck.new ≡ with_figures deck.old deck.old.near (paid deck.old.visits deck.old.near deck.old.stops) }
 {
     let n = deck.stops;
