@@ -4,8 +4,7 @@
 use mathlib.Core.List.{List, foldl}
 use Rattle.deck.specs.declared.Deck.{Deck}
 use Rattle.change.specs.Change.{Change}
-use Rattle.change.specs.ChangedRecord.{changed_record}
-use Rattle.change.specs.declared.Changed.{Changed}
+use Rattle.change.specs.ChangedRecord.{Changed, changed_record}
 use Rattle.calls.specs.Answers.{AnswerOf, change_answer}
 
 -- nothing besides or a refusal, and the deck's record
@@ -13,9 +12,8 @@ pub record AfterChange : Type 0 where
   pub answer : AnswerOf (Unit {0})
   pub deck : Deck
 
--- of the answer that the code gives
 abbrev pub change_made : Changed → AfterChange
-change_made r = record { answer = change_answer r.verdict; deck = r.deck }
+change_made r = record { answer = change_answer r.answer; deck = r.deck }
 
 unfoldable pub change_call : Deck → Change → AfterChange
 unfolding changed_record
