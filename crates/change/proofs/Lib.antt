@@ -1,1 +1,2 @@
-
+pub mod UpTo
+pub mod Answered
