@@ -6,7 +6,7 @@ use mathlib.Core.List.Memᴰ
 use mathlib.Core.List.{List, [], ◌∷◌, ◌++◌, Memᴰ}
 use Prim.Native.Nat.{suc, ◌≤◌}
 use native.Mathlib.Omega.{arith}
-use lib.ListN.{length, length_append}
+use lib.ListN.{length, length-append}
 use Rattle.numbers.proofs.Members.{each_cons, each_append}
 use Rattle.query.specs.Place.{Place}
 use Rattle.query.specs.Deck.{Stop, Deck}
@@ -21,7 +21,7 @@ use Rattle.change.proofs.Conditions.{Allows, refusal_none}
 
 -- ---- one more, and one less
 pub length_more : {A : Type 0} (xs : List A) (x : A) → length (xs ++ (x ∷ [])) ≡ suc (length xs)
-length_more xs x = omega (arith, length_append xs (x ∷ []))
+length_more xs x = omega (arith, length-append xs (x ∷ []))
 
 each_more : {A : Type 0} (P : A → Type 0) (xs : List A) (x : A) → ((a : A) → Memᴰ a xs → P a) → P x → (a : A) → Memᴰ a (xs ++ (x ∷ [])) → P a
 each_more P xs x each last = each_append P xs each (each_cons P last (λ a m. absurd (Memᴰ.not-nil m)))
