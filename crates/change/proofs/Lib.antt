@@ -4,3 +4,4 @@ pub mod Conditions
 pub mod Refusals
 pub mod PostChanges
 pub mod AlteredLaws
+pub mod StoredLaws

@@ -7,8 +7,8 @@ use Prim.Native.Nat.{ℕ, suc, ◌-◌, ◌≤◌, ◌<◌}
 use native.Mathlib.Nat.{zero-add}
 use native.Mathlib.Omega.{arith}
 use lib.IntN.{ℤ, pos}
-use lib.ListN.{length, take, drop, set, replicate, length_map}
-use lib.Seq.{paste, drop_append_seam}
+use lib.ListN.{length, take, drop, set, replicate, length-map}
+use lib.Seq.{paste, drop-append_seam}
 use Rattle.numbers.specs.Padded.{padded}
 use Rattle.numbers.proofs.Joined.{map_each}
 use Rattle.numbers.proofs.Padded.{padded_map}
@@ -18,7 +18,7 @@ use Rattle.query.specs.Deck.{Stop}
 use Rattle.query.specs.Travel.{closest, near}
 use Rattle.query.specs.Cost.{before}
 use Rattle.query.specs.Range.{InRange}
-use Rattle.deck.specs.DeckOf.{places, deck_of, deck_record}
+use Rattle.deck.specs.DeckOf.{places, deck_of, deck_record, with_figures}
 use Rattle.deck.specs.Sound.{Sound}
 use Rattle.deck.specs.StopFigures.{paid}
 use Rattle.deck.specs.declared.Deck.{Deck}
@@ -32,7 +32,6 @@ use Rattle.items.proofs.TakenOut.{column_removed}
 use Rattle.items.proofs.FirstRemoved.{held_within, removed_length}
 use Rattle.items.proofs.ItemValues.{post_held, stop_held}
 use Rattle.change.proofs.PostChanges.{near_added, near_removed}
-use Rattle.change.proofs.MadeRecords.{posts_record, stops_record}
 use Rattle.change.proofs.Conditions.{Allows, refusal_none}
 use Rattle.change.proofs.AlteredLaws.{length_more}
 
@@ -51,9 +50,9 @@ module _ (f : Place → ℕ → ℕ) (g : Stop → ℕ) where
   unfolding padded
   nears_renewed size stops =
       ap₂ (λ (l r : List ℕ). l ++ r) (each_near stops _ _ _)
-      (ap (λ (n : ℕ). drop n (map g stops ++ replicate (size - length (map g stops)) 0)) (zero-add (length stops) ∙ sym (length_map stops g))
-      ∙ drop_append_seam (map g stops) (replicate (size - length (map g stops)) 0)
-      ∙ ap (λ (n : ℕ). replicate (size - n) 0) (length_map stops g ∙ sym (length_map stops (λ s. f s.at (g s)))))
+      (ap (λ (n : ℕ). drop n (map g stops ++ replicate (size - length (map g stops)) 0)) (zero-add (length stops) ∙ sym (length-map stops g))
+      ∙ drop-append_seam (map g stops) (replicate (size - length (map g stops)) 0)
+      ∙ ap (λ (n : ℕ). replicate (size - n) 0) (length-map stops g ∙ sym (length-map stops (λ s. f s.at (g s)))))
 
 -- ---- a record whose columns are those of a deck with other posts, and with other stops
 module _ (deck : Query.Deck) where
@@ -62,8 +61,9 @@ module _ (deck : Query.Deck) where
       with_post_columns (deck_record deck) n xs ys nears ≡ deck_record (with_posts posts deck)
   unfolding deck_record before
   with_posts_lem posts e x y v =
-      let paid-now = ap (λ (nears : List ℕ). paid (padded 512 0 (map (λ s. s.visits) deck.stops)) nears (length deck.stops)) v in
-      (λ i. posts_record (deck_record deck) (e i) (x i) (y i) (v i) ((paid-now ∙ paid_stops (near (with_posts posts deck)) 512 deck.stops) i))
+      (λ i. with_post_columns (deck_record deck) (e i) (x i) (y i) (v i))
+      ∙ ap (with_figures (deck_record (with_posts posts deck)) (padded 512 0 (map (near (with_posts posts deck)) deck.stops)))
+      (paid_stops (near (with_posts posts deck)) 512 deck.stops)
 
   with_stops_lem : (stops : List Stop) {n : ℕ} {xs ys : List ℤ} {visits nears : List ℕ} → n ≡ length stops →
       xs ≡ padded 512 (pos 0) (map (λ s. s.at.x) stops) → ys ≡ padded 512 (pos 0) (map (λ s. s.at.y) stops) →
@@ -71,7 +71,8 @@ module _ (deck : Query.Deck) where
       with_stop_columns (deck_record deck) n xs ys visits nears ≡ deck_record (with_stops stops deck)
   unfolding deck_record before near
   with_stops_lem stops e x y w v =
-      (λ i. stops_record (deck_record deck) (e i) (x i) (y i) (w i) (v i) (((λ j. paid (w j) (v j) (e j)) ∙ paid_stops (near deck) 512 stops) i))
+      (λ i. with_stop_columns (deck_record deck) (e i) (x i) (y i) (w i) (v i))
+      ∙ ap (with_figures (deck_record (with_stops stops deck)) (padded 512 0 (map (near deck) stops))) (paid_stops (near deck) 512 stops)
 
   -- ---- near with one more post, and with one less
   nears_more : (p : Place) → 1 ≤ length deck.posts →
