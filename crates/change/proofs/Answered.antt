@@ -6,7 +6,7 @@ use Rattle.std.specs.Prelude.{Ok, Err}
 use Rattle.deck.specs.declared.Deck.{Deck}
 use Rattle.refusal.specs.declared.Refusal.{Refusal}
 use Rattle.change.specs.Change.{Change}
-use Rattle.change.specs.ChangedRecord.{stored, record_refusal, Changed, answered, changed_record}
+use Rattle.change.specs.ChangedRecord.{stored, record_refusal, answered, changed_record}
 
 module _ (change : Change) (deck : Deck) where
   pub answer_refused : {why : Refusal} → record_refusal change deck ≡ some why →

@@ -5,3 +5,5 @@ pub mod Refusals
 pub mod PostChanges
 pub mod AlteredLaws
 pub mod StoredLaws
+pub mod SoundUsable
+pub mod ChangedLaws

@@ -20,7 +20,6 @@ use Rattle.query.specs.Cost.{before}
 use Rattle.query.specs.Range.{InRange}
 use Rattle.deck.specs.DeckOf.{places, deck_of, deck_record, with_figures}
 use Rattle.deck.specs.Sound.{Sound}
-use Rattle.deck.specs.StopFigures.{paid}
 use Rattle.deck.specs.declared.Deck.{Deck}
 use Rattle.deck.proofs.DeckLaws.{held_deck}
 use Rattle.deck.proofs.PaidLaws.{paid_stops}

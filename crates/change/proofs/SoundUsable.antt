@@ -4,10 +4,12 @@ use mathlib.Core.Path.{◌≡◌, sym, ap, subst, ◌∙◌}
 use mathlib.Core.Option.{Option}
 use Prim.Native.Nat.{ℕ, ◌≤◌, ◌<◌}
 use native.Mathlib.Omega.{arith}
-use lib.Dec.{T}
+use lib.Dec.{T, leb}
 use lib.ListN.{length, get_or, take}
-use lib.Seq.{length_take_le, get_or_take}
+use lib.Seq.{length-take-le, get_or-take}
+use Rattle.std.specs.List.{list_all}
 use Rattle.numbers.proofs.Truth.{and_intro}
+use Rattle.query.specs.Range.{travel_limit}
 use Rattle.deck.specs.Ranges.{NearsInRange}
 use Rattle.deck.specs.Sound.{Sound}
 use Rattle.deck.specs.declared.Deck.{Deck}
@@ -21,7 +23,7 @@ use Rattle.job_check.specs.LineFaults.{refusal_in}
 use Rattle.job_check.proofs.FileFaults.{file_spelled}
 use Rattle.job_check.proofs.AxisLaws.{saved_spells}
 use Rattle.refusal.specs.declared.Refusal.{Refusal}
-use Rattle.change.specs.ChangedRecord.{is_none, all_up_to, usable}
+use Rattle.change.specs.ChangedRecord.{is_none, usable}
 use Rattle.change.proofs.UpTo.{up_to_all}
 
 module _ (deck : Deck) (sound : Sound deck) where
@@ -34,19 +36,19 @@ module _ (deck : Deck) (sound : Sound deck) where
       columns : DeckColumns deck
       columns = sound_columns sound
 
-  nears_few : T (all_up_to 720000 (take deck.stops deck.near))
-  nears_few = up_to_all 720000 (take deck.stops deck.near) (λ i h. each i (omega (arith, long)))
+  nears_few : T (list_all (λ n. leb n travel_limit) (take deck.stops deck.near))
+  nears_few = up_to_all travel_limit (take deck.stops deck.near) (λ i h. each i (omega (arith, long)))
     where
       nears : NearsInRange deck.near deck.stops
       nears = sound_nears sound
 
       long : length (take deck.stops deck.near) ≡ deck.stops
-      long = length_take_le deck.stops deck.near nears.count
+      long = length-take-le deck.stops deck.near nears.count
 
-      each : (i : ℕ) → i < deck.stops → get_or (take deck.stops deck.near) i 0 ≤ 720000
-      each i h = rw (get_or_take deck.stops deck.near i 0 h) (nears.range i h)
+      each : (i : ℕ) → i < deck.stops → get_or (take deck.stops deck.near) i 0 ≤ travel_limit
+      each i h = rw (get_or-take deck.stops deck.near i 0 h) (nears.range i h)
 
   pub sound_usable : T (usable deck)
   unfolding usable
-  sound_usable = and_intro (is_none (refusal_in (read_text (file_text deck 0)))) (all_up_to 720000 (take deck.stops deck.near))
+  sound_usable = and_intro (is_none (refusal_in (read_text (file_text deck 0)))) (list_all (λ n. leb n travel_limit) (take deck.stops deck.near))
       (subst (λ (o : Option Refusal). T (is_none o)) (sym (ap refusal_in file_read)) tt) nears_few

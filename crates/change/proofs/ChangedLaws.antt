@@ -3,7 +3,8 @@
 use mathlib.Core.Path.{◌≡◌, refl, sym, ap, subst, ◌∙◌}
 use mathlib.Core.Option.{Option, none, some}
 use mathlib.Core.List.{List, [], ◌∷◌, foldl}
-use Rattle.numbers.proofs.Truth.{cond_true}
+use Rattle.std.specs.Prelude.{Ok, Err}
+use Rattle.numbers.proofs.Truth.{cond-true}
 use Rattle.query.specs.Place.{NonEmpty}
 use Rattle.query.specs.Deck as Query
 use Rattle.deck.specs.DeckOf.{deck_of, deck_record}
@@ -14,18 +15,16 @@ use Rattle.deck.proofs.SoundLaws.{record_sound}
 use Rattle.refusal.specs.declared.Refusal.{Refusal}
 use Rattle.refusal.specs.declared.Refusal.TheVariants.{OutOfRange}
 use Rattle.change.specs.Change.{Change, altered, change_refusal, unless_refused, changed, changed_by}
-use Rattle.change.specs.ChangedRecord.{usable, stored, record_refusal, answered, changed_record}
-use Rattle.change.specs.declared.Changed.{Changed}
-use Rattle.change.specs.declared.Verdict.TheVariants as Verdict
+use Rattle.change.specs.ChangedRecord.{usable, stored, record_refusal, Changed, answered, changed_record}
 use Rattle.change.proofs.SoundUsable.{sound_usable}
 use Rattle.change.proofs.AlteredLaws.{changed_range, changed_area}
 use Rattle.change.proofs.StoredLaws.{made_is}
-use Rattle.change.proofs.Verdicts.{answer_refused, answer_made}
+use Rattle.change.proofs.Answered.{answer_refused, answer_made}
 
 -- ---- refused, of any record
 pub refused_answer : (deck : Deck) (change : Change) {why : Refusal} → record_refusal change deck ≡ some why →
-    changed_record change deck ≡ record { verdict = Verdict.Refused why; deck = deck }
-refused_answer deck change e = sym (answer_refused change deck e refl)
+    changed_record change deck ≡ record { answer = Err why; deck = deck }
+refused_answer deck change e = answer_refused change deck e
 
 pub refused_is : (deck : Deck) (change : Change) {why : Refusal} → record_refusal change deck ≡ some why → (changed_record change deck).deck ≡ deck
 refused_is deck change e = ap (λ (r : Changed). r.deck) (refused_answer deck change e)
@@ -33,7 +32,7 @@ refused_is deck change e = ap (λ (r : Changed). r.deck) (refused_answer deck ch
 -- ---- a change of a sound record
 pub sound_refusal : (deck : Deck) (change : Change) → Sound deck → record_refusal change deck ≡ change_refusal change (deck_of deck)
 unfolding record_refusal
-sound_refusal deck change sound = cond_true (usable deck) (change_refusal change (deck_of deck)) (some (OutOfRange 0)) (sound_usable deck sound)
+sound_refusal deck change sound = cond-true (usable deck) (change_refusal change (deck_of deck)) (some (OutOfRange 0)) (sound_usable deck sound)
 
 pub changed_is : (deck : Deck) (change : Change) → Sound deck → (changed_record change deck).deck ≡ deck_record (changed (deck_of deck) change)
 unfolding changed_record changed
@@ -48,8 +47,9 @@ changed_is deck change sound =
 
 -- the answer where it is made
 pub made_answer : (deck : Deck) (change : Change) → Sound deck → change_refusal change (deck_of deck) ≡ none →
-    changed_record change deck ≡ record { verdict = Verdict.Made; deck = deck_record (altered change (deck_of deck)) }
-made_answer deck change sound e = sym (answer_made change deck (sound_refusal deck change sound ∙ e) (sym (made_is deck change sound e)))
+    changed_record change deck ≡ record { answer = Ok tt; deck = deck_record (altered change (deck_of deck)) }
+made_answer deck change sound e =
+    answer_made change deck (sound_refusal deck change sound ∙ e) ∙ ap (answered none deck) (made_is deck change sound e)
 
 pub changed_sound : (deck : Deck) (change : Change) → Sound deck → Sound (changed_record change deck).deck
 changed_sound deck change sound = subst Sound (sym (changed_is deck change sound)) (record_sound (changed (deck_of deck) change)
