@@ -1,9 +1,10 @@
-pub mod UpTo
-pub mod Answered
-pub mod Conditions
-pub mod Refusals
-pub mod PostChanges
 pub mod AlteredLaws
-pub mod StoredLaws
-pub mod SoundUsable
+pub mod Answered
 pub mod ChangedLaws
+pub mod Conditions
+pub mod PostChanges
+pub mod Refusals
+pub mod SoundUsable
+pub mod StoredLaws
+pub mod UpTo
+pub mod UsableLaws

@@ -1,0 +1,112 @@
+-- Which records can be changed: as the code tests it, and what it says of a record's numbers.
+-- Assumes nothing.
+use mathlib.Core.Path.{◌≡◌, refl, sym, ap, subst, ◌∙◌}
+use mathlib.Core.Bool.{Bool, true, false, ◌&&◌}
+use mathlib.Core.List.{List, [], ◌∷◌}
+use mathlib.Core.Logic.{⊎_elim}
+use mathlib.Core.Option.{Option, none, some}
+use Prim.Native.Nat.{ℕ, ◌≤◌, ◌<◌}
+use native.Mathlib.Omega.{arith}
+use lib.Dec.{T, leb, leb→le, not_T}
+use lib.IntN.{ℤ, pos}
+use lib.ListN.{length, get_or, take}
+use lib.Seq.{length-take-le, get_or-take}
+use lib.Signed.{le_z}
+use Rattle.std.specs.Prelude.{Result, Ok, Err}
+use Rattle.std.specs.Result.{is_ok}
+use Rattle.std.specs.List.{list_all}
+use Rattle.std.proofs.lemmas.List.Folds.{list_all_at}
+use Rattle.numbers.specs.Integer.{between}
+use Rattle.numbers.proofs.Integer.{order}
+use Rattle.numbers.proofs.Truth.{test, fails, and_left, and_right}
+use Rattle.query.specs.Range.{travel_limit}
+use Rattle.deck.specs.DeckOf.{Sized}
+use Rattle.deck.specs.declared.Deck.{Deck}
+use Rattle.deck.proofs.DeckLaws.{DeckColumns}
+use Rattle.job_line.specs.Kinds.{row, stop, coordinates, visits, in_range, in_ranges}
+use Rattle.job.specs.Format.{read_text}
+use Rattle.job.specs.File.{file_text}
+use Rattle.job.proofs.Meaning.{allowed_in_range}
+use Rattle.job_check.specs.LineFaults.{refusal_in, checked_as}
+use Rattle.job_check.proofs.FileFaults.{FileIs, file_is}
+use Rattle.refusal.specs.declared.Refusal.{Refusal}
+use Rattle.change.specs.ChangedRecord.{is_none, usable}
+use Rattle.change.specs.Usable.{Usable}
+
+-- ---- the values of a stop
+-- too many visits
+pub many_visits : (x y : ℤ) (n : ℕ) → 65535 < n → false ≡ in_ranges (row stop).ranges (x ∷ y ∷ pos n ∷ [])
+unfolding in_ranges in_range between
+many_visits x y n h = sym (fails _ (not_T (in_ranges (row stop).ranges (x ∷ y ∷ pos n ∷ [])) (λ t. go (and_right (in_range coordinates y)
+    (in_ranges (visits ∷ []) (pos n ∷ [])) (and_right (in_range coordinates x) (in_ranges (coordinates ∷ visits ∷ []) (y ∷ pos n ∷ [])) t)))))
+  where
+    go : T (in_ranges (visits ∷ []) (pos n ∷ [])) → ⊥
+    go t =
+        let few : T (le_z (pos n) (pos 65535)) = and_right (le_z (pos 1) (pos n)) (le_z (pos n) (pos 65535)) (and_left (in_range visits (pos n)) true t) in
+        omega (arith, order)
+
+-- ---- records
+-- what the code tests of near
+abbrev pub near_ranged : Deck → Bool
+near_ranged deck = list_all (λ n. leb n travel_limit) (take deck.stops deck.near)
+
+ok_is : (r : Result (Unit {0}) Refusal) → is_ok r ≡ is_none (checked_as r)
+ok_is (Ok u) = refl
+ok_is (Err why) = refl
+
+module _ (deck : Deck) (r : Result (Unit {0}) Refusal) (checked : checked_as r ≡ refusal_in (read_text (file_text deck 0))) {b : Bool} (tested : b ≡ is_ok r) where
+  test_is : b ≡ is_none (refusal_in (read_text (file_text deck 0)))
+  test_is = tested ∙ ok_is r ∙ ap is_none checked
+
+  pub usable_refused : b ≡ false → b ≡ usable deck
+  unfolding usable
+  usable_refused e = e ∙ ap (λ (t : Bool). t && near_ranged deck) (sym e ∙ test_is)
+
+  pub usable_fine : b ≡ true → {t : Bool} → t ≡ near_ranged deck → t ≡ usable deck
+  unfolding usable
+  usable_fine e f = f ∙ ap (λ (t : Bool). t && near_ranged deck) (sym e ∙ test_is)
+
+-- ---- what it says
+none_is : (o : Option Refusal) → T (is_none o) → o ≡ none
+none_is none t = refl
+none_is (some why) t = absurd t
+
+-- its file, by the test
+accepted_file : (deck : Deck) (sized : Sized deck) → T (is_none (refusal_in (read_text (file_text deck 0)))) → FileIs deck 0 sized
+accepted_file deck sized t = file_is deck 0 sized (none_is (refusal_in (read_text (file_text deck 0))) t)
+
+pub few_stops : (deck : Deck) → Sized deck → (r : Result (Unit {0}) Refusal) → checked_as r ≡ refusal_in (read_text (file_text deck 0)) →
+    {b : Bool} → b ≡ is_ok r → b ≡ true → deck.stops ≤ 512
+few_stops deck sized r checked tested e = (accepted_file deck sized (subst T (sym e ∙ test_is deck r checked tested) tt)).few_stops
+
+up_to : (xs : List ℕ) → T (list_all (λ n. leb n travel_limit) xs) → (i : ℕ) → i < length xs → get_or xs i 0 ≤ travel_limit
+up_to xs t i h = ⊎_elim
+    (λ l. leb→le (get_or xs i 0) travel_limit l)
+    (λ l. absurd (subst T (list_all_at (λ n. leb n travel_limit) xs i 0 h (fails (leb (get_or xs i 0) travel_limit) l)) t))
+    (test (leb (get_or xs i 0) travel_limit))
+
+module _ (deck : Deck) (sized : Sized deck) (long : length deck.near ≡ 512) where
+  pub usable_says : T (usable deck) → Usable deck
+  unfolding usable
+  usable_says t = record {
+    few_posts = file.few_posts;
+    few_stops = file.few_stops;
+    range = allowed_in_range _ file.allowed;
+    nears = record { count = few; range = each };
+  }
+    where
+      travels : T (near_ranged deck)
+      travels = and_right (is_none (refusal_in (read_text (file_text deck 0)))) (near_ranged deck) t
+
+      file : FileIs deck 0 sized
+      file = accepted_file deck sized (and_left (is_none (refusal_in (read_text (file_text deck 0)))) (near_ranged deck) t)
+
+      few : deck.stops ≤ length deck.near
+      few = omega (arith, file.few_stops, long)
+
+      each : (i : ℕ) → i < deck.stops → get_or deck.near i 0 ≤ travel_limit
+      each i h = rw (get_or-take deck.stops deck.near i 0 h) at
+          (up_to (take deck.stops deck.near) travels i (omega (arith, length-take-le deck.stops deck.near few)))
+
+pub usable_columns : {deck : Deck} → Sized deck → Usable deck → DeckColumns deck
+usable_columns sized u = record { sized = sized; posts = u.few_posts; stops = u.few_stops }
