@@ -34,10 +34,12 @@ use Rattle.change.specs.ChangedRecord.{is_none, usable}
 use Rattle.change.specs.Usable.{Usable}
 
 -- ---- the values of a stop
--- too many visits
-pub many_visits : (x y : ℤ) (n : ℕ) → 65535 < n → false ≡ in_ranges (row stop).ranges (x ∷ y ∷ pos n ∷ [])
+-- too many visits, as the code tests them and by the ranges of a line
+pub many_visits : (x y : ℤ) (n : ℕ) → 65535 < n → leb n 65535 ≡ in_ranges (row stop).ranges (x ∷ y ∷ pos n ∷ [])
 unfolding in_ranges in_range between
-many_visits x y n h = sym (fails _ (not_T (in_ranges (row stop).ranges (x ∷ y ∷ pos n ∷ [])) (λ t. go (and_right (in_range coordinates y)
+many_visits x y n h =
+    fails (leb n 65535) (not_T (leb n 65535) (λ t. omega (arith, leb→le n 65535 t)))
+    ∙ sym (fails _ (not_T (in_ranges (row stop).ranges (x ∷ y ∷ pos n ∷ [])) (λ t. go (and_right (in_range coordinates y)
     (in_ranges (visits ∷ []) (pos n ∷ [])) (and_right (in_range coordinates x) (in_ranges (coordinates ∷ visits ∷ []) (y ∷ pos n ∷ [])) t)))))
   where
     go : T (in_ranges (visits ∷ []) (pos n ∷ [])) → ⊥
