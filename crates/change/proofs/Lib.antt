@@ -8,3 +8,4 @@ pub mod SoundUsable
 pub mod StoredLaws
 pub mod UpTo
 pub mod UsableLaws
+pub mod MadeRecords
