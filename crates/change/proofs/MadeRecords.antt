@@ -1,29 +1,39 @@
 -- The records that changes make: what the code asks of a record that can be changed, and what it puts together.
 -- Assumes nothing.
-use mathlib.Core.Path.{◌≡◌, sym, ap, ◌∙◌}
-use mathlib.Core.List.{List, ◌++◌, zip_with}
-use Prim.Native.Nat.{ℕ, ◌+◌, ◌≤◌, ◌<◌}
+use mathlib.Core.Path.{◌≡◌, refl, sym, ap, ◌∙◌}
+use mathlib.Core.List.{List, [], ◌∷◌, ◌++◌, zip_with, append_assoc}
+use Prim.Native.Nat.{ℕ, zero, suc, ◌+◌, ◌-◌, ◌≤◌, ◌<◌}
 use native.Mathlib.Numerals.{add-one}
 use native.Mathlib.Omega.{arith}
-use lib.IntN.{ℤ}
+use lib.Dec.{eqb}
+use lib.IntN.{ℤ, pos, nat_abs}
 use lib.ListN.{length, get_or, take, drop, set}
-use lib.Seq.{paste, length-paste, take-take}
+use lib.Seq.{paste, length-paste, take-take, take-length, drop-length}
+use Rattle.numbers.proofs.Members.{length_non_empty}
+use Rattle.numbers.proofs.Truth.{cond_ind}
 use Rattle.numbers.proofs.WordTests.{back}
 use Rattle.query.specs.Place.{Place}
 use Rattle.query.specs.Deck.{AxisCosts}
+use Rattle.query.specs.Travel.{travel, closest}
 use Rattle.query.specs.Range.{PlaceInRange, travel_limit}
+use Rattle.query.proofs.NearLaws.{closest_some}
+use Rattle.query.proofs.Ranges.{costs_limit}
 use Rattle.deck.specs.declared.Deck.{Deck}
-use Rattle.deck.specs.DeckOf.{Sized, held_axis, places}
-use Rattle.deck.specs.Ranges.{CostsInRange, PlacesInRange, VisitsInRange, NearsInRange}
+use Rattle.deck.specs.DeckOf.{Sized, held_axis, places, deck_of}
+use Rattle.deck.specs.Ranges.{CostsInRange, CoordinatesUpTo, PlacesInRange, NaturalsUpTo, VisitsInRange, NearsInRange}
 use Rattle.deck.proofs.ClosestLaws.{place_at, zip_take}
 use Rattle.deck.proofs.CopyLaws.{Copied, copied_within}
 use Rattle.deck.proofs.DeckLaws.{costs_range, posts_range, stops_range, visits_range}
-use Rattle.deck.proofs.Fronts.{front_count, front_places_are}
+use Rattle.deck.proofs.Fronts.{front_count, front_places_are, places_in_front}
+use Rattle.deck.proofs.MadeNears.{places_each, places_whole, places_count}
 use Rattle.deck.proofs.WordLaws.{wide}
-use Rattle.change.specs.Change.{add_post}
+use Rattle.items.specs.Items.{is_same_place, first_place, taken_out_at}
+use Rattle.items.proofs.FirstPlace.{removed_is}
+use Rattle.items.proofs.Removal.{removed, taken_front, taken_length, taken_each}
+use Rattle.change.specs.Change.{add_post, remove_post}
 use Rattle.change.specs.ChangedRecord.{with_post_columns, renewed, stored}
 use Rattle.change.specs.Usable.{Usable}
-use Rattle.near_change.specs.NearChange.{near_with}
+use Rattle.near_change.specs.NearChange.{near_with, near_without}
 use Rattle.near_change.proofs.NearLaws.{target_long, target_at, stop_in_range}
 use Rattle.change.proofs.UsableLaws.{usable_columns}
 
@@ -71,9 +81,62 @@ module _ {deck : Deck} (sized : Sized deck) (u : Usable deck) where
             ∙ copied_within deck.near 0 target deck.stops so_far (omega arith) many i 0 h ∙ target_at f deck.near held_stops u.nears.count i h in
             omega (arith, is, each (place_at deck.stop_x deck.stop_y i) (get_or deck.near i 0) (stop_in_range held_stops i h) (u.nears.range i h))
 
+-- ---- near in range
+-- the travel to the closest of some posts
+pub closest_limit : {axis : AxisCosts} {px py : List ℤ} → CostsInRange axis → PlacesInRange 64 px py (length px) → 1 ≤ length px →
+    (p : Place) → PlaceInRange p → closest axis p (places px py) ≤ travel_limit
+closest_limit {axis} {px} {py} costs posts some p h =
+    let (post, i, e) = closest_some axis p (places px py) (length_non_empty (places px py) (omega (arith, places_count posts))) in
+    omega (arith, e, costs_limit axis costs.most p post h (rw (places_whole posts) at (places_each posts) post i))
+
 pub with_limit : (axis : AxisCosts) (p q : Place) (m : ℕ) → PlaceInRange q → m ≤ travel_limit → near_with axis p q m ≤ travel_limit
 unfolding near_with
 with_limit axis p q m r h = omega arith
+
+pub without_limit : {axis : AxisCosts} {px py : List ℤ} → CostsInRange axis → PlacesInRange 64 px py (length px) → 1 ≤ length px →
+    (p q : Place) (m : ℕ) → PlaceInRange q → m ≤ travel_limit → near_without axis p (places px py) q m ≤ travel_limit
+unfolding near_without
+without_limit {axis} costs posts some p q m r h =
+    cond_ind (λ (n : ℕ). n ≤ travel_limit) (eqb m (travel axis q p)) (λ t. closest_limit costs posts some q r) (λ t. h)
+
+-- ---- an element taken out of the first n
+-- the front without it, and what stands behind
+pub taken_here : {A : Type 0} (xs : List A) (n i : ℕ) (z : A) → i < n → n ≤ length xs → {ys : List A} →
+    ys ≡ taken_out_at (length (take n xs)) i z (take n xs) → ys ++ drop n xs ≡ taken_out_at n i z xs
+unfolding taken_out_at
+taken_here xs n i z h g e =
+    rw (e, take-take i n xs (omega arith), take-length (take n xs), drop-length (take n xs))
+    (append_assoc (take i xs) (drop (suc i) (take n xs) ++ (z ∷ [])) (drop n xs)
+    ∙ ap (λ l. take i xs ++ l) (append_assoc (drop (suc i) (take n xs)) (z ∷ []) (drop n xs)))
+
+-- of two lists side by side
+zip_removed : {A B C : Type 0} (f : A → B → C) (i : ℕ) (xs : List A) (ys : List B) →
+    zip_with f (removed i xs) (removed i ys) ≡ removed i (zip_with f xs ys)
+unfolding zip_with
+zip_removed f zero [] ys = refl
+zip_removed f zero (x ∷ []) [] = refl
+zip_removed f zero (x ∷ w ∷ xs) [] = refl
+zip_removed f zero (x ∷ xs) (y ∷ ys) = refl
+zip_removed f (suc i) [] ys = refl
+zip_removed f (suc i) (x ∷ xs) [] = refl
+zip_removed f (suc i) (x ∷ xs) (y ∷ ys) = ap (λ l. f x y ∷ l) (zip_removed f i xs ys)
+
+module _ {i n : ℕ} (h : i < n) where
+  pub naturals_left : {most : ℕ} {xs : List ℕ} → NaturalsUpTo most xs n → NaturalsUpTo most (taken_out_at n i 0 xs) (n - 1)
+  naturals_left {most} {xs} range = record {
+    count = omega (arith, taken_length xs i n 0 h range.count, range.count);
+    range = taken_each xs i n 0 h range.count (λ (m : ℕ). m ≤ most) range.range;
+  }
+
+  coordinates_left : {most : ℕ} {xs : List ℤ} → CoordinatesUpTo most xs n → CoordinatesUpTo most (taken_out_at n i (pos 0) xs) (n - 1)
+  coordinates_left {most} {xs} range = record {
+    count = omega (arith, taken_length xs i n (pos 0) h range.count, range.count);
+    range = taken_each xs i n (pos 0) h range.count (λ (z : ℤ). nat_abs z ≤ most) range.range;
+  }
+
+  places_left : {most : ℕ} {xs ys : List ℤ} → PlacesInRange most xs ys n →
+      PlacesInRange most (taken_out_at n i (pos 0) xs) (taken_out_at n i (pos 0) ys) (n - 1)
+  places_left range = record { x = coordinates_left range.x; y = coordinates_left range.y; few = omega (arith, range.few) }
 
 -- ---- what the code puts together
 module _ (deck : Deck) {p : Place} (range : PlaceInRange p) where
@@ -88,3 +151,48 @@ module _ (deck : Deck) {p : Place} (range : PlaceInRange p) where
       with_post_columns deck (deck.posts + 1) (set deck.post_x deck.posts (back p.x)) (set deck.post_y deck.posts (back p.y)) near ≡ stored (add_post p) deck
   unfolding stored renewed
   made_post e = λ i. with_post_columns deck (add-one deck.posts i) (set deck.post_x deck.posts (x_held i)) (set deck.post_y deck.posts (y_held i)) (e i)
+
+-- a post taken out
+module _ {deck : Deck} (sized : Sized deck) (u : Usable deck) {i : ℕ} (h : i < deck.posts) {xs ys : List ℤ}
+    (ex : xs ≡ taken_out_at (length (take deck.posts deck.post_x)) i (pos 0) (take deck.posts deck.post_x))
+    (ey : ys ≡ taken_out_at (length (take deck.posts deck.post_y)) i (pos 0) (take deck.posts deck.post_y)) where
+  abbrev posts : PlacesInRange 64 deck.post_x deck.post_y deck.posts
+  posts = held_posts sized u
+
+  -- the columns, of which the first deck.posts - 1 elements count
+  abbrev left_x : List ℤ
+  left_x = xs ++ drop deck.posts deck.post_x
+
+  abbrev left_y : List ℤ
+  left_y = ys ++ drop deck.posts deck.post_y
+
+  x_taken : left_x ≡ taken_out_at deck.posts i (pos 0) deck.post_x
+  x_taken = taken_here deck.post_x deck.posts i (pos 0) h posts.x.count ex
+
+  y_taken : left_y ≡ taken_out_at deck.posts i (pos 0) deck.post_y
+  y_taken = taken_here deck.post_y deck.posts i (pos 0) h posts.y.count ey
+
+  pub left_range : PlacesInRange 64 (take (deck.posts - 1) left_x) (take (deck.posts - 1) left_y) (length (take (deck.posts - 1) left_x))
+  left_range = rw (x_taken, y_taken) (places_in_front (places_left h posts))
+
+  pub left_some : 2 ≤ deck.posts → 1 ≤ length (take (deck.posts - 1) left_x)
+  left_some many = rw x_taken (omega (arith, front_count (places_left h posts)))
+
+  left_are : places (take (deck.posts - 1) left_x) (take (deck.posts - 1) left_y) ≡ removed i (take deck.posts (places deck.post_x deck.post_y))
+  unfolding places
+  left_are =
+      rw (x_taken, y_taken, taken_front deck.post_x i deck.posts (pos 0) h posts.x.count, taken_front deck.post_y i deck.posts (pos 0) h posts.y.count)
+      (zip_removed _ i (take deck.posts deck.post_x) (take deck.posts deck.post_y)
+      ∙ ap (removed i) (front_places_are deck.posts deck.post_x deck.post_y))
+
+  pub unmade_post : (p : Place) → i ≡ first_place (is_same_place p) (deck_of deck).posts → {near : List ℕ} → near ≡ paste deck.near 0
+      (zip_with (near_without (held_axis deck.axis) p (places (take (deck.posts - 1) left_x) (take (deck.posts - 1) left_y)))
+      (places deck.stop_x deck.stop_y) deck.near) deck.stops →
+      with_post_columns deck (deck.posts - 1) left_x left_y near ≡ stored (remove_post p) deck
+  unfolding stored renewed
+  unmade_post p at e =
+      let left = left_are ∙ ap (λ (j : ℕ). removed j (deck_of deck).posts) at ∙ sym (removed_is (is_same_place p) (deck_of deck).posts) in
+      let x = x_taken ∙ ap (λ (j : ℕ). taken_out_at deck.posts j (pos 0) deck.post_x) at in
+      let y = y_taken ∙ ap (λ (j : ℕ). taken_out_at deck.posts j (pos 0) deck.post_y) at in
+      let nears = e ∙ ap (λ (l : List Place). renewed deck (near_without (held_axis deck.axis) p l)) left in
+      λ j. with_post_columns deck (deck.posts - 1) (x j) (y j) (nears j)

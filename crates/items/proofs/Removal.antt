@@ -59,7 +59,7 @@ module _ {A : Type 0} (xs : List A) (i n : ℕ) (z : A) (h : i < n) (k : n ≤ l
   shorter : length (take n xs) ≡ n
   shorter = length-take-le n xs k
 
-  taken_front : take (n - 1) (taken_out_at n i z xs) ≡ removed i (take n xs)
+  pub taken_front : take (n - 1) (taken_out_at n i z xs) ≡ removed i (take n xs)
   unfolding taken_out_at
   taken_front =
       ap (take (n - 1)) (sym (append_assoc (take i xs) (drop (suc i) (take n xs)) (z ∷ drop n xs))
