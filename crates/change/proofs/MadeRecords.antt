@@ -1,19 +1,20 @@
 -- The records that changes make: what the code asks of a record that can be changed, and what it puts together.
 -- Assumes nothing.
 use mathlib.Core.Path.{◌≡◌, refl, sym, ap, ◌∙◌}
+use mathlib.Core.Logic.{⊎_elim}
 use mathlib.Core.List.{List, [], ◌∷◌, ◌++◌, zip_with, append_assoc}
 use Prim.Native.Nat.{ℕ, zero, suc, ◌+◌, ◌-◌, ◌≤◌, ◌<◌}
 use native.Mathlib.Numerals.{add-one}
 use native.Mathlib.Omega.{arith}
-use lib.Dec.{eqb}
+use lib.Dec.{eqb, ltb, ltb→lt, nltb→le}
 use lib.IntN.{ℤ, pos, nat_abs}
-use lib.ListN.{length, get_or, take, drop, set}
-use lib.Seq.{paste, length-paste, take-take, take-length, drop-length}
+use lib.ListN.{length, get_or, take, drop, set, length-set}
+use lib.Seq.{paste, length-paste, take-take, take-length, drop-length, get_or-set_same, get_or-set_other}
 use Rattle.numbers.proofs.Members.{length_non_empty}
-use Rattle.numbers.proofs.Truth.{cond_ind}
+use Rattle.numbers.proofs.Truth.{test, cond_ind}
 use Rattle.numbers.proofs.WordTests.{back}
 use Rattle.query.specs.Place.{Place}
-use Rattle.query.specs.Deck.{AxisCosts}
+use Rattle.query.specs.Deck.{AxisCosts, Stop}
 use Rattle.query.specs.Travel.{travel, closest}
 use Rattle.query.specs.Range.{PlaceInRange, travel_limit}
 use Rattle.query.proofs.NearLaws.{closest_some}
@@ -23,15 +24,15 @@ use Rattle.deck.specs.DeckOf.{Sized, held_axis, places, deck_of}
 use Rattle.deck.specs.Ranges.{CostsInRange, CoordinatesUpTo, PlacesInRange, NaturalsUpTo, VisitsInRange, NearsInRange}
 use Rattle.deck.proofs.ClosestLaws.{place_at, zip_take}
 use Rattle.deck.proofs.CopyLaws.{Copied, copied_within}
-use Rattle.deck.proofs.DeckLaws.{costs_range, posts_range, stops_range, visits_range}
-use Rattle.deck.proofs.Fronts.{front_count, front_places_are, places_in_front}
+use Rattle.deck.proofs.DeckLaws.{costs_range, posts_range, stops_range, visits_range, posts_counted}
+use Rattle.deck.proofs.Fronts.{front_count, front_places_are, places_in_front, given_range, given_places, given_count}
 use Rattle.deck.proofs.MadeNears.{places_each, places_whole, places_count}
 use Rattle.deck.proofs.WordLaws.{wide}
 use Rattle.items.specs.Items.{is_same_place, first_place, taken_out_at}
 use Rattle.items.proofs.FirstPlace.{removed_is}
 use Rattle.items.proofs.Removal.{removed, taken_front, taken_length, taken_each}
-use Rattle.change.specs.Change.{add_post, remove_post}
-use Rattle.change.specs.ChangedRecord.{with_post_columns, renewed, stored}
+use Rattle.change.specs.Change.{add_post, remove_post, add_stop}
+use Rattle.change.specs.ChangedRecord.{with_post_columns, with_stop_columns, renewed, stored}
 use Rattle.change.specs.Usable.{Usable}
 use Rattle.near_change.specs.NearChange.{near_with, near_without}
 use Rattle.near_change.proofs.NearLaws.{target_long, target_at, stop_in_range}
@@ -50,6 +51,14 @@ module _ {deck : Deck} (sized : Sized deck) (u : Usable deck) where
 
   pub held_visits : VisitsInRange deck.visits deck.stops
   held_visits = visits_range deck (usable_columns sized u) u.range
+
+  -- the columns of its posts
+  module _ {px py : List ℤ} (ex : px ≡ take deck.posts deck.post_x) (ey : py ≡ take deck.posts deck.post_y) where
+    pub given_posts : PlacesInRange 64 px py (length px)
+    given_posts = given_range ex ey held_posts
+
+    pub given_some : 1 ≤ length px
+    given_some = omega (arith, given_count ex held_posts, u.range.some_posts, posts_counted deck sized)
 
   -- near as found again from the columns of the stops, each by its place and what was stored
   module _ (f : Place → ℕ → ℕ) {to : List ℕ} (found : to ≡ paste deck.near 0
@@ -99,6 +108,17 @@ unfolding near_without
 without_limit {axis} costs posts some p q m r h =
     cond_ind (λ (n : ℕ). n ≤ travel_limit) (eqb m (travel axis q p)) (λ t. closest_limit costs posts some q r) (λ t. h)
 
+-- ---- one more number in range, behind the first n
+module _ {most n v : ℕ} {xs : List ℕ} (range : NaturalsUpTo most xs n) (room : n < length xs) (h : v ≤ most) where
+  pub one_more : NaturalsUpTo most (set xs n v) (n + 1)
+  one_more = record { count = omega (arith, length-set xs n v); range = each }
+    where
+      each : (i : ℕ) → i < n + 1 → get_or (set xs n v) i 0 ≤ most
+      each i l = ⊎_elim
+          (λ t. omega (arith, get_or-set_other xs n i v 0 (λ e. absurd (omega (arith, ltb→lt i n t, e))), range.range i (ltb→lt i n t)))
+          (λ t. let e : i ≡ n = omega (arith, nltb→le i n t) in
+          omega (arith, ap (λ (m : ℕ). get_or (set xs n v) m 0) e ∙ get_or-set_same xs n v 0 room)) (test (ltb i n))
+
 -- ---- an element taken out of the first n
 -- the front without it, and what stands behind
 pub taken_here : {A : Type 0} (xs : List A) (n i : ℕ) (z : A) → i < n → n ≤ length xs → {ys : List A} →
@@ -139,18 +159,29 @@ module _ {i n : ℕ} (h : i < n) where
   places_left range = record { x = coordinates_left range.x; y = coordinates_left range.y; few = omega (arith, range.few) }
 
 -- ---- what the code puts together
-module _ (deck : Deck) {p : Place} (range : PlaceInRange p) where
+module _ {p : Place} (range : PlaceInRange p) where
   x_held : back p.x ≡ p.x
   x_held = wide p.x (omega (arith, range.x_range))
 
   y_held : back p.y ≡ p.y
   y_held = wide p.y (omega (arith, range.y_range))
 
-  pub made_post : {near : List ℕ} → near ≡ paste deck.near 0
+  pub made_post : (deck : Deck) {near : List ℕ} → near ≡ paste deck.near 0
       (zip_with (near_with (held_axis deck.axis) p) (places deck.stop_x deck.stop_y) deck.near) deck.stops →
       with_post_columns deck (deck.posts + 1) (set deck.post_x deck.posts (back p.x)) (set deck.post_y deck.posts (back p.y)) near ≡ stored (add_post p) deck
   unfolding stored renewed
-  made_post e = λ i. with_post_columns deck (add-one deck.posts i) (set deck.post_x deck.posts (x_held i)) (set deck.post_y deck.posts (y_held i)) (e i)
+  made_post deck e = λ i. with_post_columns deck (add-one deck.posts i) (set deck.post_x deck.posts (x_held i)) (set deck.post_y deck.posts (y_held i)) (e i)
+
+module _ (deck : Deck) (s : Stop) (range : PlaceInRange s.at) where
+  pub made_stop : {px py : List ℤ} → px ≡ take deck.posts deck.post_x → py ≡ take deck.posts deck.post_y →
+      {near : ℕ} → near ≡ closest (held_axis deck.axis) s.at (places px py) →
+      with_stop_columns deck (deck.stops + 1) (set deck.stop_x deck.stops (back s.at.x)) (set deck.stop_y deck.stops (back s.at.y))
+      (set deck.visits deck.stops s.visits) (set deck.near deck.stops near) ≡ stored (add_stop s) deck
+  unfolding stored
+  made_stop ex ey e =
+      let near = e ∙ ap (closest (held_axis deck.axis) s.at) (given_places deck.posts deck.post_x deck.post_y ex ey) in
+      λ i. with_stop_columns deck (add-one deck.stops i) (set deck.stop_x deck.stops (x_held range i)) (set deck.stop_y deck.stops (y_held range i))
+      (set deck.visits deck.stops s.visits) (set deck.near deck.stops (near i))
 
 -- a post taken out
 module _ {deck : Deck} (sized : Sized deck) (u : Usable deck) {i : ℕ} (h : i < deck.posts) {xs ys : List ℤ}

@@ -26,4 +26,4 @@ pub returns : goal.returns
 returns c =
     let sized : Sized c.args.deck.now =
     record { post_x = search rules; post_y = search rules; stop_x = search rules; stop_y = search rules; visits = search rules } in
-    c.renew_before.ensures ∙ made_post _ c.requires.2 (renewed_is sized c.requires.0 _ c.improve.ensures)
+    c.renew_before.ensures ∙ made_post c.requires.2 _ (renewed_is sized c.requires.0 _ c.improve.ensures)
