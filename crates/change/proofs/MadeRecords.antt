@@ -120,9 +120,13 @@ module _ {most n v : ℕ} {xs : List ℕ} (range : NaturalsUpTo most xs n) (room
           omega (arith, ap (λ (m : ℕ). get_or (set xs n v) m 0) e ∙ get_or-set_same xs n v 0 room)) (test (ltb i n))
 
 -- ---- an element taken out of the first n
--- the front without it, and what stands behind
-pub taken_here : {A : Type 0} (xs : List A) (n i : ℕ) (z : A) → i < n → n ≤ length xs → {ys : List A} →
-    ys ≡ taken_out_at (length (take n xs)) i z (take n xs) → ys ++ drop n xs ≡ taken_out_at n i z xs
+-- these without it
+abbrev pub FrontWithout : {A : Type 0} → ℕ → ℕ → A → List A → List A → Type 0
+FrontWithout n i z xs ys = ys ≡ taken_out_at (length (take n xs)) i z (take n xs)
+
+-- and with what stands behind
+taken_here : {A : Type 0} (xs : List A) (n i : ℕ) (z : A) → i < n → n ≤ length xs → {ys : List A} → FrontWithout n i z xs ys →
+    ys ++ drop n xs ≡ taken_out_at n i z xs
 unfolding taken_out_at
 taken_here xs n i z h g e =
     rw (e, take-take i n xs (omega arith), take-length (take n xs), drop-length (take n xs))
@@ -142,11 +146,11 @@ zip_removed f (suc i) (x ∷ xs) [] = refl
 zip_removed f (suc i) (x ∷ xs) (y ∷ ys) = ap (λ l. f x y ∷ l) (zip_removed f i xs ys)
 
 module _ {i n : ℕ} (h : i < n) where
-  pub naturals_left : {most : ℕ} {xs : List ℕ} → NaturalsUpTo most xs n → NaturalsUpTo most (taken_out_at n i 0 xs) (n - 1)
-  naturals_left {most} {xs} range = record {
+  pub naturals_left : {most : ℕ} {xs ys : List ℕ} → NaturalsUpTo most xs n → FrontWithout n i 0 xs ys → NaturalsUpTo most (ys ++ drop n xs) (n - 1)
+  naturals_left {most} {xs} range e = rw (taken_here xs n i 0 h range.count e) (record {
     count = omega (arith, taken_length xs i n 0 h range.count, range.count);
     range = taken_each xs i n 0 h range.count (λ (m : ℕ). m ≤ most) range.range;
-  }
+  })
 
   coordinates_left : {most : ℕ} {xs : List ℤ} → CoordinatesUpTo most xs n → CoordinatesUpTo most (taken_out_at n i (pos 0) xs) (n - 1)
   coordinates_left {most} {xs} range = record {
@@ -185,8 +189,7 @@ module _ (deck : Deck) (s : Stop) (range : PlaceInRange s.at) where
 
 -- a post taken out
 module _ {deck : Deck} (sized : Sized deck) (u : Usable deck) {i : ℕ} (h : i < deck.posts) {xs ys : List ℤ}
-    (ex : xs ≡ taken_out_at (length (take deck.posts deck.post_x)) i (pos 0) (take deck.posts deck.post_x))
-    (ey : ys ≡ taken_out_at (length (take deck.posts deck.post_y)) i (pos 0) (take deck.posts deck.post_y)) where
+    (ex : FrontWithout deck.posts i (pos 0) deck.post_x xs) (ey : FrontWithout deck.posts i (pos 0) deck.post_y ys) where
   abbrev posts : PlacesInRange 64 deck.post_x deck.post_y deck.posts
   posts = held_posts sized u
 
@@ -227,3 +230,20 @@ module _ {deck : Deck} (sized : Sized deck) (u : Usable deck) {i : ℕ} (h : i <
       let y = y_taken ∙ ap (λ (j : ℕ). taken_out_at deck.posts j (pos 0) deck.post_y) at in
       let nears = e ∙ ap (λ (l : List Place). renewed deck (near_without (held_axis deck.axis) p l)) left in
       λ j. with_post_columns deck (deck.posts - 1) (x j) (y j) (nears j)
+
+-- a stop taken out
+module _ {deck : Deck} (sized : Sized deck) (u : Usable deck) {i : ℕ} (h : i < deck.stops) where
+  pub unmade_stop : {xs ys : List ℤ} {visits near : List ℕ} → FrontWithout deck.stops i (pos 0) deck.stop_x xs →
+      FrontWithout deck.stops i (pos 0) deck.stop_y ys → FrontWithout deck.stops i 0 deck.visits visits → FrontWithout deck.stops i 0 deck.near near →
+      with_stop_columns deck (deck.stops - 1) (xs ++ drop deck.stops deck.stop_x) (ys ++ drop deck.stops deck.stop_y)
+      (visits ++ drop deck.stops deck.visits) (near ++ drop deck.stops deck.near)
+      ≡ with_stop_columns deck (deck.stops - 1) (taken_out_at deck.stops i (pos 0) deck.stop_x) (taken_out_at deck.stops i (pos 0) deck.stop_y)
+      (taken_out_at deck.stops i 0 deck.visits) (taken_out_at deck.stops i 0 deck.near)
+  unmade_stop ex ey ev en =
+      let stops = held_stops sized u in
+      rw (
+        taken_here deck.stop_x deck.stops i (pos 0) h stops.x.count ex,
+        taken_here deck.stop_y deck.stops i (pos 0) h stops.y.count ey,
+        taken_here deck.visits deck.stops i 0 h (held_visits sized u).count ev,
+        taken_here deck.near deck.stops i 0 h u.nears.count en,
+      ) refl

@@ -56,7 +56,8 @@ ok_is : (r : Result (Unit {0}) Refusal) → is_ok r ≡ is_none (checked_as r)
 ok_is (Ok u) = refl
 ok_is (Err why) = refl
 
-module _ (deck : Deck) (r : Result (Unit {0}) Refusal) (checked : checked_as r ≡ refusal_in (read_text (file_text deck 0))) {b : Bool} (tested : b ≡ is_ok r) where
+module _ (deck : Deck) (r : Result (Unit {0}) Refusal) (checked : checked_as r ≡ refusal_in (read_text (file_text deck 0))) {b : Bool}
+    (tested : b ≡ is_ok r) where
   test_is : b ≡ is_none (refusal_in (read_text (file_text deck 0)))
   test_is = tested ∙ ok_is r ∙ ap is_none checked
 

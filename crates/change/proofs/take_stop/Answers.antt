@@ -1,0 +1,24 @@
+-- What `change::take_stop` owes.
+use mathlib.Core.Path.{◌∙◌}
+use native.Mathlib.Omega.{arith}
+use borrow.Author.Rules.{rules}
+use Rattle.deck.specs.DeckOf.{Sized}
+use Rattle.change.proofs.MadeRecords.{held_visits, naturals_left, unmade_stop}
+use Rattle.change.proofs.take_stop.Goals as goal
+
+pub renew_before-requires : goal.renew_before-requires
+renew_before-requires c =
+    let sized : Sized c.args.deck.now =
+    record { post_x = search rules; post_y = search rules; stop_x = search rules; stop_y = search rules; visits = search rules } in
+    let u = c.requires.0 in (
+      naturals_left c.requires.1 (held_visits sized u) c.take_out-3.ensures,
+      naturals_left c.requires.1 u.nears c.take_out-4.ensures,
+      omega (arith, u.few_stops),
+    )
+
+pub returns : goal.returns
+returns c =
+    let sized : Sized c.args.deck.now =
+    record { post_x = search rules; post_y = search rules; stop_x = search rules; stop_y = search rules; visits = search rules } in
+    c.renew_before.ensures
+    ∙ unmade_stop sized c.requires.0 c.requires.1 c.take_out.ensures c.take_out-2.ensures c.take_out-3.ensures c.take_out-4.ensures
