@@ -2,10 +2,11 @@ pub mod AlteredLaws
 pub mod Answered
 pub mod ChangedLaws
 pub mod Conditions
+pub mod MadeRecords
 pub mod PostChanges
 pub mod Refusals
 pub mod SoundUsable
 pub mod StoredLaws
 pub mod UpTo
 pub mod UsableLaws
-pub mod MadeRecords
+pub mod Verdicts

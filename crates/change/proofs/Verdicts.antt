@@ -1,0 +1,171 @@
+-- What a change answers: first that its values or the record are out of range, then by the tests of the code in their order.
+-- Assumes nothing.
+use mathlib.Core.Path.{◌≡◌, refl, sym, ap, ap₂, subst, ◌∙◌}
+use mathlib.Core.Bool.{Bool, true, false, not, cond, ◌&&◌}
+use mathlib.Core.List.{List}
+use mathlib.Core.Option.{Option, none, some, none-ne-some}
+use Prim.Native.Nat.{ℕ, ◌-◌, ◌≤◌, ◌<◌}
+use native.Mathlib.Omega.{arith}
+use lib.Dec.{T, leb, ltb, eqb, le→leb, leb→le, ltb→lt, eqb→eq, not_T}
+use lib.IntN.{ℤ, pos}
+use lib.ListN.{length, take}
+use Rattle.std.specs.Prelude as Std
+use Rattle.std.specs.Prelude.{Ok, Err, Some, None, IsErrAnd}
+use Rattle.std.specs.Option.{ok_or}
+use Rattle.std.proofs.lemmas.Option.{none-some, same_Some}
+use Rattle.numbers.proofs.Truth.{cond-true, cond-false}
+use Rattle.query.specs.Deck as Query
+use Rattle.query.specs.Deck.{Stop}
+use Rattle.deck.specs.declared.Deck.{Deck}
+use Rattle.deck.specs.DeckOf.{Sized, places, stops_of, deck_of}
+use Rattle.deck.proofs.ClosestLaws.{zip_take}
+use Rattle.deck.proofs.DeckLaws.{posts_counted, stops_counted}
+use Rattle.job_line.proofs.LineLaws.{ok_or_some, ok_or_none}
+use Rattle.job.specs.Spelling.{post_line, stop_line}
+use Rattle.job.proofs.PartLaws.{handed}
+use Rattle.refusal.specs.declared.Refusal.{Refusal}
+use Rattle.refusal.specs.declared.Refusal.TheVariants.{OutOfRange, NoPosts, NoStops, NotHeld, Full}
+use Rattle.items.specs.Items.{is_same_place, is_same_stop, held, first_place, first_found, taken_out_at}
+use Rattle.items.proofs.FirstPlace.{held_place}
+use Rattle.change.specs.Change.{Change, add_post, remove_post, add_stop, remove_stop, line_in_range, conditions, change_refusal}
+use Rattle.change.specs.ChangedRecord.{usable, with_stop_columns, stored, record_refusal, Changed, changed_record}
+use Rattle.change.specs.Usable.{Usable}
+use Rattle.change.proofs.Answered.{answer_refused, answer_made}
+use Rattle.change.proofs.UsableLaws.{usable_says}
+
+-- ---- what is refused of a change whose values are in range, with so many posts and stops
+abbrev adding : ℕ → ℕ → Option Refusal
+adding most n = cond (leb most n) (some Full) none
+
+abbrev removing : Bool → ℕ → Refusal → Option Refusal
+removing found n why = cond (not found) (some NotHeld) (cond (eqb n 1) (some why) none)
+
+abbrev later : Change → Query.Deck → ℕ → ℕ → Option Refusal
+later (add_post p) deck m n = adding 64 m
+later (remove_post p) deck m n = removing (held (is_same_place p) deck.posts) m NoPosts
+later (add_stop s) deck m n = adding 512 n
+later (remove_stop s) deck m n = removing (held (is_same_stop s) deck.stops) n NoStops
+
+pub full : (most n : ℕ) → most ≤ n → adding most n ≡ some Full
+full most n h = cond-true (leb most n) _ _ (le→leb most n h)
+
+pub room : (most n : ℕ) → n < most → adding most n ≡ none
+room most n h = cond-false (leb most n) _ _ (not_T (leb most n) (λ t. omega (arith, leb→le most n t)))
+
+module _ {found : Bool} (n : ℕ) (why : Refusal) where
+  pub absent : found ≡ false → removing found n why ≡ some NotHeld
+  absent e = rw e
+
+  pub only : found ≡ true → n ≡ 1 → removing found n why ≡ some why
+  only e f = rw (e, f)
+
+  pub others : found ≡ true → (n ≡ 1 → ⊥) → removing found n why ≡ none
+  others e f = rw e (cond-false (eqb n 1) _ _ (not_T (eqb n 1) (λ t. f (eqb→eq n 1 t))))
+
+-- ---- values in range
+abbrev pub in_range : Change → Bool
+in_range (add_post p) = line_in_range (post_line p)
+in_range (remove_post p) = line_in_range (post_line p)
+in_range (add_stop s) = line_in_range (stop_line s)
+in_range (remove_stop s) = line_in_range (stop_line s)
+
+-- 3 where the record cannot be changed or the values are out of range, and else what is left
+abbrev tested : Bool → Bool → Option Refusal → Option Refusal
+tested can ranged rest = cond can (cond (not ranged) (some (OutOfRange 0)) rest) (some (OutOfRange 0))
+
+in_order : (change : Change) (deck : Query.Deck) →
+    change_refusal change deck ≡ cond (not (in_range change)) (some (OutOfRange 0)) (later change deck (length deck.posts) (length deck.stops))
+unfolding change_refusal conditions
+in_order (add_post p) deck = refl
+in_order (remove_post p) deck = refl
+in_order (add_stop s) deck = refl
+in_order (remove_stop s) deck = refl
+
+-- what the first test says where it passes: the values are in range, and the record can be changed
+pub record Ranged (change : Change) (deck : Deck) : Type 0 where
+  pub can : Usable deck
+  pub ranged : T (in_range change)
+  pub posts : length (deck_of deck).posts ≡ deck.posts
+  pub stops : length (deck_of deck).stops ≡ deck.stops
+  pub refusal : record_refusal change deck ≡ later change (deck_of deck) deck.posts deck.stops
+
+module _ (change : Change) (deck : Deck) where
+  refusal_is : record_refusal change deck
+      ≡ tested (usable deck) (in_range change) (later change (deck_of deck) (length (deck_of deck).posts) (length (deck_of deck).stops))
+  unfolding record_refusal
+  refusal_is = ap (λ (o : Option Refusal). cond (usable deck) o (some (OutOfRange 0))) (in_order change (deck_of deck))
+
+  pub out_of_range : {b : Bool} → b ≡ in_range change → {why : Refusal} → some why ≡ cond (b && usable deck) none (some (OutOfRange 0)) →
+      (r : Std.Result (Unit {0}) Refusal) → IsErrAnd r (λ e. e ≡ why) →
+      ◌≡◌ {A = Changed} (record { answer = r; deck = deck }) (changed_record change deck)
+  out_of_range {b} e {why} f r g = rw (handed r g) (sym (answer_refused change deck (refusal_is ∙ rw (← e) (go b (usable deck) f _))))
+    where
+      go : (s t : Bool) → some why ≡ cond (s && t) none (some (OutOfRange 0)) → (rest : Option Refusal) → tested t s rest ≡ some why
+      go true true h rest = absurd (none-ne-some why (sym h))
+      go true false h rest = sym h
+      go false true h rest = sym h
+      go false false h rest = sym h
+
+  module _ (sized : Sized deck) (long : length deck.near ≡ 512) where
+    pub within : {b : Bool} → b ≡ in_range change → none ≡ cond (b && usable deck) none (some (OutOfRange 0)) → Ranged change deck
+    within {b} e f =
+        let t = go b (usable deck) f in
+        let can = usable_says deck sized long t.1 in
+        let posts : length (deck_of deck).posts ≡ deck.posts = omega (arith, posts_counted deck sized, can.few_posts) in
+        let stops : length (deck_of deck).stops ≡ deck.stops = omega (arith, stops_counted deck sized, can.few_stops) in
+        let refusal = refusal_is ∙ rw (← e) (t.2 _ ∙ ap₂ (λ (m n : ℕ). later change (deck_of deck) m n) posts stops) in
+        record { can = can; ranged = subst T e t.0; posts = posts; stops = stops; refusal = refusal }
+      where
+        go : (s t : Bool) → none ≡ cond (s && t) none (some (OutOfRange 0)) → T s × T t × ((rest : Option Refusal) → tested t s rest ≡ rest)
+        go true true h = (tt, tt, λ rest. refl)
+        go true false h = absurd (none-ne-some (OutOfRange 0) h)
+        go false t h = absurd (none-ne-some (OutOfRange 0) h)
+
+module _ {change : Change} {deck : Deck} (ok : Ranged change deck) where
+  pub refused : {why : Refusal} → later change (deck_of deck) deck.posts deck.stops ≡ some why →
+      ◌≡◌ {A = Changed} (record { answer = Err why; deck = deck }) (changed_record change deck)
+  refused e = sym (answer_refused change deck (ok.refusal ∙ e))
+
+  pub made : later change (deck_of deck) deck.posts deck.stops ≡ none → {next : Deck} → next ≡ stored change deck →
+      ◌≡◌ {A = Changed} (record { answer = Ok tt; deck = next }) (changed_record change deck)
+  made e f = rw f (sym (answer_made change deck (ok.refusal ∙ e)))
+
+-- ---- an item that was looked for: whether it is held, and where
+module _ {A : Type 0} (same : A → Bool) (xs : List A) (why : Refusal) {o : Std.Option ℕ} (e : o ≡ first_found same xs) where
+  pub not_found : {w : Refusal} → Err w ≡ ok_or o why → (held same xs ≡ false) × (w ≡ why)
+  not_found f =
+      let none = ok_or_none o (sym f) in
+      (go (held same xs) (first_place same xs) (sym e ∙ none.0), none.1)
+    where
+      go : (b : Bool) (n : ℕ) → cond b (Some n) None ≡ None → b ≡ false
+      go true n h = absurd (none-some n (sym h))
+      go false n h = refl
+
+  pub is_found : {i : ℕ} → Ok i ≡ ok_or o why → (held same xs ≡ true) × (i ≡ first_place same xs) × (i < length xs)
+  is_found {i} f = go (held same xs) (held_place same xs) (sym e ∙ ok_or_some o why (sym f))
+    where
+      go : (b : Bool) → b ≡ ltb (first_place same xs) (length xs) → cond b (Some (first_place same xs)) None ≡ Some i →
+          (b ≡ true) × (i ≡ first_place same xs) × (i < length xs)
+      go true p h =
+          let n = same_Some (first_place same xs) i h in
+          (refl, sym n, subst (λ (m : ℕ). m < length xs) n (ltb→lt (first_place same xs) (length xs) (subst T p tt)))
+      go false p h = absurd (none-some i h)
+
+module _ (deck : Deck) where
+  -- in columns of the first posts, and of the first stops, alone
+  pub posts_in : {xs ys : List ℤ} → xs ≡ take deck.posts deck.post_x → ys ≡ take deck.posts deck.post_y → places xs ys ≡ (deck_of deck).posts
+  unfolding deck_of places
+  posts_in e f = rw (e, f, zip_take)
+
+  pub stops_in : {xs ys : List ℤ} {vs : List ℕ} → xs ≡ take deck.stops deck.stop_x → ys ≡ take deck.stops deck.stop_y →
+      vs ≡ take deck.stops deck.visits → stops_of (places xs ys) vs ≡ (deck_of deck).stops
+  unfolding deck_of places stops_of
+  stops_in e f g = rw (e, f, g, zip_take _ deck.stops (places deck.stop_x deck.stop_y), zip_take _ deck.stops deck.stop_x)
+
+-- the record without stop i
+pub without_stop : (deck : Deck) (s : Stop) {i : ℕ} → i ≡ first_place (is_same_stop s) (deck_of deck).stops → {next : Deck} →
+    next ≡ with_stop_columns deck (deck.stops - 1) (taken_out_at deck.stops i (pos 0) deck.stop_x)
+    (taken_out_at deck.stops i (pos 0) deck.stop_y) (taken_out_at deck.stops i 0 deck.visits) (taken_out_at deck.stops i 0 deck.near) →
+    next ≡ stored (remove_stop s) deck
+unfolding stored
+without_stop deck s e f = rw e at f
