@@ -1,0 +1,24 @@
+-- What `change::add_stop` owes.
+use borrow.Author.Rules.{rules}
+use Rattle.job.proofs.RangeLaws.{stop_range}
+use Rattle.change.specs.Change.{add_stop}
+use Rattle.change.proofs.Verdicts.{out_of_range, within, refused, made, full, room}
+use Rattle.change.proofs.add_stop.Goals as goal
+
+pub returns-in_err-check_range : goal.returns-in_err-check_range
+returns-in_err-check_range c = out_of_range (add_stop _) _ c.stop_in_range.ensures c.in_err-check_range.ensures _ c.from_residual.ensures.1
+
+pub returns-then-deck-ge-STOPS : goal.returns-then-deck-ge-STOPS
+returns-then-deck-ge-STOPS c =
+    let ok = within (add_stop _) _ (search rules) (search rules) c.stop_in_range.ensures c.in_ok-check_range.ensures in
+    refused ok (full _ _ c.if-deck-ge-STOPS.true)
+
+pub put_stop-requires : goal.put_stop-requires
+put_stop-requires c =
+    let ok = within (add_stop _) _ (search rules) (search rules) c.stop_in_range.ensures c.in_ok-check_range.ensures in
+    (ok.can, c.if-deck-ge-STOPS.false, stop_range _ ok.ranged)
+
+pub returns : goal.returns
+returns c =
+    let ok = within (add_stop _) _ (search rules) (search rules) c.stop_in_range.ensures c.in_ok-check_range.ensures in
+    made ok (room _ _ c.if-deck-ge-STOPS.false) c.put_stop.ensures
