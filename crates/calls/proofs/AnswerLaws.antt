@@ -1,4 +1,4 @@
--- Answers in document 01's terms: a refusal's number and line tell which it is, and what is given is no refusal.
+-- Answers in the documents' terms: a refusal's number and line tell which it is, and what is given is no refusal.
 -- Assumes nothing.
 use Prim.Native.Nat.{ℕ}
 use mathlib.Core.Path.{◌≡◌, ap}

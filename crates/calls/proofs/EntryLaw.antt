@@ -3,7 +3,7 @@
 use Prim.Native.Nat.{ℕ, zero, suc, ◌≤◌, ◌<◌}
 use mathlib.Core.Path.{◌≡◌, refl, sym, ap, subst, ◌∙◌}
 use mathlib.Core.List.{List}
-use mathlib.Core.Logic.{◌≢◌, ⊎_elim}
+use mathlib.Core.Logic.{◌⊎◌, inl, inr, ⊎_elim}
 use native.Mathlib.Omega.{arith}
 use lib.Dec.{T, ltb, ltb→lt, nltb→le}
 use lib.IntN.{ℤ, pos, neg_ℤ, nat_abs}
@@ -40,6 +40,14 @@ minus_size : (n : ℕ) → nat_abs (neg_ℤ (pos n)) ≡ n
 minus_size zero = refl
 minus_size (suc n) = refl
 
+minus_same : (m n : ℕ) → neg_ℤ (pos m) ≡ neg_ℤ (pos n) → m ≡ n
+minus_same m n e = sym (minus_size m) ∙ ap nat_abs e ∙ minus_size n
+
+-- a number of bytes is minus a number only at 0
+minus_zero : (m n : ℕ) → pos m ≡ neg_ℤ (pos n) → n ≡ 0
+minus_zero m zero e = refl
+minus_zero m (suc n) e = absurd (subst (λ (z : ℤ). T (non_neg z)) e tt)
+
 module _ (job out : List ℕ) where
   entry_of : entry job out ≡ returned (report_call job own_space out)
   unfolding entry
@@ -64,19 +72,25 @@ module _ (job out : List ℕ) where
   entry_short : (j : Job) → read_job job ≡ accepted j → length out < 128 → entry job out ≡ record { result = neg_ℤ (pos 8); out = out }
   entry_short j e h = turned_down_lem ShortOutput (refuses_so job own_space out ShortOutput (short_output j e (own_enough job out j e) h))
 
-  -- minus a number that is not 7
-  not_7 : (n : ℕ) → n ≢ 7 → entry job out ≡ record { result = neg_ℤ (pos n); out = out } → (entry job out).result ≢ neg_ℤ (pos 7)
-  not_7 n h e f = h (sym (minus_size n) ∙ ap nat_abs (sym (ap (λ (r : Returned). r.result) e) ∙ f))
-
-  never_7 : (entry job out).result ≢ neg_ℤ (pos 7)
-  never_7 = go (read_job job) refl
+  -- the numbers n with minus n as the result: those of reading, and 8
+  minus_which : (n : ℕ) → (entry job out).result ≡ neg_ℤ (pos n) → (n ≤ 6) ⊎ (n ≡ 8)
+  minus_which n f = go (read_job job) refl
     where
-      go : (r : Result) → read_job job ≡ r → (entry job out).result ≢ neg_ℤ (pos 7)
+      same : {z : ℤ} {o : List ℕ} → entry job out ≡ record { result = z; out = o } → z ≡ neg_ℤ (pos n)
+      same e = sym (ap (λ (r : Returned). r.result) e) ∙ f
+
+      go : (r : Result) → read_job job ≡ r → (n ≤ 6) ⊎ (n ≡ 8)
       go (refused why) e = let c = (refused_job job why).0 e in
-          not_7 (number_of why) (λ s. omega (arith, condition_number job why c)) (entry_refuses why c)
-      go (accepted j) e = ⊎_elim (λ t. not_7 8 (λ s. omega arith) (entry_short j e (ltb→lt _ _ t)))
-          (λ t f. subst (λ (z : ℤ). T (non_neg z)) (sym (ap (λ (r : Returned). r.result) (entry_reports j e (nltb→le _ _ t))) ∙ f) tt)
+          inl (omega (arith, minus_same (number_of why) n (same (entry_refuses why c)), condition_number job why c))
+      go (accepted j) e = ⊎_elim (λ t. inr (sym (minus_same 8 n (same (entry_short j e (ltb→lt _ _ t))))))
+          (λ t. inl (omega (arith, minus_zero _ n (same (entry_reports j e (nltb→le _ _ t))))))
           (test (ltb (length out) 128))
 
   pub entry_law : EntryLaw job out
-  entry_law = record { report = entry_reports; refusal = entry_refuses; short_output = entry_short; never_7 = never_7 }
+  entry_law = record {
+    report = entry_reports;
+    refusal = entry_refuses;
+    short_output = entry_short;
+    never_7 = λ e. ⊎_elim (λ h. omega arith) (λ h. omega arith) (minus_which 7 e);
+    at_most_eight = λ n e. ⊎_elim (λ h. omega arith) (λ h. omega arith) (minus_which n e);
+  }

@@ -16,7 +16,6 @@ use Rattle.refusal.specs.declared.Refusal.{Refusal}
 use Rattle.refusal.specs.declared.Refusal.TheVariants.{SmallSpace}
 use Rattle.job.specs.Format.{Job, refused, accepted, read_job}
 use Rattle.job.specs.Meaning.{Condition}
-use Rattle.job.proofs.Meaning.{refused_job}
 use Rattle.job.proofs.RefusalLaws.{condition_number}
 use Rattle.calls.specs.Answers.{gives, refuses, refusal}
 use Rattle.calls.specs.Call.{Left, report_call}
@@ -49,9 +48,8 @@ module _ (job : List ℕ) where
   refused_one number line e = let (why, g, h) = Call.refused_one needed job number line e in (why, g)
 
   at_most_six : (number line : ℕ) → estimate_call job ≡ refuses number line → number ≤ 6
-  at_most_six number line e =
-      let (why, g) = refused_one number line e in
-      omega (arith, same_number {A = Estimate} _ _ _ _ (sym (call_refused why g) ∙ e), condition_number job why ((refused_job job why).0 g))
+  unfolding estimate_call
+  at_most_six = Call.at_most_six needed job
 
   own_refusal : (number line : ℕ) → estimate_call job ≡ refuses number line → (cells : List ℤ) (out : List ℕ) →
       (report_call job cells out).answer ≡ refuses number line

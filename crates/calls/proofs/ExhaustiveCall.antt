@@ -2,7 +2,7 @@
 -- Assumes nothing.
 use mathlib.Core.Path.{◌≡◌, sym, ap, ◌∙◌}
 use mathlib.Core.Logic.{◌↔◌}
-use Prim.Native.Nat.{ℕ}
+use Prim.Native.Nat.{ℕ, ◌≤◌}
 use mathlib.Core.List.{List}
 use lib.IntN.{ℤ}
 use Rattle.query.specs.Order.{Priced}
@@ -14,25 +14,29 @@ use Rattle.query.proofs.ExhaustiveLaws.{exhaustive_law}
 use Rattle.refusal.specs.declared.Refusal.{Refusal}
 use Rattle.job.specs.Format.{Job, refused, accepted, read_job}
 use Rattle.job.specs.Meaning.{Condition}
-use Rattle.calls.specs.Answers.{gives, refusal}
+use Rattle.calls.specs.Answers.{gives, refuses, refusal}
 use Rattle.calls.specs.Call.{job_figures, report_call}
 use Rattle.calls.specs.CheapestCall.{exhaustive_call}
 use Rattle.calls.specs.ExhaustiveCallLaw.{ExhaustiveCallLaw}
-use Rattle.calls.proofs.AcceptedCall.{for_accepted_lem, for_refused, refused_exactly}
+use Rattle.calls.proofs.AcceptedCall as Call
 use Rattle.calls.proofs.Demands.{read_exactly, figures_are, accepted_one}
 
 module _ (job : List ℕ) where
   pub call_accepted : (j : Job) → read_job job ≡ accepted j → exhaustive_call job ≡ gives (Query.exhaustive (problem j.deck))
   unfolding exhaustive_call
-  call_accepted = for_accepted_lem (λ j. Query.exhaustive (problem j.deck)) job
+  call_accepted = Call.for_accepted_lem (λ j. Query.exhaustive (problem j.deck)) job
 
   pub call_refused : (why : Refusal) → read_job job ≡ refused why → exhaustive_call job ≡ refusal why
   unfolding exhaustive_call
-  call_refused = for_refused (λ j. Query.exhaustive (problem j.deck)) job
+  call_refused = Call.for_refused (λ j. Query.exhaustive (problem j.deck)) job
 
   call_refuses : (why : Refusal) → (exhaustive_call job ≡ refusal why) ↔ Condition job why
   unfolding exhaustive_call
-  call_refuses = refused_exactly (λ j. Query.exhaustive (problem j.deck)) job
+  call_refuses = Call.refused_exactly (λ j. Query.exhaustive (problem j.deck)) job
+
+  at_most_six : (number line : ℕ) → exhaustive_call job ≡ refuses number line → number ≤ 6
+  unfolding exhaustive_call
+  at_most_six = Call.at_most_six (λ j. Query.exhaustive (problem j.deck)) job
 
   law : (j : Job) → read_job job ≡ accepted j → ExhaustiveLaw j.deck
   law j e = exhaustive_law j.deck ((read_exactly job j).0 e).1.area_full
@@ -50,6 +54,7 @@ module _ (job : List ℕ) where
   pub exhaustive_call_law : ExhaustiveCallLaw job
   exhaustive_call_law = record {
     refused_exactly = call_refuses;
+    at_most_six = at_most_six;
     given = call_accepted;
     law = law;
     done_report = done_report;

@@ -63,4 +63,6 @@ module _ (job : List ℕ) where
     refusal = refusal_text_lem;
     never_7 = λ line. never 7 line (omega arith) (omega arith);
     never_8 = λ line. never 8 line (omega arith) (omega arith);
+    never_9 = λ line. never 9 line (omega arith) (omega arith);
+    never_10 = λ line. never 10 line (omega arith) (omega arith);
   }

@@ -27,7 +27,7 @@ use Rattle.job.specs.Meaning.{TextCondition, Condition, too_long, in_text}
 use Rattle.job.specs.File.{held_job, writes_axis, saved_spelling, file_text}
 use Rattle.job.proofs.JobLaws.{most_posts, most_stops}
 use Rattle.job.proofs.Meaning.{refused_law, refused_job, spelling_law, allowed_text}
-use Rattle.job.proofs.RefusalLaws.{text_number}
+use Rattle.job.proofs.RefusalLaws.{text_number, condition_number}
 use Rattle.job_check.specs.LineFaults.{refusal_in}
 use Rattle.job_check.proofs.AxisLaws.{left_out, saved_spells}
 use Rattle.job_check.proofs.FileFaults.{file_is, file_spelled, file_line}
@@ -183,10 +183,10 @@ module _ (deck : Deck) (rounds : ℕ) (out : List ℕ) (sized : Sized deck) wher
         go (too_short s h p) = let q = sym e ∙ answer_of p in (ShortOutput, same_number _ _ _ _ q, same_line _ _ _ _ q)
         go (writes s h p) = absurd (not_refused _ _ _ (sym (answer_of p) ∙ e))
 
-    from_two : 2 ≤ number
-    from_two = go ends
+    two_to_eight : (2 ≤ number) × (number ≤ 8)
+    two_to_eight = go ends
       where
-        go : Ends → 2 ≤ number
+        go : Ends → (2 ≤ number) × (number ≤ 8)
         go (refuses_file w r p) = let q = same_number _ _ _ _ (sym e ∙ answer_of p) in omega (arith, text_number (file_text deck rounds) w (condition w r))
         go (too_short s h p) = let q = same_number _ _ _ _ (sym e ∙ answer_of p) in omega arith
         go (writes s h p) = absurd (not_refused _ _ _ (sym (answer_of p) ∙ e))
@@ -284,7 +284,8 @@ module _ (deck : Deck) (rounds : ℕ) (out : List ℕ) (sized : Sized deck) wher
     refused_listed = listed deck rounds out sized;
     as_its_file = as_file deck rounds out sized;
     few_lines = few_lines deck rounds out sized;
-    never_1 = λ line e. let h = from_two deck rounds out sized 1 line e in absurd (omega arith);
+    never_1 = λ line e. let h = two_to_eight deck rounds out sized 1 line e in absurd (omega arith);
+    at_most_eight = λ number line e. (two_to_eight deck rounds out sized number line e).1;
     refused_out = unchanged deck rounds out sized;
     written_exactly = (
       λ w. saveable deck rounds out sized w.0 w.1,
@@ -343,11 +344,13 @@ module _ (job : List ℕ) where
   read_answer_lem : {r : Read} → read_call job ≡ r → (read_call job).answer ≡ r.answer
   read_answer_lem e = ap (λ (r : Read). r.answer) e
 
-  read_listed : (number line : ℕ) → (read_call job).answer ≡ refuses number line → (why : Refusal) × (number ≡ number_of why) × (line ≡ line_of why)
-  read_listed number line f = go (read_job job) refl
+  -- an answer that refuses
+  refused_one : (number line : ℕ) → (read_call job).answer ≡ refuses number line →
+      (why : Refusal) × (read_job job ≡ refused why) × (number ≡ number_of why) × (line ≡ line_of why)
+  refused_one number line f = go (read_job job) refl
     where
-      go : (r : Result) → read_job job ≡ r → (why : Refusal) × (number ≡ number_of why) × (line ≡ line_of why)
-      go (refused w) e = let q = sym f ∙ read_answer_lem (read_refused job w e) in (w, same_number _ _ _ _ q, same_line _ _ _ _ q)
+      go : (r : Result) → read_job job ≡ r → (why : Refusal) × (read_job job ≡ refused why) × (number ≡ number_of why) × (line ≡ line_of why)
+      go (refused w) e = let q = sym f ∙ read_answer_lem (read_refused job w e) in (w, e, same_number _ _ _ _ q, same_line _ _ _ _ q)
       go (accepted j) e = absurd (not_refused j.rounds number line (sym (read_answer_lem (read_given job j e)) ∙ f))
 
   pub read_accepted : (rounds : ℕ) → (read_call job).answer ≡ gives rounds → (j : Job) × (read_job job ≡ accepted j) × (rounds ≡ j.rounds)
@@ -402,7 +405,9 @@ module _ (job : List ℕ) where
       λ f. (refused_job job why).0 (refused_read why f),
       λ c. read_answer_lem (read_refused job why ((refused_job job why).1 c)),
     );
-    refused_listed = read_listed;
+    refused_listed = λ number line f. let (why, e, n, l) = refused_one number line f in (why, n, l);
+    at_most_six = λ number line f. let (why, e, n, l) = refused_one number line f in
+        omega (arith, n, condition_number job why ((refused_job job why).0 e));
     refused_deck = refused_zeros;
     given_exactly = λ rounds. (
       read_accepted rounds,

@@ -44,6 +44,8 @@ pub record Demand1 (job : List ℕ) (cells : List ℤ) (out : List ℕ) : Type 0
   pub refused_cells : (number line : ℕ) → (report_call job cells out).answer ≡ refuses number line
       → (report_call job cells out).cells ≡ cells
   pub refused_out : (number line : ℕ) → (report_call job cells out).answer ≡ refuses number line → (report_call job cells out).out ≡ out
+  -- 02 card 6, "the report call never gives 9 or 10"
+  pub at_most_eight : (number line : ℕ) → (report_call job cells out).answer ≡ refuses number line → number ≤ 8
 
 -- ---- demand 2
 -- what an accepted job gets
