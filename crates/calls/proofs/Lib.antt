@@ -6,11 +6,14 @@ pub mod ProgramLaw
 pub mod AcceptedCall
 pub mod ExhaustiveCall
 pub mod SavingLaw
+pub mod ChangeLaw
+pub mod RunLaw
 pub mod RecordLaw
 pub mod RefusalTable
 pub mod CaseA
 pub mod WriteTable
 pub mod RecordTable
+pub mod ChangeTable
 pub mod AxisTable
 pub mod EstimateCall
 pub mod EstimateTable

@@ -1,4 +1,5 @@
--- The law of records: reading leaves a sound record where it accepts, and every sound record is read from its saved spelling.
+-- The law of records: reading leaves a sound record where it accepts, changes keep it sound, and every sound record is read from its saved
+-- spelling.
 -- Assumes nothing.
 use mathlib.Core.Path.{◌≡◌, sym, ap, subst, ◌∙◌}
 use mathlib.Core.List.{List, map}
@@ -20,12 +21,14 @@ use Rattle.job.proofs.Meaning.{allowed_in_range}
 use Rattle.job.proofs.AllowedLaws.{in_range_allowed}
 use Rattle.job_check.proofs.AxisLaws.{saved_spells}
 use Rattle.calls.specs.ReadCall.{Read}
-use Rattle.calls.specs.RecordLaw.{Made, by_reading, stop_in, RecordLaw, RefusedRecordLaw}
+use Rattle.calls.specs.RecordLaw.{Made, by_reading, by_change, stop_in, RecordLaw, RefusedRecordLaw}
+use Rattle.calls.proofs.ChangeLaw.{change_law}
 use Rattle.calls.proofs.Demands.{read_exactly}
 use Rattle.calls.proofs.SavingLaw.{read_given, read_accepted, refused_zeros}
 
--- ---- reading makes sound records
+-- ---- reading makes sound records, and changes keep them so
 pub made_sound : (deck : Deck) → Made deck → Sound deck
+made_sound deck (by_change held change made same) = subst Sound (sym same) ((change_law held change).sound (made_sound held made))
 made_sound deck (by_reading job rounds e same) =
     let (j, read, n) = read_accepted job rounds e in
     let allowed = ((read_exactly job j).0 read).1 in

@@ -13,10 +13,13 @@ use Rattle.calls.proofs.ExhaustiveCall.{exhaustive_call_law}
 use Rattle.calls.proofs.EstimateCall.{estimate_call_law}
 use Rattle.calls.proofs.SavingLaw.{read_law, write_law}
 use Rattle.calls.proofs.RecordLaw.{record_law, refused_record_law}
+use Rattle.calls.proofs.ChangeLaw.{change_law}
+use Rattle.calls.proofs.RunLaw.{run_law}
 use Rattle.calls.proofs.RefusalTable.{refusal_table}
 use Rattle.calls.proofs.CaseA.{case_a_law}
 use Rattle.calls.proofs.WriteTable.{write_table}
 use Rattle.calls.proofs.RecordTable.{record_table}
+use Rattle.calls.proofs.ChangeTable.{change_table}
 use Rattle.calls.proofs.AxisTable.{axis_table}
 use Rattle.calls.proofs.EstimateTable.{estimate_table}
 use Rattle.calls.proofs.AnswerRows.{answer_rows}
@@ -31,6 +34,8 @@ theorems = record {
   write = write_law;
   records = record_law;
   refused_records = refused_record_law;
+  changes = change_law;
+  runs = run_law;
   reading = accepted_law;
   refusing = refused_law;
   estimate = estimate_call_law;
@@ -40,6 +45,7 @@ theorems = record {
   case_a_law = case_a_law;
   write_table = write_table;
   record_table = record_table;
+  change_table = change_table;
   axis_table = axis_table;
   estimate_table = estimate_table;
   answer_rows = answer_rows;

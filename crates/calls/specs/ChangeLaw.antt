@@ -74,7 +74,8 @@ pub record ChangeLaw (deck : Deck) (change : Change) : Type 0 where
   -- what is made is the record of the deck with the resulting list, near and before included; so it is sound
   pub made : Sound deck → (change_call deck change).answer ≡ gives tt →
       (change_call deck change).deck ≡ deck_record (altered change (deck_of deck))
-  pub leaves : Sound deck → (change_call deck change).answer ≡ gives tt → Leaves (deck_of deck) (deck_of (change_call deck change).deck) change
+  pub leaves : Sound deck → (change_call deck change).answer ≡ gives tt →
+      Leaves (deck_of deck) (deck_of (change_call deck change).deck) change
   pub area_kept : Sound deck → (deck_of (change_call deck change).deck).area ≡ (deck_of deck).area
   pub axis_kept : Sound deck → (deck_of (change_call deck change).deck).axis ≡ (deck_of deck).axis
   pub sound : Sound deck → Sound (change_call deck change).deck
@@ -90,7 +91,8 @@ pub record RunLaw (changes : List Change) (job : List ℕ) (j : Job) : Type 0 wh
   -- in any of its spellings, and so in that of the job that was read
   pub as_read : (bytes : List ℕ) → Spells missing_axis bytes (changed_job changes j) →
       read_call bytes ≡ record { answer = gives j.rounds; deck = record_after changes (read_call job).deck }
-  pub spelled : (carried : Bool) → job ≡ spell carried j → Spells missing_axis (spell carried (changed_job changes j)) (changed_job changes j)
+  pub spelled : (carried : Bool) → job ≡ spell carried j →
+      Spells missing_axis (spell carried (changed_job changes j)) (changed_job changes j)
   pub sound : Sound (record_after changes (read_call job).deck)
   -- with card 1: written, it is that job's bytes, without the axis line where the job that was read spells out `axis=1,1`
   pub written : (carried : Bool) (out : List ℕ) → job ≡ spell carried j → (SpellsOut job j → ⊥) →

@@ -107,5 +107,5 @@ pub record ChangeTable : Type 0 where
   pub near_beyond : answers (with_figures apart (padded 512 0 (1 ∷ 720001 ∷ [])) 0) (add_post (place (pos 0) (pos 0)) ∷ []) ≡ (3, 0) ∷ []
   pub near_stored : (record_after (add_post (place (pos 10) (pos 12)) ∷ []) (with_figures apart (padded 512 3 (1 ∷ 720000 ∷ [])) 5)).near
       ≡ padded 512 3 (1 ∷ 32 ∷ [])
-  pub before_stored : (record_after (add_post (place (pos 10) (pos 12)) ∷ []) (with_figures apart (padded 512 3 (1 ∷ 720000 ∷ [])) 5)).before
-      ≡ 492
+  pub before_stored : (record_after (add_post (place (pos 10) (pos 12)) ∷ [])
+      (with_figures apart (padded 512 3 (1 ∷ 720000 ∷ [])) 5)).before ≡ 492

@@ -7,6 +7,7 @@ pub mod CheapestCall
 pub mod EstimateCall
 pub mod ReadCall
 pub mod WriteCall
+pub mod ChangeCall
 pub mod Demands
 pub mod EntryLaw
 pub mod ProgramLaw
@@ -14,10 +15,12 @@ pub mod ExhaustiveCallLaw
 pub mod EstimateCallLaw
 pub mod SavingLaw
 pub mod RecordLaw
+pub mod ChangeLaw
 pub mod RefusalTable
 pub mod CaseA
 pub mod WriteTable
 pub mod RecordTable
+pub mod ChangeTable
 pub mod AxisTable
 pub mod EstimateTable
 pub mod AnswerRows

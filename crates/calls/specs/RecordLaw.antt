@@ -1,4 +1,4 @@
--- Document 02, card 5: the law of records.
+-- Document 02, cards 5 and 6: the law of records.
 -- Assumes nothing.
 use Rattle.std.specs.Prelude.{ℕ, ◌≤◌, ◌<◌, ◌≡◌, ◌↔◌, List, pos, get_or}
 use Rattle.query.specs.Deck.{Stop}
@@ -8,12 +8,15 @@ use Rattle.deck.specs.DeckOf.{deck_of}
 use Rattle.deck.specs.Sound.{Sound}
 use Rattle.deck.specs.declared.Deck.{Deck}
 use Rattle.calls.specs.Answers.{gives, refuses}
+use Rattle.change.specs.Change.{Change}
 use Rattle.calls.specs.ReadCall.{read_call}
+use Rattle.calls.specs.ChangeCall.{change_call}
 
--- "records that reading or such operations made", with a constructor for each operation that makes or alters a deck: reading is the one
--- that there is
-pub data Made (deck : Deck) : Type 0 where
-  by_reading : (job : List ℕ) (rounds : ℕ) → (read_call job).answer ≡ gives rounds → deck ≡ (read_call job).deck → Made deck
+-- "records that reading or such operations made", with a constructor for each operation that makes or alters a deck: reading, and card 6's
+-- changes, whatever they answer
+pub data Made : Deck → Type 0 where
+  by_reading : (job : List ℕ) (rounds : ℕ) → (read_call job).answer ≡ gives rounds → {deck : Deck} → deck ≡ (read_call job).deck → Made deck
+  by_change : (held : Deck) (change : Change) → Made held → {deck : Deck} → deck ≡ (change_call held change).deck → Made deck
 
 -- stop i of a record, counted from 0
 abbrev pub stop_in : Deck → ℕ → Stop

@@ -1,12 +1,13 @@
 -- All that is proved of the calls and of the rules, with its quantifiers and hypotheses: `theorems : Theorems` in proofs/Theorems.antt.
 -- That the code computes the definitions is said by the contracts of crates/siting/src/lib.rt.
 -- Assumes nothing.
-use Rattle.std.specs.Prelude.{ℕ, List, ℤ}
+use Rattle.std.specs.Prelude.{ℕ, ◌≡◌, List, ℤ}
 use Rattle.query.specs.Deck.{AxisCosts}
 use Rattle.query.specs.QueryTheorems.{QueryTheorems}
 use Rattle.deck.specs.DeckOf.{Sized}
 use Rattle.deck.specs.declared.Deck.{Deck}
-use Rattle.job.specs.Format.{Job}
+use Rattle.change.specs.Change.{Change}
+use Rattle.job.specs.Format.{Job, accepted, read_job}
 use Rattle.job.specs.Meaning.{AcceptedLaw, RefusedLaw, SpellingLaw}
 use Rattle.job.specs.JobVectors.{JobVectors}
 use Rattle.report.specs.Limits.{ReportFits}
@@ -18,10 +19,12 @@ use Rattle.calls.specs.ExhaustiveCallLaw.{ExhaustiveCallLaw}
 use Rattle.calls.specs.EstimateCallLaw.{EstimateCallLaw}
 use Rattle.calls.specs.SavingLaw.{ReadLaw, WriteLaw}
 use Rattle.calls.specs.RecordLaw.{RecordLaw, RefusedRecordLaw}
+use Rattle.calls.specs.ChangeLaw.{ChangeLaw, RunLaw}
 use Rattle.calls.specs.RefusalTable.{RefusalTable}
 use Rattle.calls.specs.CaseA.{CaseA}
 use Rattle.calls.specs.WriteTable.{WriteTable}
 use Rattle.calls.specs.RecordTable.{RecordTable}
+use Rattle.calls.specs.ChangeTable.{ChangeTable}
 use Rattle.calls.specs.AxisTable.{AxisTable}
 use Rattle.calls.specs.EstimateTable.{EstimateTable}
 use Rattle.calls.specs.AnswerRows.{AnswerRows}
@@ -39,9 +42,12 @@ pub record Theorems : Type 0 where
   -- document 02, card 2: what is read, where a missing axis line means any costs in range, and what is refused, whatever it means
   pub reading : (missing : AxisCosts) (job : List ℕ) (j : Job) → AcceptedLaw missing job j
   pub refusing : (missing : AxisCosts) (job : List ℕ) (why : Refusal) → RefusedLaw missing job why
-  -- document 02, card 5: the records that reading makes, and what it leaves where it refuses
+  -- document 02, cards 5 and 6: the records that reading and the changes make, and what reading leaves where it refuses
   pub records : (deck : Deck) → RecordLaw deck
   pub refused_records : (job : List ℕ) → RefusedRecordLaw job
+  -- document 02, card 6: each change of every record, and every run of changes of a record that was read
+  pub changes : (deck : Deck) (change : Change) → ChangeLaw deck change
+  pub runs : (changes : List Change) (job : List ℕ) (j : Job) → read_job job ≡ accepted j → RunLaw changes job j
   -- document 02, card 3: what a job needs
   pub estimate : (job : List ℕ) → EstimateCallLaw job
   -- no bytes spell two allowed jobs, and 128 bytes hold every report
@@ -55,6 +61,7 @@ pub record Theorems : Type 0 where
   -- rows of the calls of document 02
   pub write_table : WriteTable
   pub record_table : RecordTable
+  pub change_table : ChangeTable
   pub axis_table : AxisTable
   pub estimate_table : EstimateTable
   -- what the numbers of the code's records are called
