@@ -15,6 +15,7 @@ change_table = record {
   stop_removed_twice = refl;
   post_removed = refl;
   equal_posts = refl;
+  in_order = refl;
   not_held = refl;
   only_post = refl;
   only_stop = refl;

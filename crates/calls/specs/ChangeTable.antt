@@ -75,6 +75,10 @@ pub record ChangeTable : Type 0 where
   -- of two posts at one place the first is removed, and near stays
   pub equal_posts : lists (record_after (add_post (place (pos 0) (pos 0)) ∷ remove_post (place (pos 0) (pos 0)) ∷ []) plates)
       ≡ listing 2 ((30, 0) ∷ (0, 0) ∷ []) 4 ((10, 4, 2, 24) ∷ (29, 1, 3, 3) ∷ (10, 4, 2, 24) ∷ (10, 4, 5, 24) ∷ []) 225
+  -- one change after another, in this order, and those that are refused, here with 9 and with 3, count as none
+  pub in_order : lists (record_after (remove_post (place (pos 11) (pos 0)) ∷ add_post (place (pos 11) (pos 0))
+      ∷ add_post (place (pos 20001) (pos 0)) ∷ remove_stop (stop (pos 10) (pos 4) 2) ∷ []) plates)
+      ≡ listing 3 ((0, 0) ∷ (30, 0) ∷ (11, 0) ∷ []) 3 ((29, 1, 3, 3) ∷ (10, 4, 2, 6) ∷ (10, 4, 5, 6) ∷ []) 51
   -- 9 where no item has these values, before 5 and 6; 5 for the only post, 6 for the only stop
   pub not_held : answers plates
       (remove_post (place (pos 0) (pos 1)) ∷ remove_stop (stop (pos 29) (pos 1) 2) ∷ remove_stop (stop (pos 1) (pos 29) 3) ∷ [])
