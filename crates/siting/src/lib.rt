@@ -3,7 +3,7 @@
 
 ghost use Rattle.std.specs.Prelude.{◌≤◌, ◌≡◌, length};
 ghost use Rattle.query.specs.Range.{rounds_limit};
-ghost use Rattle.calls.specs.Answers.{report_answer, cheapest_answer, estimated_answer, read_answer, written_answer};
+ghost use Rattle.calls.specs.Answers.{report_answer, cheapest_answer, estimated_answer, read_answer, written_answer, change_answer};
 ghost use Rattle.calls.specs.Call.{report_call, own_space};
 ghost use Rattle.calls.specs.Entry.{entry};
 ghost use Rattle.calls.specs.Program.{answer_text};
@@ -11,13 +11,16 @@ ghost use Rattle.calls.specs.CheapestCall.{exhaustive_call};
 ghost use Rattle.calls.specs.EstimateCall.{estimate_call};
 ghost use Rattle.calls.specs.ReadCall.{read_deck, read_call};
 ghost use Rattle.calls.specs.WriteCall.{write_call};
+ghost use Rattle.calls.specs.ChangeCall.{change_call};
 ghost use Rattle.cells.specs.Live.{none_live};
+ghost use Rattle.change.specs.Change.{add_post, remove_post, add_stop, remove_stop};
+ghost use Rattle.deck.specs.Rectangle.{place_of, stop_of};
 ghost use Rattle.problem.specs.Prepared.{problem_of, Prepared};
 ghost use Rattle.siting.specs.Response.{state_for, Solved, OfJob, Fits, Answered, AnsweredIn, AnsweredAlone, Responded, RespondedAlone};
 
 use calls::{Estimate, Text};
 use cells::LiveCells;
-use deck::Deck;
+use deck::{Deck, Place, Stop};
 use job::Job;
 use limits::{CELL_NUMBERS, REPORT_BYTES};
 use prepare::{Given, Problem};
@@ -170,6 +173,34 @@ pub fn write(deck: Deck, rounds: u64, out: &mut [u8]) -> Result<usize, Refusal>
         return Err(Refusal::ShortOutput);
     }
     Ok(job_file::put_file(&deck, rounds, out))
+}
+
+// A post behind the last, or the refusal that applies first; then the record is as it was.
+pub fn add_post(deck: &mut Deck, post: Place) -> Result<(), Refusal>
+    ensures { record { answer = change_answer result; deck = deck.new } ≡ change_call deck.old (add_post (place_of post)) }
+{
+    change::add_post(deck, post)
+}
+
+// The record without its first post at this place, or the refusal that applies first.
+pub fn remove_post(deck: &mut Deck, post: Place) -> Result<(), Refusal>
+    ensures { record { answer = change_answer result; deck = deck.new } ≡ change_call deck.old (remove_post (place_of post)) }
+{
+    change::remove_post(deck, post)
+}
+
+// A stop behind the last, or the refusal that applies first.
+pub fn add_stop(deck: &mut Deck, stop: Stop) -> Result<(), Refusal>
+    ensures { record { answer = change_answer result; deck = deck.new } ≡ change_call deck.old (add_stop (stop_of stop)) }
+{
+    change::add_stop(deck, stop)
+}
+
+// The record without its first stop with these values, or the refusal that applies first.
+pub fn remove_stop(deck: &mut Deck, stop: Stop) -> Result<(), Refusal>
+    ensures { record { answer = change_answer result; deck = deck.new } ≡ change_call deck.old (remove_stop (stop_of stop)) }
+{
+    change::remove_stop(deck, stop)
 }
 
 // What the program prints for its input.
