@@ -3,7 +3,7 @@
 use Rattle.std.specs.Prelude.{ℕ, suc, ◌-◌, Bool, true, false, cond, ◌&&◌, leb, ℤ, pos, take, set, Ok, Err}
 use Rattle.std.specs.Prelude as Std
 use Rattle.std.specs.List.{list_all}
-use mathlib.Core.List.{List, [], ◌∷◌, zip_with}
+use mathlib.Core.List.{List, zip_with}
 use Rattle.std.proofs.Math.Option.{Option, none, some}
 use Rattle.std.proofs.Math.Seq.{paste}
 use Rattle.query.specs.Place.{Place}
