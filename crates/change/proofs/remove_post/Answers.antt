@@ -26,18 +26,18 @@ returns-then-deck-eq1 c =
     let ok = within (remove_post _) _ (search rules) (search rules) c.place_in_range.ensures c.in_ok-check_range.ensures in
     let posts = posts_in c.args.deck.now c.post_places-posts.ensures.x c.post_places-posts.ensures.y in
     let found = is_found _ _ _ (rw posts at c.find_post.ensures) c.in_ok-i.ensures.value in
-    refused ok (only _ _ found.0 c.if-deck-eq1.true)
+    refused ok (only _ _ found.0 (omega arith))
 
 pub take_post-requires : goal.take_post-requires
 take_post-requires c =
     let ok = within (remove_post _) _ (search rules) (search rules) c.place_in_range.ensures c.in_ok-check_range.ensures in
     let posts = posts_in c.args.deck.now c.post_places-posts.ensures.x c.post_places-posts.ensures.y in
     let found = is_found _ _ _ (rw posts at c.find_post.ensures) c.in_ok-i.ensures.value in
-    (ok.can, post_range _ ok.ranged, found.1, omega (arith, found.2, ok.posts), omega (arith, found.2, ok.posts, c.if-deck-eq1.false))
+    (ok.can, post_range _ ok.ranged, found.1, omega (arith, found.2, ok.posts), omega (arith, found.2, ok.posts))
 
 pub returns : goal.returns
 returns c =
     let ok = within (remove_post _) _ (search rules) (search rules) c.place_in_range.ensures c.in_ok-check_range.ensures in
     let posts = posts_in c.args.deck.now c.post_places-posts.ensures.x c.post_places-posts.ensures.y in
     let found = is_found _ _ _ (rw posts at c.find_post.ensures) c.in_ok-i.ensures.value in
-    made ok (others _ _ found.0 c.if-deck-eq1.false) c.take_post.ensures
+    made ok (others _ _ found.0 (omega arith)) c.take_post.ensures

@@ -25,18 +25,18 @@ returns-then-deck-eq1 c =
     let ok = within (remove_stop _) _ (search rules) (search rules) c.stop_in_range.ensures c.in_ok-check_range.ensures in
     let stops = stops_in c.args.deck.now c.stop_columns-stops.ensures.x c.stop_columns-stops.ensures.y c.stop_columns-stops.ensures.visits in
     let found = is_found _ _ _ (rw stops at c.find_stop.ensures) c.in_ok-i.ensures.value in
-    refused ok (only _ _ found.0 c.if-deck-eq1.true)
+    refused ok (only _ _ found.0 (omega arith))
 
 pub take_stop-requires : goal.take_stop-requires
 take_stop-requires c =
     let ok = within (remove_stop _) _ (search rules) (search rules) c.stop_in_range.ensures c.in_ok-check_range.ensures in
     let stops = stops_in c.args.deck.now c.stop_columns-stops.ensures.x c.stop_columns-stops.ensures.y c.stop_columns-stops.ensures.visits in
     let found = is_found _ _ _ (rw stops at c.find_stop.ensures) c.in_ok-i.ensures.value in
-    (ok.can, omega (arith, found.2, ok.stops), omega (arith, found.2, ok.stops, c.if-deck-eq1.false))
+    (ok.can, omega (arith, found.2, ok.stops), omega (arith, found.2, ok.stops))
 
 pub returns : goal.returns
 returns c =
     let ok = within (remove_stop _) _ (search rules) (search rules) c.stop_in_range.ensures c.in_ok-check_range.ensures in
     let stops = stops_in c.args.deck.now c.stop_columns-stops.ensures.x c.stop_columns-stops.ensures.y c.stop_columns-stops.ensures.visits in
     let found = is_found _ _ _ (rw stops at c.find_stop.ensures) c.in_ok-i.ensures.value in
-    made ok (others _ _ found.0 c.if-deck-eq1.false) (without_stop _ _ found.1 c.take_stop.ensures)
+    made ok (others _ _ found.0 (omega arith)) (without_stop _ _ found.1 c.take_stop.ensures)
