@@ -2,8 +2,7 @@
 -- Assumes nothing.
 use mathlib.Core.Path.{◌≡◌, refl, sym, ap, subst, ◌∙◌}
 use mathlib.Core.Bool.{Bool, true, false, ◌&&◌}
-use mathlib.Core.List.{List, [], ◌∷◌}
-use mathlib.Core.Logic.{⊎_elim}
+use mathlib.Core.List.{[], ◌∷◌}
 use mathlib.Core.Option.{Option, none, some}
 use Prim.Native.Nat.{ℕ, ◌≤◌, ◌<◌}
 use native.Mathlib.Omega.{arith}
@@ -15,10 +14,9 @@ use lib.Signed.{le_z}
 use Rattle.std.specs.Prelude.{Result, Ok, Err}
 use Rattle.std.specs.Result.{is_ok}
 use Rattle.std.specs.List.{list_all}
-use Rattle.std.proofs.lemmas.List.Folds.{list_all_at}
 use Rattle.numbers.specs.Integer.{between}
 use Rattle.numbers.proofs.Integer.{order}
-use Rattle.numbers.proofs.Truth.{test, fails, and_left, and_right}
+use Rattle.numbers.proofs.Truth.{fails, and_left, and_right}
 use Rattle.query.specs.Range.{travel_limit}
 use Rattle.deck.specs.DeckOf.{Sized}
 use Rattle.deck.specs.declared.Deck.{Deck}
@@ -32,6 +30,7 @@ use Rattle.job_check.proofs.FileFaults.{FileIs, file_is}
 use Rattle.refusal.specs.declared.Refusal.{Refusal}
 use Rattle.change.specs.ChangedRecord.{is_none, usable}
 use Rattle.change.specs.Usable.{Usable}
+use Rattle.change.proofs.UpTo.{all_up_to_lem}
 
 -- ---- the values of a stop
 -- too many visits, as the code tests them and by the ranges of a line
@@ -82,12 +81,6 @@ pub few_stops : (deck : Deck) → Sized deck → (r : Result (Unit {0}) Refusal)
     {b : Bool} → b ≡ is_ok r → b ≡ true → deck.stops ≤ 512
 few_stops deck sized r checked tested e = (accepted_file deck sized (subst T (sym e ∙ test_is deck r checked tested) tt)).few_stops
 
-up_to : (xs : List ℕ) → T (list_all (λ n. leb n travel_limit) xs) → (i : ℕ) → i < length xs → get_or xs i 0 ≤ travel_limit
-up_to xs t i h = ⊎_elim
-    (λ l. leb→le (get_or xs i 0) travel_limit l)
-    (λ l. absurd (subst T (list_all_at (λ n. leb n travel_limit) xs i 0 h (fails (leb (get_or xs i 0) travel_limit) l)) t))
-    (test (leb (get_or xs i 0) travel_limit))
-
 module _ (deck : Deck) (sized : Sized deck) (long : length deck.near ≡ 512) where
   pub usable_says : T (usable deck) → Usable deck
   unfolding usable
@@ -109,7 +102,7 @@ module _ (deck : Deck) (sized : Sized deck) (long : length deck.near ≡ 512) wh
 
       each : (i : ℕ) → i < deck.stops → get_or deck.near i 0 ≤ travel_limit
       each i h = rw (get_or-take deck.stops deck.near i 0 h) at
-          (up_to (take deck.stops deck.near) travels i (omega (arith, length-take-le deck.stops deck.near few)))
+          (all_up_to_lem travel_limit (take deck.stops deck.near) i travels (omega (arith, length-take-le deck.stops deck.near few)))
 
 pub usable_columns : {deck : Deck} → Sized deck → Usable deck → DeckColumns deck
 usable_columns sized u = record { sized = sized; posts = u.few_posts; stops = u.few_stops }
