@@ -28,7 +28,7 @@ use Rattle.change.proofs.SoundUsable.{sound_usable}
 use Rattle.change.proofs.Conditions.{Allows, refusal_none}
 use Rattle.change.proofs.Refusals.{Refuses, refusal_some}
 use Rattle.change.proofs.AlteredLaws.{changed_area, changed_axis}
-use Rattle.change.proofs.ChangedLaws.{sound_refusal, changed_is, changed_sound, made_answer}
+use Rattle.change.proofs.ChangedLaws.{changed_is, changed_sound, made_answer}
 use Rattle.calls.specs.Answers.{AnswerOf, gives, refuses, refusal}
 use Rattle.calls.specs.ChangeCall.{AfterChange, change_made, change_call}
 use Rattle.calls.specs.ChangeLaw.{ItemInRange, ChangeApplies, out_of_range, no_such_post, no_such_stop, only_post, only_stop, posts_full, stops_full}
@@ -195,15 +195,15 @@ module _ (deck : Deck) (change : Change) where
       same_some : {a b : Refusal} → ◌≡◌ {A = Option Refusal} (some a) (some b) → a ≡ b
       same_some {a} {b} f = some-injective a b f
 
-  module _ (sound : Sound deck) where
+  module _ (usable_lem : T (usable deck)) where
     exactly : (why : Refusal) → ((change_call deck change).answer ≡ refusal why) ↔ ChangeApplies (deck_of deck) change why
     exactly why = (
-      λ e. (applies_exactly (deck_of deck) change why).0 (sym (sound_refusal deck change sound) ∙ (refused_exactly deck change why).0 e),
-      λ a. (refused_exactly deck change why).1 (sound_refusal deck change sound ∙ (applies_exactly (deck_of deck) change why).1 a),
+      λ e. (applies_exactly (deck_of deck) change why).0 (sym (when_usable deck change usable_lem) ∙ (refused_exactly deck change why).0 e),
+      λ a. (refused_exactly deck change why).1 (when_usable deck change usable_lem ∙ (applies_exactly (deck_of deck) change why).1 a),
     )
 
     none_of : (change_call deck change).answer ≡ gives tt → change_refusal change (deck_of deck) ≡ none
-    none_of e = sym (sound_refusal deck change sound) ∙ made_none deck change e
+    none_of e = sym (when_usable deck change usable_lem) ∙ made_none deck change e
 
     made_where : ((change_call deck change).answer ≡ gives tt) ↔ ((why : Refusal) → ChangeApplies (deck_of deck) change why → ⊥)
     made_where = (
@@ -213,15 +213,16 @@ module _ (deck : Deck) (change : Change) where
       where
         go : (o : Option Refusal) → change_refusal change (deck_of deck) ≡ o → ((why : Refusal) → ChangeApplies (deck_of deck) change why → ⊥) →
             (change_call deck change).answer ≡ gives tt
-        go none f n = answer_is deck change ∙ ap answer_for (sound_refusal deck change sound ∙ f)
+        go none f n = answer_is deck change ∙ ap answer_for (when_usable deck change usable_lem ∙ f)
         go (some why) f n = absurd (n why ((applies_exactly (deck_of deck) change why).0 f))
 
+  module _ (sound : Sound deck) where
     made_as : (change_call deck change).answer ≡ gives tt → (change_call deck change).deck ≡ deck_record (altered change (deck_of deck))
-    made_as e = deck_is deck change ∙ ap (λ r. r.deck) (made_answer deck change sound (none_of e))
+    made_as e = deck_is deck change ∙ ap (λ r. r.deck) (made_answer deck change sound (none_of (sound_usable deck sound) e))
 
     made_leaves : (change_call deck change).answer ≡ gives tt → Leaves (deck_of deck) (deck_of (change_call deck change).deck) change
     made_leaves e = subst (λ d. Leaves (deck_of deck) d change) (sym (ap deck_of (made_as e) ∙ held_deck (altered change (deck_of deck))))
-        (leaves_altered (deck_of deck) change ((refusal_none change (deck_of deck)).0 (none_of e)))
+        (leaves_altered (deck_of deck) change ((refusal_none change (deck_of deck)).0 (none_of (sound_usable deck sound) e)))
 
     now : deck_of (change_call deck change).deck ≡ changed (deck_of deck) change
     now = ap deck_of (deck_is deck change ∙ changed_is deck change sound) ∙ held_deck (changed (deck_of deck) change)

@@ -108,9 +108,12 @@ module _ (changes : List Change) (job : List ℕ) (j : Job) (read : read_job job
 
   pub run_law : RunLaw changes job j
   run_law = record {
+    area_kept = run_area changes j.deck;
+    axis_kept = run_axis changes j.deck;
     as_read = reads_so;
     spelled = spelled_so;
     sound = now_sound;
     written = written_so;
+    spelled_without = λ s. without_line refl (run_axis changes j.deck ∙ s.costs);
     written_without = without_line_so;
   }

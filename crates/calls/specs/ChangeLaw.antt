@@ -65,13 +65,13 @@ pub record ChangeLaw (deck : Deck) (change : Change) : Type 0 where
   pub numbers : (number line : ℕ) → (change_call deck change).answer ≡ refuses number line → Memᴰ number (3 ∷ 5 ∷ 6 ∷ 9 ∷ 10 ∷ [])
   -- a record that cannot be changed, which no operation makes, gets 3
   pub unusable : T (not (usable deck)) → change_call deck change ≡ record { answer = refuses 3 0; deck = deck }
-  -- of a sound record: it can be changed; each refusal exactly under its condition; made exactly where none applies
+  -- of one that can be changed, which every sound record can: each refusal exactly under its condition; made exactly where none applies
   pub sound_usable : Sound deck → T (usable deck)
-  pub refused_exactly : Sound deck → (why : Refusal) →
+  pub refused_exactly : T (usable deck) → (why : Refusal) →
       ((change_call deck change).answer ≡ refusal why) ↔ ChangeApplies (deck_of deck) change why
-  pub made_exactly : Sound deck →
+  pub made_exactly : T (usable deck) →
       ((change_call deck change).answer ≡ gives tt) ↔ ((why : Refusal) → ChangeApplies (deck_of deck) change why → ⊥)
-  -- what is made is the record of the deck with the resulting list, near and before included; so it is sound
+  -- what is made of a sound record is the record of the deck with the resulting list, near and before included; so it is sound
   pub made : Sound deck → (change_call deck change).answer ≡ gives tt →
       (change_call deck change).deck ≡ deck_record (altered change (deck_of deck))
   pub leaves : Sound deck → (change_call deck change).answer ≡ gives tt →
@@ -87,6 +87,9 @@ changed_job changes j = record { deck = changed_by changes j.deck; rounds = j.ro
 
 -- of the record that an accepted job's bytes are read as, after a run of changes
 pub record RunLaw (changes : List Change) (job : List ℕ) (j : Job) : Type 0 where
+  -- "all else unaltered": the area and the axis costs of that job's deck are those of j's
+  pub area_kept : (changed_by changes j.deck).area ≡ j.deck.area
+  pub axis_kept : (changed_by changes j.deck).axis ≡ j.deck.axis
   -- "After any run of these on a read record, it equals the one read from a job with the resulting lists and all else unaltered": the job
   -- in any of its spellings, and so in that of the job that was read
   pub as_read : (bytes : List ℕ) → Spells missing_axis bytes (changed_job changes j) →
@@ -99,6 +102,8 @@ pub record RunLaw (changes : List Change) (job : List ℕ) (j : Job) : Type 0 wh
       let text = spell carried (changed_job changes j) in length text ≤ length out →
       write_call (record_after changes (read_call job).deck) j.rounds out
       ≡ record { answer = gives (length text); out = overwritten text out }
+  -- and those bytes too are read as the record, by `as_read`
+  pub spelled_without : SpellsOut job j → Spells missing_axis (spell false (changed_job changes j)) (changed_job changes j)
   pub written_without : (out : List ℕ) → SpellsOut job j → let text = spell false (changed_job changes j) in length text ≤ length out →
       write_call (record_after changes (read_call job).deck) j.rounds out
       ≡ record { answer = gives (length text); out = overwritten text out }
