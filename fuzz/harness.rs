@@ -1,6 +1,7 @@
-//! The C entry, the program, the report call, the estimate and the calls that read and write a record against the reference, one input of
-//! libFuzzer at a time. An input is a job's bytes, whole; for the writer the numbers in it are a record too. A difference is printed and
-//! ends the run; libFuzzer then saves the input.
+//! The C entry, the program, the report call, the estimate and the calls that read, write and change a record against the reference, one
+//! input of libFuzzer at a time. An input is a job's bytes, whole; for the writer the numbers in it are a record too, and for the calls that
+//! change one the lines behind the job that start with a sign are changes, as `+post=4,3` or `-stop=4,3,2`. A difference is printed and ends
+//! the run; libFuzzer then saves the input.
 
 #![no_main]
 
@@ -8,8 +9,8 @@ mod mutate;
 mod record;
 
 use mutate::Random;
-use reference::{estimate, lent_enough, read, refusal_text, report_text, saved, search, write};
-use reference::{Axis, Estimate, Found, Job, Record, Refusal};
+use reference::{changed, estimate, lent_enough, read, refusal_text, report_text, saved, search, spell, write};
+use reference::{Axis, Change, Estimate, Found, Job, Record, Refusal};
 use std::ffi::c_void;
 use std::io::{ErrorKind, Write};
 use std::process::{abort, Command, Stdio};
@@ -38,6 +39,17 @@ extern "C" {
         out_len: usize,
         which: u64,
     ) -> i64;
+    fn trial_change(
+        coordinates: *mut i64,
+        coordinates_len: usize,
+        naturals: *mut u64,
+        naturals_len: usize,
+        kind: u64,
+        x: i64,
+        y: i64,
+        visits: u64,
+        which: u64,
+    ) -> i64;
     fn blocks_watch();
     fn blocks_print();
     fn mmap(at: *mut c_void, length: usize, access: i32, flags: i32, file: i32, offset: i64) -> *mut c_void;
@@ -54,6 +66,8 @@ const COORDINATES: usize = Record::COORDINATES;
 const NATURALS: usize = Record::NATURALS;
 /// The longest job that is accepted, and so the longest file that is written.
 const LONGEST: usize = 14_089;
+/// The most changes of an input that are made: enough to fill the posts and to add one more.
+const CHANGES: usize = 80;
 
 /// Whole pages between two that may not be touched.
 struct Lent {
@@ -128,6 +142,10 @@ struct State {
     records: u64,
     written: u64,
     not_written: [u64; 9],
+    with_changes: u64,
+    changes: u64,
+    changed: u64,
+    not_changed: [u64; 11],
 }
 
 static STATE: Mutex<Option<State>> = Mutex::new(None);
@@ -166,6 +184,10 @@ extern "C" fn LLVMFuzzerInitialize(_: *mut c_void, _: *mut c_void) -> i32 {
         records: 0,
         written: 0,
         not_written: [0; 9],
+        with_changes: 0,
+        changes: 0,
+        changed: 0,
+        not_changed: [0; 11],
     });
     unsafe {
         // a write to a program that has ended is an error, not a signal: 13 is SIGPIPE, 1 is SIG_IGN
@@ -185,6 +207,7 @@ extern "C" fn last() {
         println!("{below} of {} jobs have a product of gaps below rounds + 1, {equal} one equal to it", done + stopped);
         println!("{} of {} report calls gave a report, {} refusal 7, {} refusal 8", s.reports, s.calls, s.small_space, s.short_output);
         println!("{} of {} records written, refusals 2 to 8 {:?}", s.written, s.records, &s.not_written[2..]);
+        println!("{} of {} changes made, {} inputs had some; refusals 3 to 10 {:?}", s.changed, s.changes, s.with_changes, &s.not_changed[3..]);
     }
     unsafe { blocks_print() };
 }
@@ -250,6 +273,11 @@ impl Lists<'_> {
         c[i..i + 8 * COORDINATES].copy_from_slice(bytes_of(&zs));
         n[j..j + 8 * NATURALS].copy_from_slice(bytes_of(&ns));
         (c, n)
+    }
+
+    fn put(&mut self, (c, n): &(Vec<u8>, Vec<u8>)) {
+        self.coordinates.0.copy_from_slice(c);
+        self.naturals.0.copy_from_slice(n);
     }
 
     fn hold(&self, (c, n): &(Vec<u8>, Vec<u8>)) -> bool {
@@ -426,8 +454,7 @@ impl State {
         *(want.as_ref().map_or_else(|why| &mut self.not_written[why.number as usize], |_| &mut self.written)) += 1;
         let mut lists = place_lists(&mut self.coordinates, &mut self.naturals, at_end, fill);
         let held = lists.with(record);
-        lists.coordinates.0.copy_from_slice(&held.0);
-        lists.naturals.0.copy_from_slice(&held.1);
+        lists.put(&held);
         let (out, first) = place(&mut self.saved, length, at_end, pattern(fill));
         let mut after = out.to_vec();
         if let Ok(text) = &want {
@@ -472,6 +499,78 @@ impl State {
         let length = record.text().len().min(LONGEST);
         let lengths = [0, length - 1, length, length + some, length.min(some)];
         self.write(&record, lengths[random.below(lengths.len())], at_end, fill);
+    }
+
+    /// One change of a record: the refusal, its line or a number that no answer has, each with all numbers of the record and what is beside
+    /// them. And a kind that there is not.
+    fn change(&mut self, record: &Record, change: &Change, at_end: bool, fill: u8) -> Result<Record, Refusal> {
+        let want = record.changed(change);
+        self.changes += 1;
+        *(want.as_ref().map_or_else(|why| &mut self.not_changed[why.number as usize], |_| &mut self.changed)) += 1;
+        let mut lists = place_lists(&mut self.coordinates, &mut self.naturals, at_end, fill);
+        let (held, after) = (lists.with(record), lists.with(want.as_ref().unwrap_or(record)));
+        let (number, line) = want.as_ref().map_or_else(|why| (why.number, why.line), |_| (0, 0));
+        let kind = change.kind as u64;
+        let mut calls = vec![(kind, 0, number, &after), if fill % 2 == 0 { (kind, 1, line, &after) } else { (kind, 2, i64::MIN, &after) }];
+        if fill % 8 < 2 {
+            calls.push((kind + 4 + u64::from(fill), 0, i64::MIN, &held));
+        }
+        for (kind, which, figure, after) in calls {
+            lists.put(&held);
+            let ((zs, ns), (x, y)) = (lists.pointers(), change.at);
+            let got = unsafe { trial_change(zs, COORDINATES, ns, NATURALS, kind, x, y, change.visits, which) };
+            let what = || format!("{change} as change {kind} of {}", record.text().escape_ascii());
+            if got != figure {
+                differs(&format!("number {which} of {}", what()), &got.to_string(), &figure.to_string());
+            }
+            if !lists.hold(after) {
+                differs(&format!("the record, as bytes, behind {}", what()), &format!("{:?}", lists.bytes()), &format!("{after:?}"));
+            }
+        }
+        want
+    }
+
+    /// The changes behind a job, or, in one of four inputs without any, some of its items: of the job's own record, if it is accepted, and of
+    /// one of any numbers. The first must end as the record that the edited job is read as, and is written as that job.
+    fn check_changes(&mut self, bytes: &[u8], any: u64) {
+        let (text, own) = record::split(bytes);
+        self.with_changes += u64::from(!own.is_empty());
+        if own.is_empty() && any % 4 > 0 {
+            return;
+        }
+        let (at_end, fill, some) = (any >> 17 & 1 == 0, (any >> 28) as u8, 1 + any as usize / 4 % 4);
+        let mut random = Random(any << 1 | 1);
+        let mut other = record::of(text, &mut random);
+        let job = read(text);
+        if job.is_ok() || random.below(2) == 0 {
+            record::tame(&mut random, &mut other);
+        }
+        let mut changes = own;
+        if changes.is_empty() {
+            changes = (0..some).map(|_| record::any_change(&mut random, &other)).collect();
+        }
+        changes.truncate(CHANGES);
+        if let Ok(mut job) = job {
+            let mut record = Record::of(&job);
+            for (i, change) in changes.iter().enumerate() {
+                let new = self.change(&record, change, at_end, fill.wrapping_add(i as u8));
+                let edited = changed(&job, change);
+                if new.as_ref().err() != edited.as_ref().err() {
+                    differs(&format!("the reference's own answers to {change}"), &format!("{:?}", new.err()), &format!("{:?}", edited.err()));
+                }
+                (record, job) = (new.unwrap_or(record), edited.unwrap_or(job));
+            }
+            let edited = spell(&job);
+            if record != Record::of(&job) {
+                let text = |bytes: &[u8]| bytes.escape_ascii().to_string();
+                differs("the reference's own record of a changed deck", &text(&record.text()), &text(&edited));
+            }
+            self.write(&record, edited.len(), at_end, fill);
+            self.read(&edited, &Ok(record), at_end, fill);
+        }
+        for (i, change) in changes.iter().take(8).enumerate() {
+            other = self.change(&other, change, !at_end, fill.wrapping_sub(i as u8)).unwrap_or(other);
+        }
     }
 
     fn run_program(&mut self, bytes: &[u8], want: &str) {
@@ -526,6 +625,7 @@ impl State {
             self.check_other_rounds(bytes, accepted.estimate, any);
         }
         self.check_records(bytes, record, any);
+        self.check_changes(bytes, any);
         if self.inputs % self.every == 0 {
             self.run_program(bytes, &want.map_or_else(refusal_text, |accepted| accepted.text));
         }

@@ -1,6 +1,9 @@
 //! Changes to a job that keep most of its form. Of what libFuzzer's own changes make, 99 in 100 are refused: a stop more needs another
 //! number of stops. Here a job is changed as lines and numbers and mostly gets the right numbers of posts and stops again. Some changes
-//! are left to libFuzzer, of the whole job or of one line.
+//! are left to libFuzzer, of the whole job or of one line. Lines with a sign behind the job, which are for the calls that change a deck,
+//! come and go.
+
+use crate::record::is_change;
 
 extern "C" {
     fn LLVMFuzzerMutate(data: *mut u8, length: usize, most: usize) -> usize;
@@ -58,7 +61,7 @@ fn change_number(random: &mut Random, lines: &mut [Line]) -> Option<()> {
     // the area's line, that of the rounds, or any
     let i = match random.below(4) {
         0 => 0,
-        1 => lines.len().saturating_sub(2),
+        1 => job_lines(lines).saturating_sub(1),
         _ => random.below(lines.len()),
     };
     let (key, mut numbers) = parts(&lines[i])?;
@@ -66,13 +69,13 @@ fn change_number(random: &mut Random, lines: &mut [Line]) -> Option<()> {
     let old: i64 = numbers[field].parse().ok()?;
     let new = match random.below(8) {
         0 => ENDS[random.below(ENDS.len())],
-        1 => old + random.around(1),
-        2 => -old,
+        1 => old.wrapping_add(random.around(1)),
+        2 => old.wrapping_neg(),
         3 => random.around(20_000),
         4 => random.below(1_001) as i64,
         5 => random.around(9),
         // equal to another, or close to it: lines that coincide, ties
-        _ => any_number(random, lines, i)? + random.around(1) * random.below(2) as i64,
+        _ => any_number(random, lines, i)?.wrapping_add(random.around(1) * random.below(2) as i64),
     };
     numbers[field] = new.to_string();
     lines[i] = format!("{key}={}", numbers.join(",")).into_bytes();
@@ -119,6 +122,52 @@ fn move_stop(random: &mut Random, lines: &mut [Line]) -> Option<()> {
     Some(())
 }
 
+/// The lines of the job: up to the first one with a sign, or the empty one behind the last.
+fn job_lines(lines: &[Line]) -> usize {
+    lines.iter().position(|line| is_change(line)).unwrap_or(lines.len().saturating_sub(1))
+}
+
+/// A line with a sign: that of a post or a stop of the job, or of another such line, or of any.
+fn signed_line(random: &mut Random, lines: &[Line]) -> Line {
+    let items: Vec<&[u8]> = lines
+        .iter()
+        .map(|line| if is_change(line) { &line[1..] } else { line })
+        .filter(|line| line.starts_with(b"post=") || line.starts_with(b"stop="))
+        .collect();
+    let mut number = || match random.below(4) {
+        0 => ENDS[random.below(ENDS.len())],
+        _ => random.around(9),
+    };
+    let other = [format!("post={},{}", number(), number()), format!("stop={},{},{}", number(), number(), number())];
+    let item = match random.below(4) {
+        0 => other[random.below(2)].as_bytes(),
+        _ if items.is_empty() => other[random.below(2)].as_bytes(),
+        _ => items[random.below(items.len())],
+    };
+    [&[b"+-"[random.below(2)]], item].concat()
+}
+
+/// The lines with a sign: one more, one less, two exchanged, one again and again, or none.
+fn change_changes(random: &mut Random, lines: &mut Vec<Line>) {
+    let first = job_lines(lines);
+    let signed = lines.len().saturating_sub(first + 1);
+    let mut any = || first + random.below(signed.max(1));
+    let (i, j) = (any(), any());
+    match random.below(8) {
+        1 if signed > 0 => drop(lines.remove(i)),
+        2 if signed > 0 => lines.swap(i, j),
+        3 if signed > 0 => {
+            let again = vec![lines[i].clone(); 1 + random.below(5) * random.below(16)];
+            lines.splice(j..j, again);
+        }
+        4 | 5 if signed > 0 => drop(lines.drain(first..first + signed)),
+        _ => {
+            let line = signed_line(random, lines);
+            lines.insert(first + random.below(signed + 1), line);
+        }
+    }
+}
+
 /// Most are right.
 fn axis_line(random: &mut Random) -> Line {
     let mut cost = || match random.below(16) {
@@ -160,6 +209,12 @@ fn change(random: &mut Random, bytes: &mut Vec<u8>, most: usize) {
     for _ in 0..=random.below(4) {
         if lines.is_empty() {
             break;
+        }
+        // lines with a sign, mostly where there are some
+        let has_changes = lines.iter().any(|line| is_change(line));
+        if random.below(if has_changes { 2 } else { 32 }) == 0 {
+            change_changes(random, &mut lines);
+            continue;
         }
         // None: this change does not fit this job
         let _ = match random.below(10) {

@@ -1,7 +1,8 @@
-//! Records for the writer, made of an input: the numbers that stand in its bytes, whatever is between them.
+//! Records for the writer, made of an input: the numbers that stand in its bytes, whatever is between them. And changes: an input's own,
+//! which are lines behind its job, or such as are made of the deck that they change.
 
 use crate::mutate::Random;
-use reference::Record;
+use reference::{Change, Kind, Record};
 
 /// The ends of the ranges, of ten digits and of the machine's numbers, and their neighbours.
 #[rustfmt::skip]
@@ -78,13 +79,41 @@ pub fn of(bytes: &[u8], random: &mut Random) -> Record {
     record
 }
 
+/// Near such that a record can be changed, if all else is in range: the travel to the closest post or to any, small ones, or others. One of
+/// them is sometimes the longest travel, or one more.
+pub fn tame(random: &mut Random, record: &mut Record) {
+    let kind = random.below(4);
+    for i in 0..record.stops.min(512) as usize {
+        let travel = |j: usize| {
+            let (dx, dy) = (record.post_x[j].abs_diff(record.stop_x[i]), record.post_y[j].abs_diff(record.stop_y[i]));
+            record.axis[0].wrapping_mul(dx).wrapping_add(record.axis[1].wrapping_mul(dy)) % 720_001
+        };
+        let posts = record.posts.clamp(1, 64) as usize;
+        record.near[i] = match kind {
+            0 => (0..posts).map(travel).min().unwrap(),
+            1 => travel(random.below(posts)),
+            2 => random.below(20) as u64,
+            _ => record.near[i] % 720_001,
+        };
+    }
+    if random.below(8) == 0 {
+        let last = record.stops.clamp(1, 512) as usize - 1;
+        let stop = if random.below(2) == 0 { last } else { items(random, record).1 };
+        record.near[stop] = 720_000 + random.below(2) as u64;
+    }
+}
+
+/// Which post and which stop: one that counts, if any does.
+fn items(random: &mut Random, record: &Record) -> (usize, usize) {
+    (random.below(record.posts.clamp(1, 64) as usize), random.below(record.stops.clamp(1, 512) as usize))
+}
+
 /// One to three numbers of a record replaced by ends, most of them numbers that count.
 pub fn replace(random: &mut Random, record: &mut Record) {
     for _ in 0..=random.below(3) {
         let end = ENDS[random.below(ENDS.len())];
         let (z, n) = (end as i64, end as u64);
-        let post = random.below(record.posts.clamp(1, 64) as usize);
-        let stop = random.below(record.stops.clamp(1, 512) as usize);
+        let (post, stop) = items(random, record);
         match random.below(10) {
             0 => record.area[random.below(4)] = z,
             1 => record.posts = n,
@@ -98,4 +127,46 @@ pub fn replace(random: &mut Random, record: &mut Record) {
             _ => record.rounds = n,
         }
     }
+}
+
+/// An input's job, and the changes behind it: the lines from the first one on that starts with a sign.
+pub fn split(bytes: &[u8]) -> (&[u8], Vec<Change>) {
+    let mut start = 0;
+    for line in bytes.split_inclusive(|&b| b == b'\n') {
+        if is_change(line) {
+            return (&bytes[..start], bytes[start..].split(|&b| b == b'\n').filter(|line| is_change(line)).map(change).collect());
+        }
+        start += line.len();
+    }
+    (bytes, Vec::new())
+}
+
+pub fn is_change(line: &[u8]) -> bool {
+    matches!(line.first(), Some(b'+' | b'-'))
+}
+
+/// `+` adds and `-` removes. The numbers are those of the line, whatever is between them, and 1 where there are no more.
+fn change(line: &[u8]) -> Change {
+    let stop = line.windows(4).any(|word| word == b"stop");
+    let mut found = numbers(line).into_iter();
+    let mut next = || found.next().unwrap_or(1);
+    Change { kind: Kind::ALL[2 * usize::from(stop) + usize::from(line[0] == b'-')], at: (next() as i64, next() as i64), visits: next() as u64 }
+}
+
+/// A change of a record: mostly of an item that it holds, sometimes with a number beside it or an end.
+pub fn any_change(random: &mut Random, record: &Record) -> Change {
+    let kind = Kind::ALL[random.below(4)];
+    let (post, stop) = items(random, record);
+    let (x, y) = if kind.of_a_post() { (record.post_x[post], record.post_y[post]) } else { (record.stop_x[stop], record.stop_y[stop]) };
+    let (visits, end) = (record.visits[stop], ENDS[random.below(ENDS.len())]);
+    let (at, visits) = match random.below(12) {
+        0 => ((end as i64, y), visits),
+        1 => ((x, end as i64), visits),
+        2 => ((x, y), end as u64),
+        3 => ((x.wrapping_add(1), y), visits),
+        4 => ((y, x), visits),
+        5 => ((x, y), visits.wrapping_add(1)),
+        _ => ((x, y), visits),
+    };
+    Change { kind, at, visits }
 }

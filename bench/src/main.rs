@@ -6,6 +6,7 @@
 use std::hint::black_box;
 use std::time::Instant;
 
+mod change;
 mod exhaustive;
 mod read;
 mod twin;
@@ -44,6 +45,17 @@ extern "C" {
         rounds: u64,
         out: *mut u8,
         out_len: usize,
+        which: u64,
+    ) -> i64;
+    fn trial_change(
+        coordinates: *mut i64,
+        coordinates_len: usize,
+        naturals: *mut u64,
+        naturals_len: usize,
+        kind: u64,
+        x: i64,
+        y: i64,
+        visits: u64,
         which: u64,
     ) -> i64;
 }
@@ -275,6 +287,64 @@ fn writing() {
     }
 }
 
+/// The number of the refusal, 0 for none.
+fn proved_change(coordinates: &mut [i64], naturals: &mut [u64], change: change::Change) -> i64 {
+    let (c, n) = (coordinates.len(), naturals.len());
+    let change::Change { kind, x, y, visits } = change;
+    unsafe { trial_change(coordinates.as_mut_ptr(), c, naturals.as_mut_ptr(), n, kind, x, y, visits, 0) }
+}
+
+fn proved_read(job: &[u8], coordinates: &mut [i64], naturals: &mut [u64]) -> i64 {
+    unsafe { trial_read(job.as_ptr(), job.len(), coordinates.as_mut_ptr(), coordinates.len(), naturals.as_mut_ptr(), naturals.len(), 1) }
+}
+
+/// Microseconds a change, each made `turns` times: the change, its twin, and reading the edited job anew, all of which must leave the same
+/// record. Each call is timed by itself, as a change wants the record from before.
+fn time_change(name: &str, m: &change::Measured) -> [f64; 3] {
+    let turns = 20;
+    let (before, after) = (write::lists(&m.job), write::lists(&m.edited));
+    let (mut c, mut n) = (before.coordinates.clone(), before.naturals.clone());
+    let mut run = |call: &dyn Fn(&mut [i64], &mut [u64]) -> i64| {
+        let mut time = 0.0;
+        for _ in 0..turns {
+            c.copy_from_slice(&before.coordinates);
+            n.copy_from_slice(&before.naturals);
+            let (t, refused) = timed(|| call(black_box(&mut c), black_box(&mut n)));
+            assert_eq!(refused, 0, "{name}: refused");
+            time += t;
+        }
+        assert!((&c, &n) == (&after.coordinates, &after.naturals), "{name}: another record");
+        time / turns as f64 / 1e3
+    };
+    let mut best = [f64::MAX; 3];
+    for _ in 0..4 * REPETITIONS {
+        best[0] = best[0].min(run(&|c, n| proved_change(c, n, black_box(m.change))));
+        best[1] = best[1].min(run(&|c, n| change::change(c, n, black_box(m.change))));
+        best[2] = best[2].min(run(&|c, n| proved_read(black_box(&m.edited), c, n)));
+    }
+    best
+}
+
+fn changes() {
+    println!();
+    let mut times = Vec::new();
+    for (name, deck) in [("largest", LARGEST), ("typical", TYPICAL)] {
+        for m in change::measured(deck) {
+            let name = format!("{name}, {}", m.name);
+            times.push((time_change(&name, &m), name));
+        }
+    }
+    println!("{:<52} {:>10} {:>10} {:>7}", "changes, us a change", "proved", "twin", "ratio");
+    for ([proved, twin, _], name) in &times {
+        println!("{name:<52} {proved:>10.1} {twin:>10.1} {:>7.2}", proved / twin);
+    }
+    println!();
+    println!("{:<52} {:>10} {:>10} {:>7}", "changes beside reading the edited job anew, us a change", "change", "reading", "share");
+    for ([change, _, reading], name) in &times {
+        println!("{name:<52} {change:>10.1} {reading:>10.1} {:>7.3}", change / reading);
+    }
+}
+
 /// The exhaustive call, `turns` times: place and cost must be the same. The plain pass over all crossings, last of the twins, is long, and has few repetitions.
 fn compare_exhaustive(name: &str, job: &[u8], turns: usize, twins: &[(&str, fn(&[u8]) -> exhaustive::Spot)]) {
     let proved = |job: &[u8], which| unsafe { trial_exhaustive(job.as_ptr(), job.len(), which) };
@@ -339,4 +409,5 @@ fn main() {
     estimates();
     growth();
     writing();
+    changes();
 }

@@ -2,8 +2,8 @@
 
 use crate::read::{read, Axis, Refused};
 
-const POSTS: usize = 64;
-const STOPS: usize = 512;
+pub const POSTS: usize = 64;
+pub const STOPS: usize = 512;
 
 /// What a writer looks at: near and before stay in their list.
 struct Record {
@@ -21,7 +21,7 @@ struct Record {
 
 /// The next numbers of a list.
 #[inline]
-fn taken<T: Copy + Default, const N: usize>(list: &mut &[T]) -> [T; N] {
+pub fn taken<T: Copy + Default, const N: usize>(list: &mut &[T]) -> [T; N] {
     let (first, rest) = list.split_at(N);
     *list = rest;
     let mut array = [T::default(); N];

@@ -4,6 +4,7 @@ pub mod decks;
 pub mod entry;
 pub mod generate;
 pub mod program;
+pub mod records;
 pub mod reference;
 pub mod trial;
 pub mod vectors;

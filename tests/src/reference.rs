@@ -1,5 +1,6 @@
 //! Document 01 as a plain program: reading, pricing, the search by cells over the whole partition, the full walk, the report text; and
-//! of document 02 the writing of jobs (card 1), axis costs (card 2), the estimate (card 3) and near and before in a record (card 5).
+//! of document 02 the writing of jobs (card 1), axis costs (card 2), the estimate (card 3), near and before in a record (card 5) and the
+//! changes of a deck (card 6).
 //! It is written to be read beside these and is slow on purpose: cells are never dropped, and nothing is kept in order.
 
 use std::cmp::Ordering;
@@ -269,6 +270,177 @@ pub fn saved(bytes: &[u8]) -> Vec<u8> {
     let second = bytes.iter().position(|&b| b == 10).map_or(bytes.len(), |end| end + 1);
     let behind = &bytes[second..];
     [&bytes[..second], behind.strip_prefix(b"axis=1,1\n").unwrap_or(behind)].concat()
+}
+
+// ---- changing
+
+/// The changes of a deck, by their numbers from 0.
+#[derive(Clone, Copy, Debug, PartialEq, Eq)]
+pub enum Kind {
+    AddPost,
+    RemovePost,
+    AddStop,
+    RemoveStop,
+}
+
+impl Kind {
+    pub const ALL: [Kind; 4] = [Kind::AddPost, Kind::RemovePost, Kind::AddStop, Kind::RemoveStop];
+
+    pub fn adds(self) -> bool {
+        matches!(self, Kind::AddPost | Kind::AddStop)
+    }
+
+    pub fn of_a_post(self) -> bool {
+        matches!(self, Kind::AddPost | Kind::RemovePost)
+    }
+}
+
+/// A change with its values, which are any numbers. The visits are those of a stop; for a post they do not matter.
+#[derive(Clone, Copy, Debug, PartialEq, Eq)]
+pub struct Change {
+    pub kind: Kind,
+    pub at: Place,
+    pub visits: u64,
+}
+
+impl Change {
+    fn in_range(&self) -> bool {
+        let xy = |v: i64| XY.0 <= v && v <= XY.1;
+        xy(self.at.0) && xy(self.at.1) && (self.kind.of_a_post() || (1..=65_535).contains(&self.visits))
+    }
+}
+
+impl std::fmt::Display for Change {
+    /// A line with a sign, as `+post=4,3` or `-stop=4,3,2`.
+    fn fmt(&self, f: &mut std::fmt::Formatter) -> std::fmt::Result {
+        let (sign, (x, y)) = (if self.kind.adds() { '+' } else { '-' }, self.at);
+        if self.kind.of_a_post() {
+            write!(f, "{sign}post={x},{y}")
+        } else {
+            write!(f, "{sign}stop={x},{y},{}", self.visits)
+        }
+    }
+}
+
+/// A new item goes last: 10 for full lists.
+fn add<T>(items: &mut Vec<T>, item: T, most: usize) -> Result<(), Refusal> {
+    if items.len() >= most {
+        return Err(refuse(10, 0));
+    }
+    items.push(item);
+    Ok(())
+}
+
+/// The first item that equals this one is removed, and later ones move up: 9 where there is none, then 5 or 6 for the only one.
+fn remove<T: PartialEq>(items: &mut Vec<T>, item: T, only: i64) -> Result<(), Refusal> {
+    let first = items.iter().position(|held| *held == item).ok_or(refuse(9, 0))?;
+    if items.len() == 1 {
+        return Err(refuse(only, 0));
+    }
+    items.remove(first);
+    Ok(())
+}
+
+/// The job with the changed lists and all else as it is. A value out of range is 3, before all other refusals.
+pub fn changed(job: &Job, change: &Change) -> Result<Job, Refusal> {
+    if !change.in_range() {
+        return Err(refuse(3, 0));
+    }
+    let mut job = job.clone();
+    let stop = Stop { at: change.at, visits: change.visits as i64 };
+    match change.kind {
+        Kind::AddPost => add(&mut job.posts, change.at, 64)?,
+        Kind::RemovePost => remove(&mut job.posts, change.at, 5)?,
+        Kind::AddStop => add(&mut job.stops, stop, 512)?,
+        Kind::RemoveStop => remove(&mut job.stops, stop, 6)?,
+    }
+    Ok(job)
+}
+
+/// Element i of the first n leaves an array: later ones of them move up, and 0 stands where the last one stood.
+fn take_out<T: Copy + Default>(array: &mut [T], i: usize, n: usize) {
+    for j in i + 1..n {
+        array[j - 1] = array[j];
+    }
+    array[n - 1] = T::default();
+}
+
+/// The same for a record of any numbers. One that is read from a job becomes the one that is read from the changed job.
+impl Record {
+    fn travel(&self, stop: usize, to: Place) -> u64 {
+        let axis = Axis { a: self.axis[0] as i64, b: self.axis[1] as i64 };
+        travel(axis, (self.stop_x[stop], self.stop_y[stop]), to) as u64
+    }
+
+    fn closest(&self, stop: usize) -> u64 {
+        (0..self.posts as usize).map(|i| self.travel(stop, (self.post_x[i], self.post_y[i]))).min().unwrap()
+    }
+
+    /// Whether it has a file that can be read, whatever the rounds are, and each stop a near that a travel can have.
+    pub fn can_be_changed(&self) -> bool {
+        let file = write(&Record { rounds: 0, ..self.clone() }, usize::MAX);
+        file.is_ok() && self.near[..self.stops as usize].iter().all(|&near| near <= 720_000)
+    }
+
+    /// The numbers that it holds are taken as they are, near too, and what stands behind the lists stays. One that cannot be changed gets 3.
+    pub fn changed(&self, change: &Change) -> Result<Record, Refusal> {
+        if !change.in_range() || !self.can_be_changed() {
+            return Err(refuse(3, 0));
+        }
+        let (posts, stops) = (self.posts as usize, self.stops as usize);
+        let Change { kind, at, visits } = *change;
+        let mut new = self.clone();
+        match kind {
+            Kind::AddPost => {
+                if posts == 64 {
+                    return Err(refuse(10, 0));
+                }
+                (new.post_x[posts], new.post_y[posts]) = at;
+                new.posts += 1;
+                for i in 0..stops {
+                    new.near[i] = self.near[i].min(self.travel(i, at));
+                }
+            }
+            Kind::RemovePost => {
+                let first = (0..posts).find(|&i| (self.post_x[i], self.post_y[i]) == at).ok_or(refuse(9, 0))?;
+                if posts == 1 {
+                    return Err(refuse(5, 0));
+                }
+                take_out(&mut new.post_x, first, posts);
+                take_out(&mut new.post_y, first, posts);
+                new.posts -= 1;
+                for i in 0..stops {
+                    // as far as its near: it may have been the closest
+                    if self.near[i] == self.travel(i, at) {
+                        new.near[i] = new.closest(i);
+                    }
+                }
+            }
+            Kind::AddStop => {
+                if stops == 512 {
+                    return Err(refuse(10, 0));
+                }
+                (new.stop_x[stops], new.stop_y[stops]) = at;
+                new.visits[stops] = visits;
+                new.near[stops] = new.closest(stops);
+                new.stops += 1;
+            }
+            Kind::RemoveStop => {
+                let item = (at, visits);
+                let first = (0..stops).find(|&i| ((self.stop_x[i], self.stop_y[i]), self.visits[i]) == item).ok_or(refuse(9, 0))?;
+                if stops == 1 {
+                    return Err(refuse(6, 0));
+                }
+                take_out(&mut new.stop_x, first, stops);
+                take_out(&mut new.stop_y, first, stops);
+                take_out(&mut new.visits, first, stops);
+                take_out(&mut new.near, first, stops);
+                new.stops -= 1;
+            }
+        }
+        new.before = (0..new.stops as usize).map(|i| new.visits[i] * new.near[i]).sum();
+        Ok(new)
+    }
 }
 
 // ---- pricing

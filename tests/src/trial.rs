@@ -34,6 +34,17 @@ extern "C" {
         out_len: usize,
         which: u64,
     ) -> i64;
+    fn trial_change(
+        coordinates: *mut i64,
+        coordinates_len: usize,
+        naturals: *mut u64,
+        naturals_len: usize,
+        kind: u64,
+        x: i64,
+        y: i64,
+        visits: u64,
+        which: u64,
+    ) -> i64;
 }
 
 // ---- reading
@@ -151,4 +162,11 @@ pub fn read(job: &[u8], coordinates: &mut [i64], naturals: &mut [u64], which: u6
 pub fn write(coordinates: &[i64], naturals: &[u64], rounds: u64, out: &mut [u8], which: u64) -> i64 {
     let (c, n) = (coordinates.len(), naturals.len());
     unsafe { trial_write(coordinates.as_ptr(), c, naturals.as_ptr(), n, rounds, out.as_mut_ptr(), out.len(), which) }
+}
+
+/// A number of a changing call's answer, from 0: the number of the refusal, its line (0 and 0 for none). The least number where there is
+/// none. `kind` is the number of a `Kind`; with any other, too, the least number, and nothing changes. The lists get the record's numbers.
+pub fn change(coordinates: &mut [i64], naturals: &mut [u64], kind: u64, at: Place, visits: u64, which: u64) -> i64 {
+    let (c, n) = (coordinates.len(), naturals.len());
+    unsafe { trial_change(coordinates.as_mut_ptr(), c, naturals.as_mut_ptr(), n, kind, at.0, at.1, visits, which) }
 }

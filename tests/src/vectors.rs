@@ -1,7 +1,8 @@
 //! The marked decks of document 01. And jobs with an axis line, and some without, each with the report or the refusal that documents 01 and
-//! 02 give it.
+//! 02 give it. And changes of decks, each with what card 6 of document 02 makes of it.
 
 use crate::decks::CASE_A;
+use crate::reference::{read, Change, Job, Kind, Place, Stop};
 
 pub fn case_a(rounds: i64) -> String {
     format!("area=2,2,8,8\nposts=1\npost=0,0\nstops=2\nstop=4,3,2\nstop=8,12,1\nrounds={rounds}\n")
@@ -147,4 +148,102 @@ pub fn refusals() -> Vec<(String, i64, i64)> {
     jobs.push((with("area=2,2,8,8", "axis=9,1", "posts=0\nstops=0\n"), 5, 0));
     jobs.push((with("area=2,2,8,8", "axis=9,1", "posts=1\npost=0,0\nstops=0\n"), 6, 0));
     jobs
+}
+
+/// The numbers of a text, which stand between commas.
+fn numbers(text: &str) -> Vec<i64> {
+    text.split(',').map(|n| n.parse().unwrap()).collect()
+}
+
+/// A change by its line.
+pub fn change(line: &str) -> Change {
+    let (key, values) = line.split_once('=').unwrap();
+    let kind = Kind::ALL[["+post", "-post", "+stop", "-stop"].iter().position(|k| *k == key).unwrap()];
+    let values: Vec<&str> = values.split(',').collect();
+    assert_eq!(values.len(), if kind.of_a_post() { 2 } else { 3 }, "{line}");
+    Change { kind, at: (values[0].parse().unwrap(), values[1].parse().unwrap()), visits: values.get(2).map_or(0, |n| n.parse().unwrap()) }
+}
+
+/// A change, the number of its refusal (0 for none), and the deck behind it: posts, stops, near of each stop, before.
+type Row = (&'static str, i64, &'static str, &'static str, &'static [u64], u64);
+
+/// A row of `changes`.
+pub struct Changed {
+    pub change: Change,
+    pub refused: i64,
+    pub job: Job,
+    pub near: &'static [u64],
+    pub before: u64,
+}
+
+const CHANGES_OF_CASE_A: [Row; 25] = [
+    ("+post=4,3", 0, "0,0 4,3", "4,3,2 8,12,1", &[0, 13], 13),
+    ("+post=8,12", 0, "0,0 4,3 8,12", "4,3,2 8,12,1", &[0, 0], 0),
+    // the first stop goes back to 0,0, and the second stays at its own post
+    ("-post=4,3", 0, "0,0 8,12", "4,3,2 8,12,1", &[7, 0], 14),
+    ("-post=0,0", 0, "8,12", "4,3,2 8,12,1", &[13, 0], 26),
+    // the only one; 9 comes before 5, and 3 before both
+    ("-post=8,12", 5, "8,12", "4,3,2 8,12,1", &[13, 0], 26),
+    ("-post=0,0", 9, "8,12", "4,3,2 8,12,1", &[13, 0], 26),
+    ("-post=12,8", 9, "8,12", "4,3,2 8,12,1", &[13, 0], 26),
+    ("-post=20001,12", 3, "8,12", "4,3,2 8,12,1", &[13, 0], 26),
+    ("-post=8,-20001", 3, "8,12", "4,3,2 8,12,1", &[13, 0], 26),
+    ("+post=0,20001", 3, "8,12", "4,3,2 8,12,1", &[13, 0], 26),
+    ("+stop=8,12,1", 0, "8,12", "4,3,2 8,12,1 8,12,1", &[13, 0, 0], 26),
+    ("+stop=4,3,5", 0, "8,12", "4,3,2 8,12,1 8,12,1 4,3,5", &[13, 0, 0, 13], 91),
+    ("+stop=8,12,0", 3, "8,12", "4,3,2 8,12,1 8,12,1 4,3,5", &[13, 0, 0, 13], 91),
+    ("+stop=8,12,65536", 3, "8,12", "4,3,2 8,12,1 8,12,1 4,3,5", &[13, 0, 0, 13], 91),
+    ("-stop=8,12,1", 0, "8,12", "4,3,2 8,12,1 4,3,5", &[13, 0, 13], 91),
+    // the place alone is not enough
+    ("-stop=4,3,1", 9, "8,12", "4,3,2 8,12,1 4,3,5", &[13, 0, 13], 91),
+    ("-stop=4,3,2", 0, "8,12", "8,12,1 4,3,5", &[0, 13], 65),
+    ("-stop=4,3,5", 0, "8,12", "8,12,1", &[0], 0),
+    ("-stop=8,12,1", 6, "8,12", "8,12,1", &[0], 0),
+    ("-stop=8,12,2", 9, "8,12", "8,12,1", &[0], 0),
+    ("-stop=8,12,65536", 3, "8,12", "8,12,1", &[0], 0),
+    ("-stop=8,12,0", 3, "8,12", "8,12,1", &[0], 0),
+    ("+post=0,0", 0, "8,12 0,0", "8,12,1", &[0], 0),
+    ("-post=8,12", 0, "0,0", "8,12,1", &[20], 20),
+    ("+stop=4,3,2", 0, "0,0", "8,12,1 4,3,2", &[20, 7], 34),
+];
+
+const CHANGES_WITH_AXIS_COSTS: [Row; 8] = [
+    // the first of two at one place: the other is as close
+    ("-post=4,4", 0, "-4,-3 4,4", "1,-1,5 4,4,65535 2,-2,1 -4,-2,9", &[19, 0, 18, 2], 131),
+    ("+post=2,-2", 0, "-4,-3 4,4 2,-2", "1,-1,5 4,4,65535 2,-2,1 -4,-2,9", &[5, 0, 0, 2], 43),
+    ("-post=4,4", 0, "-4,-3 2,-2", "1,-1,5 4,4,65535 2,-2,1 -4,-2,9", &[5, 18, 0, 2], 1_179_673),
+    ("-post=4,4", 9, "-4,-3 2,-2", "1,-1,5 4,4,65535 2,-2,1 -4,-2,9", &[5, 18, 0, 2], 1_179_673),
+    ("+post=-4,-3", 0, "-4,-3 2,-2 -4,-3", "1,-1,5 4,4,65535 2,-2,1 -4,-2,9", &[5, 18, 0, 2], 1_179_673),
+    ("-post=-4,-3", 0, "2,-2 -4,-3", "1,-1,5 4,4,65535 2,-2,1 -4,-2,9", &[5, 18, 0, 2], 1_179_673),
+    ("-stop=4,4,65535", 0, "2,-2 -4,-3", "1,-1,5 2,-2,1 -4,-2,9", &[5, 0, 2], 43),
+    ("-post=-4,-3", 0, "2,-2", "1,-1,5 2,-2,1 -4,-2,9", &[5, 0, 18], 187),
+];
+
+/// From the longest travel and back to it.
+const CHANGES_AT_THE_ENDS: [Row; 6] = [
+    ("+post=-20000,20000", 0, "20000,20000 -20000,20000", "-20000,-20000,65535", &[360_000], 23_592_600_000),
+    ("+stop=20000,20000,1", 0, "20000,20000 -20000,20000", "-20000,-20000,65535 20000,20000,1", &[360_000, 0], 23_592_600_000),
+    ("-post=20000,20000", 0, "-20000,20000", "-20000,-20000,65535 20000,20000,1", &[360_000, 360_000], 23_592_960_000),
+    ("+post=20000,20000", 0, "-20000,20000 20000,20000", "-20000,-20000,65535 20000,20000,1", &[360_000, 0], 23_592_600_000),
+    ("-post=-20000,20000", 0, "20000,20000", "-20000,-20000,65535 20000,20000,1", &[720_000, 0], 47_185_200_000),
+    ("-stop=20000,20000,1", 0, "20000,20000", "-20000,-20000,65535", &[720_000], 47_185_200_000),
+];
+
+/// Runs of changes, worked out by hand: the job at first, and each change in turn with what it makes.
+pub fn changes() -> Vec<(String, Vec<Changed>)> {
+    let stops = "stops=4\nstop=1,-1,5\nstop=4,4,65535\nstop=2,-2,1\nstop=-4,-2,9\n";
+    let axis_costs = format!("area=0,0,1,1\naxis=3,2\nposts=3\npost=-4,-3\npost=4,4\npost=4,4\n{stops}rounds=0\n");
+    let ends = "area=0,0,0,0\naxis=9,9\nposts=1\npost=20000,20000\nstops=1\nstop=-20000,-20000,65535\nrounds=1000\n";
+    let row = |start: &Job, (line, refused, posts, stops, near, before): Row| {
+        let items = |text: &str| text.split(' ').map(numbers).collect::<Vec<Vec<i64>>>();
+        let posts: Vec<Place> = items(posts).iter().map(|v| (v[0], v[1])).collect();
+        let stops = items(stops).iter().map(|v| Stop { at: (v[0], v[1]), visits: v[2] }).collect();
+        Changed { change: change(line), refused, job: Job { posts, stops, ..start.clone() }, near, before }
+    };
+    let runs = [(CASE_A.into(), &CHANGES_OF_CASE_A[..]), (axis_costs, &CHANGES_WITH_AXIS_COSTS), (ends.into(), &CHANGES_AT_THE_ENDS)];
+    runs.map(|(text, rows)| {
+        let start = read(text.as_bytes()).unwrap();
+        (text, rows.iter().map(|&r| row(&start, r)).collect())
+    })
+    .into()
 }

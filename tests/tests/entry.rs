@@ -41,6 +41,8 @@ fn call(random: &mut Random, bytes: &[u8], want: &Result<String, i64>, length: u
     };
     let job = || String::from_utf8_lossy(bytes).into_owned();
     assert_eq!(got, result, "output of {length} bytes\n{}", job());
+    // 9 and 10 are those of a change
+    assert!(got >= -8, "{}", job());
     assert!(lent == after, "output of {length} bytes: {}\n{}", String::from_utf8_lossy(&lent[BESIDE..]), job());
     assert!(lent_job == job_before, "the job's bytes changed\n{}", job());
     got

@@ -35,6 +35,8 @@ fn answer<'a>(pieces: impl IntoIterator<Item = &'a [u8]>, pause: Duration) -> St
 fn check(bytes: &[u8]) {
     let got = answer([bytes], Duration::ZERO);
     assert_eq!(got, answer_text(bytes), "{}", String::from_utf8_lossy(bytes));
+    // 9 and 10 are those of a change
+    assert!(!got.starts_with("refused=9\n") && !got.starts_with("refused=10\n"), "{}", String::from_utf8_lossy(bytes));
 }
 
 #[test]

@@ -80,6 +80,8 @@ fn check_figure(bytes: &[u8], before: &Lent, after: &Lent, which: u64, want: i64
 fn check(random: &mut Random, bytes: &[u8], answer: &Answer, before: Lent, whole: bool) -> Result<Found, Refusal> {
     let (want, after) = expected(answer, &before);
     let (number, line) = want.as_ref().map_or_else(|r| (-r.number, r.line), |_| (0, 0));
+    // 9 and 10 are those of a change
+    assert!((-8..=0).contains(&number), "{}", text(bytes));
     let mut m = before.clone();
     assert_eq!(trial::report(bytes, &mut m.cells, &mut m.out), number, "{}", text(bytes));
     assert_eq!(text(&m.out), text(&after.out), "{}", text(bytes));

@@ -1,9 +1,9 @@
 //! The reference against itself, on random decks: what documents 01 and 02 promise of their rules. And against the vectors.
 
 use siting_tests::generate::{each_job, job, job_of, rect, seed, spelled, Random};
-use siting_tests::reference::{answer_text, brute_force, exhaustive, read, saved, search, spell, travel, write};
-use siting_tests::reference::{Axis, Deck, Job, Place, Record, Rect, Refusal, Stop};
-use siting_tests::vectors::{refusals, reports};
+use siting_tests::reference::{answer_text, brute_force, changed, exhaustive, read, saved, search, spell, travel, write};
+use siting_tests::reference::{Axis, Change, Deck, Job, Kind, Place, Record, Rect, Refusal, Stop};
+use siting_tests::vectors::{changes, refusals, reports};
 
 #[test]
 fn a_finished_search_finds_the_earliest_cheapest_point() {
@@ -67,6 +67,80 @@ fn a_record_has_the_near_of_each_stop_and_before() {
         assert!(record.near[j.stops.len()..].iter().all(|&near| near == 0));
         assert!(j.posts.iter().all(|&p| deck.cost(p) == record.before as i64));
     });
+}
+
+// ---- changes
+
+#[test]
+fn changes_make_what_was_worked_out_by_hand() {
+    for (text, rows) in changes() {
+        let mut job = read(text.as_bytes()).unwrap();
+        let mut record = Record::of(&job);
+        for row in rows {
+            let (lists, numbers) = (changed(&job, &row.change), record.changed(&row.change));
+            let refused = (row.refused != 0).then_some(Refusal { number: row.refused, line: 0 });
+            assert_eq!((lists.as_ref().err(), numbers.as_ref().err()), (refused.as_ref(), refused.as_ref()), "{}", row.change);
+            (job, record) = (lists.unwrap_or(job), numbers.unwrap_or(record));
+            assert_eq!(job, row.job, "{}", row.change);
+            assert!(record == Record::of(&job), "{}", row.change);
+            assert_eq!((&record.near[..job.stops.len()], record.before), (row.near, row.before), "{}", row.change);
+        }
+    }
+}
+
+/// A change of one that is held, of one like it, or of any. Few places and visits: items are often equal.
+fn any_change(random: &mut Random, job: &Job) -> Change {
+    let mut kind = random.pick(&Kind::ALL);
+    if random.one_in(3) {
+        kind = if kind.of_a_post() { Kind::RemovePost } else { Kind::RemoveStop };
+    }
+    let (mut at, mut visits) = ((random.range(-2, 2), random.range(-2, 2)), random.range(1, 3) as u64);
+    if random.one_in(2) {
+        let stop = random.pick(&job.stops);
+        at = if kind.of_a_post() { random.pick(&job.posts) } else { stop.at };
+        visits = stop.visits as u64;
+    }
+    match random.range(1, 20) {
+        1 => at.0 = random.pick(&[20_001, -20_001, i64::MIN, i64::MAX]),
+        2 => visits = random.pick(&[0, 65_536, u64::MAX]),
+        _ => {}
+    }
+    Change { kind, at, visits }
+}
+
+/// The two ways in which the reference changes a deck, and what is promised of both.
+#[test]
+fn a_changed_record_is_that_of_the_changed_job() {
+    let mut random = Random::new(seed());
+    let mut seen = [0; 11];
+    for _ in 0..300 {
+        let size = random.range(1, 3);
+        let mut job = job_of(&mut random, size, 8);
+        let mut record = Record::of(&job);
+        for _ in 0..100 {
+            let change = any_change(&mut random, &job);
+            let (lists, numbers) = (changed(&job, &change), record.changed(&change));
+            assert_eq!(numbers.as_ref().err(), lists.as_ref().err(), "{change}");
+            let Ok(next) = lists else {
+                seen[lists.unwrap_err().number as usize] += 1;
+                continue;
+            };
+            seen[0] += 1;
+            record = numbers.unwrap();
+            assert!(record == Record::of(&next), "{change}");
+            // near never falls where a post goes, and never rises where one comes
+            let near = |job: &Job| Deck::new(job).near;
+            match change.kind {
+                Kind::AddPost => assert!(near(&next).iter().zip(near(&job)).all(|(new, old)| *new <= old), "{change}"),
+                Kind::RemovePost => assert!(near(&next).iter().zip(near(&job)).all(|(new, old)| *new >= old), "{change}"),
+                Kind::AddStop => assert_eq!(near(&next)[..job.stops.len()], near(&job), "{change}"),
+                Kind::RemoveStop => assert_eq!(next.stops.len() + 1, job.stops.len(), "{change}"),
+            }
+            job = next;
+        }
+    }
+    println!("{seen:?}");
+    assert!(seen[0] > 10_000 && [3, 5, 6, 9].iter().all(|&i| seen[i] > 50) && seen[1..3] == [0, 0] && seen[7..9] == [0, 0], "{seen:?}");
 }
 
 // ---- axis costs
