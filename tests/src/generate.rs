@@ -49,6 +49,17 @@ pub fn each_job(count: usize, bytes: impl Fn(&mut Random) -> Vec<u8>, mut check:
     }
 }
 
+/// So many turns, and then more until enough was seen, up to twenty times as many: no test fails by chance.
+pub fn turns<T: std::fmt::Debug>(seen: &mut T, count: usize, enough: impl Fn(&T) -> bool, mut turn: impl FnMut(&mut T, usize)) {
+    let mut made = 0;
+    while made < count || made < 20 * count && !enough(seen) {
+        turn(seen, made);
+        made += 1;
+    }
+    println!("{made} turns of {count}: {seen:?}");
+    assert!(enough(seen), "{seen:?}");
+}
+
 /// Axis costs, 1,1 about half the time.
 pub fn axis(random: &mut Random) -> Axis {
     if random.one_in(2) {

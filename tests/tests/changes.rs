@@ -3,7 +3,7 @@
 
 use siting_tests::decks::{folder, CASE_A};
 use siting_tests::entry;
-use siting_tests::generate::{axis, job, largest, rect, seed, special, Random};
+use siting_tests::generate::{axis, job, largest, rect, seed, special, turns, Random};
 use siting_tests::records::{coordinate, drawn, held, items, litter, mended, natural, replace, valid, NATURALS, NEVER};
 use siting_tests::reference::{changed, read, spell, spell_out, travel, Axis, Change, Job, Kind, Place, Record, Rect, Refusal, Stop};
 use siting_tests::text;
@@ -72,6 +72,9 @@ fn check_figures(job: &Job, record: &Record) {
     assert!(record.visits[stops..].iter().chain(&record.near[stops..]).all(|&n| n == 0));
 }
 
+/// The refusals that a change of each kind may get.
+const MAY_GET: [&[usize]; 4] = [&[3, 10], &[3, 5, 9], &[3, 10], &[3, 6, 9]];
+
 /// How often each answer was seen, by the kind of the change, and how often what makes a change a hard one.
 #[derive(Default, Debug)]
 struct Seen {
@@ -93,16 +96,18 @@ struct Seen {
 }
 
 impl Seen {
-    fn add(&mut self, old: &Standing, change: &Change, new: Result<&Standing, Refusal>) {
+    fn answer<T>(&mut self, change: &Change, answer: Result<T, Refusal>) {
         let kind = change.kind as usize;
-        let new = match new {
-            Ok(new) => new,
-            Err(why) => {
-                self.refused[kind][why.number as usize] += 1;
-                return;
+        match answer {
+            Ok(_) => self.made[kind] += 1,
+            Err(Refusal { number, line }) => {
+                assert!(MAY_GET[kind].contains(&(number as usize)) && line == 0, "{change} gets {number}, line {line}");
+                self.refused[kind][number as usize] += 1;
             }
-        };
-        self.made[kind] += 1;
+        }
+    }
+
+    fn add(&mut self, old: &Standing, change: &Change, new: &Standing) {
         let stop = Stop { at: change.at, visits: change.visits as i64 };
         self.of_equals += match change.kind {
             Kind::RemovePost => goes_before_others(&old.job.posts, &change.at),
@@ -126,22 +131,20 @@ impl Seen {
         self.most_stops += (new.record.stops == 512) as usize;
     }
 
-    fn made(&self) -> usize {
-        self.made.iter().sum()
+    /// How many changes were made, if each kind was made so often.
+    fn made(&self, each: usize) -> usize {
+        if self.made.iter().all(|&n| n >= each) { self.made.iter().sum() } else { 0 }
     }
 
-    /// Whether each kind of change has the refusals that it may have, and no other: 3 so often, 5 or 6, 9, 10.
+    /// Whether each kind of change got its refusals so often: 3, then 5 or 6, 9, 10.
     fn has(&self, [range, only, not_held, full]: [usize; 4]) -> bool {
-        println!("{self:?}");
-        let add = [(3, range), (10, full)];
-        let remove = |number: usize| [(3, range), (number, only), (9, not_held)];
-        let may: [&[(usize, usize)]; 4] = [&add, &remove(5), &add, &remove(6)];
-        may.iter().zip(&self.refused).all(|(may, seen)| {
-            (0..11).all(|number| match may.iter().find(|m| m.0 == number) {
-                Some((_, often)) => seen[number] >= *often,
-                None => seen[number] == 0,
-            })
-        })
+        let often = |number: usize| match number {
+            3 => range,
+            5 | 6 => only,
+            9 => not_held,
+            _ => full,
+        };
+        MAY_GET.iter().zip(&self.refused).all(|(may, seen)| may.iter().all(|&number| seen[number] >= often(number)))
     }
 }
 
@@ -171,12 +174,9 @@ impl Standing {
         let job = changed(&self.job, change);
         let record = check_change(random, &self.record, change);
         assert_eq!(record.as_ref().err(), job.as_ref().err(), "{change}\n{}", text(&spell(&self.job)));
-        if let Err(why) = job {
-            seen.add(self, change, Err(why));
-            return Err(why);
-        }
+        seen.answer(change, record.as_ref().map_err(|why| *why));
         let new = Standing { job: job?, record: record? };
-        seen.add(self, change, Ok(&new));
+        seen.add(self, change, &new);
         *self = new;
         check_figures(&self.job, &self.record);
         self.check_read(random);
@@ -375,96 +375,93 @@ fn run(random: &mut Random, seen: &mut Seen, job: Job, pool: &Pool, steps: usize
 #[test]
 fn runs_of_changes_leave_the_record_of_the_edited_job() {
     let mut random = Random::new(seed());
-    let mut seen = Seen::default();
-    for i in 0..150 {
+    let enough = |seen: &Seen| {
+        let made = seen.made(3_000) > 20_000 && seen.written > 2_000 && seen.axis_costs > 5_000;
+        made && seen.has([300, 500, 100, 0]) && [seen.further, seen.closer, seen.as_close].iter().all(|&n| n > 5_000)
+    };
+    turns(&mut Seen::default(), 150, enough, |seen, i| {
         let job = if i % 3 == 0 { special(&mut random) } else { job(&mut random) };
         let pool = Pool::any(&mut random);
-        run(&mut random, &mut seen, job, &pool, 300);
-    }
-    assert!(seen.has([300, 500, 100, 0]));
-    assert!(seen.made() > 20_000 && seen.made.iter().all(|&n| n > 3_000) && seen.written > 2_000, "{seen:?}");
-    assert!(seen.further > 5_000 && seen.closer > 5_000 && seen.as_close > 5_000 && seen.axis_costs > 5_000, "{seen:?}");
+        run(&mut random, seen, job, &pool, 300);
+    });
 }
 
 /// Few places and visits: of several equal items the first one goes, and the others keep their order.
 #[test]
 fn runs_of_changes_with_many_equal_items() {
     let mut random = Random::new(seed());
-    let mut seen = Seen::default();
-    for _ in 0..60 {
+    let enough = |seen: &Seen| {
+        let refused = seen.has([100, 100, 30, 0]) && seen.refused[Kind::AddPost as usize][10] > 50;
+        refused && seen.made(1_000) > 10_000 && seen.of_equals > 2_000 && seen.as_close > 5_000
+    };
+    turns(&mut Seen::default(), 60, enough, |seen, _| {
         let pool = Pool::few(&mut random);
         let (posts, stops) = (random.range(1, 64), random.range(1, 60));
         let job = pool.job(&mut random, posts, stops);
-        run(&mut random, &mut seen, job, &pool, 400);
-    }
-    assert!(seen.has([100, 100, 30, 0]) && seen.refused[0][10] > 50);
-    assert!(seen.made() > 10_000 && seen.of_equals > 2_000 && seen.as_close > 5_000, "{seen:?}");
+        run(&mut random, seen, job, &pool, 400);
+    });
 }
 
 #[test]
 fn runs_of_changes_of_the_fullest_decks() {
     let mut random = Random::new(seed());
-    let mut seen = Seen::default();
-    for _ in 0..16 {
+    let enough = |seen: &Seen| {
+        seen.has([10, 0, 5, 50]) && seen.most_posts > 50 && seen.most_stops > 50 && seen.further > 500 && seen.closer > 500
+    };
+    turns(&mut Seen::default(), 16, enough, |seen, _| {
         let pool = Pool::any(&mut random);
         let (posts, stops) = (random.range(62, 64), random.range(508, 512));
         let job = if random.one_in(4) { largest(&mut random) } else { pool.job(&mut random, posts, stops) };
-        run(&mut random, &mut seen, job, &pool, 250);
-    }
-    assert!(seen.has([10, 0, 5, 50]));
-    assert!(seen.most_posts > 50 && seen.most_stops > 50 && seen.further > 500 && seen.closer > 500, "{seen:?}");
+        run(&mut random, seen, job, &pool, 250);
+    });
 }
 
 #[test]
 fn runs_of_changes_of_decks_with_one_post_and_one_stop() {
     let mut random = Random::new(seed());
-    let mut seen = Seen::default();
-    for _ in 0..60 {
+    let enough = |seen: &Seen| seen.has([50, 100, 50, 0]) && seen.one_post > 1_000 && seen.one_stop > 1_000 && seen.made(500) > 4_000;
+    turns(&mut Seen::default(), 60, enough, |seen, _| {
         let pool = Pool::any(&mut random);
-        let mut deck = pool.job(&mut random, 1, 1);
+        let job = pool.job(&mut random, 1, 1);
+        let mut deck = Standing::new(&mut random, job);
         // what is added is mostly removed again
         let course = Course { posts: 5, adds: random.range(3, 5) };
         for _ in 0..200 {
-            let mut standing = Standing::new(&mut random, deck.clone());
-            let change = course.next(&mut random, &deck, &pool);
-            let _ = standing.change(&mut random, &mut seen, &change);
-            deck = standing.job;
+            let change = course.next(&mut random, &deck.job, &pool);
+            let _ = deck.change(&mut random, seen, &change);
         }
-    }
-    assert!(seen.has([50, 100, 50, 0]));
-    assert!(seen.one_post > 1_000 && seen.one_stop > 1_000 && seen.made() > 4_000, "{seen:?}");
+    });
 }
 
 /// Coordinates at the ends of the range and the most visits, with the most axis costs and with others.
 #[test]
 fn runs_of_changes_at_the_ends_of_the_ranges() {
     let mut random = Random::new(seed());
-    let mut seen = Seen::default();
-    for i in 0..40 {
+    let enough = |seen: &Seen| {
+        seen.has([50, 50, 20, 0]) && seen.longest_travel > 50 && seen.further > 500 && seen.closer > 500
+    };
+    turns(&mut Seen::default(), 40, enough, |seen, i| {
         let pool = if i % 4 < 2 { Pool::corners() } else { Pool::ends() };
         let (posts, stops) = (random.range(1, 3), random.range(1, if i % 8 == 0 { 512 } else { 30 }));
         let mut job = pool.job(&mut random, posts, stops);
         if i % 2 == 0 {
             job.axis = Axis { a: 9, b: 9 };
         }
-        run(&mut random, &mut seen, job, &pool, 250);
-    }
-    assert!(seen.has([50, 50, 20, 0]));
-    assert!(seen.longest_travel > 50 && seen.further > 500 && seen.closer > 500, "{seen:?}");
+        run(&mut random, seen, job, &pool, 250);
+    });
 }
 
 #[test]
 fn runs_of_changes_with_all_axis_costs() {
     let mut random = Random::new(seed());
-    let mut seen = Seen::default();
-    for i in 0..81 {
+    let enough = |seen: &Seen| seen.made(200) > 2_000 && seen.axis_costs > 2_000 && seen.further > 200 && seen.closer > 200;
+    turns(&mut Seen::default(), 81, enough, |seen, i| {
         let pool = Pool::many(&mut random);
         let (posts, stops) = (random.range(1, 5), random.range(1, 9));
-        let job = Job { axis: Axis { a: 1 + i % 9, b: 1 + i / 9 }, ..pool.job(&mut random, posts, stops) };
-        run(&mut random, &mut seen, job, &pool, 60);
-    }
-    println!("{seen:?}");
-    assert!(seen.made() > 2_000 && seen.axis_costs > 2_000 && seen.further > 200 && seen.closer > 200, "{seen:?}");
+        let (a, b) = (1 + i as i64 % 9, 1 + i as i64 / 9 % 9);
+        let job = Job { axis: Axis { a, b }, ..pool.job(&mut random, posts, stops) };
+        run(&mut random, seen, job, &pool, 60);
+    });
 }
 
 /// From one post and one stop up to all that a deck can hold, and down again, three times: from the front, from the back and in any order.
@@ -511,8 +508,7 @@ fn decks_are_filled_and_emptied() {
 #[test]
 fn adding_and_removing_gives_the_record_back() {
     let mut random = Random::new(seed());
-    let mut given_back = 0;
-    for _ in 0..1_000 {
+    turns(&mut 0, 1_000, |given_back| *given_back > 1_500, |given_back, _| {
         let job = if random.one_in(20) { largest(&mut random) } else { job(&mut random) };
         let record = Record::of(&job);
         let stop = Stop { at: (random.range(-20_000, 20_000), random.range(-20_000, 20_000)), visits: random.range(1, 65_535) };
@@ -522,11 +518,10 @@ fn adding_and_removing_gives_the_record_back() {
             if let (false, Ok(added)) = (held, check_change(&mut random, &record, &of_stop(add, stop))) {
                 let back = check_change(&mut random, &added, &of_stop(remove, stop));
                 assert!(back.as_ref() == Ok(&record), "{stop:?}\n{}", text(&spell(&job)));
-                given_back += 1;
+                *given_back += 1;
             }
         }
-    }
-    assert!(given_back > 1_500, "{given_back}");
+    });
 }
 
 // ---- worked out by hand
@@ -568,8 +563,9 @@ fn the_changes_of_the_seeds() {
             files += 1;
         }
     }
-    assert!(seen.has([1, 1, 3, 1]));
-    assert!(files >= 4 && seen.made.iter().all(|&n| n > 3) && seen.of_equals > 3 && seen.longest_travel > 0, "{seen:?}");
+    println!("{seen:?}");
+    assert!(files >= 4 && seen.has([1, 1, 3, 1]), "{files}, {seen:?}");
+    assert!(seen.made.iter().all(|&n| n > 3) && seen.of_equals > 3 && seen.longest_travel > 0, "{seen:?}");
 }
 
 /// Every order of up to seven items of two values: which one went is seen by what is left.
@@ -784,7 +780,7 @@ fn a_freed_place_is_taken_again() {
         let change = of_stop(add, pool.stop(&mut random));
         assert_eq!(deck.change(&mut random, &mut seen, &change), Ok(()), "{change}");
     }
-    assert!(seen.has([0, 0, 0, 360]));
+    assert!(seen.has([0, 0, 0, 360]), "{seen:?}");
 }
 
 // ---- records that reading did not make
@@ -822,42 +818,42 @@ fn changeable(random: &mut Random) -> Record {
 #[test]
 fn any_record_with_a_file_is_changed_by_its_own_numbers() {
     let mut random = Random::new(seed());
-    let (mut made, mut refusals) = ([0; 4], [0; 11]);
     // stops whose near fell where a post went, or stayed below or above what it should be
-    let (mut fell, mut below, mut above) = (0, 0, 0);
-    for _ in 0..700 {
+    let (fell, below, above) = (0, 0, 0);
+    let enough = |(seen, fell, below, above): &(Seen, usize, usize, usize)| {
+        seen.made(1_500) > 0 && seen.has([50, 50, 50, 0]) && *fell > 200 && *below > 1_000 && *above > 1_000
+    };
+    turns(&mut (Seen::default(), fell, below, above), 700, enough, |(seen, fell, below, above), _| {
         let (mut record, pool) = (changeable(&mut random), Pool::any(&mut random));
         for _ in 0..30 {
             let change = Course { posts: 5, adds: 4 }.next(&mut random, &held(&record), &pool);
-            match check_change(&mut random, &record, &change) {
-                Err(why) => refusals[why.number as usize] += 1,
-                Ok(new) => {
-                    made[change.kind as usize] += 1;
-                    if change.kind == Kind::RemovePost {
-                        let right = mended(&new).near;
-                        for i in 0..new.stops as usize {
-                            fell += (new.near[i] < record.near[i]) as usize;
-                            below += (new.near[i] < right[i]) as usize;
-                            above += (new.near[i] > right[i]) as usize;
-                        }
-                    }
-                    assert!(new.can_be_changed());
-                    record = new;
+            let answer = check_change(&mut random, &record, &change);
+            seen.answer(&change, answer.as_ref().map_err(|why| *why));
+            let Ok(new) = answer else {
+                continue;
+            };
+            if change.kind == Kind::RemovePost {
+                let right = mended(&new).near;
+                for i in 0..new.stops as usize {
+                    *fell += (new.near[i] < record.near[i]) as usize;
+                    *below += (new.near[i] < right[i]) as usize;
+                    *above += (new.near[i] > right[i]) as usize;
                 }
             }
+            assert!(new.can_be_changed());
+            record = new;
         }
-    }
-    println!("{made:?} {refusals:?}, {fell} fell, {below} below, {above} above");
-    assert!(made.iter().all(|&n| n > 1_500) && fell > 200 && below > 1_000 && above > 1_000);
-    assert!([3, 5, 6, 9].iter().all(|&i| refusals[i] > 50) && refusals[..3] == [0; 3] && refusals[4] == 0 && refusals[7..9] == [0; 2]);
+    });
 }
 
 /// Numbers of whole machine types anywhere, counts beyond the arrays, empty areas: 3, but where all that counts is in range.
 #[test]
 fn records_of_any_numbers_are_changed_or_refused_as_the_reference_says() {
     let mut random = Random::new(seed());
-    let (mut made, mut refusals, mut sound) = ([0; 4], [0; 11], 0);
-    for i in 0..6_000 {
+    let enough = |(seen, sound, not_sound): &(Seen, usize, usize)| {
+        seen.made(500) > 0 && seen.has([1_000, 20, 20, 20]) && *sound > 1_000 && *not_sound > 1_000
+    };
+    turns(&mut (Seen::default(), 0, 0), 6_000, enough, |(seen, sound, not_sound), i| {
         let ends = random.pick(&[1, 3, 30, 1_000, NEVER]);
         let mut record = match i % 3 {
             0 => drawn(&mut random, ends),
@@ -867,7 +863,7 @@ fn records_of_any_numbers_are_changed_or_refused_as_the_reference_says() {
         for _ in 0..random.range(0, 2) {
             replace(&mut random, &mut record);
         }
-        sound += record.can_be_changed() as usize;
+        *(if record.can_be_changed() { sound } else { not_sound }) += 1;
         for kind in Kind::ALL {
             let (post, stop) = items(&mut random, &record);
             let held = if kind.of_a_post() { (record.post_x[post], record.post_y[post]) } else { (record.stop_x[stop], record.stop_y[stop]) };
@@ -876,15 +872,9 @@ fn records_of_any_numbers_are_changed_or_refused_as_the_reference_says() {
                 _ => (held, record.visits[stop]),
             };
             let change = Change { kind, at, visits };
-            match check_change(&mut random, &record, &change) {
-                Err(why) => refusals[why.number as usize] += 1,
-                Ok(_) => made[kind as usize] += 1,
-            }
+            seen.answer(&change, check_change(&mut random, &record, &change));
         }
-    }
-    println!("{sound} can be changed: {made:?} {refusals:?}");
-    assert!((1_000..5_000).contains(&sound) && made.iter().all(|&n| n > 500) && refusals[3] > 5_000);
-    assert!([5, 6, 9, 10].iter().all(|&i| refusals[i] > 20) && refusals[1..3] == [0; 2] && refusals[4] == 0 && refusals[7..9] == [0; 2]);
+    });
 }
 
 /// Only numbers of the whole types, with counts in range and without.

@@ -1,6 +1,6 @@
 //! The reference against itself, on random decks: what documents 01 and 02 promise of their rules. And against the vectors.
 
-use siting_tests::generate::{each_job, job, job_of, rect, seed, spelled, Random};
+use siting_tests::generate::{each_job, job, job_of, rect, seed, spelled, turns, Random};
 use siting_tests::reference::{answer_text, brute_force, changed, exhaustive, read, saved, search, spell, travel, write};
 use siting_tests::reference::{Axis, Change, Deck, Job, Kind, Place, Record, Rect, Refusal, Stop};
 use siting_tests::vectors::{changes, refusals, reports};
@@ -113,7 +113,8 @@ fn any_change(random: &mut Random, job: &Job) -> Change {
 fn a_changed_record_is_that_of_the_changed_job() {
     let mut random = Random::new(seed());
     let mut seen = [0; 11];
-    for _ in 0..300 {
+    let enough = |seen: &[usize; 11]| seen[0] > 10_000 && [3, 5, 6, 9].iter().all(|&i| seen[i] > 50);
+    turns(&mut seen, 300, enough, |seen, _| {
         let size = random.range(1, 3);
         let mut job = job_of(&mut random, size, 8);
         let mut record = Record::of(&job);
@@ -138,9 +139,8 @@ fn a_changed_record_is_that_of_the_changed_job() {
             }
             job = next;
         }
-    }
-    println!("{seen:?}");
-    assert!(seen[0] > 10_000 && [3, 5, 6, 9].iter().all(|&i| seen[i] > 50) && seen[1..3] == [0, 0] && seen[7..9] == [0, 0], "{seen:?}");
+    });
+    assert_eq!([1, 2, 4, 7, 8].map(|i| seen[i]), [0; 5]);
 }
 
 // ---- axis costs
