@@ -1,10 +1,14 @@
--- What the functions over the calls `read` and `write` answer: a deck's record as two lists of numbers, and a figure of the answer.
+-- What the functions over the calls that read, write and change records answer: a deck's record as two lists of numbers, and a figure of
+-- the answer.
 -- Assumes nothing.
-use Rattle.std.specs.Prelude.{ℕ, Bool, cond, ◌&&◌, List, [], ◌∷◌, ◌++◌, eqb, ℤ, pos, length, get_or, take, drop}
+use Rattle.std.specs.Prelude.{ℕ, Bool, cond, ◌&&◌, List, [], ◌∷◌, ◌++◌, eqb, ltb, ℤ, pos, length, get_or, take, drop}
+use Rattle.query.specs.Place.{Place}
 use Rattle.deck.specs.declared.Deck.{Deck}
+use Rattle.change.specs.Change.{Change, add_post, remove_post, add_stop, remove_stop}
 use Rattle.calls.specs.Answers.{AnswerOf, gives, refuses}
 use Rattle.calls.specs.ReadCall.{Read, read_call}
 use Rattle.calls.specs.WriteCall.{Saved, write_call}
+use Rattle.calls.specs.ChangeCall.{AfterChange, change_call}
 use Rattle.trial.specs.Trial.{least}
 
 -- a record's numbers: the coordinates of its area, of its posts and of its stops; its axis costs, its counts of posts and stops, the visits
@@ -72,3 +76,28 @@ wrote_from which s = record { result = count_figure which s.answer; out = s.out 
 abbrev pub trial_write : List ℤ → List ℕ → ℕ → List ℕ → ℕ → WroteFrom
 trial_write zs ns rounds out which =
     cond (is_record zs ns) (wrote_from which (write_call (deck_from zs ns) rounds out)) (record { result = least; out = out })
+
+-- ---- the changes of the record that has these numbers: a figure, and the record's numbers as they are then
+-- 0 for the number and the line of a refusal where a change is made
+abbrev pub change_numbers : AnswerOf (Unit {0}) → List ℤ
+change_numbers (gives made) = pos 0 ∷ pos 0 ∷ []
+change_numbers (refuses number line) = pos number ∷ pos line ∷ []
+
+-- number `which` of them, counted from 0; the least number where there is none
+abbrev pub change_figure : ℕ → AnswerOf (Unit {0}) → ℤ
+change_figure which answer = get_or (change_numbers answer) which least
+
+-- the change of a kind: there are four, from 0 on
+abbrev pub change_of : ℕ → Place → ℕ → Change
+change_of kind at visits = cond (eqb kind 0) (add_post at)
+    (cond (eqb kind 1) (remove_post at)
+    (cond (eqb kind 2) (add_stop (record { at = at; visits = visits })) (remove_stop (record { at = at; visits = visits }))))
+
+abbrev pub change_into : ℕ → AfterChange → ReadInto
+change_into which r =
+    record { result = change_figure which r.answer; coordinates = coordinates_of r.deck; naturals = naturals_of r.deck }
+
+abbrev pub trial_change : List ℤ → List ℕ → ℕ → ℤ → ℤ → ℕ → ℕ → ReadInto
+trial_change zs ns kind x y visits which = cond (is_record zs ns && ltb kind 4)
+    (change_into which (change_call (deck_from zs ns) (change_of kind (record { x = x; y = y }) visits)))
+    (record { result = least; coordinates = zs; naturals = ns })

@@ -1,6 +1,6 @@
 // The calls `siting::report` and `siting::exhaustive`, for the tests and benchmarks from Rust: a number of the answer, and all that the
 // first leaves in the memory that it is lent. `estimates`: the call that estimates a job.
-// `records`: the calls that read and write jobs.
+// `records`: the calls that read and write jobs, and those that change a deck's record.
 #![tactic(auto)]
 
 pub mod estimates;

@@ -1,13 +1,17 @@
-// The calls `siting::read` and `siting::write`, for the tests and benchmarks from Rust. A deck's record is two lists of numbers: 1,156
+// The calls that read, write and change records, for the tests and benchmarks from Rust. A deck's record is two lists of numbers: 1,156
 // coordinates, of the area, the posts' x and y, the stops' x and y; and 1,029 others, the axis costs, the counts of posts and stops, the
 // visits, near and before.
 ghost use Rattle.std.specs.Prelude.{◌≡◌, ◌≤◌, length, get_or};
-ghost use Rattle.calls.specs.Answers.{gives};
-ghost use Rattle.trial_calls.specs.Records.{coordinates_of, naturals_of, deck_from, count_figure, trial_read, trial_write};
+ghost use Rattle.deck.specs.Rectangle.{place_of};
+ghost use Rattle.calls.specs.Answers.{gives, change_answer};
+ghost use Rattle.calls.specs.ChangeCall.{change_call};
+ghost use Rattle.trial_calls.specs.Records.{coordinates_of, naturals_of, deck_from, count_figure, change_figure, change_of};
+ghost use Rattle.trial_calls.specs.Records.{trial_read, trial_write, trial_change};
 
 use crate::refused_figure;
-use deck::{AxisCosts, Deck};
+use deck::{AxisCosts, Deck, Place, Stop};
 use limits::{POSTS, STOPS};
+use refusal::Refusal;
 use trial::NO_FIGURE;
 
 // How long the two lists are.
@@ -141,5 +145,63 @@ pub fn trial_write(
     match siting::write(deck_from(coordinates, naturals), rounds, out) {
         Ok(bytes) => count_figure(bytes as u64, which),
         Err(why) => refused_figure(1, why, which),
+    }
+}
+
+// The change of a kind: a post is added (0) or removed (1), a stop is added (2) or removed (any other number).
+fn change(deck: &mut Deck, kind: u64, at: Place, visits: u64) -> Result<(), Refusal>
+    ensures { record { answer = change_answer result; deck = deck.new }
+        ≡ change_call deck.old (change_of kind (place_of at) visits) }
+{
+    match kind {
+        0 => siting::add_post(deck, at),
+        1 => siting::remove_post(deck, at),
+        2 => siting::add_stop(deck, Stop { at, visits }),
+        _ => siting::remove_stop(deck, Stop { at, visits }),
+    }
+}
+
+// A number that goes with a change that is made: 0 twice, for no refusal. The least number behind them.
+// kept: `which` is a number, as the C functions that the tests call take it.
+fn change_figure(which: u64) -> i64
+    ensures { result ≡ change_figure which (gives tt) }
+{
+    match which {
+        0 | 1 => 0,
+        _ => NO_FIGURE,
+    }
+}
+
+// Of the answer to a change of the record that has these numbers: the number of the refusal and its line (0 for none); the least number
+// where there is no such figure. The numbers of the record as it is then are put into the two lists. The least number, and nothing put,
+// where they are not as long as a record's, or there is no such kind.
+pub fn trial_change(
+    coordinates: &mut [i64],
+    naturals: &mut [u64],
+    kind: u64,
+    x: i64,
+    y: i64,
+    visits: u64,
+    which: u64,
+) -> i64
+    ensures { record { result = result; coordinates = coordinates.new; naturals = naturals.new }
+        ≡ trial_change coordinates.old naturals.old kind x y visits which }
+{
+    if coordinates.len() != COORDINATES {
+        return NO_FIGURE;
+    }
+    if naturals.len() != NATURALS {
+        return NO_FIGURE;
+    }
+    if 3 < kind {
+        return NO_FIGURE;
+    }
+    let mut deck = deck_from(coordinates, naturals);
+    let answer = change(&mut deck, kind, Place { x, y }, visits);
+    put_coordinates(&deck, coordinates);
+    put_naturals(&deck, naturals);
+    match answer {
+        Ok(()) => change_figure(which),
+        Err(why) => trial::refusal_figure(why, which),
     }
 }

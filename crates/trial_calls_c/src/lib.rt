@@ -7,7 +7,7 @@ ghost use Rattle.calls.specs.CheapestCall.{exhaustive_call};
 ghost use Rattle.calls.specs.EstimateCall.{estimate_call};
 ghost use Rattle.trial_calls.specs.Calls.{called, figure_for, cheapest_figure};
 ghost use Rattle.trial_calls.specs.Estimates.{estimate_figure};
-ghost use Rattle.trial_calls.specs.Records.{trial_read, trial_write};
+ghost use Rattle.trial_calls.specs.Records.{trial_read, trial_write, trial_change};
 
 use trial_calls::{estimates, records};
 
@@ -68,4 +68,23 @@ pub extern "C" fn trial_write(
         ≡ trial_write coordinates.now naturals.now rounds out.old which }
 {
     records::trial_write(coordinates, naturals, rounds, out, which)
+}
+
+// Of the answer to a change of the record that has these numbers, which adds a post (0), removes one (1), adds a stop (2) or removes one
+// (3): the number of the refusal and its line (0 for none); the least number where there is no such figure. The numbers of the record as it
+// is then are put into the two lists. The least number, and nothing put, where they are not as long as a record's, or there is no such kind.
+#[unsafe(no_mangle)]
+pub extern "C" fn trial_change(
+    coordinates: &mut [i64],
+    naturals: &mut [u64],
+    kind: u64,
+    x: i64,
+    y: i64,
+    visits: u64,
+    which: u64,
+) -> i64
+    ensures { record { result = result; coordinates = coordinates.new; naturals = naturals.new }
+        ≡ trial_change coordinates.old naturals.old kind x y visits which }
+{
+    records::trial_change(coordinates, naturals, kind, x, y, visits, which)
 }
