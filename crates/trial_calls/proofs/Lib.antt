@@ -1,3 +1,4 @@
 pub mod CallLaws
 pub mod EstimateFigures
 pub mod RecordLaws
+pub mod ChangeFigures

@@ -106,7 +106,7 @@ deck_sized zs ns h k = record {
 
 -- ---- lists that are as long as a record's
 module _ (zs : List ℤ) (ns : List ℕ) where
-  as_long : length zs ≡ 1156 → length ns ≡ 1029 → is_record zs ns ≡ true
+  pub as_long : length zs ≡ 1156 → length ns ≡ 1029 → is_record zs ns ≡ true
   as_long h k = rw (eq-eqb (length zs) 1156 h, eq-eqb (length ns) 1029 k)
 
 -- ---- the numbers of the record that counts for a refusal
