@@ -148,7 +148,7 @@ pub fn trial_write(
     }
 }
 
-// The change of a kind: a post is added (0) or removed (1), a stop is added (2) or removed (any other number).
+// The change of a kind, of which there are four.
 fn change(deck: &mut Deck, kind: u64, at: Place, visits: u64) -> Result<(), Refusal>
     ensures { record { answer = change_answer result; deck = deck.new }
         ≡ change_call deck.old (change_of kind (place_of at) visits) }
@@ -172,9 +172,9 @@ fn change_figure(which: u64) -> i64
     }
 }
 
-// Of the answer to a change of the record that has these numbers: the number of the refusal and its line (0 for none); the least number
-// where there is no such figure. The numbers of the record as it is then are put into the two lists. The least number, and nothing put,
-// where they are not as long as a record's, or there is no such kind.
+// Of the answer to a change of the record that has these numbers, where kind 0 adds a post, 1 removes one, 2 adds a stop and 3 removes one:
+// the number of the refusal and its line (0 for none); the least number where there is no such figure. The numbers of the record as it is
+// then are put into the two lists. The least number, and nothing put, where they are not as long as a record's, or there is no such kind.
 pub fn trial_change(
     coordinates: &mut [i64],
     naturals: &mut [u64],

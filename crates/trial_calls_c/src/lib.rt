@@ -70,9 +70,9 @@ pub extern "C" fn trial_write(
     records::trial_write(coordinates, naturals, rounds, out, which)
 }
 
-// Of the answer to a change of the record that has these numbers, which adds a post (0), removes one (1), adds a stop (2) or removes one
-// (3): the number of the refusal and its line (0 for none); the least number where there is no such figure. The numbers of the record as it
-// is then are put into the two lists. The least number, and nothing put, where they are not as long as a record's, or there is no such kind.
+// Of the answer to a change of the record that has these numbers, where kind 0 adds a post, 1 removes one, 2 adds a stop and 3 removes one:
+// the number of the refusal and its line (0 for none); the least number where there is no such figure. The numbers of the record as it is
+// then are put into the two lists. The least number, and nothing put, where they are not as long as a record's, or there is no such kind.
 #[unsafe(no_mangle)]
 pub extern "C" fn trial_change(
     coordinates: &mut [i64],
