@@ -101,6 +101,18 @@ pub fn tame(random: &mut Random, record: &mut Record) {
         let stop = if random.below(2) == 0 { last } else { items(random, record).1 };
         record.near[stop] = 720_000 + random.below(2) as u64;
     }
+    // behind the lists sometimes the values of one item, or of two
+    if random.below(2) == 0 {
+        let ((i, j), (k, l)) = (items(random, record), items(random, record));
+        let (post, stop) = behind(record);
+        (record.post_x[post], record.post_y[post]) = (record.post_x[i], record.post_y[k]);
+        (record.stop_x[stop], record.stop_y[stop], record.visits[stop]) = (record.stop_x[j], record.stop_y[l], record.visits[l]);
+    }
+}
+
+/// The first places behind the lists, or the last ones of all.
+fn behind(record: &Record) -> (usize, usize) {
+    (record.posts.min(63) as usize, record.stops.min(511) as usize)
 }
 
 /// Which post and which stop: one that counts, if any does.
@@ -153,10 +165,10 @@ fn change(line: &[u8]) -> Change {
     Change { kind: Kind::ALL[2 * usize::from(stop) + usize::from(line[0] == b'-')], at: (next() as i64, next() as i64), visits: next() as u64 }
 }
 
-/// A change of a record: mostly of an item that it holds, sometimes with a number beside it or an end.
+/// A change of a record: mostly of an item that it holds, sometimes of one behind it, or with a number beside it or an end.
 pub fn any_change(random: &mut Random, record: &Record) -> Change {
     let kind = Kind::ALL[random.below(4)];
-    let (post, stop) = items(random, record);
+    let (post, stop) = if random.below(8) == 0 { behind(record) } else { items(random, record) };
     let (x, y) = if kind.of_a_post() { (record.post_x[post], record.post_y[post]) } else { (record.stop_x[stop], record.stop_y[stop]) };
     let (visits, end) = (record.visits[stop], ENDS[random.below(ENDS.len())]);
     let (at, visits) = match random.below(12) {
