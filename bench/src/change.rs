@@ -26,6 +26,22 @@ struct Record {
     before: u64,
 }
 
+/// The posts at scaled places: travel is plain between them.
+struct ScaledPosts {
+    axis: [i32; 2],
+    x: [i32; POSTS],
+    y: [i32; POSTS],
+    count: usize,
+}
+
+impl ScaledPosts {
+    fn closest_to(&self, x: i64, y: i64) -> u64 {
+        let (x, y) = (self.axis[0] * x as i32, self.axis[1] * y as i32);
+        let posts = self.x[..self.count].iter().zip(&self.y[..self.count]);
+        posts.fold(i32::MAX, |near, (&u, &v)| near.min((x - u).abs() + (y - v).abs())) as u64
+    }
+}
+
 impl Record {
     fn new(mut coordinates: &[i64], mut naturals: &[u64]) -> Record {
         let (c, n) = (&mut coordinates, &mut naturals);
@@ -81,9 +97,13 @@ impl Record {
         (self.axis[0] as u32 * dx + self.axis[1] as u32 * dy) as u64
     }
 
-    fn closest(&self, i: usize) -> u64 {
-        let posts = self.post_x[..self.posts].iter().zip(&self.post_y[..self.posts]);
-        posts.map(|(&x, &y)| self.travel(i, x, y)).min().unwrap_or(0)
+    fn scaled_posts(&self) -> ScaledPosts {
+        let [a, b] = self.axis.map(|cost| cost as i32);
+        let mut posts = ScaledPosts { axis: [a, b], x: [0; POSTS], y: [0; POSTS], count: self.posts };
+        for i in 0..self.posts {
+            (posts.x[i], posts.y[i]) = (a * self.post_x[i] as i32, b * self.post_y[i] as i32);
+        }
+        posts
     }
 
     fn change(&mut self, Change { kind, x, y, visits }: Change) -> Result<(), Refused> {
@@ -111,9 +131,10 @@ impl Record {
                 remove(&mut self.post_x[..posts], at);
                 remove(&mut self.post_y[..posts], at);
                 self.posts -= 1;
+                let left = self.scaled_posts();
                 for i in 0..stops {
                     if self.near[i] == self.travel(i, x, y) {
-                        self.near[i] = self.closest(i);
+                        self.near[i] = left.closest_to(self.stop_x[i], self.stop_y[i]);
                     }
                 }
             }
@@ -122,7 +143,7 @@ impl Record {
                     return Err((10, 0));
                 }
                 (self.stop_x[stops], self.stop_y[stops], self.visits[stops]) = (x, y, visits);
-                self.near[stops] = self.closest(stops);
+                self.near[stops] = self.scaled_posts().closest_to(x, y);
                 self.stops += 1;
             }
             _ => {
