@@ -1,7 +1,6 @@
 -- Every sound record can be changed.
 -- Assumes nothing.
 use mathlib.Core.Path.{◌≡◌, sym, ap, subst, ◌∙◌}
-use mathlib.Core.Option.{Option}
 use Prim.Native.Nat.{ℕ, ◌≤◌, ◌<◌}
 use native.Mathlib.Omega.{arith}
 use lib.Dec.{T, leb}
@@ -15,15 +14,13 @@ use Rattle.deck.specs.Sound.{Sound}
 use Rattle.deck.specs.declared.Deck.{Deck}
 use Rattle.deck.proofs.DeckLaws.{DeckColumns}
 use Rattle.deck.proofs.SoundLaws.{sound_columns, sound_nears}
-use Rattle.job.specs.Format.{missing_axis, read_text, accepted}
+use Rattle.job.specs.Format.{Result, missing_axis, read_text, accepted}
 use Rattle.job.specs.File.{held_job, file_text}
 use Rattle.job.proofs.Meaning.{allowed_text}
 use Rattle.job.proofs.AllowedLaws.{in_range_allowed}
-use Rattle.job_check.specs.LineFaults.{refusal_in}
 use Rattle.job_check.proofs.FileFaults.{file_spelled}
 use Rattle.job_check.proofs.AxisLaws.{saved_spells}
-use Rattle.refusal.specs.declared.Refusal.{Refusal}
-use Rattle.change.specs.ChangedRecord.{is_none, usable}
+use Rattle.change.specs.ChangedRecord.{is_accepted, usable}
 use Rattle.change.proofs.UpTo.{up_to_all}
 
 module _ (deck : Deck) (sound : Sound deck) where
@@ -50,5 +47,5 @@ module _ (deck : Deck) (sound : Sound deck) where
 
   pub sound_usable : T (usable deck)
   unfolding usable
-  sound_usable = and_intro (is_none (refusal_in (read_text (file_text deck 0)))) (list_all (λ n. leb n travel_limit) (take deck.stops deck.near))
-      (subst (λ (o : Option Refusal). T (is_none o)) (sym (ap refusal_in file_read)) tt) nears_few
+  sound_usable = and_intro (is_accepted (read_text (file_text deck 0))) (list_all (λ n. leb n travel_limit) (take deck.stops deck.near))
+      (subst (λ (r : Result). T (is_accepted r)) (sym file_read) tt) nears_few

@@ -3,7 +3,7 @@
 use mathlib.Core.Path.{◌≡◌, refl, sym, ap, subst, ◌∙◌}
 use mathlib.Core.Bool.{Bool, true, false, ◌&&◌}
 use mathlib.Core.List.{[], ◌∷◌}
-use mathlib.Core.Option.{Option, none, some}
+use mathlib.Core.Option.{none, none-ne-some}
 use Prim.Native.Nat.{ℕ, ◌≤◌, ◌<◌}
 use native.Mathlib.Omega.{arith}
 use lib.Dec.{T, leb, leb→le, not_T}
@@ -11,7 +11,8 @@ use lib.IntN.{ℤ, pos}
 use lib.ListN.{length, get_or, take}
 use lib.Seq.{length-take-le, get_or-take}
 use lib.Signed.{le_z}
-use Rattle.std.specs.Prelude.{Result, Ok, Err}
+use Rattle.std.specs.Prelude as Std
+use Rattle.std.specs.Prelude.{Ok, Err}
 use Rattle.std.specs.Result.{is_ok}
 use Rattle.std.specs.List.{list_all}
 use Rattle.numbers.specs.Integer.{between}
@@ -22,13 +23,13 @@ use Rattle.deck.specs.DeckOf.{Sized}
 use Rattle.deck.specs.declared.Deck.{Deck}
 use Rattle.deck.proofs.DeckLaws.{DeckColumns}
 use Rattle.job_line.specs.Kinds.{row, stop, coordinates, visits, in_range, in_ranges}
-use Rattle.job.specs.Format.{read_text}
+use Rattle.job.specs.Format.{Result, refused, accepted, read_text}
 use Rattle.job.specs.File.{file_text}
 use Rattle.job.proofs.Meaning.{allowed_in_range}
 use Rattle.job_check.specs.LineFaults.{refusal_in, checked_as}
 use Rattle.job_check.proofs.FileFaults.{FileIs, file_is}
 use Rattle.refusal.specs.declared.Refusal.{Refusal}
-use Rattle.change.specs.ChangedRecord.{is_none, usable}
+use Rattle.change.specs.ChangedRecord.{is_accepted, usable}
 use Rattle.change.specs.Usable.{Usable}
 use Rattle.change.proofs.UpTo.{all_up_to_lem}
 
@@ -51,14 +52,17 @@ many_visits x y n h =
 abbrev pub near_ranged : Deck → Bool
 near_ranged deck = list_all (λ n. leb n travel_limit) (take deck.stops deck.near)
 
-ok_is : (r : Result (Unit {0}) Refusal) → is_ok r ≡ is_none (checked_as r)
-ok_is (Ok u) = refl
-ok_is (Err why) = refl
+-- what it tests of the file
+ok_is : (r : Std.Result (Unit {0}) Refusal) (reading : Result) → checked_as r ≡ refusal_in reading → is_ok r ≡ is_accepted reading
+ok_is (Ok u) (refused why) e = absurd (none-ne-some why e)
+ok_is (Ok u) (accepted job) e = refl
+ok_is (Err why) (refused other) e = refl
+ok_is (Err why) (accepted job) e = absurd (none-ne-some why (sym e))
 
-module _ (deck : Deck) (r : Result (Unit {0}) Refusal) (checked : checked_as r ≡ refusal_in (read_text (file_text deck 0))) {b : Bool}
+module _ (deck : Deck) (r : Std.Result (Unit {0}) Refusal) (checked : checked_as r ≡ refusal_in (read_text (file_text deck 0))) {b : Bool}
     (tested : b ≡ is_ok r) where
-  test_is : b ≡ is_none (refusal_in (read_text (file_text deck 0)))
-  test_is = tested ∙ ok_is r ∙ ap is_none checked
+  test_is : b ≡ is_accepted (read_text (file_text deck 0))
+  test_is = tested ∙ ok_is r (read_text (file_text deck 0)) checked
 
   pub usable_refused : b ≡ false → b ≡ usable deck
   unfolding usable
@@ -69,15 +73,15 @@ module _ (deck : Deck) (r : Result (Unit {0}) Refusal) (checked : checked_as r �
   usable_fine e f = f ∙ ap (λ (t : Bool). t && near_ranged deck) (sym e ∙ test_is)
 
 -- ---- what it says
-none_is : (o : Option Refusal) → T (is_none o) → o ≡ none
-none_is none t = refl
-none_is (some why) t = absurd t
+none_in : (reading : Result) → T (is_accepted reading) → refusal_in reading ≡ none
+none_in (refused why) t = absurd t
+none_in (accepted job) t = refl
 
 -- its file, by the test
-accepted_file : (deck : Deck) (sized : Sized deck) → T (is_none (refusal_in (read_text (file_text deck 0)))) → FileIs deck 0 sized
-accepted_file deck sized t = file_is deck 0 sized (none_is (refusal_in (read_text (file_text deck 0))) t)
+accepted_file : (deck : Deck) (sized : Sized deck) → T (is_accepted (read_text (file_text deck 0))) → FileIs deck 0 sized
+accepted_file deck sized t = file_is deck 0 sized (none_in (read_text (file_text deck 0)) t)
 
-pub few_stops : (deck : Deck) → Sized deck → (r : Result (Unit {0}) Refusal) → checked_as r ≡ refusal_in (read_text (file_text deck 0)) →
+pub few_stops : (deck : Deck) → Sized deck → (r : Std.Result (Unit {0}) Refusal) → checked_as r ≡ refusal_in (read_text (file_text deck 0)) →
     {b : Bool} → b ≡ is_ok r → b ≡ true → deck.stops ≤ 512
 few_stops deck sized r checked tested e = (accepted_file deck sized (subst T (sym e ∙ test_is deck r checked tested) tt)).few_stops
 
@@ -92,10 +96,10 @@ module _ (deck : Deck) (sized : Sized deck) (long : length deck.near ≡ 512) wh
   }
     where
       travels : T (near_ranged deck)
-      travels = and_right (is_none (refusal_in (read_text (file_text deck 0)))) (near_ranged deck) t
+      travels = and_right (is_accepted (read_text (file_text deck 0))) (near_ranged deck) t
 
       file : FileIs deck 0 sized
-      file = accepted_file deck sized (and_left (is_none (refusal_in (read_text (file_text deck 0)))) (near_ranged deck) t)
+      file = accepted_file deck sized (and_left (is_accepted (read_text (file_text deck 0))) (near_ranged deck) t)
 
       few : deck.stops ≤ length deck.near
       few = omega (arith, file.few_stops, long)

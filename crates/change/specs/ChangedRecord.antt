@@ -12,9 +12,8 @@ use Rattle.query.specs.Range.{travel_limit}
 use Rattle.deck.specs.DeckOf.{held_axis, places, deck_of}
 use Rattle.deck.specs.StopFigures.{paid}
 use Rattle.deck.specs.declared.Deck.{Deck}
-use Rattle.job.specs.Format.{job_lines, checked, read_text}
+use Rattle.job.specs.Format.{job_lines, Result, refused, accepted, checked, read_text}
 use Rattle.job.specs.File.{file_text}
-use Rattle.job_check.specs.LineFaults.{refusal_in}
 use Rattle.refusal.specs.declared.Refusal.{Refusal}
 use Rattle.refusal.specs.declared.Refusal.TheVariants.{OutOfRange}
 use Rattle.change.specs.Change.{Change, add_post, remove_post, add_stop, remove_stop, change_refusal}
@@ -22,15 +21,15 @@ use Rattle.items.specs.Items.{is_same_place, is_same_stop, remove_first, first_p
 use Rattle.near_change.specs.NearChange.{near_with, near_without}
 
 -- ---- which records can be changed
+abbrev pub is_accepted : Result → Bool
+is_accepted (refused why) = false
+is_accepted (accepted job) = true
+
 -- those whose file, with 0 rounds, the reader would accept, and in which near is no more than a travel can be. Every sound record is one.
 -- That near and before are right is not looked at
-abbrev pub is_none : Option Refusal → Bool
-is_none none = true
-is_none (some why) = false
-
 unfoldable pub usable : Deck → Bool
 unfolding job_lines checked file_text
-usable deck = is_none (refusal_in (read_text (file_text deck 0))) && list_all (λ n. leb n travel_limit) (take deck.stops deck.near)
+usable deck = is_accepted (read_text (file_text deck 0)) && list_all (λ n. leb n travel_limit) (take deck.stops deck.near)
 
 -- ---- the numbers that a change leaves
 -- a record with other columns of posts and other near, and one with other columns of stops: "The stored near and `before` are brought up
