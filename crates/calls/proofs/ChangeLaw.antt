@@ -20,7 +20,7 @@ use Rattle.deck.proofs.DeckLaws.{held_deck}
 use Rattle.refusal.specs.Refusal.{number_of, line_of}
 use Rattle.refusal.specs.declared.Refusal.{Refusal}
 use Rattle.refusal.specs.declared.Refusal.TheVariants.{OutOfRange, NoPosts, NoStops, NotHeld, Full}
-use Rattle.change.specs.Change.{Change, add_post, remove_post, add_stop, remove_stop, altered, changed, change_refusal}
+use Rattle.change.specs.Change.{Change, add_post, remove_post, add_stop, remove_stop, altered, changed, change_refusal, unless_refused}
 use Rattle.items.specs.Items.{is_same_place, is_same_stop, remove_first}
 use Rattle.change.specs.ChangedRecord.{usable, stored, record_refusal, answered, changed_record}
 use Rattle.items.proofs.ItemValues.{same_place, place_same, same_stop, stop_same}
@@ -29,8 +29,8 @@ use Rattle.change.proofs.Conditions.{Allows, refusal_none}
 use Rattle.change.proofs.Refusals.{Refuses, refusal_some}
 use Rattle.change.proofs.AlteredLaws.{changed_area, changed_axis}
 use Rattle.change.proofs.ChangedLaws.{changed_is, changed_sound, made_answer}
-use Rattle.calls.specs.Answers.{AnswerOf, gives, refuses, refusal}
-use Rattle.calls.specs.ChangeCall.{AfterChange, change_made, change_call}
+use Rattle.calls.specs.Answers.{AnswerOf, gives, refuses, refusal, change_answer}
+use Rattle.calls.specs.ChangeCall.{AfterChange, change_call}
 use Rattle.calls.specs.ChangeLaw.{ItemInRange, ChangeApplies, out_of_range, no_such_post, no_such_stop, only_post, only_stop, posts_full, stops_full}
 use Rattle.calls.specs.ChangeLaw.{FirstRemoved, first, Leaves, post_added, post_removed, stop_added, stop_removed, ChangeLaw}
 use Rattle.calls.proofs.AnswerLaws.{same_number, same_line, same_refusal, not_refused}
@@ -40,14 +40,14 @@ abbrev answer_for : Option Refusal → AnswerOf (Unit {0})
 answer_for none = gives tt
 answer_for (some why) = refusal why
 
-by_refusal : (o : Option Refusal) (before after : Deck) → (change_made (answered o before after)).answer ≡ answer_for o
-by_refusal none before after = refl
-by_refusal (some why) before after = refl
+by_refusal : (o : Option Refusal) → change_answer (answered o) ≡ answer_for o
+by_refusal none = refl
+by_refusal (some why) = refl
 
 module _ (deck : Deck) (change : Change) where
   answer_is : (change_call deck change).answer ≡ answer_for (record_refusal change deck)
   unfolding change_call changed_record
-  answer_is = by_refusal (record_refusal change deck) deck (stored change deck)
+  answer_is = by_refusal (record_refusal change deck)
 
   -- a refusal in the documents' terms is one of the code's
   pub refused_why : (number line : ℕ) → (change_call deck change).answer ≡ refuses number line →
@@ -77,7 +77,7 @@ module _ (deck : Deck) (change : Change) where
 
   refused_kept : {why : Refusal} → record_refusal change deck ≡ some why → change_call deck change ≡ record { answer = refusal why; deck = deck }
   unfolding change_call changed_record
-  refused_kept e = ap (λ (o : Option Refusal). change_made (answered o deck (stored change deck))) e
+  refused_kept e = ap (λ (o : Option Refusal). record { answer = change_answer (answered o); deck = unless_refused o deck (stored change deck) }) e
 
   not_usable : T (not (usable deck)) → record_refusal change deck ≡ some (OutOfRange 0)
   unfolding record_refusal

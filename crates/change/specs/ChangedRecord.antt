@@ -16,7 +16,7 @@ use Rattle.job.specs.Format.{job_lines, Result, refused, accepted, checked, read
 use Rattle.job.specs.File.{file_text}
 use Rattle.refusal.specs.declared.Refusal.{Refusal}
 use Rattle.refusal.specs.declared.Refusal.TheVariants.{OutOfRange}
-use Rattle.change.specs.Change.{Change, add_post, remove_post, add_stop, remove_stop, change_refusal}
+use Rattle.change.specs.Change.{Change, add_post, remove_post, add_stop, remove_stop, change_refusal, unless_refused}
 use Rattle.items.specs.Items.{is_same_place, is_same_stop, remove_first, first_place, taken_out_at}
 use Rattle.near_change.specs.NearChange.{near_with, near_without}
 
@@ -106,11 +106,12 @@ pub record Changed : Type 0 where
   pub answer : Std.Result (Unit {0}) Refusal
   pub deck : Deck
 
--- "A refused change leaves the record unaltered"
-abbrev pub answered : Option Refusal → Deck → Deck → Changed
-answered none before after = record { answer = Ok tt; deck = after }
-answered (some why) before after = record { answer = Err why; deck = before }
+abbrev pub answered : Option Refusal → Std.Result (Unit {0}) Refusal
+answered none = Ok tt
+answered (some why) = Err why
 
 unfoldable pub changed_record : Change → Deck → Changed
 unfolding record_refusal stored
-changed_record change deck = answered (record_refusal change deck) deck (stored change deck)
+changed_record change deck =
+    let r = record_refusal change deck in
+    record { answer = answered r; deck = unless_refused r deck (stored change deck) }
