@@ -22,7 +22,7 @@ use Rattle.refusal.specs.declared.Refusal.{Refusal}
 use Rattle.refusal.specs.declared.Refusal.TheVariants.{OutOfRange, NoPosts, NoStops, NotHeld, Full}
 use Rattle.change.specs.Change.{Change, add_post, remove_post, add_stop, remove_stop, altered, changed, change_refusal, unless_refused}
 use Rattle.items.specs.Items.{is_same_place, is_same_stop, remove_first}
-use Rattle.change.specs.ChangedRecord.{usable, stored, record_refusal, answered, changed_record}
+use Rattle.change.specs.ChangedRecord.{usable, altered_record, record_refusal, answered, changed_record}
 use Rattle.items.proofs.ItemValues.{same_place, place_same, same_stop, stop_same}
 use Rattle.change.proofs.SoundUsable.{sound_usable}
 use Rattle.change.proofs.Conditions.{Allows, refusal_none}
@@ -77,7 +77,7 @@ module _ (deck : Deck) (change : Change) where
 
   refused_kept : {why : Refusal} → record_refusal change deck ≡ some why → change_call deck change ≡ record { answer = refusal why; deck = deck }
   unfolding change_call changed_record
-  refused_kept e = ap (λ (o : Option Refusal). record { answer = change_answer (answered o); deck = unless_refused o deck (stored change deck) }) e
+  refused_kept e = ap (λ (o : Option Refusal). record { answer = change_answer (answered o); deck = unless_refused o deck (altered_record change deck) }) e
 
   not_usable : T (not (usable deck)) → record_refusal change deck ≡ some (OutOfRange 0)
   unfolding record_refusal

@@ -15,10 +15,10 @@ use Rattle.deck.proofs.SoundLaws.{record_sound}
 use Rattle.refusal.specs.declared.Refusal.{Refusal}
 use Rattle.refusal.specs.declared.Refusal.TheVariants.{OutOfRange}
 use Rattle.change.specs.Change.{Change, altered, change_refusal, unless_refused, changed, changed_by}
-use Rattle.change.specs.ChangedRecord.{usable, stored, record_refusal, Changed, changed_record}
+use Rattle.change.specs.ChangedRecord.{usable, altered_record, record_refusal, Changed, changed_record}
 use Rattle.change.proofs.SoundUsable.{sound_usable}
 use Rattle.change.proofs.AlteredLaws.{changed_range, changed_area}
-use Rattle.change.proofs.StoredLaws.{made_is}
+use Rattle.change.proofs.AlteredRecord.{made_is}
 use Rattle.change.proofs.Answered.{answer_refused, answer_made}
 
 -- ---- refused, of any record
@@ -37,11 +37,11 @@ sound_refusal deck change sound = cond-true (usable deck) (change_refusal change
 pub changed_is : (deck : Deck) (change : Change) → Sound deck → (changed_record change deck).deck ≡ deck_record (changed (deck_of deck) change)
 unfolding changed_record changed
 changed_is deck change sound =
-    ap (λ (o : Option Refusal). unless_refused o deck (stored change deck)) (sound_refusal deck change sound)
+    ap (λ (o : Option Refusal). unless_refused o deck (altered_record change deck)) (sound_refusal deck change sound)
     ∙ go (change_refusal change (deck_of deck)) (made_is deck change sound)
   where
-    go : (o : Option Refusal) → (o ≡ none → stored change deck ≡ deck_record (altered change (deck_of deck))) →
-        unless_refused o deck (stored change deck) ≡ deck_record (unless_refused o (deck_of deck) (altered change (deck_of deck)))
+    go : (o : Option Refusal) → (o ≡ none → altered_record change deck ≡ deck_record (altered change (deck_of deck))) →
+        unless_refused o deck (altered_record change deck) ≡ deck_record (unless_refused o (deck_of deck) (altered change (deck_of deck)))
     go none made = made refl
     go (some why) made = sound.whole
 

@@ -1,4 +1,5 @@
 pub mod AlteredLaws
+pub mod AlteredRecord
 pub mod Answered
 pub mod ChangedLaws
 pub mod Conditions
@@ -6,7 +7,6 @@ pub mod MadeRecords
 pub mod PostChanges
 pub mod Refusals
 pub mod SoundUsable
-pub mod StoredLaws
 pub mod UpTo
 pub mod UsableLaws
 pub mod Verdicts

@@ -32,7 +32,7 @@ use Rattle.items.specs.Items.{is_same_place, first_place, taken_out_at}
 use Rattle.items.proofs.FirstPlace.{removed_is}
 use Rattle.items.proofs.Removal.{removed, taken_front, taken_length, taken_each}
 use Rattle.change.specs.Change.{add_post, remove_post, add_stop}
-use Rattle.change.specs.ChangedRecord.{with_post_columns, with_stop_columns, renewed, stored}
+use Rattle.change.specs.ChangedRecord.{with_post_columns, with_stop_columns, renewed, altered_record}
 use Rattle.change.specs.Usable.{Usable}
 use Rattle.near_change.specs.NearChange.{near_with, near_without}
 use Rattle.near_change.proofs.NearLaws.{target_long, target_at, stop_in_range}
@@ -172,16 +172,17 @@ module _ {p : Place} (range : PlaceInRange p) where
 
   pub made_post : (deck : Deck) {near : List ℕ} → near ≡ paste deck.near 0
       (zip_with (near_with (held_axis deck.axis) p) (places deck.stop_x deck.stop_y) deck.near) deck.stops →
-      with_post_columns deck (deck.posts + 1) (set deck.post_x deck.posts (back p.x)) (set deck.post_y deck.posts (back p.y)) near ≡ stored (add_post p) deck
-  unfolding stored renewed
+      with_post_columns deck (deck.posts + 1) (set deck.post_x deck.posts (back p.x)) (set deck.post_y deck.posts (back p.y)) near
+      ≡ altered_record (add_post p) deck
+  unfolding altered_record renewed
   made_post deck e = λ i. with_post_columns deck (add-one deck.posts i) (set deck.post_x deck.posts (x_held i)) (set deck.post_y deck.posts (y_held i)) (e i)
 
 module _ (deck : Deck) (s : Stop) (range : PlaceInRange s.at) where
   pub made_stop : {px py : List ℤ} → px ≡ take deck.posts deck.post_x → py ≡ take deck.posts deck.post_y →
       {near : ℕ} → near ≡ closest (held_axis deck.axis) s.at (places px py) →
       with_stop_columns deck (deck.stops + 1) (set deck.stop_x deck.stops (back s.at.x)) (set deck.stop_y deck.stops (back s.at.y))
-      (set deck.visits deck.stops s.visits) (set deck.near deck.stops near) ≡ stored (add_stop s) deck
-  unfolding stored
+      (set deck.visits deck.stops s.visits) (set deck.near deck.stops near) ≡ altered_record (add_stop s) deck
+  unfolding altered_record
   made_stop ex ey e =
       let near = e ∙ ap (closest (held_axis deck.axis) s.at) (given_places deck.posts deck.post_x deck.post_y ex ey) in
       λ i. with_stop_columns deck (add-one deck.stops i) (set deck.stop_x deck.stops (x_held range i)) (set deck.stop_y deck.stops (y_held range i))
@@ -222,8 +223,8 @@ module _ {deck : Deck} (sized : Sized deck) (u : Usable deck) {i : ℕ} (h : i <
   pub unmade_post : (p : Place) → i ≡ first_place (is_same_place p) (deck_of deck).posts → {near : List ℕ} → near ≡ paste deck.near 0
       (zip_with (near_without (held_axis deck.axis) p (places (take (deck.posts - 1) left_x) (take (deck.posts - 1) left_y)))
       (places deck.stop_x deck.stop_y) deck.near) deck.stops →
-      with_post_columns deck (deck.posts - 1) left_x left_y near ≡ stored (remove_post p) deck
-  unfolding stored renewed
+      with_post_columns deck (deck.posts - 1) left_x left_y near ≡ altered_record (remove_post p) deck
+  unfolding altered_record renewed
   unmade_post p at e =
       let left = left_are ∙ ap (λ (j : ℕ). removed j (deck_of deck).posts) at ∙ sym (removed_is (is_same_place p) (deck_of deck).posts) in
       let x = x_taken ∙ ap (λ (j : ℕ). taken_out_at deck.posts j (pos 0) deck.post_x) at in

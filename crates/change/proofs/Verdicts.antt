@@ -28,7 +28,7 @@ use Rattle.refusal.specs.declared.Refusal.TheVariants.{OutOfRange, NoPosts, NoSt
 use Rattle.items.specs.Items.{is_same_place, is_same_stop, held, first_place, first_found, taken_out_at}
 use Rattle.items.proofs.FirstPlace.{held_place}
 use Rattle.change.specs.Change.{Change, add_post, remove_post, add_stop, remove_stop, line_in_range, conditions, change_refusal}
-use Rattle.change.specs.ChangedRecord.{usable, with_stop_columns, stored, record_refusal, Changed, changed_record}
+use Rattle.change.specs.ChangedRecord.{usable, with_stop_columns, altered_record, record_refusal, Changed, changed_record}
 use Rattle.change.specs.Usable.{Usable}
 use Rattle.change.proofs.Answered.{answer_refused, answer_made}
 use Rattle.change.proofs.UsableLaws.{usable_says}
@@ -126,7 +126,7 @@ module _ {change : Change} {deck : Deck} (ok : Ranged change deck) where
       ◌≡◌ {A = Changed} (record { answer = Err why; deck = deck }) (changed_record change deck)
   refused e = sym (answer_refused change deck (ok.refusal ∙ e))
 
-  pub made : later change (deck_of deck) deck.posts deck.stops ≡ none → {next : Deck} → next ≡ stored change deck →
+  pub made : later change (deck_of deck) deck.posts deck.stops ≡ none → {next : Deck} → next ≡ altered_record change deck →
       ◌≡◌ {A = Changed} (record { answer = Ok tt; deck = next }) (changed_record change deck)
   made e f = rw f (sym (answer_made change deck (ok.refusal ∙ e)))
 
@@ -166,6 +166,6 @@ module _ (deck : Deck) where
 pub without_stop : (deck : Deck) (s : Stop) {i : ℕ} → i ≡ first_place (is_same_stop s) (deck_of deck).stops → {next : Deck} →
     next ≡ with_stop_columns deck (deck.stops - 1) (taken_out_at deck.stops i (pos 0) deck.stop_x)
     (taken_out_at deck.stops i (pos 0) deck.stop_y) (taken_out_at deck.stops i 0 deck.visits) (taken_out_at deck.stops i 0 deck.near) →
-    next ≡ stored (remove_stop s) deck
-unfolding stored
+    next ≡ altered_record (remove_stop s) deck
+unfolding altered_record
 without_stop deck s e f = rw e at f

@@ -70,26 +70,27 @@ with_stop_columns deck n xs ys visits nears = record {
   before = paid visits nears n;
 }
 
--- the near of the first stops, each by its place and by the near that was stored
+-- the near of the first `deck.stops` stops, each by its place and by the near that was stored; what stands behind stays
 unfoldable pub renewed : Deck → (Place → ℕ → ℕ) → List ℕ
 unfolding places zip_with
 renewed deck f = paste deck.near 0 (zip_with f (places deck.stop_x deck.stop_y) deck.near) deck.stops
 
-unfoldable pub stored : Change → Deck → Deck
+-- a record, whatever its numbers, with a change made
+unfoldable pub altered_record : Change → Deck → Deck
 unfolding deck_of remove_first first_place taken_out_at renewed near_with near_without closest paid
-stored (add_post p) deck =
+altered_record (add_post p) deck =
     with_post_columns deck (suc deck.posts) (set deck.post_x deck.posts p.x) (set deck.post_y deck.posts p.y)
     (renewed deck (near_with (held_axis deck.axis) p))
-stored (remove_post p) deck =
+altered_record (remove_post p) deck =
     let i = first_place (is_same_place p) (deck_of deck).posts in
     let left = remove_first (is_same_place p) (deck_of deck).posts in
     with_post_columns deck (deck.posts - 1) (taken_out_at deck.posts i (pos 0) deck.post_x)
     (taken_out_at deck.posts i (pos 0) deck.post_y) (renewed deck (near_without (held_axis deck.axis) p left))
-stored (add_stop s) deck =
+altered_record (add_stop s) deck =
     with_stop_columns deck (suc deck.stops) (set deck.stop_x deck.stops s.at.x) (set deck.stop_y deck.stops s.at.y)
     (set deck.visits deck.stops s.visits)
     (set deck.near deck.stops (closest (held_axis deck.axis) s.at (deck_of deck).posts))
-stored (remove_stop s) deck =
+altered_record (remove_stop s) deck =
     let i = first_place (is_same_stop s) (deck_of deck).stops in
     with_stop_columns deck (deck.stops - 1) (taken_out_at deck.stops i (pos 0) deck.stop_x)
     (taken_out_at deck.stops i (pos 0) deck.stop_y) (taken_out_at deck.stops i 0 deck.visits)
@@ -111,7 +112,7 @@ answered none = Ok tt
 answered (some why) = Err why
 
 unfoldable pub changed_record : Change → Deck → Changed
-unfolding record_refusal stored
+unfolding record_refusal altered_record
 changed_record change deck =
     let r = record_refusal change deck in
-    record { answer = answered r; deck = unless_refused r deck (stored change deck) }
+    record { answer = answered r; deck = unless_refused r deck (altered_record change deck) }

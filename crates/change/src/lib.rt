@@ -14,7 +14,7 @@ ghost use Rattle.job_check.specs.LineFaults.{checked_as};
 ghost use Rattle.job.specs.Spelling.{stop_line};
 ghost use Rattle.refusal.specs.declared.Refusal.TheVariants.{OutOfRange};
 ghost use Rattle.change.specs.Change.{add_post, remove_post, add_stop, remove_stop, line_in_range};
-ghost use Rattle.change.specs.ChangedRecord.{usable, with_stop_columns, stored, changed_record};
+ghost use Rattle.change.specs.ChangedRecord.{usable, with_stop_columns, altered_record, changed_record};
 ghost use Rattle.change.specs.Usable.{Usable};
 
 use deck::{Deck, Place, Places, Stop};
@@ -72,7 +72,7 @@ fn renew_before(deck: &mut Deck)
 // Puts a post behind the last.
 fn put_post(deck: &mut Deck, post: Place)
     requires { Usable deck.old × (deck.old.posts < 64) × PlaceInRange (place_of post) }
-    ensures { deck.new ≡ stored (add_post (place_of post)) deck.old }
+    ensures { deck.new ≡ altered_record (add_post (place_of post)) deck.old }
 {
     let n = deck.stops;
     let stops = Places {
@@ -90,7 +90,7 @@ fn put_post(deck: &mut Deck, post: Place)
 fn take_post(deck: &mut Deck, post: Place, i: usize)
     requires { Usable deck.old × PlaceInRange (place_of post)
         × (i ≡ first_place (is_same_place (place_of post)) (deck_of deck.old).posts) × (i < deck.old.posts) × (2 ≤ deck.old.posts) }
-    ensures { deck.new ≡ stored (remove_post (place_of post)) deck.old }
+    ensures { deck.new ≡ altered_record (remove_post (place_of post)) deck.old }
 {
     let k = deck.posts;
     items::take_out(&mut deck.post_x[..k], i, 0);
@@ -112,7 +112,7 @@ fn take_post(deck: &mut Deck, post: Place, i: usize)
 // Puts a stop behind the last.
 fn put_stop(deck: &mut Deck, stop: Stop)
     requires { Usable deck.old × (deck.old.stops < 512) × StopInRange (stop_of stop) }
-    ensures { deck.new ≡ stored (add_stop (stop_of stop)) deck.old }
+    ensures { deck.new ≡ altered_record (add_stop (stop_of stop)) deck.old }
 {
     let n = deck.stops;
     deck.near[n] = near_change::near_of(deck.axis, deck.post_places(), stop.at);

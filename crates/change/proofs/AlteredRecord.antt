@@ -25,7 +25,7 @@ use Rattle.deck.proofs.DeckLaws.{held_deck}
 use Rattle.deck.proofs.PaidLaws.{paid_stops}
 use Rattle.change.specs.Change.{Change, add_post, remove_post, add_stop, remove_stop, with_posts, with_stops, altered, change_refusal}
 use Rattle.items.specs.Items.{is_same_place, is_same_stop, remove_first, first_place, taken_out_at}
-use Rattle.change.specs.ChangedRecord.{with_post_columns, with_stop_columns, renewed, stored}
+use Rattle.change.specs.ChangedRecord.{with_post_columns, with_stop_columns, renewed, altered_record}
 use Rattle.near_change.specs.NearChange.{near_with, near_without}
 use Rattle.items.proofs.TakenOut.{column_removed}
 use Rattle.items.proofs.FirstRemoved.{held_within, removed_length}
@@ -89,8 +89,8 @@ module _ (deck : Query.Deck) where
 
   -- ---- each change of the deck's record; where the code finds posts or stops in the record, these are the deck's
   module _ (range : InRange deck) where
-    post_added : (p : Place) → Allows (add_post p) deck → stored (add_post p) (deck_record deck) ≡ deck_record (altered (add_post p) deck)
-    unfolding stored altered deck_record
+    post_added : (p : Place) → Allows (add_post p) deck → altered_record (add_post p) (deck_record deck) ≡ deck_record (altered (add_post p) deck)
+    unfolding altered_record altered deck_record
     post_added p h = with_posts_lem (deck.posts ++ (p ∷ [])) (sym (length_more deck.posts p))
         (padded_map 64 (pos 0) (λ p. p.x) deck.posts p refl h.1 refl)
         (padded_map 64 (pos 0) (λ p. p.y) deck.posts p refl h.1 refl) (nears_more p range.some_posts)
@@ -101,8 +101,8 @@ module _ (deck : Query.Deck) where
         (taken_out_at (deck_record deck).posts (first_place (is_same_place p) posts) (pos 0) (deck_record deck).post_y)
         (renewed (deck_record deck) (near_without deck.axis p (remove_first (is_same_place p) posts)))
 
-    post_removed : (p : Place) → Allows (remove_post p) deck → stored (remove_post p) (deck_record deck) ≡ deck_record (altered (remove_post p) deck)
-    unfolding stored altered deck_record
+    post_removed : (p : Place) → Allows (remove_post p) deck → altered_record (remove_post p) (deck_record deck) ≡ deck_record (altered (remove_post p) deck)
+    unfolding altered_record altered deck_record
     post_removed p h =
         ap (λ (d : Query.Deck). without_post p d.posts) (held_deck deck)
         ∙ with_posts_lem (remove_first (is_same_place p) deck.posts) (omega (arith, long))
@@ -120,8 +120,8 @@ module _ (deck : Query.Deck) where
         (set (deck_record deck).stop_y (deck_record deck).stops s.at.y) (set (deck_record deck).visits (deck_record deck).stops s.visits)
         (set (deck_record deck).near (deck_record deck).stops (closest deck.axis s.at posts))
 
-    stop_added : (s : Stop) → Allows (add_stop s) deck → stored (add_stop s) (deck_record deck) ≡ deck_record (altered (add_stop s) deck)
-    unfolding stored altered deck_record near
+    stop_added : (s : Stop) → Allows (add_stop s) deck → altered_record (add_stop s) (deck_record deck) ≡ deck_record (altered (add_stop s) deck)
+    unfolding altered_record altered deck_record near
     stop_added s h =
         ap (λ (d : Query.Deck). with_stop s d.posts) (held_deck deck)
         ∙ with_stops_lem (deck.stops ++ (s ∷ [])) (sym (length_more deck.stops s))
@@ -136,8 +136,8 @@ module _ (deck : Query.Deck) where
         (taken_out_at (deck_record deck).stops (first_place (is_same_stop s) stops) 0 (deck_record deck).visits)
         (taken_out_at (deck_record deck).stops (first_place (is_same_stop s) stops) 0 (deck_record deck).near)
 
-    stop_removed : (s : Stop) → Allows (remove_stop s) deck → stored (remove_stop s) (deck_record deck) ≡ deck_record (altered (remove_stop s) deck)
-    unfolding stored altered deck_record
+    stop_removed : (s : Stop) → Allows (remove_stop s) deck → altered_record (remove_stop s) (deck_record deck) ≡ deck_record (altered (remove_stop s) deck)
+    unfolding altered_record altered deck_record
     stop_removed s h =
         ap (λ (d : Query.Deck). without_stop s d.stops) (held_deck deck)
         ∙ with_stops_lem (remove_first (is_same_stop s) deck.stops) (omega (arith, long))
@@ -152,13 +152,15 @@ module _ (deck : Query.Deck) where
         long : suc (length (remove_first (is_same_stop s) deck.stops)) ≡ length deck.stops
         long = removed_length (is_same_stop s) deck.stops ((stop_held s deck.stops).1 h.1)
 
-    pub stored_is : (change : Change) → Allows change deck → stored change (deck_record deck) ≡ deck_record (altered change deck)
-    stored_is (add_post p) h = post_added p h
-    stored_is (remove_post p) h = post_removed p h
-    stored_is (add_stop s) h = stop_added s h
-    stored_is (remove_stop s) h = stop_removed s h
+    pub altered_record_is : (change : Change) → Allows change deck → altered_record change (deck_record deck) ≡ deck_record (altered change deck)
+    altered_record_is (add_post p) h = post_added p h
+    altered_record_is (remove_post p) h = post_removed p h
+    altered_record_is (add_stop s) h = stop_added s h
+    altered_record_is (remove_stop s) h = stop_removed s h
 
 -- ---- a change that is made, of a sound record
 pub made_is : (deck : Deck) (change : Change) → Sound deck → change_refusal change (deck_of deck) ≡ none →
-    stored change deck ≡ deck_record (altered change (deck_of deck))
-made_is deck change sound e = ap (stored change) sound.whole ∙ stored_is (deck_of deck) sound.range change ((refusal_none change (deck_of deck)).0 e)
+    altered_record change deck ≡ deck_record (altered change (deck_of deck))
+made_is deck change sound e =
+    ap (altered_record change) sound.whole
+    ∙ altered_record_is (deck_of deck) sound.range change ((refusal_none change (deck_of deck)).0 e)
