@@ -33,10 +33,9 @@ use Rattle.items.proofs.FirstPlace.{removed_is}
 use Rattle.items.proofs.Removal.{removed, taken_front, taken_length, taken_each}
 use Rattle.change.specs.Change.{add_post, remove_post, add_stop}
 use Rattle.change.specs.ChangedRecord.{with_post_columns, with_stop_columns, renewed, altered_record}
-use Rattle.change.specs.Usable.{Usable}
 use Rattle.near_change.specs.NearChange.{near_with, near_without}
 use Rattle.near_change.proofs.NearLaws.{target_long, target_at, stop_in_range}
-use Rattle.change.proofs.UsableLaws.{usable_columns}
+use Rattle.change.proofs.UsableLaws.{Usable, usable_columns}
 
 -- ---- a record that can be changed
 module _ {deck : Deck} (sized : Sized deck) (u : Usable deck) where

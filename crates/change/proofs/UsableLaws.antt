@@ -18,8 +18,9 @@ use Rattle.std.specs.List.{list_all}
 use Rattle.numbers.specs.Integer.{between}
 use Rattle.numbers.proofs.Integer.{order}
 use Rattle.numbers.proofs.Truth.{fails, and_left, and_right}
-use Rattle.query.specs.Range.{travel_limit}
-use Rattle.deck.specs.DeckOf.{Sized}
+use Rattle.query.specs.Range.{InRange, posts_limit, stops_limit, travel_limit}
+use Rattle.deck.specs.DeckOf.{Sized, deck_of}
+use Rattle.deck.specs.Ranges.{NearsInRange}
 use Rattle.deck.specs.declared.Deck.{Deck}
 use Rattle.deck.proofs.DeckLaws.{DeckColumns}
 use Rattle.job_line.specs.Kinds.{row, stop, coordinates, visits, in_range, in_ranges}
@@ -30,7 +31,6 @@ use Rattle.job_check.specs.LineFaults.{refusal_in, checked_as}
 use Rattle.job_check.proofs.FileFaults.{FileIs, file_is}
 use Rattle.refusal.specs.declared.Refusal.{Refusal}
 use Rattle.change.specs.ChangedRecord.{is_accepted, usable}
-use Rattle.change.specs.Usable.{Usable}
 use Rattle.change.proofs.UpTo.{all_up_to_lem}
 
 -- ---- the values of a stop
@@ -84,6 +84,13 @@ accepted_file deck sized t = file_is deck 0 sized (none_in (read_text (file_text
 pub few_stops : (deck : Deck) → Sized deck → (r : Std.Result (Unit {0}) Refusal) → checked_as r ≡ refusal_in (read_text (file_text deck 0)) →
     {b : Bool} → b ≡ is_ok r → b ≡ true → deck.stops ≤ 512
 few_stops deck sized r checked tested e = (accepted_file deck sized (subst T (sym e ∙ test_is deck r checked tested) tt)).few_stops
+
+-- and so the record's numbers are in range
+pub record Usable (deck : Deck) : Type 0 where
+  pub few_posts : deck.posts ≤ posts_limit
+  pub few_stops : deck.stops ≤ stops_limit
+  pub range : InRange (deck_of deck)
+  pub nears : NearsInRange deck.near deck.stops
 
 module _ (deck : Deck) (sized : Sized deck) (long : length deck.near ≡ 512) where
   pub usable_says : T (usable deck) → Usable deck

@@ -1,6 +1,6 @@
 -- What a change answers: first that its values or the record are out of range, then by the tests of the code in their order.
 -- Assumes nothing.
-use mathlib.Core.Path.{◌≡◌, refl, sym, ap, ap₂, subst, ◌∙◌}
+use mathlib.Core.Path.{◌≡◌, refl, sym, ap, subst, ◌∙◌}
 use mathlib.Core.Bool.{Bool, true, false, not, cond, ◌&&◌}
 use mathlib.Core.List.{List}
 use mathlib.Core.Option.{Option, none, some, none-ne-some}
@@ -17,9 +17,8 @@ use Rattle.numbers.proofs.Truth.{cond-true, cond-false}
 use Rattle.query.specs.Deck as Query
 use Rattle.query.specs.Deck.{Stop}
 use Rattle.deck.specs.declared.Deck.{Deck}
-use Rattle.deck.specs.DeckOf.{Sized, places, stops_of, deck_of}
+use Rattle.deck.specs.DeckOf.{places, stops_of, deck_of}
 use Rattle.deck.proofs.ClosestLaws.{zip_take}
-use Rattle.deck.proofs.DeckLaws.{posts_counted, stops_counted}
 use Rattle.job_line.proofs.LineLaws.{ok_or_some, ok_or_none}
 use Rattle.job.specs.Spelling.{post_line, stop_line}
 use Rattle.job.proofs.PartLaws.{handed}
@@ -29,22 +28,20 @@ use Rattle.items.specs.Items.{is_same_place, is_same_stop, held, first_place, fi
 use Rattle.items.proofs.FirstPlace.{held_place}
 use Rattle.change.specs.Change.{Change, add_post, remove_post, add_stop, remove_stop, line_in_range, conditions, change_refusal}
 use Rattle.change.specs.ChangedRecord.{usable, with_stop_columns, altered_record, record_refusal, Changed, changed_record}
-use Rattle.change.specs.Usable.{Usable}
 use Rattle.change.proofs.Answered.{answer_refused, answer_made}
-use Rattle.change.proofs.UsableLaws.{usable_says}
 
--- ---- what is refused of a change whose values are in range, with so many posts and stops
+-- ---- what is refused of a change whose values are in range, with so many items
 abbrev adding : ℕ → ℕ → Option Refusal
 adding most n = cond (leb most n) (some Full) none
 
 abbrev removing : Bool → ℕ → Refusal → Option Refusal
 removing found n why = cond (not found) (some NotHeld) (cond (eqb n 1) (some why) none)
 
-abbrev later : Change → Query.Deck → ℕ → ℕ → Option Refusal
-later (add_post p) deck m n = adding 64 m
-later (remove_post p) deck m n = removing (held (is_same_place p) deck.posts) m NoPosts
-later (add_stop s) deck m n = adding 512 n
-later (remove_stop s) deck m n = removing (held (is_same_stop s) deck.stops) n NoStops
+abbrev later : Change → Query.Deck → Option Refusal
+later (add_post p) deck = adding 64 (length deck.posts)
+later (remove_post p) deck = removing (held (is_same_place p) deck.posts) (length deck.posts) NoPosts
+later (add_stop s) deck = adding 512 (length deck.stops)
+later (remove_stop s) deck = removing (held (is_same_stop s) deck.stops) (length deck.stops) NoStops
 
 pub full : (most n : ℕ) → most ≤ n → adding most n ≡ some Full
 full most n h = cond-true (leb most n) _ _ (le→leb most n h)
@@ -74,7 +71,7 @@ abbrev tested : Bool → Bool → Option Refusal → Option Refusal
 tested can ranged rest = cond can (cond (not ranged) (some (OutOfRange 0)) rest) (some (OutOfRange 0))
 
 in_order : (change : Change) (deck : Query.Deck) →
-    change_refusal change deck ≡ cond (not (in_range change)) (some (OutOfRange 0)) (later change deck (length deck.posts) (length deck.stops))
+    change_refusal change deck ≡ cond (not (in_range change)) (some (OutOfRange 0)) (later change deck)
 unfolding change_refusal conditions
 in_order (add_post p) deck = refl
 in_order (remove_post p) deck = refl
@@ -83,15 +80,12 @@ in_order (remove_stop s) deck = refl
 
 -- what the first test says where it passes: the values are in range, and the record can be changed
 pub record Ranged (change : Change) (deck : Deck) : Type 0 where
-  pub can : Usable deck
+  pub can : T (usable deck)
   pub ranged : T (in_range change)
-  pub posts : length (deck_of deck).posts ≡ deck.posts
-  pub stops : length (deck_of deck).stops ≡ deck.stops
-  pub refusal : record_refusal change deck ≡ later change (deck_of deck) deck.posts deck.stops
+  pub refusal : record_refusal change deck ≡ later change (deck_of deck)
 
 module _ (change : Change) (deck : Deck) where
-  refusal_is : record_refusal change deck
-      ≡ tested (usable deck) (in_range change) (later change (deck_of deck) (length (deck_of deck).posts) (length (deck_of deck).stops))
+  refusal_is : record_refusal change deck ≡ tested (usable deck) (in_range change) (later change (deck_of deck))
   unfolding record_refusal
   refusal_is = ap (λ (o : Option Refusal). cond (usable deck) o (some (OutOfRange 0))) (in_order change (deck_of deck))
 
@@ -106,27 +100,22 @@ module _ (change : Change) (deck : Deck) where
       go false true h rest = sym h
       go false false h rest = sym h
 
-  module _ (sized : Sized deck) (long : length deck.near ≡ 512) where
-    pub within : {b : Bool} → b ≡ in_range change → none ≡ cond (b && usable deck) none (some (OutOfRange 0)) → Ranged change deck
-    within {b} e f =
-        let t = go b (usable deck) f in
-        let can = usable_says deck sized long t.1 in
-        let posts : length (deck_of deck).posts ≡ deck.posts = omega (arith, posts_counted deck sized, can.few_posts) in
-        let stops : length (deck_of deck).stops ≡ deck.stops = omega (arith, stops_counted deck sized, can.few_stops) in
-        let refusal = refusal_is ∙ rw (← e) (t.2 _ ∙ ap₂ (λ (m n : ℕ). later change (deck_of deck) m n) posts stops) in
-        record { can = can; ranged = subst T e t.0; posts = posts; stops = stops; refusal = refusal }
-      where
-        go : (s t : Bool) → none ≡ cond (s && t) none (some (OutOfRange 0)) → T s × T t × ((rest : Option Refusal) → tested t s rest ≡ rest)
-        go true true h = (tt, tt, λ rest. refl)
-        go true false h = absurd (none-ne-some (OutOfRange 0) h)
-        go false t h = absurd (none-ne-some (OutOfRange 0) h)
+  pub within : {b : Bool} → b ≡ in_range change → none ≡ cond (b && usable deck) none (some (OutOfRange 0)) → Ranged change deck
+  within {b} e f =
+      let t = go b (usable deck) f in
+      record { can = t.1; ranged = subst T e t.0; refusal = refusal_is ∙ rw (← e) (t.2 _) }
+    where
+      go : (s t : Bool) → none ≡ cond (s && t) none (some (OutOfRange 0)) → T s × T t × ((rest : Option Refusal) → tested t s rest ≡ rest)
+      go true true h = (tt, tt, λ rest. refl)
+      go true false h = absurd (none-ne-some (OutOfRange 0) h)
+      go false t h = absurd (none-ne-some (OutOfRange 0) h)
 
 module _ {change : Change} {deck : Deck} (ok : Ranged change deck) where
-  pub refused : {why : Refusal} → later change (deck_of deck) deck.posts deck.stops ≡ some why →
+  pub refused : {why : Refusal} → later change (deck_of deck) ≡ some why →
       ◌≡◌ {A = Changed} (record { answer = Err why; deck = deck }) (changed_record change deck)
   refused e = sym (answer_refused change deck (ok.refusal ∙ e))
 
-  pub made : later change (deck_of deck) deck.posts deck.stops ≡ none → {next : Deck} → next ≡ altered_record change deck →
+  pub made : later change (deck_of deck) ≡ none → {next : Deck} → next ≡ altered_record change deck →
       ◌≡◌ {A = Changed} (record { answer = Ok tt; deck = next }) (changed_record change deck)
   made e f = rw f (sym (answer_made change deck (ok.refusal ∙ e)))
 

@@ -1,7 +1,7 @@
 // Changes of a deck's record: a post or a stop is added or removed, and near and before follow.
 #![tactic(auto)]
 
-ghost use Rattle.std.specs.Prelude.{◌≡◌, ◌-◌, ◌≤◌, ◌<◌, leb, pos, take, cond, ◌&&◌};
+ghost use Rattle.std.specs.Prelude.{◌≡◌, ◌-◌, ◌≤◌, ◌<◌, leb, pos, take, cond, ◌&&◌, T};
 ghost use Rattle.std.specs.List.{list_all};
 ghost use Rattle.std.proofs.Math.Option.{none, some};
 ghost use Rattle.query.specs.Range.{PlaceInRange, StopInRange, travel_limit};
@@ -15,7 +15,6 @@ ghost use Rattle.job.specs.Spelling.{stop_line};
 ghost use Rattle.refusal.specs.declared.Refusal.TheVariants.{OutOfRange};
 ghost use Rattle.change.specs.Change.{add_post, remove_post, add_stop, remove_stop, line_in_range};
 ghost use Rattle.change.specs.ChangedRecord.{usable, with_stop_columns, altered_record, changed_record};
-ghost use Rattle.change.specs.Usable.{Usable};
 
 use deck::{Deck, Place, Places, Stop};
 use limits::{MOST_VISITS, POSTS, STOPS};
@@ -71,7 +70,7 @@ fn renew_before(deck: &mut Deck)
 
 // Puts a post behind the last.
 fn put_post(deck: &mut Deck, post: Place)
-    requires { Usable deck.old × (deck.old.posts < 64) × PlaceInRange (place_of post) }
+    requires { T (usable deck.old) × (deck.old.posts < 64) × PlaceInRange (place_of post) }
     ensures { deck.new ≡ altered_record (add_post (place_of post)) deck.old }
 {
     let n = deck.stops;
@@ -88,7 +87,7 @@ fn put_post(deck: &mut Deck, post: Place)
 
 // Takes out post i, which is the first at its place.
 fn take_post(deck: &mut Deck, post: Place, i: usize)
-    requires { Usable deck.old × PlaceInRange (place_of post)
+    requires { T (usable deck.old) × PlaceInRange (place_of post)
         × (i ≡ first_place (is_same_place (place_of post)) (deck_of deck.old).posts) × (i < deck.old.posts) × (2 ≤ deck.old.posts) }
     ensures { deck.new ≡ altered_record (remove_post (place_of post)) deck.old }
 {
@@ -111,7 +110,7 @@ fn take_post(deck: &mut Deck, post: Place, i: usize)
 
 // Puts a stop behind the last.
 fn put_stop(deck: &mut Deck, stop: Stop)
-    requires { Usable deck.old × (deck.old.stops < 512) × StopInRange (stop_of stop) }
+    requires { T (usable deck.old) × (deck.old.stops < 512) × StopInRange (stop_of stop) }
     ensures { deck.new ≡ altered_record (add_stop (stop_of stop)) deck.old }
 {
     let n = deck.stops;
@@ -125,7 +124,7 @@ fn put_stop(deck: &mut Deck, stop: Stop)
 
 // Takes out stop i.
 fn take_stop(deck: &mut Deck, i: usize)
-    requires { Usable deck.old × (i < deck.old.stops) × (2 ≤ deck.old.stops) }
+    requires { T (usable deck.old) × (i < deck.old.stops) × (2 ≤ deck.old.stops) }
     ensures { deck.new ≡ with_stop_columns deck.old (deck.old.stops - 1) (taken_out_at deck.old.stops i (pos 0) deck.old.stop_x)
         (taken_out_at deck.old.stops i (pos 0) deck.old.stop_y) (taken_out_at deck.old.stops i 0 deck.old.visits)
         (taken_out_at deck.old.stops i 0 deck.old.near) }

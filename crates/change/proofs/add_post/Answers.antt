@@ -1,6 +1,7 @@
 -- What `change::add_post` owes.
 use native.Mathlib.Omega.{arith}
 use borrow.Author.Rules.{rules}
+use Rattle.deck.proofs.DeckLaws.{posts_counted}
 use Rattle.job.proofs.RangeLaws.{post_range}
 use Rattle.change.specs.Change.{add_post}
 use Rattle.change.proofs.Verdicts.{out_of_range, within, refused, made, full, room}
@@ -11,15 +12,15 @@ returns-in_err-check_range c = out_of_range (add_post _) _ c.place_in_range.ensu
 
 pub returns-then-deck-ge-POSTS : goal.returns-then-deck-ge-POSTS
 returns-then-deck-ge-POSTS c =
-    let ok = within (add_post _) _ (search rules) (search rules) c.place_in_range.ensures c.in_ok-check_range.ensures in
-    refused ok (full _ _ (omega arith))
+    let ok = within (add_post _) _ c.place_in_range.ensures c.in_ok-check_range.ensures in
+    refused ok (full _ _ (omega (arith, posts_counted c.args.deck.now (search rules))))
 
 pub put_post-requires : goal.put_post-requires
 put_post-requires c =
-    let ok = within (add_post _) _ (search rules) (search rules) c.place_in_range.ensures c.in_ok-check_range.ensures in
+    let ok = within (add_post _) _ c.place_in_range.ensures c.in_ok-check_range.ensures in
     (ok.can, omega arith, post_range _ ok.ranged)
 
 pub returns : goal.returns
 returns c =
-    let ok = within (add_post _) _ (search rules) (search rules) c.place_in_range.ensures c.in_ok-check_range.ensures in
-    made ok (room _ _ (omega arith)) c.put_post.ensures
+    let ok = within (add_post _) _ c.place_in_range.ensures c.in_ok-check_range.ensures in
+    made ok (room _ _ (omega (arith, posts_counted c.args.deck.now (search rules)))) c.put_post.ensures

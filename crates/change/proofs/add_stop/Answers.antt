@@ -1,6 +1,7 @@
 -- What `change::add_stop` owes.
 use native.Mathlib.Omega.{arith}
 use borrow.Author.Rules.{rules}
+use Rattle.deck.proofs.DeckLaws.{stops_counted}
 use Rattle.job.proofs.RangeLaws.{stop_range}
 use Rattle.change.specs.Change.{add_stop}
 use Rattle.change.proofs.Verdicts.{out_of_range, within, refused, made, full, room}
@@ -11,15 +12,15 @@ returns-in_err-check_range c = out_of_range (add_stop _) _ c.stop_in_range.ensur
 
 pub returns-then-deck-ge-STOPS : goal.returns-then-deck-ge-STOPS
 returns-then-deck-ge-STOPS c =
-    let ok = within (add_stop _) _ (search rules) (search rules) c.stop_in_range.ensures c.in_ok-check_range.ensures in
-    refused ok (full _ _ (omega arith))
+    let ok = within (add_stop _) _ c.stop_in_range.ensures c.in_ok-check_range.ensures in
+    refused ok (full _ _ (omega (arith, stops_counted c.args.deck.now (search rules))))
 
 pub put_stop-requires : goal.put_stop-requires
 put_stop-requires c =
-    let ok = within (add_stop _) _ (search rules) (search rules) c.stop_in_range.ensures c.in_ok-check_range.ensures in
+    let ok = within (add_stop _) _ c.stop_in_range.ensures c.in_ok-check_range.ensures in
     (ok.can, omega arith, stop_range _ ok.ranged)
 
 pub returns : goal.returns
 returns c =
-    let ok = within (add_stop _) _ (search rules) (search rules) c.stop_in_range.ensures c.in_ok-check_range.ensures in
-    made ok (room _ _ (omega arith)) c.put_stop.ensures
+    let ok = within (add_stop _) _ c.stop_in_range.ensures c.in_ok-check_range.ensures in
+    made ok (room _ _ (omega (arith, stops_counted c.args.deck.now (search rules)))) c.put_stop.ensures

@@ -4,23 +4,25 @@ use native.Mathlib.Omega.{arith}
 use borrow.Author.Rules.{rules}
 use lib.ListN.{length}
 use Rattle.deck.specs.DeckOf.{Sized}
+use Rattle.change.proofs.UsableLaws.{usable_says}
 use Rattle.change.proofs.MadeRecords.{held_costs, held_visits, given_posts, given_some, closest_limit, one_more, made_stop}
 use Rattle.change.proofs.put_stop.Goals as goal
 
+pub post_places-requires : goal.post_places-requires
+post_places-requires c = (usable_says _ (search rules) (search rules) c.requires.0).few_posts
+
 pub near_of-requires : goal.near_of-requires
 near_of-requires c =
-    let sized : Sized c.args.deck.now =
-    record { post_x = search rules; post_y = search rules; stop_x = search rules; stop_y = search rules; visits = search rules } in
-    let u = c.requires.0 in
+    let sized : Sized c.args.deck.now = search rules in
+    let u = usable_says _ sized (search rules) c.requires.0 in
     let posts = c.post_places.ensures in
     (held_costs sized u, given_posts sized u posts.x posts.y, c.requires.2.place, given_some sized u posts.x posts.y)
 
 pub renew_before-requires : goal.renew_before-requires
 renew_before-requires c =
-    let sized : Sized c.args.deck.now =
-    record { post_x = search rules; post_y = search rules; stop_x = search rules; stop_y = search rules; visits = search rules } in
+    let sized : Sized c.args.deck.now = search rules in
     let long : length c.args.deck.now.near ≡ 512 = search rules in
-    let u = c.requires.0 in
+    let u = usable_says _ sized long c.requires.0 in
     let posts = c.post_places.ensures in
     let most = closest_limit (held_costs sized u) (given_posts sized u posts.x posts.y) (given_some sized u posts.x posts.y) _ c.requires.2.place in (
       one_more (held_visits sized u) (omega (arith, c.requires.1, sized.visits)) c.requires.2.most_visits,

@@ -1,9 +1,11 @@
 -- What `change::remove_post` owes.
 use native.Mathlib.Omega.{arith}
 use borrow.Author.Rules.{rules}
+use Rattle.deck.proofs.DeckLaws.{posts_counted}
 use Rattle.job.proofs.PartLaws.{handed}
 use Rattle.job.proofs.RangeLaws.{post_range}
 use Rattle.change.specs.Change.{remove_post}
+use Rattle.change.proofs.UsableLaws.{usable_says}
 use Rattle.change.proofs.Verdicts.{out_of_range, within, refused, made, absent, only, others, not_found, is_found, posts_in}
 use Rattle.change.proofs.remove_post.Goals as goal
 
@@ -12,32 +14,34 @@ returns-in_err-check_range c = out_of_range (remove_post _) _ c.place_in_range.e
 
 pub post_places-posts-requires : goal.post_places-posts-requires
 post_places-posts-requires c =
-    (within (remove_post _) _ (search rules) (search rules) c.place_in_range.ensures c.in_ok-check_range.ensures).can.few_posts
+    let ok = within (remove_post _) _ c.place_in_range.ensures c.in_ok-check_range.ensures in
+    (usable_says _ (search rules) (search rules) ok.can).few_posts
 
 pub returns-in_err-i : goal.returns-in_err-i
 returns-in_err-i c =
-    let ok = within (remove_post _) _ (search rules) (search rules) c.place_in_range.ensures c.in_ok-check_range.ensures in
+    let ok = within (remove_post _) _ c.place_in_range.ensures c.in_ok-check_range.ensures in
     let posts = posts_in c.args.deck.now c.post_places-posts.ensures.x c.post_places-posts.ensures.y in
     let absence = not_found _ _ _ (rw posts at c.find_post.ensures) c.in_err-i.ensures.value in
     rw (handed _ c.from_residual-in_err-i.ensures.1, absence.1) (refused ok (absent _ _ absence.0))
 
 pub returns-then-deck-eq1 : goal.returns-then-deck-eq1
 returns-then-deck-eq1 c =
-    let ok = within (remove_post _) _ (search rules) (search rules) c.place_in_range.ensures c.in_ok-check_range.ensures in
+    let ok = within (remove_post _) _ c.place_in_range.ensures c.in_ok-check_range.ensures in
     let posts = posts_in c.args.deck.now c.post_places-posts.ensures.x c.post_places-posts.ensures.y in
     let found = is_found _ _ _ (rw posts at c.find_post.ensures) c.in_ok-i.ensures.value in
-    refused ok (only _ _ found.0 (omega arith))
+    refused ok (only _ _ found.0 (omega (arith, posts_counted c.args.deck.now (search rules))))
 
 pub take_post-requires : goal.take_post-requires
 take_post-requires c =
-    let ok = within (remove_post _) _ (search rules) (search rules) c.place_in_range.ensures c.in_ok-check_range.ensures in
+    let ok = within (remove_post _) _ c.place_in_range.ensures c.in_ok-check_range.ensures in
     let posts = posts_in c.args.deck.now c.post_places-posts.ensures.x c.post_places-posts.ensures.y in
     let found = is_found _ _ _ (rw posts at c.find_post.ensures) c.in_ok-i.ensures.value in
-    (ok.can, post_range _ ok.ranged, found.1, omega (arith, found.2, ok.posts), omega (arith, found.2, ok.posts))
+    let count = posts_counted c.args.deck.now (search rules) in
+    (ok.can, post_range _ ok.ranged, found.1, omega (arith, found.2, count), omega (arith, found.2, count))
 
 pub returns : goal.returns
 returns c =
-    let ok = within (remove_post _) _ (search rules) (search rules) c.place_in_range.ensures c.in_ok-check_range.ensures in
+    let ok = within (remove_post _) _ c.place_in_range.ensures c.in_ok-check_range.ensures in
     let posts = posts_in c.args.deck.now c.post_places-posts.ensures.x c.post_places-posts.ensures.y in
     let found = is_found _ _ _ (rw posts at c.find_post.ensures) c.in_ok-i.ensures.value in
-    made ok (others _ _ found.0 (omega arith)) c.take_post.ensures
+    made ok (others _ _ found.0 (omega (arith, posts_counted c.args.deck.now (search rules)))) c.take_post.ensures

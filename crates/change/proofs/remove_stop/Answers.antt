@@ -1,8 +1,10 @@
 -- What `change::remove_stop` owes.
 use native.Mathlib.Omega.{arith}
 use borrow.Author.Rules.{rules}
+use Rattle.deck.proofs.DeckLaws.{stops_counted}
 use Rattle.job.proofs.PartLaws.{handed}
 use Rattle.change.specs.Change.{remove_stop}
+use Rattle.change.proofs.UsableLaws.{usable_says}
 use Rattle.change.proofs.Verdicts.{out_of_range, within, refused, made, absent, only, others, not_found, is_found, stops_in, without_stop}
 use Rattle.change.proofs.remove_stop.Goals as goal
 
@@ -11,32 +13,34 @@ returns-in_err-check_range c = out_of_range (remove_stop _) _ c.stop_in_range.en
 
 pub stop_columns-stops-requires : goal.stop_columns-stops-requires
 stop_columns-stops-requires c =
-    (within (remove_stop _) _ (search rules) (search rules) c.stop_in_range.ensures c.in_ok-check_range.ensures).can.few_stops
+    let ok = within (remove_stop _) _ c.stop_in_range.ensures c.in_ok-check_range.ensures in
+    (usable_says _ (search rules) (search rules) ok.can).few_stops
 
 pub returns-in_err-i : goal.returns-in_err-i
 returns-in_err-i c =
-    let ok = within (remove_stop _) _ (search rules) (search rules) c.stop_in_range.ensures c.in_ok-check_range.ensures in
+    let ok = within (remove_stop _) _ c.stop_in_range.ensures c.in_ok-check_range.ensures in
     let stops = stops_in c.args.deck.now c.stop_columns-stops.ensures.x c.stop_columns-stops.ensures.y c.stop_columns-stops.ensures.visits in
     let absence = not_found _ _ _ (rw stops at c.find_stop.ensures) c.in_err-i.ensures.value in
     rw (handed _ c.from_residual-in_err-i.ensures.1, absence.1) (refused ok (absent _ _ absence.0))
 
 pub returns-then-deck-eq1 : goal.returns-then-deck-eq1
 returns-then-deck-eq1 c =
-    let ok = within (remove_stop _) _ (search rules) (search rules) c.stop_in_range.ensures c.in_ok-check_range.ensures in
+    let ok = within (remove_stop _) _ c.stop_in_range.ensures c.in_ok-check_range.ensures in
     let stops = stops_in c.args.deck.now c.stop_columns-stops.ensures.x c.stop_columns-stops.ensures.y c.stop_columns-stops.ensures.visits in
     let found = is_found _ _ _ (rw stops at c.find_stop.ensures) c.in_ok-i.ensures.value in
-    refused ok (only _ _ found.0 (omega arith))
+    refused ok (only _ _ found.0 (omega (arith, stops_counted c.args.deck.now (search rules))))
 
 pub take_stop-requires : goal.take_stop-requires
 take_stop-requires c =
-    let ok = within (remove_stop _) _ (search rules) (search rules) c.stop_in_range.ensures c.in_ok-check_range.ensures in
+    let ok = within (remove_stop _) _ c.stop_in_range.ensures c.in_ok-check_range.ensures in
     let stops = stops_in c.args.deck.now c.stop_columns-stops.ensures.x c.stop_columns-stops.ensures.y c.stop_columns-stops.ensures.visits in
     let found = is_found _ _ _ (rw stops at c.find_stop.ensures) c.in_ok-i.ensures.value in
-    (ok.can, omega (arith, found.2, ok.stops), omega (arith, found.2, ok.stops))
+    let count = stops_counted c.args.deck.now (search rules) in
+    (ok.can, omega (arith, found.2, count), omega (arith, found.2, count))
 
 pub returns : goal.returns
 returns c =
-    let ok = within (remove_stop _) _ (search rules) (search rules) c.stop_in_range.ensures c.in_ok-check_range.ensures in
+    let ok = within (remove_stop _) _ c.stop_in_range.ensures c.in_ok-check_range.ensures in
     let stops = stops_in c.args.deck.now c.stop_columns-stops.ensures.x c.stop_columns-stops.ensures.y c.stop_columns-stops.ensures.visits in
     let found = is_found _ _ _ (rw stops at c.find_stop.ensures) c.in_ok-i.ensures.value in
-    made ok (others _ _ found.0 (omega arith)) (without_stop _ _ found.1 c.take_stop.ensures)
+    made ok (others _ _ found.0 (omega (arith, stops_counted c.args.deck.now (search rules)))) (without_stop _ _ found.1 c.take_stop.ensures)

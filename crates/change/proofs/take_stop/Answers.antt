@@ -3,14 +3,17 @@ use mathlib.Core.Path.{◌∙◌}
 use native.Mathlib.Omega.{arith}
 use borrow.Author.Rules.{rules}
 use Rattle.deck.specs.DeckOf.{Sized}
+use Rattle.change.proofs.UsableLaws.{usable_says}
 use Rattle.change.proofs.MadeRecords.{held_visits, naturals_left, unmade_stop}
 use Rattle.change.proofs.take_stop.Goals as goal
 
+pub slice_bounds-take_out-end : goal.slice_bounds-take_out-end
+slice_bounds-take_out-end c = (usable_says _ (search rules) (search rules) c.requires.0).few_stops
+
 pub renew_before-requires : goal.renew_before-requires
 renew_before-requires c =
-    let sized : Sized c.args.deck.now =
-    record { post_x = search rules; post_y = search rules; stop_x = search rules; stop_y = search rules; visits = search rules } in
-    let u = c.requires.0 in (
+    let sized : Sized c.args.deck.now = search rules in
+    let u = usable_says _ sized (search rules) c.requires.0 in (
       naturals_left c.requires.1 (held_visits sized u) c.take_out-3.ensures,
       naturals_left c.requires.1 u.nears c.take_out-4.ensures,
       omega (arith, u.few_stops),
@@ -18,7 +21,7 @@ renew_before-requires c =
 
 pub returns : goal.returns
 returns c =
-    let sized : Sized c.args.deck.now =
-    record { post_x = search rules; post_y = search rules; stop_x = search rules; stop_y = search rules; visits = search rules } in
+    let sized : Sized c.args.deck.now = search rules in
+    let u = usable_says _ sized (search rules) c.requires.0 in
     c.renew_before.ensures
-    ∙ unmade_stop sized c.requires.0 c.requires.1 c.take_out.ensures c.take_out-2.ensures c.take_out-3.ensures c.take_out-4.ensures
+    ∙ unmade_stop sized u c.requires.1 c.take_out.ensures c.take_out-2.ensures c.take_out-3.ensures c.take_out-4.ensures

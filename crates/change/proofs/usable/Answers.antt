@@ -1,14 +1,10 @@
 -- What `change::usable` owes.
 use borrow.Author.Rules.{rules}
-use Rattle.deck.specs.DeckOf.{Sized}
 use Rattle.change.proofs.UsableLaws.{usable_refused, usable_fine, few_stops}
 use Rattle.change.proofs.usable.Goals as goal
 
 pub shared_ref_as_front-all_travels : goal.shared_ref_as_front-all_travels
-shared_ref_as_front-all_travels c =
-    let sized : Sized c.args.deck.now =
-    record { post_x = search rules; post_y = search rules; stop_x = search rules; stop_y = search rules; visits = search rules } in
-    few_stops _ sized _ c.check.ensures c.is_ok.ensures.value c.if-is_ok.true
+shared_ref_as_front-all_travels c = few_stops _ (search rules) _ c.check.ensures c.is_ok.ensures.value c.if-is_ok.true
 
 pub returns-then-is_ok : goal.returns-then-is_ok
 returns-then-is_ok c = usable_fine _ _ c.check.ensures c.is_ok.ensures.value c.if-is_ok.true c.all_travels.ensures
