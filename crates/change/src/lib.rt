@@ -138,7 +138,7 @@ fn take_stop(deck: &mut Deck, i: usize)
     renew_before(deck);
 }
 
-// A post is put behind the last.
+// A post is put behind the last, and near and before follow; or the refusal that applies first, with the record as it was.
 pub fn add_post(deck: &mut Deck, post: Place) -> Result<(), Refusal>
     ensures { record { answer = result; deck = deck.new } ≡ changed_record (add_post (place_of post)) deck.old }
 {
@@ -150,7 +150,7 @@ pub fn add_post(deck: &mut Deck, post: Place) -> Result<(), Refusal>
     Ok(())
 }
 
-// The first post at a place is taken away.
+// The first post at this place is taken out, and near and before follow; or the refusal that applies first, with the record as it was.
 pub fn remove_post(deck: &mut Deck, post: Place) -> Result<(), Refusal>
     ensures { record { answer = result; deck = deck.new } ≡ changed_record (remove_post (place_of post)) deck.old }
 {
@@ -164,7 +164,7 @@ pub fn remove_post(deck: &mut Deck, post: Place) -> Result<(), Refusal>
     Ok(())
 }
 
-// A stop is put behind the last.
+// A stop is put behind the last, and near and before follow; or the refusal that applies first, with the record as it was.
 pub fn add_stop(deck: &mut Deck, stop: Stop) -> Result<(), Refusal>
     ensures { record { answer = result; deck = deck.new } ≡ changed_record (add_stop (stop_of stop)) deck.old }
 {
@@ -176,7 +176,7 @@ pub fn add_stop(deck: &mut Deck, stop: Stop) -> Result<(), Refusal>
     Ok(())
 }
 
-// The first stop with these values is taken away.
+// The first stop with these values is taken out, and near and before follow; or the refusal that applies first, with the record as it was.
 pub fn remove_stop(deck: &mut Deck, stop: Stop) -> Result<(), Refusal>
     ensures { record { answer = result; deck = deck.new } ≡ changed_record (remove_stop (stop_of stop)) deck.old }
 {
