@@ -2,11 +2,16 @@ pub mod AlteredLaws
 pub mod AlteredRecord
 pub mod Answered
 pub mod ChangedLaws
+pub mod ColumnChanges
 pub mod Conditions
+pub mod KeptLaws
+pub mod KeptNears
 pub mod MadeRecords
 pub mod PostChanges
 pub mod Refusals
 pub mod SoundUsable
 pub mod UpTo
+pub mod UsableChanges
+pub mod UsableExactly
 pub mod UsableLaws
 pub mod Verdicts

@@ -133,7 +133,7 @@ taken_here xs n i z h g e =
     ∙ ap (λ l. take i xs ++ l) (append_assoc (drop (suc i) (take n xs)) (z ∷ []) (drop n xs)))
 
 -- of two lists side by side
-zip_removed : {A B C : Type 0} (f : A → B → C) (i : ℕ) (xs : List A) (ys : List B) →
+pub zip_removed : {A B C : Type 0} (f : A → B → C) (i : ℕ) (xs : List A) (ys : List B) →
     zip_with f (removed i xs) (removed i ys) ≡ removed i (zip_with f xs ys)
 unfolding zip_with
 zip_removed f zero [] ys = refl
