@@ -4,4 +4,4 @@ use mathlib.Core.Path.{refl}
 use Rattle.calls.specs.AnswerRows.{AnswerRows}
 
 pub answer_rows : AnswerRows
-answer_rows = record { report_done = refl; report_stopped = refl; exhaustive = refl; estimate = refl }
+answer_rows = record { report_done = refl; report_stopped = refl; exhaustive = refl; estimate = refl; place = refl; stop = refl }

@@ -1,9 +1,11 @@
--- Which number of an answer's record in the code is which of documents 01 and 02. All of them differ, so that no two can be exchanged.
+-- Which number of an answer's record in the code, and of an argument's, is which of documents 01 and 02. All of them differ, so that no two
+-- can be exchanged.
 -- Assumes nothing.
 use Rattle.std.specs.Prelude.{◌≡◌, pos, Ok}
 use Rattle.query.specs.Figures.{done, stopped}
 use Rattle.query.specs.Marked.{at, report}
 use Rattle.query.specs.Rows.{needs}
+use Rattle.deck.specs.Rectangle.{place_of, stop_of}
 use Rattle.report.specs.declared.State.TheVariants.{Done, Stopped}
 use Rattle.calls.specs.Answers.{gives, report_answer, cheapest_answer, estimated_answer}
 
@@ -17,3 +19,6 @@ pub record AnswerRows : Type 0 where
   pub exhaustive : cheapest_answer (Ok (record { at = record { x = pos 1; y = pos 2 }; cost = 3 }))
       ≡ gives (record { at = at 1 2; cost = 3 })
   pub estimate : estimated_answer (Ok (record { across = 1; deep = 2; limit = 3; cells = 4 })) ≡ gives (needs 1 2 3 4)
+  -- the arguments of changes
+  pub place : place_of (record { x = pos 1; y = pos 2 }) ≡ at 1 2
+  pub stop : stop_of (record { at = record { x = pos 1; y = pos 2 }; visits = 3 }) ≡ record { at = at 1 2; visits = 3 }

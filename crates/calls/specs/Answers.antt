@@ -56,6 +56,6 @@ read_answer = answer_of (λ j. j.rounds)
 abbrev pub written_answer : Std.Result ℕ Refusal → AnswerOf ℕ
 written_answer = answer_of (λ count. count)
 
--- 02, card 6: nothing besides where a change was made, or one refusal
+-- 02, card 6: nothing more where a change is made, or one refusal
 abbrev pub change_answer : Std.Result (Unit {0}) Refusal → AnswerOf (Unit {0})
 change_answer = answer_of (λ u. u)

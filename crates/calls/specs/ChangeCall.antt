@@ -7,7 +7,7 @@ use Rattle.change.specs.Change.{Change}
 use Rattle.change.specs.ChangedRecord.{Changed, changed_record}
 use Rattle.calls.specs.Answers.{AnswerOf, change_answer}
 
--- nothing besides or a refusal, and the deck's record
+-- nothing more where a change is made, or one refusal; and the deck's record
 pub record AfterChange : Type 0 where
   pub answer : AnswerOf (Unit {0})
   pub deck : Deck
