@@ -1,7 +1,7 @@
--- Document 02, card 6: rows of the changes of a deck's record, from a job's bytes and some changes to the answers and to all numbers of
--- the record.
+-- Document 02, card 6: rows of the changes of a deck's record, from a job's bytes, or a record's numbers, and some changes to the answers
+-- and to all numbers of the record. All were worked out by hand.
 -- Assumes nothing.
-use Rattle.std.specs.Prelude.{ℕ, ◌≡◌, List, [], ◌∷◌, map, ℤ, pos, negsuc, replicate, set}
+use Rattle.std.specs.Prelude.{ℕ, ◌≡◌, List, [], ◌∷◌, ◌++◌, map, ℤ, pos, negsuc, replicate, set}
 use Rattle.numbers.specs.Padded.{padded}
 use Rattle.query.specs.Place.{Place}
 use Rattle.query.specs.Deck.{Stop}
@@ -11,7 +11,7 @@ use Rattle.change.specs.Change.{Change, add_post, remove_post, add_stop, remove_
 use Rattle.calls.specs.ReadCall.{read_call}
 use Rattle.calls.specs.ChangeCall.{change_call, record_after}
 use Rattle.calls.specs.RefusalTable.{case_a, ended, many_posts, many_stops, number_and_line}
-use Rattle.calls.specs.WriteTable.{apart, most_natural}
+use Rattle.calls.specs.WriteTable.{apart, record_of, with_area, with_axis, with_stop, counting, square, most_natural, ten_digits}
 
 abbrev pub place : ℤ → ℤ → Place
 place x y = record { x = x; y = y }
@@ -28,57 +28,66 @@ abbrev pub answers : Deck → List Change → List (ℕ × ℕ)
 answers deck [] = []
 answers deck (change ∷ changes) = let r = change_call deck change in number_and_line r.answer ∷ answers r.deck changes
 
--- the posts and stops of a record with their figures: the count and the columns of posts; the count and the columns of stops, near with
--- them; before
-abbrev pub lists : Deck → (ℕ × List ℤ × List ℤ) × (ℕ × List ℤ × List ℤ × List ℕ × List ℕ) × ℕ
-lists deck = (
-  (deck.posts, deck.post_x, deck.post_y),
-  (deck.stops, deck.stop_x, deck.stop_y, deck.visits, deck.near),
-  deck.before,
-)
-
--- the same of posts (x, y) and of stops (x, y, visits, near), with 0 behind them
-abbrev pub listing : ℕ → List (ℕ × ℕ) → ℕ → List (ℕ × ℕ × ℕ × ℕ) → ℕ → (ℕ × List ℤ × List ℤ) × (ℕ × List ℤ × List ℤ × List ℕ × List ℕ) × ℕ
-listing p posts s stops before = (
-  (p, padded 64 (pos 0) (map (λ q. pos q.0) posts), padded 64 (pos 0) (map (λ q. pos q.1) posts)),
-  (
-    s,
-    padded 512 (pos 0) (map (λ q. pos q.0) stops),
-    padded 512 (pos 0) (map (λ q. pos q.1) stops),
-    padded 512 0 (map (λ q. q.2) stops),
-    padded 512 0 (map (λ q. q.3) stops),
-  ),
-  before,
-)
-
 -- two posts and four stops, of which the first and the third have equal values, and the last differs from them in its visits
 abbrev pub plates : Deck
-plates = reading (ended ("area=0,0,9,9" ∷ "axis=2,1" ∷ "posts=2" ∷ "post=0,0" ∷ "post=30,0" ∷ "stops=4"
+plates = reading (ended ("area=1,2,3,4" ∷ "axis=2,1" ∷ "posts=2" ∷ "post=0,0" ∷ "post=30,1" ∷ "stops=4"
     ∷ "stop=10,4,2" ∷ "stop=29,1,3" ∷ "stop=10,4,2" ∷ "stop=10,4,5" ∷ "rounds=7" ∷ []))
 
+-- a record with the area and the axis costs of plates, by its other numbers: the count of posts and each post's x, y; the count of stops
+-- and each stop's x, y, visits and near; before. Behind the lists are zeros
+abbrev pub listing : ℕ → List (ℕ × ℕ) → ℕ → List (ℕ × ℕ × ℕ × ℕ) → ℕ → Deck
+listing p posts s stops before = with_figures
+    (record_of (2, 1) (pos 1 ∷ pos 2 ∷ pos 3 ∷ pos 4 ∷ []) p (map (λ q. (pos q.0, pos q.1)) posts) s
+    (map (λ q. (pos q.0, pos q.1, q.2)) stops))
+    (padded 512 0 (map (λ q. q.3) stops)) before
+
+-- near and before of a record after some changes
+abbrev pub figures_after : List Change → Deck → List ℕ × ℕ
+figures_after changes deck = let r = record_after changes deck in (r.near, r.before)
+
+-- four changes, of which the first and the third are refused
+abbrev pub two_refused : List Change
+two_refused = remove_post (place (pos 11) (pos 2)) ∷ add_post (place (pos 11) (pos 2)) ∷ add_post (place (pos 20001) (pos 0))
+    ∷ remove_stop (stop (pos 10) (pos 4) 2) ∷ []
+
+-- places and stops with values at the ends of their ranges, and with one value that is out of range
+abbrev pub places_inside : List Place
+places_inside = place (pos 20000) (negsuc 19999) ∷ place (negsuc 19999) (pos 20000) ∷ []
+
+abbrev pub stops_inside : List Stop
+stops_inside = stop (pos 20000) (negsuc 19999) 1 ∷ stop (negsuc 19999) (pos 20000) 65535 ∷ []
+
+abbrev pub places_outside : List Place
+places_outside =
+    place (pos 20001) (pos 0) ∷ place (negsuc 20000) (pos 0) ∷ place (pos 0) (pos 20001) ∷ place (pos 0) (negsuc 20000) ∷ []
+
+abbrev pub stops_outside : List Stop
+stops_outside = stop (pos 20001) (pos 0) 1 ∷ stop (negsuc 20000) (pos 0) 1 ∷ stop (pos 0) (pos 20001) 1 ∷ stop (pos 0) (negsuc 20000) 1
+    ∷ stop (pos 0) (pos 0) 0 ∷ stop (pos 0) (pos 0) 65536 ∷ stop (pos 0) (pos 0) most_natural ∷ []
+
 pub record ChangeTable : Type 0 where
-  pub before_changes : lists plates ≡ listing 2 ((0, 0) ∷ (30, 0) ∷ []) 4
-      ((10, 4, 2, 24) ∷ (29, 1, 3, 3) ∷ (10, 4, 2, 24) ∷ (10, 4, 5, 24) ∷ []) 225
-  -- an added item goes last; an added post improves near: 2 × 1 + 4 for the stops at 10,4
-  pub post_added : lists (record_after (add_post (place (pos 11) (pos 0)) ∷ []) plates) ≡ listing 3 ((0, 0) ∷ (30, 0) ∷ (11, 0) ∷ []) 4
-      ((10, 4, 2, 6) ∷ (29, 1, 3, 3) ∷ (10, 4, 2, 6) ∷ (10, 4, 5, 6) ∷ []) 63
-  pub stop_added : lists (record_after (add_stop (stop (pos 10) (pos 4) 2) ∷ []) plates) ≡ listing 2 ((0, 0) ∷ (30, 0) ∷ []) 5
-      ((10, 4, 2, 24) ∷ (29, 1, 3, 3) ∷ (10, 4, 2, 24) ∷ (10, 4, 5, 24) ∷ (10, 4, 2, 24) ∷ []) 273
+  pub before_changes : plates ≡ listing 2 ((0, 0) ∷ (30, 1) ∷ []) 4
+      ((10, 4, 2, 24) ∷ (29, 1, 3, 2) ∷ (10, 4, 2, 24) ∷ (10, 4, 5, 24) ∷ []) 222
+  -- an added item goes last; an added post improves near: 2 × 1 + 1 for the stops at 10,4
+  pub post_added : record_after (add_post (place (pos 11) (pos 3)) ∷ []) plates ≡ listing 3 ((0, 0) ∷ (30, 1) ∷ (11, 3) ∷ []) 4
+      ((10, 4, 2, 3) ∷ (29, 1, 3, 2) ∷ (10, 4, 2, 3) ∷ (10, 4, 5, 3) ∷ []) 33
+  pub stop_added : record_after (add_stop (stop (pos 10) (pos 4) 2) ∷ []) plates ≡ listing 2 ((0, 0) ∷ (30, 1) ∷ []) 5
+      ((10, 4, 2, 24) ∷ (29, 1, 3, 2) ∷ (10, 4, 2, 24) ∷ (10, 4, 5, 24) ∷ (10, 4, 2, 24) ∷ []) 270
   -- the first that equals is removed, and later ones move up, in order
-  pub stop_removed : lists (record_after (remove_stop (stop (pos 10) (pos 4) 2) ∷ []) plates) ≡ listing 2 ((0, 0) ∷ (30, 0) ∷ []) 3
-      ((29, 1, 3, 3) ∷ (10, 4, 2, 24) ∷ (10, 4, 5, 24) ∷ []) 177
-  pub stop_removed_twice : lists (record_after (replicate 2 (remove_stop (stop (pos 10) (pos 4) 2))) plates)
-      ≡ listing 2 ((0, 0) ∷ (30, 0) ∷ []) 2 ((29, 1, 3, 3) ∷ (10, 4, 5, 24) ∷ []) 129
-  -- near is found again where it was the travel to the post that is removed: 2 × 20 + 4 from 10,4 to 30,0
-  pub post_removed : lists (record_after (remove_post (place (pos 0) (pos 0)) ∷ []) plates) ≡ listing 1 ((30, 0) ∷ []) 4
-      ((10, 4, 2, 44) ∷ (29, 1, 3, 3) ∷ (10, 4, 2, 44) ∷ (10, 4, 5, 44) ∷ []) 405
+  pub stop_removed : record_after (remove_stop (stop (pos 10) (pos 4) 2) ∷ []) plates ≡ listing 2 ((0, 0) ∷ (30, 1) ∷ []) 3
+      ((29, 1, 3, 2) ∷ (10, 4, 2, 24) ∷ (10, 4, 5, 24) ∷ []) 174
+  pub stop_removed_twice : record_after (replicate 2 (remove_stop (stop (pos 10) (pos 4) 2))) plates
+      ≡ listing 2 ((0, 0) ∷ (30, 1) ∷ []) 2 ((29, 1, 3, 2) ∷ (10, 4, 5, 24) ∷ []) 126
+  -- near is found again where it was the travel to the post that is removed: 2 × 20 + 3 from 10,4 to 30,1
+  pub post_removed : record_after (remove_post (place (pos 0) (pos 0)) ∷ []) plates ≡ listing 1 ((30, 1) ∷ []) 4
+      ((10, 4, 2, 43) ∷ (29, 1, 3, 2) ∷ (10, 4, 2, 43) ∷ (10, 4, 5, 43) ∷ []) 393
   -- of two posts at one place the first is removed, and near stays
-  pub equal_posts : lists (record_after (add_post (place (pos 0) (pos 0)) ∷ remove_post (place (pos 0) (pos 0)) ∷ []) plates)
-      ≡ listing 2 ((30, 0) ∷ (0, 0) ∷ []) 4 ((10, 4, 2, 24) ∷ (29, 1, 3, 3) ∷ (10, 4, 2, 24) ∷ (10, 4, 5, 24) ∷ []) 225
-  -- one change after another, in this order, and those that are refused, here with 9 and with 3, count as none
-  pub in_order : lists (record_after (remove_post (place (pos 11) (pos 0)) ∷ add_post (place (pos 11) (pos 0))
-      ∷ add_post (place (pos 20001) (pos 0)) ∷ remove_stop (stop (pos 10) (pos 4) 2) ∷ []) plates)
-      ≡ listing 3 ((0, 0) ∷ (30, 0) ∷ (11, 0) ∷ []) 3 ((29, 1, 3, 3) ∷ (10, 4, 2, 6) ∷ (10, 4, 5, 6) ∷ []) 51
+  pub equal_posts : record_after (add_post (place (pos 0) (pos 0)) ∷ remove_post (place (pos 0) (pos 0)) ∷ []) plates
+      ≡ listing 2 ((30, 1) ∷ (0, 0) ∷ []) 4 ((10, 4, 2, 24) ∷ (29, 1, 3, 2) ∷ (10, 4, 2, 24) ∷ (10, 4, 5, 24) ∷ []) 222
+  -- one change after another, in this order, and those that are refused count as none; near is then 2 × 1 + 2
+  pub in_order : record_after two_refused plates
+      ≡ listing 3 ((0, 0) ∷ (30, 1) ∷ (11, 2) ∷ []) 3 ((29, 1, 3, 2) ∷ (10, 4, 2, 4) ∷ (10, 4, 5, 4) ∷ []) 34
+  pub answers_in_order : answers plates two_refused ≡ (9, 0) ∷ (0, 0) ∷ (3, 0) ∷ (0, 0) ∷ []
   -- 9 where no item has these values, before 5 and 6; 5 for the only post, 6 for the only stop
   pub not_held : answers plates
       (remove_post (place (pos 0) (pos 1)) ∷ remove_stop (stop (pos 29) (pos 1) 2) ∷ remove_stop (stop (pos 1) (pos 29) 3) ∷ [])
@@ -95,21 +104,49 @@ pub record ChangeTable : Type 0 where
       ∷ add_post (place (pos 1) (pos 1)) ∷ add_post (place (pos 1) (pos 1)) ∷ []) ≡ (10, 0) ∷ (0, 0) ∷ (0, 0) ∷ (10, 0) ∷ []
   pub stops_full : answers (reading (many_stops "stops=512" 512)) (add_stop (stop (pos 1) (pos 1) 1) ∷ remove_stop (stop (pos 4) (pos 3) 2)
       ∷ add_stop (stop (pos 1) (pos 1) 1) ∷ add_stop (stop (pos 1) (pos 1) 1) ∷ []) ≡ (10, 0) ∷ (0, 0) ∷ (0, 0) ∷ (10, 0) ∷ []
-  -- both sides of the end of every range: 3, before 10, 9, 5 and 6
+  -- 3: both sides of the end of every range, in each of the four, and before 9
   pub range_ends : answers plates
-      (add_post (place (pos 20000) (negsuc 19999)) ∷ add_post (place (negsuc 19999) (pos 20000))
-      ∷ add_stop (stop (pos 20000) (negsuc 19999) 1) ∷ add_stop (stop (negsuc 19999) (pos 20000) 65535) ∷ []) ≡ replicate 4 (0, 0)
+      (map add_post places_inside ++ map remove_post places_inside ++ map add_stop stops_inside ++ map remove_stop stops_inside)
+      ≡ replicate 8 (0, 0)
   pub beyond_ranges : answers plates
-      (add_post (place (pos 20001) (pos 0)) ∷ add_post (place (pos 0) (negsuc 20000)) ∷ remove_post (place (negsuc 20000) (pos 0))
-      ∷ remove_post (place (pos 0) (pos 20001)) ∷ add_stop (stop (pos 20001) (pos 0) 1) ∷ add_stop (stop (pos 0) (pos 0) 0)
-      ∷ add_stop (stop (pos 0) (pos 0) 65536) ∷ remove_stop (stop (pos 0) (negsuc 20000) 1) ∷ remove_stop (stop (pos 0) (pos 0) 0)
-      ∷ remove_stop (stop (pos 0) (pos 0) most_natural) ∷ []) ≡ replicate 10 (3, 0)
-  pub range_first : answers (reading (many_posts "posts=64" 64)) (add_post (place (pos 20001) (pos 0)) ∷ []) ≡ (3, 0) ∷ []
-  -- records that no operation makes: one that could not be read, one with near beyond any travel; and one with another near, which is
-  -- changed by what is stored
+      (map add_post places_outside ++ map remove_post places_outside ++ map add_stop stops_outside ++ map remove_stop stops_outside)
+      ≡ replicate 22 (3, 0)
+  -- and before 10, and where there is only one post or one stop
+  pub range_first : answers (reading (many_posts "posts=64" 64)) (add_post (place (pos 20001) (pos 0)) ∷ [])
+      ++ answers (reading (many_stops "stops=512" 512)) (add_stop (stop (pos 0) (pos 0) 0) ∷ [])
+      ++ answers (reading (many_posts "posts=1" 1)) (remove_post (place (pos 20001) (pos 0)) ∷ remove_stop (stop (pos 4) (pos 3) 0) ∷ [])
+      ≡ replicate 4 (3, 0)
+  -- records that no operation makes get 3 where the reader would not accept their file: one that could not be read; an empty area and one
+  -- out of range, axis costs, no posts and no stops, too many, a post, a stop, visits, and a number of ten digits
   pub not_read : answers (reading (ended (set case_a 1 "posts=65"))) (add_post (place (pos 0) (pos 0)) ∷ []) ≡ (3, 0) ∷ []
+  pub not_saveable : map (λ d. answers d (add_post (place (pos 0) (pos 0)) ∷ []))
+      (with_area (pos 8 ∷ pos 2 ∷ pos 2 ∷ pos 8 ∷ []) ∷ with_area (pos 2 ∷ pos 2 ∷ pos 8 ∷ pos 20001 ∷ [])
+      ∷ with_axis (0, 1) ∷ with_axis (1, 10)
+      ∷ counting 0 (pos 0, pos 0) 2 (pos 4, pos 3, 2) ∷ counting 1 (pos 0, pos 0) 0 (pos 4, pos 3, 2)
+      ∷ counting 65 (pos 0, pos 0) 2 (pos 4, pos 3, 2) ∷ counting 1 (pos 0, pos 0) 513 (pos 4, pos 3, 2)
+      ∷ counting 1 (pos 20001, pos 0) 2 (pos 4, pos 3, 2) ∷ with_stop (pos 8, negsuc 20000, 1)
+      ∷ with_stop (pos 8, pos 12, 0) ∷ with_stop (pos 8, pos 12, 65536) ∷ with_stop (pos 8, pos 12, ten_digits) ∷ [])
+      ≡ replicate 13 ((3, 0) ∷ [])
+  -- and where near is beyond any travel
   pub near_beyond : answers (with_figures apart (padded 512 0 (1 ∷ 720001 ∷ [])) 0) (add_post (place (pos 0) (pos 0)) ∷ []) ≡ (3, 0) ∷ []
-  pub near_stored : (record_after (add_post (place (pos 10) (pos 12)) ∷ []) (with_figures apart (padded 512 3 (1 ∷ 720000 ∷ [])) 5)).near
-      ≡ padded 512 3 (1 ∷ 32 ∷ [])
-  pub before_stored : (record_after (add_post (place (pos 10) (pos 12)) ∷ [])
-      (with_figures apart (padded 512 3 (1 ∷ 720000 ∷ [])) 5)).before ≡ 492
+  -- others are changed by the near that is stored; what stands behind the lists and the old before do not matter. A post added, at travels
+  -- of 7 and of 6 × 3 + 7 × 2
+  pub near_stored : figures_after (add_post (place (pos 10) (pos 12)) ∷ [])
+      (with_figures apart (padded 512 720001 (1 ∷ 720000 ∷ [])) most_natural) ≡ (padded 512 720001 (1 ∷ 32 ∷ []), 492)
+  -- a post removed that is at travels of 26 and 65, where the other is at 156 and 195
+  pub found_again : figures_after (remove_post (place (pos 8) (pos 9)) ∷ []) (with_figures apart (padded 512 3 (26 ∷ 66 ∷ [])) 5)
+      ≡ (padded 512 3 (156 ∷ 66 ∷ []), 2862)
+  pub found_again_second : figures_after (remove_post (place (pos 8) (pos 9)) ∷ []) (with_figures apart (padded 512 3 (25 ∷ 65 ∷ [])) 5)
+      ≡ (padded 512 3 (25 ∷ 195 ∷ []), 3225)
+  -- a stop added, at a travel of 7
+  pub others_stay : figures_after (add_stop (stop (pos 8) (pos 8) 2) ∷ []) (with_figures apart (padded 512 3 (1 ∷ 720000 ∷ [])) 5)
+      ≡ (padded 512 3 (1 ∷ 720000 ∷ 7 ∷ []), 10800026)
+  -- what stands behind the lists stays, but where an item is added, and 0 is left where the last item was
+  pub behind_added : record_after (add_post (place (pos 6) (pos 7)) ∷ add_stop (stop (pos 8) (pos 9) 3) ∷ [])
+      (with_figures (counting 1 (pos 1, pos 2) 1 (pos 4, pos 3, 2)) (replicate 512 5) 9)
+      ≡ with_figures (record_of (1, 1) square 2 (set (replicate 64 (pos 1, pos 2)) 1 (pos 6, pos 7))
+      2 (set (replicate 512 (pos 4, pos 3, 2)) 1 (pos 8, pos 9, 3))) (set (replicate 512 5) 1 4) 22
+  pub behind_removed : record_after (remove_post (place (pos 1) (pos 2)) ∷ remove_stop (stop (pos 4) (pos 3) 2) ∷ [])
+      (with_figures (counting 2 (pos 1, pos 2) 2 (pos 4, pos 3, 2)) (replicate 512 5) 9)
+      ≡ with_figures (record_of (1, 1) square 1 (set (replicate 64 (pos 1, pos 2)) 1 (pos 0, pos 0))
+      1 (set (replicate 512 (pos 4, pos 3, 2)) 1 (pos 0, pos 0, 0))) (set (replicate 512 5) 1 0) 10
