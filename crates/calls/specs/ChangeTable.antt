@@ -104,14 +104,14 @@ pub record ChangeTable : Type 0 where
       ∷ add_post (place (pos 1) (pos 1)) ∷ add_post (place (pos 1) (pos 1)) ∷ []) ≡ (10, 0) ∷ (0, 0) ∷ (0, 0) ∷ (10, 0) ∷ []
   pub stops_full : answers (reading (many_stops "stops=512" 512)) (add_stop (stop (pos 1) (pos 1) 1) ∷ remove_stop (stop (pos 4) (pos 3) 2)
       ∷ add_stop (stop (pos 1) (pos 1) 1) ∷ add_stop (stop (pos 1) (pos 1) 1) ∷ []) ≡ (10, 0) ∷ (0, 0) ∷ (0, 0) ∷ (10, 0) ∷ []
-  -- 3: both sides of the end of every range, in each of the four, and before 9
+  -- 3: both sides of the end of every range, in each of the four changes. It comes before 9
   pub range_ends : answers plates
       (map add_post places_inside ++ map remove_post places_inside ++ map add_stop stops_inside ++ map remove_stop stops_inside)
       ≡ replicate 8 (0, 0)
   pub beyond_ranges : answers plates
       (map add_post places_outside ++ map remove_post places_outside ++ map add_stop stops_outside ++ map remove_stop stops_outside)
       ≡ replicate 22 (3, 0)
-  -- and before 10, and where there is only one post or one stop
+  -- and before 10, and also where there is only one post and one stop
   pub range_first : answers (reading (many_posts "posts=64" 64)) (add_post (place (pos 20001) (pos 0)) ∷ [])
       ++ answers (reading (many_stops "stops=512" 512)) (add_stop (stop (pos 0) (pos 0) 0) ∷ [])
       ++ answers (reading (many_posts "posts=1" 1)) (remove_post (place (pos 20001) (pos 0)) ∷ remove_stop (stop (pos 4) (pos 3) 0) ∷ [])
