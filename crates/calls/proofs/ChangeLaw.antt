@@ -6,31 +6,34 @@ use mathlib.Core.Logic.{◌↔◌, inl, inr, ⊎_elim}
 use mathlib.Core.List.Memᴰ
 use mathlib.Core.List.{List, [], ◌∷◌, Memᴰ}
 use mathlib.Core.Option.{Option, none, some, none-ne-some, some-injective}
-use Prim.Native.Nat.{ℕ}
+use Prim.Native.Nat.{ℕ, ◌≤◌, ◌<◌}
 use native.Mathlib.Omega.{arith}
 use lib.Dec.{T}
-use lib.ListN.{length}
+use lib.ListN.{length, get_or}
 use Rattle.numbers.proofs.Members.{each_cons}
-use Rattle.numbers.proofs.Truth.{test, fails, holds}
+use Rattle.numbers.proofs.Truth.{test, fails}
 use Rattle.query.specs.Deck as Query
-use Rattle.deck.specs.DeckOf.{deck_of, deck_record}
+use Rattle.deck.specs.DeckOf.{Sized, deck_of, deck_record}
 use Rattle.deck.specs.Sound.{Sound}
 use Rattle.deck.specs.declared.Deck.{Deck}
-use Rattle.deck.proofs.DeckLaws.{held_deck}
 use Rattle.refusal.specs.Refusal.{number_of, line_of}
 use Rattle.refusal.specs.declared.Refusal.{Refusal}
 use Rattle.refusal.specs.declared.Refusal.TheVariants.{OutOfRange, NoPosts, NoStops, NotHeld, Full}
-use Rattle.change.specs.Change.{Change, add_post, remove_post, add_stop, remove_stop, altered, changed, change_refusal, unless_refused}
+use Rattle.change.specs.Change.{Change, add_post, remove_post, add_stop, remove_stop, altered, change_refusal, unless_refused}
 use Rattle.items.specs.Items.{is_same_place, is_same_stop, remove_first}
 use Rattle.change.specs.ChangedRecord.{usable, altered_record, record_refusal, answered, changed_record}
 use Rattle.items.proofs.ItemValues.{same_place, place_same, same_stop, stop_same}
 use Rattle.change.proofs.SoundUsable.{sound_usable}
 use Rattle.change.proofs.Conditions.{Allows, refusal_none}
 use Rattle.change.proofs.Refusals.{Refuses, refusal_some}
-use Rattle.change.proofs.AlteredLaws.{changed_area, changed_axis}
-use Rattle.change.proofs.ChangedLaws.{changed_is, changed_sound, made_answer}
+use Rattle.change.proofs.Answered.{answer_made}
+use Rattle.change.proofs.ChangedLaws.{changed_sound, made_answer}
+use Rattle.change.proofs.KeptLaws.{deck_of_altered}
+use Rattle.change.proofs.UsableChanges.{when_usable, changed_usable}
+use Rattle.change.proofs.UsableExactly.{usable_exactly}
 use Rattle.calls.specs.Answers.{AnswerOf, gives, refuses, refusal, change_answer}
 use Rattle.calls.specs.ChangeCall.{AfterChange, change_call}
+use Rattle.calls.specs.SavingLaw.{Saveable}
 use Rattle.calls.specs.ChangeLaw.{ItemInRange, ChangeApplies, out_of_range, no_such_post, no_such_stop, only_post, only_stop, posts_full, stops_full}
 use Rattle.calls.specs.ChangeLaw.{FirstRemoved, first, Leaves, post_added, post_removed, stop_added, stop_removed, ChangeLaw}
 use Rattle.calls.proofs.AnswerLaws.{same_number, same_line, same_refusal, not_refused}
@@ -82,10 +85,6 @@ module _ (deck : Deck) (change : Change) where
   not_usable : T (not (usable deck)) → record_refusal change deck ≡ some (OutOfRange 0)
   unfolding record_refusal
   not_usable t = ap (λ (b : Bool). cond b (change_refusal change (deck_of deck)) (some (OutOfRange 0))) (fails (usable deck) t)
-
-  when_usable : T (usable deck) → record_refusal change deck ≡ change_refusal change (deck_of deck)
-  unfolding record_refusal
-  when_usable t = ap (λ (b : Bool). cond b (change_refusal change (deck_of deck)) (some (OutOfRange 0))) (holds (usable deck) t)
 
   deck_is : (change_call deck change).deck ≡ (changed_record change deck).deck
   unfolding change_call
@@ -185,11 +184,35 @@ leaves_altered deck (remove_post p) a = post_removed (first_removed is_same_plac
 leaves_altered deck (add_stop s) a = stop_added refl refl
 leaves_altered deck (remove_stop s) a = stop_removed (first_removed is_same_stop same_stop stop_same s deck.stops a.1) refl
 
+-- ---- area and axis costs
+same_area : (deck : Deck) (change : Change) → (deck_of (altered_record change deck)).area ≡ (deck_of deck).area
+unfolding altered_record deck_of
+same_area deck (add_post p) = refl
+same_area deck (remove_post p) = refl
+same_area deck (add_stop s) = refl
+same_area deck (remove_stop s) = refl
+
+same_axis : (deck : Deck) (change : Change) → (deck_of (altered_record change deck)).axis ≡ (deck_of deck).axis
+unfolding altered_record deck_of
+same_axis deck (add_post p) = refl
+same_axis deck (remove_post p) = refl
+same_axis deck (add_stop s) = refl
+same_axis deck (remove_stop s) = refl
+
 -- ---- one change
 module _ (deck : Deck) (change : Change) where
+  -- what holds of the record and of what it leaves where the change is made holds of the record then
+  record_ind : (P : Deck → Type 0) → P deck → P (altered_record change deck) → P (change_call deck change).deck
+  unfolding change_call changed_record
+  record_ind P before after = go (record_refusal change deck)
+    where
+      go : (o : Option Refusal) → P (unless_refused o deck (altered_record change deck))
+      go none = after
+      go (some why) = before
+
   why_listed : (why : Refusal) → record_refusal change deck ≡ some why → Listed why
   why_listed why e = ⊎_elim
-      (λ t. applies_listed ((applies_exactly (deck_of deck) change why).0 (sym (when_usable deck change t) ∙ e)))
+      (λ t. applies_listed ((applies_exactly (deck_of deck) change why).0 (sym (when_usable change deck t) ∙ e)))
       (λ t. subst Listed (same_some (sym (not_usable deck change t) ∙ e)) three) (test (usable deck))
     where
       same_some : {a b : Refusal} → ◌≡◌ {A = Option Refusal} (some a) (some b) → a ≡ b
@@ -198,12 +221,12 @@ module _ (deck : Deck) (change : Change) where
   module _ (usable_lem : T (usable deck)) where
     exactly : (why : Refusal) → ((change_call deck change).answer ≡ refusal why) ↔ ChangeApplies (deck_of deck) change why
     exactly why = (
-      λ e. (applies_exactly (deck_of deck) change why).0 (sym (when_usable deck change usable_lem) ∙ (refused_exactly deck change why).0 e),
-      λ a. (refused_exactly deck change why).1 (when_usable deck change usable_lem ∙ (applies_exactly (deck_of deck) change why).1 a),
+      λ e. (applies_exactly (deck_of deck) change why).0 (sym (when_usable change deck usable_lem) ∙ (refused_exactly deck change why).0 e),
+      λ a. (refused_exactly deck change why).1 (when_usable change deck usable_lem ∙ (applies_exactly (deck_of deck) change why).1 a),
     )
 
     none_of : (change_call deck change).answer ≡ gives tt → change_refusal change (deck_of deck) ≡ none
-    none_of e = sym (when_usable deck change usable_lem) ∙ made_none deck change e
+    none_of e = sym (when_usable change deck usable_lem) ∙ made_none deck change e
 
     made_where : ((change_call deck change).answer ≡ gives tt) ↔ ((why : Refusal) → ChangeApplies (deck_of deck) change why → ⊥)
     made_where = (
@@ -213,19 +236,24 @@ module _ (deck : Deck) (change : Change) where
       where
         go : (o : Option Refusal) → change_refusal change (deck_of deck) ≡ o → ((why : Refusal) → ChangeApplies (deck_of deck) change why → ⊥) →
             (change_call deck change).answer ≡ gives tt
-        go none f n = answer_is deck change ∙ ap answer_for (when_usable deck change usable_lem ∙ f)
+        go none f n = answer_is deck change ∙ ap answer_for (when_usable change deck usable_lem ∙ f)
         go (some why) f n = absurd (n why ((applies_exactly (deck_of deck) change why).0 f))
 
-  module _ (sound : Sound deck) where
-    made_as : (change_call deck change).answer ≡ gives tt → (change_call deck change).deck ≡ deck_record (altered change (deck_of deck))
-    made_as e = deck_is deck change ∙ ap (λ r. r.deck) (made_answer deck change sound (none_of (sound_usable deck sound) e))
+    made_leaves : Sized deck → (change_call deck change).answer ≡ gives tt → Leaves (deck_of deck) (deck_of (change_call deck change).deck) change
+    made_leaves sized e = subst (λ d. Leaves (deck_of deck) d change) (sym (ap deck_of left ∙ deck_of_altered change deck sized usable_lem (none_of e)))
+        (leaves_altered (deck_of deck) change ((refusal_none change (deck_of deck)).0 (none_of e)))
+      where
+        left : (change_call deck change).deck ≡ altered_record change deck
+        left = deck_is deck change ∙ ap (λ r. r.deck) (answer_made change deck (made_none deck change e))
 
-    made_leaves : (change_call deck change).answer ≡ gives tt → Leaves (deck_of deck) (deck_of (change_call deck change).deck) change
-    made_leaves e = subst (λ d. Leaves (deck_of deck) d change) (sym (ap deck_of (made_as e) ∙ held_deck (altered change (deck_of deck))))
-        (leaves_altered (deck_of deck) change ((refusal_none change (deck_of deck)).0 (none_of (sound_usable deck sound) e)))
+  made_as : Sound deck → (change_call deck change).answer ≡ gives tt → (change_call deck change).deck ≡ deck_record (altered change (deck_of deck))
+  made_as sound e = deck_is deck change ∙ ap (λ r. r.deck) (made_answer deck change sound (none_of (sound_usable deck sound) e))
 
-    now : deck_of (change_call deck change).deck ≡ changed (deck_of deck) change
-    now = ap deck_of (deck_is deck change ∙ changed_is deck change sound) ∙ held_deck (changed (deck_of deck) change)
+  can_change : Sized deck → T (usable deck) ↔ (Saveable deck 0 × ((i : ℕ) → i < deck.stops → get_or deck.near i 0 ≤ 720000))
+  can_change sized = let both = usable_exactly deck sized in (
+    λ t. let c = both.0 t in (record { allowed = c.0; few_posts = c.1; few_stops = c.2 }, c.3),
+    λ s. both.1 (s.0.allowed, s.0.few_posts, s.0.few_stops, s.1),
+  )
 
   pub change_law : ChangeLaw deck change
   change_law = record {
@@ -233,13 +261,15 @@ module _ (deck : Deck) (change : Change) where
     line_0 = λ number line e. let (why, f, n, l) = refused_why deck change number line e in l ∙ listed_line (why_listed why f);
     numbers = λ number line e. let (why, f, n, l) = refused_why deck change number line e in
         subst (λ m. Memᴰ m (3 ∷ 5 ∷ 6 ∷ 9 ∷ 10 ∷ [])) (sym n) (listed_number (why_listed why f));
-    unusable = λ t. refused_kept deck change (not_usable deck change t);
+    area_kept = record_ind (λ d. (deck_of d).area ≡ (deck_of deck).area) refl (same_area deck change);
+    axis_kept = record_ind (λ d. (deck_of d).axis ≡ (deck_of deck).axis) refl (same_axis deck change);
+    usable_exactly = can_change;
     sound_usable = sound_usable deck;
+    unusable = λ t. refused_kept deck change (not_usable deck change t);
     refused_exactly = exactly;
     made_exactly = made_where;
+    leaves = λ sized t. made_leaves t sized;
+    usable_again = λ sized t. subst (λ d. Sized d × T (usable d)) (sym (deck_is deck change)) (changed_usable change deck sized t);
     made = made_as;
-    leaves = made_leaves;
-    area_kept = λ s. ap (λ (d : Query.Deck). d.area) (now s) ∙ changed_area (deck_of deck) change;
-    axis_kept = λ s. ap (λ (d : Query.Deck). d.axis) (now s) ∙ changed_axis (deck_of deck) change;
     sound = λ s. subst Sound (sym (deck_is deck change)) (changed_sound deck change s);
   }

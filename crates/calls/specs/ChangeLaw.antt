@@ -1,13 +1,13 @@
 -- Document 02, card 6: what the four changes of a deck's record are held to: each change of every record that the code can hold, and
 -- every run of changes of a record that was read.
 -- Assumes nothing.
-use Rattle.std.specs.Prelude.{ℕ, ◌≤◌, ◌≡◌, Bool, not, false, ◌↔◌, T, length}
+use Rattle.std.specs.Prelude.{ℕ, ◌≤◌, ◌<◌, ◌≡◌, Bool, not, false, ◌↔◌, T, length, get_or}
 use mathlib.Core.List.{List, [], ◌∷◌, ◌++◌, Memᴰ}
 use Rattle.query.specs.Place.{Place}
 use Rattle.query.specs.Deck as Query
 use Rattle.query.specs.Deck.{Stop}
-use Rattle.query.specs.Range.{PlaceInRange, StopInRange, posts_limit, stops_limit}
-use Rattle.deck.specs.DeckOf.{deck_of, deck_record}
+use Rattle.query.specs.Range.{PlaceInRange, StopInRange, posts_limit, stops_limit, travel_limit}
+use Rattle.deck.specs.DeckOf.{Sized, deck_of, deck_record}
 use Rattle.deck.specs.Sound.{Sound}
 use Rattle.deck.specs.declared.Deck.{Deck}
 use Rattle.refusal.specs.declared.Refusal.{Refusal}
@@ -20,7 +20,7 @@ use Rattle.write.specs.Written.{overwritten}
 use Rattle.calls.specs.Answers.{gives, refuses, refusal}
 use Rattle.calls.specs.ReadCall.{read_call}
 use Rattle.calls.specs.WriteCall.{write_call}
-use Rattle.calls.specs.SavingLaw.{SpellsOut}
+use Rattle.calls.specs.SavingLaw.{SpellsOut, Saveable}
 use Rattle.calls.specs.ChangeCall.{change_call, record_after}
 
 -- ---- the answers
@@ -63,21 +63,27 @@ pub record ChangeLaw (deck : Deck) (change : Change) : Type 0 where
   pub refused_deck : (number line : ℕ) → (change_call deck change).answer ≡ refuses number line → (change_call deck change).deck ≡ deck
   pub line_0 : (number line : ℕ) → (change_call deck change).answer ≡ refuses number line → line ≡ 0
   pub numbers : (number line : ℕ) → (change_call deck change).answer ≡ refuses number line → Memᴰ number (3 ∷ 5 ∷ 6 ∷ 9 ∷ 10 ∷ [])
-  -- a record that cannot be changed, which no operation makes, gets 3
-  pub unusable : T (not (usable deck)) → change_call deck change ≡ record { answer = refuses 3 0; deck = deck }
-  -- of one that can be changed, which every sound record can: each refusal exactly under its condition; made exactly where none applies
+  -- of every record too: "all else unaltered"
+  pub area_kept : (deck_of (change_call deck change).deck).area ≡ (deck_of deck).area
+  pub axis_kept : (deck_of (change_call deck change).deck).axis ≡ (deck_of deck).axis
+  -- the records that can be changed are those whose file, with 0 rounds, the reader accepts, and in which no stop's near is beyond any
+  -- travel; every sound record is one. Another one, which no operation makes, gets 3
+  pub usable_exactly : Sized deck → T (usable deck)
+      ↔ (Saveable deck 0 × ((i : ℕ) → i < deck.stops → get_or deck.near i 0 ≤ travel_limit))
   pub sound_usable : Sound deck → T (usable deck)
+  pub unusable : T (not (usable deck)) → change_call deck change ≡ record { answer = refuses 3 0; deck = deck }
+  -- of a record that can be changed: each refusal exactly under its condition; made exactly where none applies; then its lists are the
+  -- resulting ones; and it can be changed again
   pub refused_exactly : T (usable deck) → (why : Refusal) →
       ((change_call deck change).answer ≡ refusal why) ↔ ChangeApplies (deck_of deck) change why
   pub made_exactly : T (usable deck) →
       ((change_call deck change).answer ≡ gives tt) ↔ ((why : Refusal) → ChangeApplies (deck_of deck) change why → ⊥)
+  pub leaves : Sized deck → T (usable deck) → (change_call deck change).answer ≡ gives tt →
+      Leaves (deck_of deck) (deck_of (change_call deck change).deck) change
+  pub usable_again : Sized deck → T (usable deck) → Sized (change_call deck change).deck × T (usable (change_call deck change).deck)
   -- what is made of a sound record is the record of the deck with the resulting list, near and before included; so it is sound
   pub made : Sound deck → (change_call deck change).answer ≡ gives tt →
       (change_call deck change).deck ≡ deck_record (altered change (deck_of deck))
-  pub leaves : Sound deck → (change_call deck change).answer ≡ gives tt →
-      Leaves (deck_of deck) (deck_of (change_call deck change).deck) change
-  pub area_kept : Sound deck → (deck_of (change_call deck change).deck).area ≡ (deck_of deck).area
-  pub axis_kept : Sound deck → (deck_of (change_call deck change).deck).axis ≡ (deck_of deck).axis
   pub sound : Sound deck → Sound (change_call deck change).deck
 
 -- ---- runs of changes
