@@ -26,10 +26,9 @@ use Rattle.items.proofs.ItemValues.{same_place, place_same, same_stop, stop_same
 use Rattle.change.proofs.SoundUsable.{sound_usable}
 use Rattle.change.proofs.Conditions.{Allows, refusal_none}
 use Rattle.change.proofs.Refusals.{Refuses, refusal_some}
-use Rattle.change.proofs.Answered.{answer_made}
+use Rattle.change.proofs.Answered.{when_usable, answer_made}
 use Rattle.change.proofs.ChangedLaws.{changed_sound, made_answer}
-use Rattle.change.proofs.KeptLaws.{deck_of_altered}
-use Rattle.change.proofs.UsableChanges.{when_usable, changed_usable}
+use Rattle.change.proofs.KeptLaws.{deck_of_altered, kept}
 use Rattle.change.proofs.UsableExactly.{usable_exactly}
 use Rattle.calls.specs.Answers.{AnswerOf, gives, refuses, refusal, change_answer}
 use Rattle.calls.specs.ChangeCall.{AfterChange, change_call}
@@ -201,14 +200,14 @@ same_axis deck (remove_stop s) = refl
 
 -- ---- one change
 module _ (deck : Deck) (change : Change) where
-  -- what holds of the record and of what it leaves where the change is made holds of the record then
-  record_ind : (P : Deck → Type 0) → P deck → P (altered_record change deck) → P (change_call deck change).deck
+  -- what holds of the record, and of what it leaves where the change is made, holds of the record then
+  record_ind : (P : Deck → Type 0) → P deck → (record_refusal change deck ≡ none → P (altered_record change deck)) → P (change_call deck change).deck
   unfolding change_call changed_record
-  record_ind P before after = go (record_refusal change deck)
+  record_ind P before after = go (record_refusal change deck) after
     where
-      go : (o : Option Refusal) → P (unless_refused o deck (altered_record change deck))
-      go none = after
-      go (some why) = before
+      go : (o : Option Refusal) → (o ≡ none → P (altered_record change deck)) → P (unless_refused o deck (altered_record change deck))
+      go none made = made refl
+      go (some why) made = before
 
   why_listed : (why : Refusal) → record_refusal change deck ≡ some why → Listed why
   why_listed why e = ⊎_elim
@@ -261,15 +260,16 @@ module _ (deck : Deck) (change : Change) where
     line_0 = λ number line e. let (why, f, n, l) = refused_why deck change number line e in l ∙ listed_line (why_listed why f);
     numbers = λ number line e. let (why, f, n, l) = refused_why deck change number line e in
         subst (λ m. Memᴰ m (3 ∷ 5 ∷ 6 ∷ 9 ∷ 10 ∷ [])) (sym n) (listed_number (why_listed why f));
-    area_kept = record_ind (λ d. (deck_of d).area ≡ (deck_of deck).area) refl (same_area deck change);
-    axis_kept = record_ind (λ d. (deck_of d).axis ≡ (deck_of deck).axis) refl (same_axis deck change);
+    area_kept = record_ind (λ d. (deck_of d).area ≡ (deck_of deck).area) refl (λ e. same_area deck change);
+    axis_kept = record_ind (λ d. (deck_of d).axis ≡ (deck_of deck).axis) refl (λ e. same_axis deck change);
     usable_exactly = can_change;
     sound_usable = sound_usable deck;
     unusable = λ t. refused_kept deck change (not_usable deck change t);
     refused_exactly = exactly;
     made_exactly = made_where;
     leaves = λ sized t. made_leaves t sized;
-    usable_again = λ sized t. subst (λ d. Sized d × T (usable d)) (sym (deck_is deck change)) (changed_usable change deck sized t);
+    usable_again = λ sized t. record_ind (λ d. Sized d × T (usable d)) (sized, t)
+        (λ e. kept change deck sized t (sym (when_usable change deck t) ∙ e));
     made = made_as;
     sound = λ s. subst Sound (sym (deck_is deck change)) (changed_sound deck change s);
   }

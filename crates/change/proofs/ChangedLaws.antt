@@ -3,8 +3,7 @@
 use mathlib.Core.Path.{◌≡◌, refl, sym, ap, subst, ◌∙◌}
 use mathlib.Core.Option.{Option, none, some}
 use mathlib.Core.List.{List, [], ◌∷◌, foldl}
-use Rattle.std.specs.Prelude.{Ok, Err}
-use Rattle.numbers.proofs.Truth.{cond-true}
+use Rattle.std.specs.Prelude.{Ok}
 use Rattle.query.specs.Place.{NonEmpty}
 use Rattle.query.specs.Deck as Query
 use Rattle.deck.specs.DeckOf.{deck_of, deck_record}
@@ -13,31 +12,18 @@ use Rattle.deck.specs.declared.Deck.{Deck}
 use Rattle.deck.proofs.DeckLaws.{held_deck}
 use Rattle.deck.proofs.SoundLaws.{record_sound}
 use Rattle.refusal.specs.declared.Refusal.{Refusal}
-use Rattle.refusal.specs.declared.Refusal.TheVariants.{OutOfRange}
 use Rattle.change.specs.Change.{Change, altered, change_refusal, unless_refused, changed, changed_by}
-use Rattle.change.specs.ChangedRecord.{usable, altered_record, record_refusal, Changed, changed_record}
+use Rattle.change.specs.ChangedRecord.{altered_record, changed_record}
 use Rattle.change.proofs.SoundUsable.{sound_usable}
 use Rattle.change.proofs.AlteredLaws.{changed_range, changed_area}
 use Rattle.change.proofs.AlteredRecord.{made_is}
-use Rattle.change.proofs.Answered.{answer_refused, answer_made}
-
--- ---- refused, of any record
-pub refused_answer : (deck : Deck) (change : Change) {why : Refusal} → record_refusal change deck ≡ some why →
-    changed_record change deck ≡ record { answer = Err why; deck = deck }
-refused_answer deck change e = answer_refused change deck e
-
-pub refused_is : (deck : Deck) (change : Change) {why : Refusal} → record_refusal change deck ≡ some why → (changed_record change deck).deck ≡ deck
-refused_is deck change e = ap (λ (r : Changed). r.deck) (refused_answer deck change e)
+use Rattle.change.proofs.Answered.{when_usable, answer_made}
 
 -- ---- a change of a sound record
-pub sound_refusal : (deck : Deck) (change : Change) → Sound deck → record_refusal change deck ≡ change_refusal change (deck_of deck)
-unfolding record_refusal
-sound_refusal deck change sound = cond-true (usable deck) (change_refusal change (deck_of deck)) (some (OutOfRange 0)) (sound_usable deck sound)
-
 pub changed_is : (deck : Deck) (change : Change) → Sound deck → (changed_record change deck).deck ≡ deck_record (changed (deck_of deck) change)
 unfolding changed_record changed
 changed_is deck change sound =
-    ap (λ (o : Option Refusal). unless_refused o deck (altered_record change deck)) (sound_refusal deck change sound)
+    ap (λ (o : Option Refusal). unless_refused o deck (altered_record change deck)) (when_usable change deck (sound_usable deck sound))
     ∙ go (change_refusal change (deck_of deck)) (made_is deck change sound)
   where
     go : (o : Option Refusal) → (o ≡ none → altered_record change deck ≡ deck_record (altered change (deck_of deck))) →
@@ -49,7 +35,7 @@ changed_is deck change sound =
 pub made_answer : (deck : Deck) (change : Change) → Sound deck → change_refusal change (deck_of deck) ≡ none →
     changed_record change deck ≡ record { answer = Ok tt; deck = deck_record (altered change (deck_of deck)) }
 made_answer deck change sound e =
-    answer_made change deck (sound_refusal deck change sound ∙ e) ∙ ap (λ (d : Deck). record { answer = Ok tt; deck = d }) (made_is deck change sound e)
+    answer_made change deck (when_usable change deck (sound_usable deck sound) ∙ e) ∙ ap (λ (d : Deck). record { answer = Ok tt; deck = d }) (made_is deck change sound e)
 
 pub changed_sound : (deck : Deck) (change : Change) → Sound deck → Sound (changed_record change deck).deck
 changed_sound deck change sound = subst Sound (sym (changed_is deck change sound)) (record_sound (changed (deck_of deck) change)
@@ -69,6 +55,3 @@ run_is [] deck sound = sound.whole
 run_is (change ∷ changes) deck sound =
     run_is changes (changed_record change deck).deck (changed_sound deck change sound)
     ∙ ap (λ (d : Query.Deck). deck_record (foldl changed d changes)) (ap deck_of (changed_is deck change sound) ∙ held_deck (changed (deck_of deck) change))
-
-pub run_deck : (changes : List Change) (deck : Deck) → Sound deck → deck_of (record_after changes deck) ≡ changed_by changes (deck_of deck)
-run_deck changes deck sound = ap deck_of (run_is changes deck sound) ∙ held_deck (changed_by changes (deck_of deck))

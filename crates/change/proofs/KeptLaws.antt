@@ -3,7 +3,7 @@
 use mathlib.Core.Path.{◌≡◌, sym, ap, subst, ◌∙◌}
 use mathlib.Core.List.{List}
 use mathlib.Core.Option.{none}
-use Prim.Native.Nat.{◌≤◌, ◌<◌}
+use Prim.Native.Nat.{◌<◌}
 use native.Mathlib.Omega.{arith}
 use lib.Dec.{T}
 use lib.IntN.{pos}
@@ -29,7 +29,7 @@ use Rattle.change.specs.ChangedRecord.{usable, renewed, altered_record}
 use Rattle.change.proofs.AlteredLaws.{altered_range, altered_area}
 use Rattle.change.proofs.ColumnChanges.{places_more, places_less, stops_more, stops_less}
 use Rattle.change.proofs.Conditions.{Allows, refusal_none}
-use Rattle.change.proofs.KeptNears.{renewed_length, renewed_up_to, closest_most, without_most}
+use Rattle.change.proofs.KeptNears.{renewed_up_to, closest_most, without_most}
 use Rattle.change.proofs.MadeRecords.{with_limit}
 use Rattle.change.proofs.UpTo.{EachUpTo, set_up_to, taken_up_to}
 use Rattle.change.proofs.UsableExactly.{usable_exactly, usable_counts, usable_range, usable_area, usable_near}
@@ -125,13 +125,6 @@ module _ (deck : Deck) (columns : DeckColumns deck) where
 
   -- ---- near
   module _ (range : InRange (deck_of deck)) where
-    near_length : (change : Change) → Allows change (deck_of deck) → deck.stops ≤ length deck.near → length (altered_record change deck).near ≡ length deck.near
-    unfolding altered_record renewed
-    near_length (add_post p) h k = renewed_length _ (stops_range deck columns range) deck.near
-    near_length (remove_post p) h k = renewed_length _ (stops_range deck columns range) deck.near
-    near_length (add_stop s) h k = length-set deck.near deck.stops _
-    near_length (remove_stop s) h k = taken_length deck.near _ deck.stops 0 (stop_within s h) k
-
     near_few : EachUpTo travel_limit deck.near deck.stops → (change : Change) → Allows change (deck_of deck) →
         EachUpTo travel_limit (altered_record change deck).near (altered_record change deck).stops
     unfolding deck_of altered_record renewed altered
@@ -164,9 +157,3 @@ module _ (change : Change) (deck : Deck) (sized : Sized deck) (t : T (usable dec
       let columns = columns_kept deck (usable_counts deck sized t) change allows in
       let nears = near_few deck (usable_counts deck sized t) (usable_range deck sized t) (usable_near deck sized t) change allows in
       (columns.sized, (usable_exactly (altered_record change deck) columns.sized).1 (file_allowed, columns.posts, columns.stops, nears))
-
-  -- and its near is as long as it was
-  pub near_kept : length deck.near ≡ 512 → length (altered_record change deck).near ≡ 512
-  near_kept long =
-      let columns = usable_counts deck sized t in
-      near_length deck columns (usable_range deck sized t) change allows (omega (arith, columns.stops, long)) ∙ long

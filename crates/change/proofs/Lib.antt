@@ -11,7 +11,6 @@ pub mod PostChanges
 pub mod Refusals
 pub mod SoundUsable
 pub mod UpTo
-pub mod UsableChanges
 pub mod UsableExactly
 pub mod UsableLaws
 pub mod Verdicts
