@@ -35,7 +35,8 @@ changed_is deck change sound =
 pub made_answer : (deck : Deck) (change : Change) → Sound deck → change_refusal change (deck_of deck) ≡ none →
     changed_record change deck ≡ record { answer = Ok tt; deck = deck_record (altered change (deck_of deck)) }
 made_answer deck change sound e =
-    answer_made change deck (when_usable change deck (sound_usable deck sound) ∙ e) ∙ ap (λ (d : Deck). record { answer = Ok tt; deck = d }) (made_is deck change sound e)
+    answer_made change deck (when_usable change deck (sound_usable deck sound) ∙ e)
+    ∙ ap (λ (d : Deck). record { answer = Ok tt; deck = d }) (made_is deck change sound e)
 
 pub changed_sound : (deck : Deck) (change : Change) → Sound deck → Sound (changed_record change deck).deck
 changed_sound deck change sound = subst Sound (sym (changed_is deck change sound)) (record_sound (changed (deck_of deck) change)
