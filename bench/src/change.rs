@@ -74,7 +74,7 @@ impl Record {
     }
 
     /// Whether all numbers that count are in range, and no near is longer than the longest travel.
-    fn sound(&self) -> bool {
+    fn usable(&self) -> bool {
         let [xlo, ylo, xhi, yhi] = self.area;
         if self.posts == 0 || self.posts > POSTS || self.stops == 0 || self.stops > STOPS || xlo > xhi || ylo > yhi {
             return false;
@@ -106,58 +106,73 @@ impl Record {
         posts
     }
 
+    fn add_post(&mut self, x: i64, y: i64) -> Result<(), Refused> {
+        let n = self.posts;
+        if n == POSTS {
+            return Err((10, 0));
+        }
+        (self.post_x[n], self.post_y[n]) = (x, y);
+        self.posts += 1;
+        for i in 0..self.stops {
+            self.near[i] = self.near[i].min(self.travel(i, x, y));
+        }
+        Ok(())
+    }
+
+    fn remove_post(&mut self, x: i64, y: i64) -> Result<(), Refused> {
+        let n = self.posts;
+        let at = (0..n).find(|&i| self.post_x[i] == x && self.post_y[i] == y).ok_or((9, 0))?;
+        if n == 1 {
+            return Err((5, 0));
+        }
+        remove(&mut self.post_x[..n], at);
+        remove(&mut self.post_y[..n], at);
+        self.posts -= 1;
+        let left = self.scaled_posts();
+        for i in 0..self.stops {
+            if self.near[i] == self.travel(i, x, y) {
+                self.near[i] = left.closest_to(self.stop_x[i], self.stop_y[i]);
+            }
+        }
+        Ok(())
+    }
+
+    fn add_stop(&mut self, x: i64, y: i64, visits: u64) -> Result<(), Refused> {
+        let n = self.stops;
+        if n == STOPS {
+            return Err((10, 0));
+        }
+        (self.stop_x[n], self.stop_y[n], self.visits[n]) = (x, y, visits);
+        self.near[n] = self.scaled_posts().closest_to(x, y);
+        self.stops += 1;
+        Ok(())
+    }
+
+    fn remove_stop(&mut self, x: i64, y: i64, visits: u64) -> Result<(), Refused> {
+        let n = self.stops;
+        let at = (0..n).find(|&i| self.stop_x[i] == x && self.stop_y[i] == y && self.visits[i] == visits).ok_or((9, 0))?;
+        if n == 1 {
+            return Err((6, 0));
+        }
+        remove(&mut self.stop_x[..n], at);
+        remove(&mut self.stop_y[..n], at);
+        remove(&mut self.visits[..n], at);
+        remove(&mut self.near[..n], at);
+        self.stops -= 1;
+        Ok(())
+    }
+
     fn change(&mut self, Change { kind, x, y, visits }: Change) -> Result<(), Refused> {
         let in_range = x.unsigned_abs() <= 20_000 && y.unsigned_abs() <= 20_000 && (kind < 2 || (1..=65_535).contains(&visits));
-        if !in_range || !self.sound() {
+        if !in_range || !self.usable() {
             return Err((3, 0));
         }
-        let (posts, stops) = (self.posts, self.stops);
         match kind {
-            0 => {
-                if posts == POSTS {
-                    return Err((10, 0));
-                }
-                (self.post_x[posts], self.post_y[posts]) = (x, y);
-                self.posts += 1;
-                for i in 0..stops {
-                    self.near[i] = self.near[i].min(self.travel(i, x, y));
-                }
-            }
-            1 => {
-                let at = (0..posts).find(|&i| self.post_x[i] == x && self.post_y[i] == y).ok_or((9, 0))?;
-                if posts == 1 {
-                    return Err((5, 0));
-                }
-                remove(&mut self.post_x[..posts], at);
-                remove(&mut self.post_y[..posts], at);
-                self.posts -= 1;
-                let left = self.scaled_posts();
-                for i in 0..stops {
-                    if self.near[i] == self.travel(i, x, y) {
-                        self.near[i] = left.closest_to(self.stop_x[i], self.stop_y[i]);
-                    }
-                }
-            }
-            2 => {
-                if stops == STOPS {
-                    return Err((10, 0));
-                }
-                (self.stop_x[stops], self.stop_y[stops], self.visits[stops]) = (x, y, visits);
-                self.near[stops] = self.scaled_posts().closest_to(x, y);
-                self.stops += 1;
-            }
-            _ => {
-                let at = (0..stops).find(|&i| self.stop_x[i] == x && self.stop_y[i] == y && self.visits[i] == visits).ok_or((9, 0))?;
-                if stops == 1 {
-                    return Err((6, 0));
-                }
-                remove(&mut self.stop_x[..stops], at);
-                remove(&mut self.stop_y[..stops], at);
-                remove(&mut self.visits[..stops], at);
-                remove(&mut self.near[..stops], at);
-                self.stops -= 1;
-            }
-        }
+            0 => self.add_post(x, y),
+            1 => self.remove_post(x, y),
+            2 => self.add_stop(x, y, visits),
+            _ => self.remove_stop(x, y, visits),
+        }?;
         self.before = self.visits[..self.stops].iter().zip(&self.near).map(|(&v, &near)| v as u32 as u64 * near as u32 as u64).sum();
         Ok(())
     }

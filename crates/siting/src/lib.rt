@@ -175,28 +175,28 @@ pub fn write(deck: Deck, rounds: u64, out: &mut [u8]) -> Result<usize, Refusal>
     Ok(job_file::put_file(&deck, rounds, out))
 }
 
-// A post behind the last, or the refusal that applies first; then the record is as it was.
+// Puts a post behind the last; near and before follow. Or the refusal that applies first, and the record as it was.
 pub fn add_post(deck: &mut Deck, post: Place) -> Result<(), Refusal>
     ensures { record { answer = change_answer result; deck = deck.new } ≡ change_call deck.old (add_post (place_of post)) }
 {
     change::add_post(deck, post)
 }
 
-// The record without its first post at this place, or the refusal that applies first.
+// Takes away the first post at a place; near and before follow. Or the refusal that applies first, and the record as it was.
 pub fn remove_post(deck: &mut Deck, post: Place) -> Result<(), Refusal>
     ensures { record { answer = change_answer result; deck = deck.new } ≡ change_call deck.old (remove_post (place_of post)) }
 {
     change::remove_post(deck, post)
 }
 
-// A stop behind the last, or the refusal that applies first.
+// Puts a stop behind the last; near and before follow. Or the refusal that applies first, and the record as it was.
 pub fn add_stop(deck: &mut Deck, stop: Stop) -> Result<(), Refusal>
     ensures { record { answer = change_answer result; deck = deck.new } ≡ change_call deck.old (add_stop (stop_of stop)) }
 {
     change::add_stop(deck, stop)
 }
 
-// The record without its first stop with these values, or the refusal that applies first.
+// Takes away the first stop with these values; near and before follow. Or the refusal that applies first, and the record as it was.
 pub fn remove_stop(deck: &mut Deck, stop: Stop) -> Result<(), Refusal>
     ensures { record { answer = change_answer result; deck = deck.new } ≡ change_call deck.old (remove_stop (stop_of stop)) }
 {
