@@ -1,7 +1,6 @@
 -- Posts and stops with equal values are equal; one is held exactly if it is in the list.
 -- Assumes nothing.
-use mathlib.Core.Path.{◌≡◌, refl, sym, ap₂, subst}
-use mathlib.Core.Bool.{Bool, true}
+use mathlib.Core.Path.{◌≡◌, refl, ap₂, subst}
 use mathlib.Core.Logic.{◌↔◌}
 use mathlib.Core.List.{List, Memᴰ}
 use Prim.Native.Nat.{ℕ}
@@ -10,7 +9,7 @@ use lib.Dec.{T, eqb, eqb→eq, eqb_refl}
 use lib.IntN.{ℤ}
 use Rattle.numbers.specs.Integer.{eq_z}
 use Rattle.numbers.proofs.Integer.{order}
-use Rattle.numbers.proofs.Truth.{and_left, and_right, and_intro, holds}
+use Rattle.numbers.proofs.Truth.{and_left, and_right, and_intro}
 use Rattle.query.specs.Place.{Place}
 use Rattle.query.specs.Deck.{Stop}
 use Rattle.deck.proofs.DeckLaws.{place_of, stop_of}
@@ -39,18 +38,9 @@ same_stop s t u = ap₂ stop_of (same_place s.at t.at (and_left (is_same_place s
 pub stop_same : (s : Stop) → T (is_same_stop s s)
 stop_same s = and_intro (is_same_place s.at s.at) (eqb s.visits s.visits) (place_same s.at) (eqb_refl s.visits)
 
--- ---- held, as a test and as an outcome
-outcome : (b : Bool) {P : Type 0} → T b ↔ P → (b ≡ true) ↔ P
-outcome b p = (λ e. p.0 (subst T (sym e) tt), λ h. holds b (p.1 h))
-
+-- ---- held
 pub post_held : (p : Place) (posts : List Place) → T (held (is_same_place p) posts) ↔ Memᴰ p posts
 post_held = held_member is_same_place same_place place_same
 
 pub stop_held : (s : Stop) (stops : List Stop) → T (held (is_same_stop s) stops) ↔ Memᴰ s stops
 stop_held = held_member is_same_stop same_stop stop_same
-
-pub post_held_is : (p : Place) (posts : List Place) → (held (is_same_place p) posts ≡ true) ↔ Memᴰ p posts
-post_held_is p posts = outcome (held (is_same_place p) posts) (post_held p posts)
-
-pub stop_held_is : (s : Stop) (stops : List Stop) → (held (is_same_stop s) stops ≡ true) ↔ Memᴰ s stops
-stop_held_is s stops = outcome (held (is_same_stop s) stops) (stop_held s stops)
