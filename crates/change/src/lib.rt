@@ -38,7 +38,7 @@ fn usable(deck: &Deck) -> bool
     job_check::check(deck, 0).is_ok() && all_travels(&deck.near[..deck.stops])
 }
 
-// Whether the values of a stop are in range.
+// Whether the values of a stop are in range: its visits as they are first, since large ones would be others as i64.
 fn stop_in_range(stop: Stop) -> bool
     ensures { result ≡ line_in_range (stop_line (stop_of stop)) }
 {
