@@ -23,13 +23,12 @@ use Rattle.change.specs.Change.{Change, add_post, remove_post, add_stop, remove_
 use Rattle.items.specs.Items.{is_same_place, is_same_stop, remove_first}
 use Rattle.change.specs.ChangedRecord.{usable, altered_record, record_refusal, answered, changed_record}
 use Rattle.items.proofs.ItemValues.{same_place, place_same, same_stop, stop_same}
-use Rattle.change.proofs.SoundUsable.{sound_usable}
 use Rattle.change.proofs.Conditions.{Allows, refusal_none}
 use Rattle.change.proofs.Refusals.{Refuses, refusal_some}
 use Rattle.change.proofs.Answered.{when_usable, answer_made}
 use Rattle.change.proofs.ChangedLaws.{changed_sound, made_answer}
 use Rattle.change.proofs.KeptLaws.{deck_of_altered, kept}
-use Rattle.change.proofs.UsableExactly.{usable_exactly}
+use Rattle.change.proofs.UsableExactly.{usable_exactly, sound_usable}
 use Rattle.calls.specs.Answers.{AnswerOf, gives, refuses, refusal, change_answer}
 use Rattle.calls.specs.ChangeCall.{AfterChange, change_call}
 use Rattle.calls.specs.SavingLaw.{Saveable}

@@ -14,7 +14,7 @@ use Rattle.deck.proofs.SoundLaws.{record_sound}
 use Rattle.refusal.specs.declared.Refusal.{Refusal}
 use Rattle.change.specs.Change.{Change, altered, change_refusal, unless_refused, changed, changed_by}
 use Rattle.change.specs.ChangedRecord.{altered_record, changed_record}
-use Rattle.change.proofs.SoundUsable.{sound_usable}
+use Rattle.change.proofs.UsableExactly.{sound_usable}
 use Rattle.change.proofs.AlteredLaws.{changed_range, changed_area}
 use Rattle.change.proofs.AlteredRecord.{made_is}
 use Rattle.change.proofs.Answered.{when_usable, answer_made}

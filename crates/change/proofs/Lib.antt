@@ -9,7 +9,6 @@ pub mod KeptNears
 pub mod MadeRecords
 pub mod PostChanges
 pub mod Refusals
-pub mod SoundUsable
 pub mod UpTo
 pub mod UsableExactly
 pub mod UsableLaws

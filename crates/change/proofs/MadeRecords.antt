@@ -35,7 +35,7 @@ use Rattle.change.specs.Change.{add_post, remove_post, add_stop}
 use Rattle.change.specs.ChangedRecord.{with_post_columns, with_stop_columns, renewed, altered_record}
 use Rattle.near_change.specs.NearChange.{near_with, near_without}
 use Rattle.near_change.proofs.NearLaws.{target_long, target_at, stop_in_range}
-use Rattle.change.proofs.UsableLaws.{Usable, usable_columns}
+use Rattle.change.proofs.UsableExactly.{Usable, usable_columns}
 
 -- ---- a record that can be changed
 module _ {deck : Deck} (sized : Sized deck) (u : Usable deck) where

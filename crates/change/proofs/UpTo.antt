@@ -5,15 +5,10 @@ use mathlib.Core.List.{List, [], ◌∷◌, ◌++◌}
 use Prim.Native.Nat.{ℕ, zero, suc, ◌-◌, ◌≤◌, ◌<◌}
 use native.Mathlib.Omega.{arith}
 use lib.Dec.{T, leb, leb→le, le→leb}
-use lib.ListN.{length, get_or, take, drop, set}
+use lib.ListN.{get_or, take, drop, set}
 use Rattle.std.specs.List.{list_all}
 use Rattle.numbers.proofs.Truth.{and_left, and_right, and_intro}
 use Rattle.items.specs.Items.{taken_out_at}
-
-pub all_up_to_lem : (most : ℕ) (xs : List ℕ) (i : ℕ) → T (list_all (λ n. leb n most) xs) → i < length xs → get_or xs i 0 ≤ most
-all_up_to_lem most [] i t h = absurd (omega arith)
-all_up_to_lem most (x ∷ xs) zero t h = leb→le x most (and_left (leb x most) (list_all (λ n. leb n most) xs) t)
-all_up_to_lem most (x ∷ xs) (suc i) t h = all_up_to_lem most xs i (and_right (leb x most) (list_all (λ n. leb n most) xs) t) (omega arith)
 
 -- ---- the first n numbers of a list, where those past its end are 0
 abbrev pub EachUpTo : ℕ → List ℕ → ℕ → Type 0

@@ -4,18 +4,23 @@ use mathlib.Core.Path.{◌≡◌, refl, sym, ap, ◌∙◌}
 use mathlib.Core.Logic.{◌↔◌}
 use mathlib.Core.Option.{none, none-ne-some}
 use Prim.Native.Nat.{◌≤◌}
+use native.Mathlib.Omega.{arith}
 use lib.Dec.{T, leb}
-use lib.ListN.{take}
+use lib.ListN.{length, take}
 use Rattle.std.specs.List.{list_all}
 use Rattle.numbers.proofs.Truth.{and_iff}
 use Rattle.query.specs.Place.{NonEmpty}
-use Rattle.query.specs.Range.{InRange, travel_limit}
+use Rattle.query.specs.Range.{InRange, posts_limit, stops_limit, travel_limit}
 use Rattle.deck.specs.DeckOf.{Sized, deck_of}
+use Rattle.deck.specs.Ranges.{NearsInRange}
+use Rattle.deck.specs.Sound.{Sound}
 use Rattle.deck.specs.declared.Deck.{Deck}
 use Rattle.deck.proofs.DeckLaws.{DeckColumns}
+use Rattle.deck.proofs.SoundLaws.{sound_columns, sound_nears}
 use Rattle.job.specs.Format.{Result, refused, accepted, missing_axis, read_text}
 use Rattle.job.specs.File.{held_job, file_text}
 use Rattle.job.specs.Spelling.{Allowed}
+use Rattle.job.proofs.AllowedLaws.{in_range_allowed}
 use Rattle.job.proofs.Meaning.{allowed_text, allowed_in_range}
 use Rattle.job_check.specs.LineFaults.{refusal_in}
 use Rattle.job_check.proofs.FileFaults.{file_is, file_spelled}
@@ -23,8 +28,8 @@ use Rattle.job_check.proofs.AxisLaws.{saved_spells}
 use Rattle.change.specs.ChangedRecord.{is_accepted, usable}
 use Rattle.change.proofs.UpTo.{EachUpTo, front_up_to}
 
--- ---- its two tests: the one place here that knows how `usable` is written
-accepts : (r : Result) → T (is_accepted r) ↔ (refusal_in r ≡ none)
+-- ---- its two tests
+pub accepts : (r : Result) → T (is_accepted r) ↔ (refusal_in r ≡ none)
 accepts (refused why) = (λ t. absurd t, λ e. absurd (none-ne-some why (sym e)))
 accepts (accepted job) = (λ t. refl, λ e. tt)
 
@@ -66,3 +71,30 @@ module _ (deck : Deck) (sized : Sized deck) where
 
     pub usable_near : EachUpTo travel_limit deck.near deck.stops
     usable_near = (usable_exactly.0 t).3
+
+-- ---- its numbers are in range
+pub record Usable (deck : Deck) : Type 0 where
+  pub few_posts : deck.posts ≤ posts_limit
+  pub few_stops : deck.stops ≤ stops_limit
+  pub range : InRange (deck_of deck)
+  pub nears : NearsInRange deck.near deck.stops
+
+pub usable_says : (deck : Deck) → Sized deck → length deck.near ≡ 512 → T (usable deck) → Usable deck
+usable_says deck sized long t =
+    let h = (usable_exactly deck sized).0 t in
+    record {
+      few_posts = h.1;
+      few_stops = h.2;
+      range = allowed_in_range _ h.0;
+      nears = record { count = omega (arith, h.2, long); range = h.3 };
+    }
+
+pub usable_columns : {deck : Deck} → Sized deck → Usable deck → DeckColumns deck
+usable_columns sized u = record { sized = sized; posts = u.few_posts; stops = u.few_stops }
+
+-- ---- every sound record can be changed
+pub sound_usable : (deck : Deck) → Sound deck → T (usable deck)
+sound_usable deck sound =
+    let columns : DeckColumns deck = sound_columns sound in
+    (usable_exactly deck columns.sized).1
+    (in_range_allowed (held_job deck 0) sound.range sound.full (omega arith), columns.posts, columns.stops, (sound_nears sound).range)

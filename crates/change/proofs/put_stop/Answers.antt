@@ -4,7 +4,7 @@ use native.Mathlib.Omega.{arith}
 use borrow.Author.Rules.{rules}
 use lib.ListN.{length}
 use Rattle.deck.specs.DeckOf.{Sized}
-use Rattle.change.proofs.UsableLaws.{usable_says}
+use Rattle.change.proofs.UsableExactly.{usable_says}
 use Rattle.change.proofs.MadeRecords.{held_costs, held_visits, given_posts, given_some, closest_limit, one_more, made_stop}
 use Rattle.change.proofs.put_stop.Goals as goal
 

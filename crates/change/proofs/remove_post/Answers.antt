@@ -5,7 +5,7 @@ use Rattle.deck.proofs.DeckLaws.{posts_counted}
 use Rattle.job.proofs.PartLaws.{handed}
 use Rattle.job.proofs.RangeLaws.{post_range}
 use Rattle.change.specs.Change.{remove_post}
-use Rattle.change.proofs.UsableLaws.{usable_says}
+use Rattle.change.proofs.UsableExactly.{usable_says}
 use Rattle.change.proofs.Verdicts.{out_of_range, within, refused, made, absent, only, others, not_found, is_found, posts_in}
 use Rattle.change.proofs.remove_post.Goals as goal
 

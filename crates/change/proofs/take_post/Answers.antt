@@ -4,7 +4,7 @@ use native.Mathlib.Omega.{arith}
 use borrow.Author.Rules.{rules}
 use Rattle.deck.specs.DeckOf.{Sized}
 use Rattle.deck.proofs.Fronts.{places_in_front, front_count}
-use Rattle.change.proofs.UsableLaws.{usable_says}
+use Rattle.change.proofs.UsableExactly.{usable_says}
 use Rattle.change.proofs.MadeRecords.{held_costs, held_stops, held_visits, left_range, left_some, renewed_is, renewed_range, without_limit, unmade_post}
 use Rattle.change.proofs.take_post.Goals as goal
 

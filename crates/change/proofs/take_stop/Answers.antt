@@ -3,7 +3,7 @@ use mathlib.Core.Path.{◌∙◌}
 use native.Mathlib.Omega.{arith}
 use borrow.Author.Rules.{rules}
 use Rattle.deck.specs.DeckOf.{Sized}
-use Rattle.change.proofs.UsableLaws.{usable_says}
+use Rattle.change.proofs.UsableExactly.{usable_says}
 use Rattle.change.proofs.MadeRecords.{held_visits, naturals_left, unmade_stop}
 use Rattle.change.proofs.take_stop.Goals as goal
 
