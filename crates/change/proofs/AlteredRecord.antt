@@ -30,7 +30,7 @@ use Rattle.near_change.specs.NearChange.{near_with, near_without}
 use Rattle.items.proofs.TakenOut.{column_removed}
 use Rattle.items.proofs.FirstRemoved.{held_within, removed_length}
 use Rattle.items.proofs.ItemValues.{post_held, stop_held}
-use Rattle.change.proofs.PostChanges.{near_added, near_removed}
+use Rattle.change.proofs.NearChanges.{near_added, near_removed}
 use Rattle.change.proofs.Conditions.{Allows, refusal_none}
 use Rattle.change.proofs.AlteredLaws.{length_more}
 

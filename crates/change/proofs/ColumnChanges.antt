@@ -14,7 +14,6 @@ use Rattle.deck.proofs.ClosestLaws.{zip_take, places_length}
 use Rattle.deck.proofs.DeckLaws.{StopColumns, stops_length}
 use Rattle.items.specs.Items.{taken_out_at}
 use Rattle.items.proofs.Removal.{removed, taken_front}
-use Rattle.change.proofs.MadeRecords.{zip_removed}
 
 -- ---- one more
 zip_set : {A B C : Type 0} (f : A → B → C) (n : ℕ) (x : A) (y : B) (xs : List A) (ys : List B) →
@@ -48,6 +47,17 @@ stops_more n s xs ys vs g h k =
 -- ---- one less: element i of the first n is missing from the front of us, by lists and by what is made of two lists
 abbrev pub Less : {A : Type 0} → ℕ → ℕ → List A → List A → Type 0
 Less n i xs us = take (n - 1) us ≡ removed i (take n xs)
+
+zip_removed : {A B C : Type 0} (f : A → B → C) (i : ℕ) (xs : List A) (ys : List B) →
+    zip_with f (removed i xs) (removed i ys) ≡ removed i (zip_with f xs ys)
+unfolding zip_with
+zip_removed f zero [] ys = refl
+zip_removed f zero (x ∷ []) [] = refl
+zip_removed f zero (x ∷ w ∷ xs) [] = refl
+zip_removed f zero (x ∷ xs) (y ∷ ys) = refl
+zip_removed f (suc i) [] ys = refl
+zip_removed f (suc i) (x ∷ xs) [] = refl
+zip_removed f (suc i) (x ∷ xs) (y ∷ ys) = ap (λ l. f x y ∷ l) (zip_removed f i xs ys)
 
 zip_less : {A B C : Type 0} (f : A → B → C) (n i : ℕ) (xs us : List A) (ys vs : List B) → Less n i xs us → Less n i ys vs →
     Less n i (zip_with f xs ys) (zip_with f us vs)

@@ -29,9 +29,8 @@ use Rattle.change.specs.ChangedRecord.{usable, renewed, altered_record}
 use Rattle.change.proofs.AlteredLaws.{altered_range, altered_area}
 use Rattle.change.proofs.ColumnChanges.{places_more, places_less, stops_more, stops_less}
 use Rattle.change.proofs.Conditions.{Allows, refusal_none}
-use Rattle.change.proofs.KeptNears.{renewed_up_to, closest_most, without_most}
-use Rattle.change.proofs.MadeRecords.{with_limit}
-use Rattle.change.proofs.UpTo.{EachUpTo, set_up_to, taken_up_to}
+use Rattle.change.proofs.FrontChanges.{EachUpTo, set_up_to, taken_up_to}
+use Rattle.change.proofs.KeptNears.{renewed_up_to, closest_limit, with_limit, without_limit}
 use Rattle.change.proofs.UsableExactly.{usable_exactly, usable_counts, usable_range, usable_area, usable_near}
 
 module _ (deck : Deck) (columns : DeckColumns deck) where
@@ -132,9 +131,10 @@ module _ (deck : Deck) (columns : DeckColumns deck) where
         (with_limit (held_axis deck.axis) p) few
     near_few few (remove_post p) h =
         let left = altered_range (deck_of deck) (remove_post p) range ((refusal_none (remove_post p) (deck_of deck)).1 h) in
-        renewed_up_to (near_without (held_axis deck.axis) p (altered (remove_post p) (deck_of deck)).posts) (stops_range deck columns range) deck.near
-        (without_most (altered (remove_post p) (deck_of deck)) left p) few
-    near_few few (add_stop s) h = set_up_to travel_limit deck.stops _ deck.near (closest_most (deck_of deck) range s.at h.0.place) few
+        let posts = (altered (remove_post p) (deck_of deck)).posts in
+        renewed_up_to (near_without (held_axis deck.axis) p posts) (stops_range deck columns range) deck.near
+        (without_limit _ posts (closest_limit left.axis_most left.some_posts left.posts) p) few
+    near_few few (add_stop s) h = set_up_to travel_limit deck.stops _ deck.near (closest_limit range.axis_most range.some_posts range.posts s.at h.0.place) few
     near_few few (remove_stop s) h = taken_up_to travel_limit deck.stops _ deck.near few
 
 -- ---- a change that is made

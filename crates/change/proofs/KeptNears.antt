@@ -1,30 +1,32 @@
--- A column of near after a change: as long as before, and as before at most a travel. What is past the end of a column is 0.
+-- A column of near after a change: as long as before, and as before up to the longest travel. What is past the end of a column is 0.
 -- Assumes nothing.
 use mathlib.Core.Path.{◌≡◌, refl, sym, ap, ◌∙◌}
 use mathlib.Core.Logic.{⊎_elim}
-use mathlib.Core.List.{List, [], ◌∷◌, ◌++◌, zip_with}
-use Prim.Native.Nat.{ℕ, zero, suc, ◌≤◌, ◌<◌}
+use mathlib.Core.List.{List, [], ◌∷◌, ◌++◌, zip_with, Memᴰ}
+use Prim.Native.Nat.{ℕ, zero, suc, ◌+◌, ◌≤◌, ◌<◌}
 use native.Mathlib.Nat.{zero-add}
 use native.Mathlib.Omega.{arith}
 use lib.Dec.{eqb, ltb, ltb→lt, nltb→le}
 use lib.IntN.{ℤ}
 use lib.ListN.{length, get_or, take, drop}
-use lib.Seq.{paste, get_or-take}
+use lib.Seq.{paste, get_or-take, take-take}
 use Rattle.std.proofs.lemmas.List.{get_or_past}
 use Rattle.numbers.proofs.Members.{length_non_empty}
 use Rattle.numbers.proofs.Truth.{test, cond_ind}
 use Rattle.query.specs.Place.{Place}
-use Rattle.query.specs.Deck as Query
+use Rattle.query.specs.Deck.{AxisCosts}
 use Rattle.query.specs.Travel.{travel, closest}
-use Rattle.query.specs.Range.{PlaceInRange, InRange, travel_limit}
+use Rattle.query.specs.Range.{PlaceInRange, axis_cost_limit, travel_limit}
 use Rattle.query.proofs.NearLaws.{closest_some}
 use Rattle.query.proofs.Ranges.{costs_limit}
 use Rattle.deck.specs.DeckOf.{places}
-use Rattle.deck.specs.Ranges.{PlacesInRange}
-use Rattle.deck.proofs.ClosestLaws.{zip_at, place_at, places_length, places_at}
-use Rattle.near_change.specs.NearChange.{near_without}
+use Rattle.deck.specs.Ranges.{CostsInRange, PlacesInRange, NearsInRange}
+use Rattle.deck.proofs.ClosestLaws.{zip_at, zip_take, place_at, places_length, places_at}
+use Rattle.deck.proofs.Fronts.{front_count, front_places_are}
+use Rattle.deck.proofs.MadeNears.{places_each, places_whole, places_count}
+use Rattle.near_change.specs.NearChange.{near_with, near_without}
 use Rattle.near_change.proofs.NearLaws.{stop_in_range}
-use Rattle.change.proofs.UpTo.{EachUpTo}
+use Rattle.change.proofs.FrontChanges.{EachUpTo}
 
 -- ---- the first n made anew, each of an element of a list and of the number that was there
 module _ {A : Type 0} (f : A → ℕ → ℕ) where
@@ -78,13 +80,35 @@ module _ (f : Place → ℕ → ℕ) {sx sy : List ℤ} {n : ℕ} (stops : Place
       past : length near ≤ i → get_or (paste near 0 (zip_with f (places sx sy) near) n) i 0 ≤ travel_limit
       past h = omega (arith, get_or_past (paste near 0 (zip_with f (places sx sy) near) n) i 0 (omega (arith, renewed_length)))
 
--- ---- travel to the closest post of a deck in range
-module _ (deck : Query.Deck) (range : InRange deck) where
-  pub closest_most : (p : Place) → PlaceInRange p → closest deck.axis p deck.posts ≤ travel_limit
-  closest_most p h =
-      let (post, i, e) = closest_some deck.axis p deck.posts (length_non_empty deck.posts range.some_posts) in
-      omega (arith, e, costs_limit deck.axis range.axis_most p post h (range.posts post i))
+  -- as they are found again, from the front of the columns
+  module _ {to : List ℕ} (found : to ≡ paste near 0 (zip_with f (places (take n sx) (take n sy)) near) (length (take n sx))) where
+    pub renewed_is : to ≡ paste near 0 (zip_with f (places sx sy) near) n
+    renewed_is = rw (front_count stops, front_places_are n sx sy) at found
+        ∙ ap (λ (l : List ℕ). take 0 near ++ l ++ drop (0 + n) near)
+        (zip_take f n (take n (places sx sy)) near ∙ ap (λ (l : List Place). zip_with f l (take n near)) (take-take n n (places sx sy) (omega arith))
+        ∙ sym (zip_take f n (places sx sy) near))
 
-  pub without_most : (p q : Place) (m : ℕ) → PlaceInRange q → m ≤ travel_limit → near_without deck.axis p deck.posts q m ≤ travel_limit
-  unfolding near_without
-  without_most p q m r h = cond_ind (λ (n : ℕ). n ≤ travel_limit) (eqb m (travel deck.axis q p)) (λ t. closest_most q r) (λ t. h)
+    pub renewed_range : ((q : Place) (m : ℕ) → PlaceInRange q → m ≤ travel_limit → f q m ≤ travel_limit) → NearsInRange near n → NearsInRange to n
+    renewed_range each nears = rw renewed_is (record { count = omega (arith, renewed_length, nears.count); range = renewed_up_to each nears.range })
+
+-- ---- near in range
+-- the travel to the closest of some posts
+pub closest_limit : {axis : AxisCosts} {posts : List Place} → (axis.a ≤ axis_cost_limit) × (axis.b ≤ axis_cost_limit) → 1 ≤ length posts →
+    ((post : Place) → Memᴰ post posts → PlaceInRange post) → (p : Place) → PlaceInRange p → closest axis p posts ≤ travel_limit
+closest_limit {axis} {posts} most some each p h =
+    let (post, i, e) = closest_some axis p posts (length_non_empty posts some) in
+    omega (arith, e, costs_limit axis most p post h (each post i))
+
+pub closest_of_columns : {axis : AxisCosts} {px py : List ℤ} → CostsInRange axis → PlacesInRange 64 px py (length px) → 1 ≤ length px →
+    (p : Place) → PlaceInRange p → closest axis p (places px py) ≤ travel_limit
+closest_of_columns costs posts some = closest_limit costs.most (omega (arith, some, places_count posts)) (rw (places_whole posts) at (places_each posts))
+
+-- with one more post, and with one less, where the closest of those left is in range
+pub with_limit : (axis : AxisCosts) (p q : Place) (m : ℕ) → PlaceInRange q → m ≤ travel_limit → near_with axis p q m ≤ travel_limit
+unfolding near_with
+with_limit axis p q m r h = omega arith
+
+pub without_limit : (axis : AxisCosts) (posts : List Place) → ((q : Place) → PlaceInRange q → closest axis q posts ≤ travel_limit) →
+    (p q : Place) (m : ℕ) → PlaceInRange q → m ≤ travel_limit → near_without axis p posts q m ≤ travel_limit
+unfolding near_without
+without_limit axis posts limit p q m r h = cond_ind (λ (n : ℕ). n ≤ travel_limit) (eqb m (travel axis q p)) (λ t. limit q r) (λ t. h)

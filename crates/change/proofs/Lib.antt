@@ -4,12 +4,12 @@ pub mod Answered
 pub mod ChangedLaws
 pub mod ColumnChanges
 pub mod Conditions
+pub mod FrontChanges
 pub mod KeptLaws
 pub mod KeptNears
 pub mod MadeRecords
-pub mod PostChanges
+pub mod NearChanges
 pub mod Refusals
-pub mod UpTo
 pub mod UsableExactly
 pub mod UsableLaws
 pub mod Verdicts

@@ -26,7 +26,7 @@ use Rattle.job_check.specs.LineFaults.{refusal_in}
 use Rattle.job_check.proofs.FileFaults.{file_is, file_spelled}
 use Rattle.job_check.proofs.AxisLaws.{saved_spells}
 use Rattle.change.specs.ChangedRecord.{is_accepted, usable}
-use Rattle.change.proofs.UpTo.{EachUpTo, front_up_to}
+use Rattle.change.proofs.FrontChanges.{EachUpTo, front_up_to}
 
 -- ---- its two tests
 pub accepts : (r : Result) → T (is_accepted r) ↔ (refusal_in r ≡ none)

@@ -5,7 +5,8 @@ use borrow.Author.Rules.{rules}
 use Rattle.deck.specs.DeckOf.{Sized}
 use Rattle.deck.proofs.Fronts.{places_in_front, front_count}
 use Rattle.change.proofs.UsableExactly.{usable_says}
-use Rattle.change.proofs.MadeRecords.{held_costs, held_stops, held_visits, renewed_is, renewed_range, with_limit, made_post}
+use Rattle.change.proofs.KeptNears.{renewed_is, renewed_range, with_limit}
+use Rattle.change.proofs.MadeRecords.{held_costs, held_stops, held_visits, made_post}
 use Rattle.change.proofs.put_post.Goals as goal
 
 pub shared_ref_as_front-stops : goal.shared_ref_as_front-stops
@@ -22,10 +23,10 @@ pub renew_before-requires : goal.renew_before-requires
 renew_before-requires c =
     let sized : Sized c.args.deck.now = search rules in
     let u = usable_says _ sized (search rules) c.requires.0 in
-    (held_visits sized u, renewed_range sized u _ c.improve.ensures (with_limit _ _), u.few_stops)
+    (held_visits sized u, renewed_range _ (held_stops sized u) _ c.improve.ensures (with_limit _ _) u.nears, u.few_stops)
 
 pub returns : goal.returns
 returns c =
     let sized : Sized c.args.deck.now = search rules in
     let u = usable_says _ sized (search rules) c.requires.0 in
-    c.renew_before.ensures ∙ made_post c.requires.2 _ (renewed_is sized u _ c.improve.ensures)
+    c.renew_before.ensures ∙ made_post c.requires.2 _ (renewed_is _ (held_stops sized u) _ c.improve.ensures)

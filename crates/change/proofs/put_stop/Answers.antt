@@ -5,7 +5,9 @@ use borrow.Author.Rules.{rules}
 use lib.ListN.{length}
 use Rattle.deck.specs.DeckOf.{Sized}
 use Rattle.change.proofs.UsableExactly.{usable_says}
-use Rattle.change.proofs.MadeRecords.{held_costs, held_visits, given_posts, given_some, closest_limit, one_more, made_stop}
+use Rattle.change.proofs.FrontChanges.{one_more}
+use Rattle.change.proofs.KeptNears.{closest_of_columns}
+use Rattle.change.proofs.MadeRecords.{held_costs, held_visits, given_posts, given_some, made_stop}
 use Rattle.change.proofs.put_stop.Goals as goal
 
 pub post_places-requires : goal.post_places-requires
@@ -24,7 +26,7 @@ renew_before-requires c =
     let long : length c.args.deck.now.near ≡ 512 = search rules in
     let u = usable_says _ sized long c.requires.0 in
     let posts = c.post_places.ensures in
-    let most = closest_limit (held_costs sized u) (given_posts sized u posts.x posts.y) (given_some sized u posts.x posts.y) _ c.requires.2.place in (
+    let most = closest_of_columns (held_costs sized u) (given_posts sized u posts.x posts.y) (given_some sized u posts.x posts.y) _ c.requires.2.place in (
       one_more (held_visits sized u) (omega (arith, c.requires.1, sized.visits)) c.requires.2.most_visits,
       one_more u.nears (omega (arith, c.requires.1, long)) (omega (arith, c.near_of.ensures, most)),
       omega (arith, c.requires.1),

@@ -5,7 +5,8 @@ use borrow.Author.Rules.{rules}
 use Rattle.deck.specs.DeckOf.{Sized}
 use Rattle.deck.proofs.Fronts.{places_in_front, front_count}
 use Rattle.change.proofs.UsableExactly.{usable_says}
-use Rattle.change.proofs.MadeRecords.{held_costs, held_stops, held_visits, left_range, left_some, renewed_is, renewed_range, without_limit, unmade_post}
+use Rattle.change.proofs.KeptNears.{renewed_is, renewed_range, closest_of_columns, without_limit}
+use Rattle.change.proofs.MadeRecords.{held_costs, held_stops, held_visits, left_range, left_some, removed_post}
 use Rattle.change.proofs.take_post.Goals as goal
 
 pub slice_bounds-take_out-end : goal.slice_bounds-take_out-end
@@ -33,11 +34,12 @@ renew_before-requires c =
     let u = usable_says _ sized (search rules) c.requires.0 in
     let left = left_range sized u c.requires.3 c.take_out.ensures c.take_out-2.ensures in
     let some = left_some sized u c.requires.3 c.take_out.ensures c.take_out-2.ensures c.requires.4 in
-    (held_visits sized u, renewed_range sized u _ c.renew_without.ensures (without_limit (held_costs sized u) left some _), u.few_stops)
+    let limit = without_limit _ _ (closest_of_columns (held_costs sized u) left some) _ in
+    (held_visits sized u, renewed_range _ (held_stops sized u) _ c.renew_without.ensures limit u.nears, u.few_stops)
 
 pub returns : goal.returns
 returns c =
     let sized : Sized c.args.deck.now = search rules in
     let u = usable_says _ sized (search rules) c.requires.0 in
     c.renew_before.ensures
-    ∙ unmade_post sized u c.requires.3 c.take_out.ensures c.take_out-2.ensures _ c.requires.2 (renewed_is sized u _ c.renew_without.ensures)
+    ∙ removed_post sized u c.requires.3 c.take_out.ensures c.take_out-2.ensures _ c.requires.2 (renewed_is _ (held_stops sized u) _ c.renew_without.ensures)

@@ -4,7 +4,8 @@ use native.Mathlib.Omega.{arith}
 use borrow.Author.Rules.{rules}
 use Rattle.deck.specs.DeckOf.{Sized}
 use Rattle.change.proofs.UsableExactly.{usable_says}
-use Rattle.change.proofs.MadeRecords.{held_visits, naturals_left, unmade_stop}
+use Rattle.change.proofs.FrontChanges.{naturals_left}
+use Rattle.change.proofs.MadeRecords.{held_visits, removed_stop}
 use Rattle.change.proofs.take_stop.Goals as goal
 
 pub slice_bounds-take_out-end : goal.slice_bounds-take_out-end
@@ -24,4 +25,4 @@ returns c =
     let sized : Sized c.args.deck.now = search rules in
     let u = usable_says _ sized (search rules) c.requires.0 in
     c.renew_before.ensures
-    ∙ unmade_stop sized u c.requires.1 c.take_out.ensures c.take_out-2.ensures c.take_out-3.ensures c.take_out-4.ensures
+    ∙ removed_stop sized u c.requires.1 c.take_out.ensures c.take_out-2.ensures c.take_out-3.ensures c.take_out-4.ensures
