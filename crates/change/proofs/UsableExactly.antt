@@ -81,12 +81,12 @@ pub record Usable (deck : Deck) : Type 0 where
 
 pub usable_says : (deck : Deck) → Sized deck → length deck.near ≡ 512 → T (usable deck) → Usable deck
 usable_says deck sized long t =
-    let h = (usable_exactly deck sized).0 t in
+    let counts = usable_counts deck sized t in
     record {
-      few_posts = h.1;
-      few_stops = h.2;
-      range = allowed_in_range _ h.0;
-      nears = record { count = omega (arith, h.2, long); range = h.3 };
+      few_posts = counts.posts;
+      few_stops = counts.stops;
+      range = usable_range deck sized t;
+      nears = record { count = omega (arith, counts.stops, long); range = usable_near deck sized t };
     }
 
 pub usable_columns : {deck : Deck} → Sized deck → Usable deck → DeckColumns deck
