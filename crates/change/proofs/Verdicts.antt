@@ -1,6 +1,6 @@
 -- What a change answers: first that its values or the record are out of range, then by the tests of the code in their order.
 -- Assumes nothing.
-use mathlib.Core.Path.{◌≡◌, refl, sym, ap, subst, ◌∙◌}
+use mathlib.Core.Path.{◌≡◌, refl, sym, subst, ◌∙◌}
 use mathlib.Core.Bool.{Bool, true, false, not, cond, ◌&&◌}
 use mathlib.Core.List.{List}
 use mathlib.Core.Option.{Option, none, some, none-ne-some}
@@ -20,28 +20,25 @@ use Rattle.deck.specs.declared.Deck.{Deck}
 use Rattle.deck.specs.DeckOf.{places, stops_of, deck_of}
 use Rattle.deck.proofs.ClosestLaws.{zip_take}
 use Rattle.job_line.proofs.LineLaws.{ok_or_some, ok_or_none}
-use Rattle.job.specs.Spelling.{post_line, stop_line}
 use Rattle.job.proofs.PartLaws.{handed}
 use Rattle.refusal.specs.declared.Refusal.{Refusal}
-use Rattle.refusal.specs.declared.Refusal.TheVariants.{OutOfRange, NoPosts, NoStops, NotHeld, Full}
-use Rattle.items.specs.Items.{is_same_place, is_same_stop, held, first_place, first_found, taken_out_at}
+use Rattle.refusal.specs.declared.Refusal.TheVariants.{OutOfRange, NotHeld, Full}
+use Rattle.items.specs.Items.{is_same_stop, held, first_place, first_found, taken_out_at}
 use Rattle.items.proofs.FirstPlace.{held_place}
-use Rattle.change.specs.Change.{Change, add_post, remove_post, add_stop, remove_stop, line_in_range, conditions, change_refusal}
+use Rattle.change.specs.Change.{Change, remove_stop, line_in_range, item_line, list_conditions, conditions, first_refusal, change_refusal}
 use Rattle.change.specs.ChangedRecord.{usable, with_stop_columns, altered_record, record_refusal, Changed, changed_record}
 use Rattle.change.proofs.Answered.{answer_refused, answer_made}
 
--- ---- what is refused of a change whose values are in range, with so many items
+-- ---- what is refused of a change whose values are in range
+abbrev later : Change → Query.Deck → Option Refusal
+later change deck = first_refusal (list_conditions change deck)
+
+-- so many items are held
 abbrev adding : ℕ → ℕ → Option Refusal
 adding most n = cond (leb most n) (some Full) none
 
 abbrev removing : Bool → ℕ → Refusal → Option Refusal
 removing found n why = cond (not found) (some NotHeld) (cond (eqb n 1) (some why) none)
-
-abbrev later : Change → Query.Deck → Option Refusal
-later (add_post p) deck = adding 64 (length deck.posts)
-later (remove_post p) deck = removing (held (is_same_place p) deck.posts) (length deck.posts) NoPosts
-later (add_stop s) deck = adding 512 (length deck.stops)
-later (remove_stop s) deck = removing (held (is_same_stop s) deck.stops) (length deck.stops) NoStops
 
 pub full : (most n : ℕ) → most ≤ n → adding most n ≡ some Full
 full most n h = cond-true (leb most n) _ _ (le→leb most n h)
@@ -60,36 +57,22 @@ module _ {found : Bool} (n : ℕ) (why : Refusal) where
   others e f = rw e (cond-false (eqb n 1) _ _ (not_T (eqb n 1) (λ t. f (eqb→eq n 1 t))))
 
 -- ---- values in range
-abbrev pub in_range : Change → Bool
-in_range (add_post p) = line_in_range (post_line p)
-in_range (remove_post p) = line_in_range (post_line p)
-in_range (add_stop s) = line_in_range (stop_line s)
-in_range (remove_stop s) = line_in_range (stop_line s)
-
 -- 3 where the record cannot be changed or the values are out of range, and else what is left
 abbrev tested : Bool → Bool → Option Refusal → Option Refusal
 tested can ranged rest = cond can (cond (not ranged) (some (OutOfRange 0)) rest) (some (OutOfRange 0))
 
-in_order : (change : Change) (deck : Query.Deck) →
-    change_refusal change deck ≡ cond (not (in_range change)) (some (OutOfRange 0)) (later change deck)
-unfolding change_refusal conditions
-in_order (add_post p) deck = refl
-in_order (remove_post p) deck = refl
-in_order (add_stop s) deck = refl
-in_order (remove_stop s) deck = refl
-
 -- what the first test says where it passes: the values are in range, and the record can be changed
 pub record Ranged (change : Change) (deck : Deck) : Type 0 where
   pub can : T (usable deck)
-  pub ranged : T (in_range change)
+  pub ranged : T (line_in_range (item_line change))
   pub refusal : record_refusal change deck ≡ later change (deck_of deck)
 
 module _ (change : Change) (deck : Deck) where
-  refusal_is : record_refusal change deck ≡ tested (usable deck) (in_range change) (later change (deck_of deck))
-  unfolding record_refusal
-  refusal_is = ap (λ (o : Option Refusal). cond (usable deck) o (some (OutOfRange 0))) (in_order change (deck_of deck))
+  refusal_is : record_refusal change deck ≡ tested (usable deck) (line_in_range (item_line change)) (later change (deck_of deck))
+  unfolding record_refusal change_refusal conditions
+  refusal_is = refl
 
-  pub out_of_range : {b : Bool} → b ≡ in_range change → {why : Refusal} → some why ≡ cond (b && usable deck) none (some (OutOfRange 0)) →
+  pub out_of_range : {b : Bool} → b ≡ line_in_range (item_line change) → {why : Refusal} → some why ≡ cond (b && usable deck) none (some (OutOfRange 0)) →
       (r : Std.Result (Unit {0}) Refusal) → IsErrAnd r (λ e. e ≡ why) →
       ◌≡◌ {A = Changed} (record { answer = r; deck = deck }) (changed_record change deck)
   out_of_range {b} e {why} f r g = rw (handed r g) (sym (answer_refused change deck (refusal_is ∙ rw (← e) (go b (usable deck) f _))))
@@ -100,7 +83,7 @@ module _ (change : Change) (deck : Deck) where
       go false true h rest = sym h
       go false false h rest = sym h
 
-  pub within : {b : Bool} → b ≡ in_range change → none ≡ cond (b && usable deck) none (some (OutOfRange 0)) → Ranged change deck
+  pub within : {b : Bool} → b ≡ line_in_range (item_line change) → none ≡ cond (b && usable deck) none (some (OutOfRange 0)) → Ranged change deck
   within {b} e f =
       let t = go b (usable deck) f in
       record { can = t.1; ranged = subst T e t.0; refusal = refusal_is ∙ rw (← e) (t.2 _) }

@@ -41,28 +41,36 @@ altered (remove_stop s) deck = with_stops (remove_first (is_same_stop s) deck.st
 abbrev pub line_in_range : JobLine → Bool
 line_in_range l = in_ranges (row l.kind).ranges l.numbers
 
--- the refusals of a change, each with its condition, in their order: "3 comes before both, and 9 before 5 or 6. All of these have line 0"
+-- the line of a change's item in a job
+abbrev pub item_line : Change → JobLine
+item_line (add_post p) = post_line p
+item_line (remove_post p) = post_line p
+item_line (add_stop s) = stop_line s
+item_line (remove_stop s) = stop_line s
+
+-- the refusals of a change by the lists, each with its condition, in their order: "9 before 5 or 6"
+abbrev pub list_conditions : Change → Deck → List (Bool × Refusal)
+list_conditions (add_post p) deck = (leb posts_limit (length deck.posts), Full) ∷ []
+list_conditions (remove_post p) deck =
+    (not (held (is_same_place p) deck.posts), NotHeld) ∷ (eqb (length deck.posts) 1, NoPosts) ∷ []
+list_conditions (add_stop s) deck = (leb stops_limit (length deck.stops), Full) ∷ []
+list_conditions (remove_stop s) deck =
+    (not (held (is_same_stop s) deck.stops), NotHeld) ∷ (eqb (length deck.stops) 1, NoStops) ∷ []
+
+-- all refusals of a change, in their order: "3 comes before both", 9 and 10. "All of these have line 0"
 unfoldable pub conditions : Change → Deck → List (Bool × Refusal)
 unfolding in_ranges keep
-conditions (add_post p) deck =
-    (not (line_in_range (post_line p)), OutOfRange 0) ∷ (leb posts_limit (length deck.posts), Full) ∷ []
-conditions (remove_post p) deck =
-    (not (line_in_range (post_line p)), OutOfRange 0) ∷ (not (held (is_same_place p) deck.posts), NotHeld)
-    ∷ (eqb (length deck.posts) 1, NoPosts) ∷ []
-conditions (add_stop s) deck =
-    (not (line_in_range (stop_line s)), OutOfRange 0) ∷ (leb stops_limit (length deck.stops), Full) ∷ []
-conditions (remove_stop s) deck =
-    (not (line_in_range (stop_line s)), OutOfRange 0) ∷ (not (held (is_same_stop s) deck.stops), NotHeld)
-    ∷ (eqb (length deck.stops) 1, NoStops) ∷ []
+conditions change deck = (not (line_in_range (item_line change)), OutOfRange 0) ∷ list_conditions change deck
 
 -- the first refusal whose condition holds
-abbrev pub first_of : List (Bool × Refusal) → Option Refusal
-first_of [] = none
-first_of (c ∷ cs) = cond c.0 (some c.1) (first_of cs)
+abbrev pub first_refusal : List (Bool × Refusal) → Option Refusal
+first_refusal [] = none
+first_refusal (c ∷ cs) = cond c.0 (some c.1) (first_refusal cs)
 
+-- the refusal of a change of a deck, if there is one
 unfoldable pub change_refusal : Change → Deck → Option Refusal
 unfolding conditions
-change_refusal change deck = first_of (conditions change deck)
+change_refusal change deck = first_refusal (conditions change deck)
 
 -- ---- runs of changes
 -- "A refused change leaves the record unaltered"

@@ -21,6 +21,7 @@ use Rattle.items.specs.Items.{is_same_place, is_same_stop, remove_first, first_p
 use Rattle.near_change.specs.NearChange.{near_with, near_without}
 
 -- ---- which records can be changed
+-- whether a reading accepts
 abbrev pub is_accepted : Result → Bool
 is_accepted (refused why) = false
 is_accepted (accepted job) = true
