@@ -1,8 +1,9 @@
 -- The rows of specs/ChangeTable.antt, by computation.
 -- Assumes nothing.
 use mathlib.Core.Path.{refl}
+use Rattle.change.specs.ChangedRecord.{record_after}
 use Rattle.calls.specs.ReadCall.{read_call}
-use Rattle.calls.specs.ChangeCall.{change_call, record_after}
+use Rattle.calls.specs.ChangeCall.{change_call}
 use Rattle.calls.specs.ChangeTable.{ChangeTable}
 
 pub change_table : ChangeTable

@@ -15,6 +15,7 @@ use Rattle.deck.specs.declared.Deck.{Deck}
 use Rattle.deck.proofs.DeckLaws.{held_deck}
 use Rattle.deck.proofs.SoundLaws.{record_sound}
 use Rattle.change.specs.Change.{Change, changed_by}
+use Rattle.change.specs.ChangedRecord.{record_after}
 use Rattle.change.proofs.AlteredLaws.{run_range, run_area, run_axis}
 use Rattle.change.proofs.ChangedLaws as Changed
 use Rattle.job.specs.Format.{Job, accepted, missing_axis, read_job}
@@ -27,14 +28,9 @@ use Rattle.calls.specs.Answers.{gives}
 use Rattle.calls.specs.ReadCall.{Read, read_call}
 use Rattle.calls.specs.WriteCall.{write_call}
 use Rattle.calls.specs.SavingLaw.{SpellsOut}
-use Rattle.calls.specs.ChangeCall.{change_call, record_after}
 use Rattle.calls.specs.ChangeLaw.{changed_job, RunLaw}
 use Rattle.calls.proofs.Demands.{read_exactly}
 use Rattle.calls.proofs.SavingLaw.{read_given, read_law}
-
-after_same : (changes : List Change) (deck : Deck) → record_after changes deck ≡ Changed.record_after changes deck
-unfolding record_after change_call
-after_same changes deck = refl
 
 module _ (changes : List Change) (job : List ℕ) (j : Job) (read : read_job job ≡ accepted j) where
   abbrev after : Job
@@ -60,11 +56,11 @@ module _ (changes : List Change) (job : List ℕ) (j : Job) (read : read_job job
 
   -- ---- the record
   now_is : record_now ≡ deck_record (changed_by changes j.deck)
-  now_is = after_same changes (read_call job).deck ∙ Changed.run_is changes (read_call job).deck was_sound
+  now_is = Changed.run_is changes (read_call job).deck was_sound
       ∙ ap (λ (d : Query.Deck). deck_record (changed_by changes d)) (ap deck_of was_read ∙ held_deck j.deck)
 
   now_sound : Sound record_now
-  now_sound = subst Sound (sym (after_same changes (read_call job).deck)) (Changed.run_sound changes (read_call job).deck was_sound)
+  now_sound = Changed.run_sound changes (read_call job).deck was_sound
 
   -- ---- the job
   after_allowed : Allowed after

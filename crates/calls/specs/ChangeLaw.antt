@@ -13,6 +13,7 @@ use Rattle.deck.specs.declared.Deck.{Deck}
 use Rattle.refusal.specs.declared.Refusal.{Refusal}
 use Rattle.refusal.specs.declared.Refusal.TheVariants.{OutOfRange, NoPosts, NoStops, NotHeld, Full}
 use Rattle.change.specs.Change.{Change, add_post, remove_post, add_stop, remove_stop, altered, changed_by}
+use Rattle.change.specs.ChangedRecord.{record_after}
 use Rattle.change.specs.ChangedRecord.{usable}
 use Rattle.job.specs.Format.{Job, missing_axis}
 use Rattle.job.specs.Spelling.{spell, Spells}
@@ -21,7 +22,7 @@ use Rattle.calls.specs.Answers.{gives, refuses, refusal}
 use Rattle.calls.specs.ReadCall.{read_call}
 use Rattle.calls.specs.WriteCall.{write_call}
 use Rattle.calls.specs.SavingLaw.{SpellsOut, Saveable}
-use Rattle.calls.specs.ChangeCall.{change_call, record_after}
+use Rattle.calls.specs.ChangeCall.{change_call}
 
 -- ---- the answers
 -- the values of a change's item are in range

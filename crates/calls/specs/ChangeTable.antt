@@ -8,8 +8,9 @@ use Rattle.query.specs.Deck.{Stop}
 use Rattle.deck.specs.DeckOf.{with_figures}
 use Rattle.deck.specs.declared.Deck.{Deck}
 use Rattle.change.specs.Change.{Change, add_post, remove_post, add_stop, remove_stop}
+use Rattle.change.specs.ChangedRecord.{record_after}
 use Rattle.calls.specs.ReadCall.{read_call}
-use Rattle.calls.specs.ChangeCall.{change_call, record_after}
+use Rattle.calls.specs.ChangeCall.{change_call}
 use Rattle.calls.specs.RefusalTable.{case_a, ended, many_posts, many_stops, number_and_line}
 use Rattle.calls.specs.WriteTable.{apart, record_of, with_area, with_axis, with_stop, counting, square, most_natural, ten_digits}
 

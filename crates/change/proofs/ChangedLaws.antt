@@ -13,7 +13,7 @@ use Rattle.deck.proofs.DeckLaws.{held_deck}
 use Rattle.deck.proofs.SoundLaws.{record_sound}
 use Rattle.refusal.specs.declared.Refusal.{Refusal}
 use Rattle.change.specs.Change.{Change, altered, change_refusal, unless_refused, changed, changed_by}
-use Rattle.change.specs.ChangedRecord.{altered_record, changed_record}
+use Rattle.change.specs.ChangedRecord.{altered_record, changed_record, record_after}
 use Rattle.change.proofs.UsableExactly.{sound_usable}
 use Rattle.change.proofs.AlteredLaws.{changed_range, changed_area}
 use Rattle.change.proofs.AlteredRecord.{made_is}
@@ -43,15 +43,13 @@ changed_sound deck change sound = subst Sound (sym (changed_is deck change sound
     (changed_range (deck_of deck) change sound.range) (subst NonEmpty (sym (changed_area (deck_of deck) change)) sound.full))
 
 -- ---- a run of changes
-abbrev pub record_after : List Change → Deck → Deck
-record_after changes deck = foldl (λ (d : Deck) (change : Change). (changed_record change d).deck) deck changes
-
 pub run_sound : (changes : List Change) (deck : Deck) → Sound deck → Sound (record_after changes deck)
+unfolding record_after
 run_sound [] deck sound = sound
 run_sound (change ∷ changes) deck sound = run_sound changes (changed_record change deck).deck (changed_sound deck change sound)
 
 pub run_is : (changes : List Change) (deck : Deck) → Sound deck → record_after changes deck ≡ deck_record (changed_by changes (deck_of deck))
-unfolding changed_by
+unfolding record_after changed_by
 run_is [] deck sound = sound.whole
 run_is (change ∷ changes) deck sound =
     run_is changes (changed_record change deck).deck (changed_sound deck change sound)

@@ -3,7 +3,7 @@
 use Rattle.std.specs.Prelude.{ℕ, suc, ◌-◌, Bool, true, false, cond, ◌&&◌, leb, ℤ, pos, take, set, Ok, Err}
 use Rattle.std.specs.Prelude as Std
 use Rattle.std.specs.List.{list_all}
-use mathlib.Core.List.{List, zip_with}
+use mathlib.Core.List.{List, zip_with, foldl}
 use Rattle.std.proofs.Math.Option.{Option, none, some}
 use Rattle.std.proofs.Math.Seq.{paste}
 use Rattle.query.specs.Place.{Place}
@@ -108,12 +108,19 @@ pub record Changed : Type 0 where
   pub answer : Std.Result (Unit {0}) Refusal
   pub deck : Deck
 
+-- what the code answers
 abbrev pub answered : Option Refusal → Std.Result (Unit {0}) Refusal
 answered none = Ok tt
 answered (some why) = Err why
 
+-- a change of any record
 unfoldable pub changed_record : Change → Deck → Changed
 unfolding record_refusal altered_record
 changed_record change deck =
     let r = record_refusal change deck in
     record { answer = answered r; deck = unless_refused r deck (altered_record change deck) }
+
+-- any record after a run of changes, one after another
+unfoldable pub record_after : List Change → Deck → Deck
+unfolding changed_record
+record_after changes deck = foldl (λ (d : Deck) (change : Change). (changed_record change d).deck) deck changes

@@ -1,8 +1,8 @@
 -- What `siting::remove_post` owes.
 use mathlib.Core.Path.{ap}
-use Rattle.calls.specs.ChangeCall.{change_made, change_call}
+use Rattle.calls.specs.ChangeCall.{after_change, change_call}
 use Rattle.siting.proofs.remove_post.Goals as goal
 
 pub returns : goal.returns
 unfolding change_call
-returns c = ap change_made c.remove_post.ensures
+returns c = ap after_change c.remove_post.ensures
