@@ -4,10 +4,10 @@ use mathlib.Core.Path.{◌≡◌, refl, sym, ap, subst, ◌∙◌}
 use mathlib.Core.Bool.{Bool, true, false}
 use mathlib.Core.List.{List}
 use Prim.Native.Nat.{ℕ, ◌≤◌}
-use native.Mathlib.Omega.{arith}
 use lib.ListN.{length}
 use Rattle.query.specs.Place.{NonEmpty}
 use Rattle.query.specs.Deck as Query
+use Rattle.query.specs.Deck.{plain}
 use Rattle.query.specs.Range.{InRange}
 use Rattle.deck.specs.DeckOf.{deck_of, deck_record}
 use Rattle.deck.specs.Sound.{Sound}
@@ -20,17 +20,19 @@ use Rattle.change.proofs.AlteredLaws.{run_range, run_area, run_axis}
 use Rattle.change.proofs.ChangedLaws as Changed
 use Rattle.job.specs.Format.{Job, accepted, missing_axis, read_job}
 use Rattle.job.specs.Spelling.{spell, Spells, with_line, without_line, Allowed}
+use Rattle.job.specs.File.{writes_axis, saved_spelling}
 use Rattle.job.proofs.JobLaws.{most_rounds}
 use Rattle.job.proofs.Meaning.{allowed_in_range, spelling_law}
 use Rattle.job.proofs.AllowedLaws.{in_range_allowed}
+use Rattle.job_check.proofs.AxisLaws.{saved_spells}
 use Rattle.write.specs.Written.{overwritten}
 use Rattle.calls.specs.Answers.{gives}
 use Rattle.calls.specs.ReadCall.{Read, read_call}
 use Rattle.calls.specs.WriteCall.{write_call}
 use Rattle.calls.specs.SavingLaw.{SpellsOut}
-use Rattle.calls.specs.ChangeLaw.{changed_job, RunLaw}
+use Rattle.calls.specs.RunLaw.{changed_job, RunLaw}
 use Rattle.calls.proofs.Demands.{read_exactly}
-use Rattle.calls.proofs.SavingLaw.{read_given, read_law}
+use Rattle.calls.proofs.SavingLaw.{plain_unwritten, other_written, read_given, record_written}
 
 module _ (changes : List Change) (job : List ℕ) (j : Job) (read : read_job job ≡ accepted j) where
   abbrev after : Job
@@ -45,14 +47,14 @@ module _ (changes : List Change) (job : List ℕ) (j : Job) (read : read_job job
   allowed : Allowed j
   allowed = ((read_exactly job j).0 read).1
 
-  in_range_lem : InRange j.deck
-  in_range_lem = allowed_in_range j allowed
+  was_in_range : InRange j.deck
+  was_in_range = allowed_in_range j allowed
 
   was_read : (read_call job).deck ≡ deck_record j.deck
   was_read = ap (λ (r : Read). r.deck) (read_given job j read)
 
   was_sound : Sound (read_call job).deck
-  was_sound = subst Sound (sym was_read) (record_sound j.deck in_range_lem allowed.area_full)
+  was_sound = subst Sound (sym was_read) (record_sound j.deck was_in_range allowed.area_full)
 
   -- ---- the record
   now_is : record_now ≡ deck_record (changed_by changes j.deck)
@@ -64,7 +66,7 @@ module _ (changes : List Change) (job : List ℕ) (j : Job) (read : read_job job
 
   -- ---- the job
   after_allowed : Allowed after
-  after_allowed = in_range_allowed after (run_range changes j.deck in_range_lem)
+  after_allowed = in_range_allowed after (run_range changes j.deck was_in_range)
       (subst NonEmpty (sym (run_area changes j.deck)) allowed.area_full) (most_rounds allowed.writable)
 
   after_read : (bytes : List ℕ) → Spells missing_axis bytes after → read_job bytes ≡ accepted after
@@ -73,34 +75,27 @@ module _ (changes : List Change) (job : List ℕ) (j : Job) (read : read_job job
   reads_so : (bytes : List ℕ) → Spells missing_axis bytes after → read_call bytes ≡ record { answer = gives j.rounds; deck = record_now }
   reads_so bytes s = read_given bytes after (after_read bytes s) ∙ ap (λ (d : Deck). record { answer = gives j.rounds; deck = d }) (sym now_is)
 
-  reads_deck : (bytes : List ℕ) → Spells missing_axis bytes after → (read_call bytes).deck ≡ record_now
-  reads_deck bytes s = ap (λ (r : Read). r.deck) (reads_so bytes s)
-
   -- ---- its spellings
+  stays_plain : j.deck.axis ≡ plain → after.deck.axis ≡ plain
+  stays_plain e = run_axis changes j.deck ∙ e
+
+  was_plain : job ≡ spell false j → j.deck.axis ≡ plain
+  was_plain e = ((spelling_law j).left_out missing_axis).0 (subst (λ (bs : List ℕ). Spells missing_axis bs j) e spells)
+
   spelled_so : (carried : Bool) → job ≡ spell carried j → Spells missing_axis (spell carried after) after
   spelled_so true e = with_line refl
-  spelled_so false e = without_line refl (run_axis changes j.deck
-      ∙ ((spelling_law j).left_out missing_axis).0 (subst (λ (bs : List ℕ). Spells missing_axis bs j) e spells))
+  spelled_so false e = without_line refl (stays_plain (was_plain e))
 
-  no_line : (carried : Bool) → job ≡ spell carried j → (SpellsOut job j → ⊥) → SpellsOut (spell carried after) after → ⊥
-  no_line true e n s = n (record { spelled = e; costs = sym (run_axis changes j.deck) ∙ s.costs })
-  no_line false e n s = omega (arith, (read_law (spell false after)).nine_bytes after s)
+  saved_by : {carried : Bool} → writes_axis after.deck.axis ≡ carried → saved_spelling after ≡ spell carried after
+  saved_by e = ap (λ (b : Bool). spell b after) e
 
-  written_so : (carried : Bool) (out : List ℕ) → job ≡ spell carried j → (SpellsOut job j → ⊥) → length (spell carried after) ≤ length out →
-      write_call record_now j.rounds out ≡ record { answer = gives (length (spell carried after)); out = overwritten (spell carried after) out }
-  written_so carried out e n h =
-      let bytes = spell carried after in
-      let s = spelled_so carried e in
-      ap (λ (d : Deck). write_call d j.rounds out) (sym (reads_deck bytes s))
-      ∙ (read_law bytes).own_bytes after out (after_read bytes s) (no_line carried e n) h
+  own_so : (carried : Bool) → job ≡ spell carried j → (SpellsOut job j → ⊥) → saved_spelling after ≡ spell carried after
+  own_so true e n = saved_by (other_written after.deck.axis (λ c. n (record { spelled = e; costs = sym (run_axis changes j.deck) ∙ c })))
+  own_so false e n = saved_by (plain_unwritten after.deck.axis (stays_plain (was_plain e)))
 
-  without_line_so : (out : List ℕ) → SpellsOut job j → length (spell false after) ≤ length out →
-      write_call record_now j.rounds out ≡ record { answer = gives (length (spell false after)); out = overwritten (spell false after) out }
-  without_line_so out s h =
-      let bytes = spell true after in
-      ap (λ (d : Deck). write_call d j.rounds out) (sym (reads_deck bytes (with_line refl)))
-      ∙ (read_law bytes).line_left_out after out (after_read bytes (with_line refl))
-      (record { spelled = refl; costs = run_axis changes j.deck ∙ s.costs }) h
+  written_so : (out : List ℕ) → length (saved_spelling after) ≤ length out →
+      write_call record_now j.rounds out ≡ record { answer = gives (length (saved_spelling after)); out = overwritten (saved_spelling after) out }
+  written_so out h = ap (λ (d : Deck). write_call d j.rounds out) now_is ∙ record_written after after_allowed out h
 
   pub run_law : RunLaw changes job j
   run_law = record {
@@ -110,6 +105,7 @@ module _ (changes : List Change) (job : List ℕ) (j : Job) (read : read_job job
     spelled = spelled_so;
     sound = now_sound;
     written = written_so;
-    spelled_without = λ s. without_line refl (run_axis changes j.deck ∙ s.costs);
-    written_without = without_line_so;
+    written_spells = saved_spells after;
+    own_form = own_so;
+    line_left_out = λ s. saved_by (plain_unwritten after.deck.axis (stays_plain s.costs));
   }

@@ -40,11 +40,11 @@ use Rattle.calls.proofs.AnswerLaws.{same_number, same_line, same_refusal, same_g
 use Rattle.calls.proofs.Demands.{read_exactly}
 
 -- ---- the spelling that is saved
-plain_unwritten : (c : AxisCosts) → c ≡ plain → writes_axis c ≡ false
+pub plain_unwritten : (c : AxisCosts) → c ≡ plain → writes_axis c ≡ false
 unfolding writes_axis
 plain_unwritten c e = rw e
 
-other_written : (c : AxisCosts) → (c ≡ plain → ⊥) → writes_axis c ≡ true
+pub other_written : (c : AxisCosts) → (c ≡ plain → ⊥) → writes_axis c ≡ true
 other_written c apart = go (writes_axis c) refl
   where
     go : (b : Bool) → writes_axis c ≡ b → writes_axis c ≡ true
@@ -323,7 +323,7 @@ module _ (j : Job) (a : Allowed j) where
   unfolding deck_record
   record_saveable = record { allowed = subst Allowed (sym record_held) a; few_posts = most_posts a.writable; few_stops = most_stops a.writable }
 
-  record_written : (out : List ℕ) → length (saved_spelling j) ≤ length out →
+  pub record_written : (out : List ℕ) → length (saved_spelling j) ≤ length out →
       write_call (deck_record j.deck) j.rounds out ≡ record { answer = gives (length (saved_spelling j)); out = overwritten (saved_spelling j) out }
   record_written out h = subst (λ (k : Job). length (saved_spelling k) ≤ length out → write_call (deck_record j.deck) j.rounds out
       ≡ record { answer = gives (length (saved_spelling k)); out = overwritten (saved_spelling k) out }) record_held

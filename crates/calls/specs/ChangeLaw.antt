@@ -1,7 +1,6 @@
--- Document 02, card 6: what the four changes of a deck's record are held to: each change of every record that the code can hold, and
--- every run of changes of a record that was read.
+-- Document 02, card 6: what the four changes of a deck's record are held to, of every record that the code can hold.
 -- Assumes nothing.
-use Rattle.std.specs.Prelude.{ℕ, ◌≤◌, ◌<◌, ◌≡◌, Bool, not, false, ◌↔◌, T, length, get_or}
+use Rattle.std.specs.Prelude.{ℕ, ◌≤◌, ◌<◌, ◌≡◌, not, ◌↔◌, T, length, get_or}
 use mathlib.Core.List.{List, [], ◌∷◌, ◌++◌, Memᴰ}
 use Rattle.query.specs.Place.{Place}
 use Rattle.query.specs.Deck as Query
@@ -12,16 +11,10 @@ use Rattle.deck.specs.Sound.{Sound}
 use Rattle.deck.specs.declared.Deck.{Deck}
 use Rattle.refusal.specs.declared.Refusal.{Refusal}
 use Rattle.refusal.specs.declared.Refusal.TheVariants.{OutOfRange, NoPosts, NoStops, NotHeld, Full}
-use Rattle.change.specs.Change.{Change, add_post, remove_post, add_stop, remove_stop, altered, changed_by}
-use Rattle.change.specs.ChangedRecord.{record_after}
+use Rattle.change.specs.Change.{Change, add_post, remove_post, add_stop, remove_stop, altered}
 use Rattle.change.specs.ChangedRecord.{usable}
-use Rattle.job.specs.Format.{Job, missing_axis}
-use Rattle.job.specs.Spelling.{spell, Spells}
-use Rattle.write.specs.Written.{overwritten}
 use Rattle.calls.specs.Answers.{gives, refuses, refusal}
-use Rattle.calls.specs.ReadCall.{read_call}
-use Rattle.calls.specs.WriteCall.{write_call}
-use Rattle.calls.specs.SavingLaw.{SpellsOut, Saveable}
+use Rattle.calls.specs.SavingLaw.{Saveable}
 use Rattle.calls.specs.ChangeCall.{change_call}
 
 -- ---- the answers
@@ -86,31 +79,3 @@ pub record ChangeLaw (deck : Deck) (change : Change) : Type 0 where
   pub made : Sound deck → (change_call deck change).answer ≡ gives tt →
       (change_call deck change).deck ≡ deck_record (altered change (deck_of deck))
   pub sound : Sound deck → Sound (change_call deck change).deck
-
--- ---- runs of changes
--- "a job with the resulting lists and all else unaltered"; refused changes count as none
-abbrev pub changed_job : List Change → Job → Job
-changed_job changes j = record { deck = changed_by changes j.deck; rounds = j.rounds }
-
--- of the record that an accepted job's bytes are read as, after a run of changes
-pub record RunLaw (changes : List Change) (job : List ℕ) (j : Job) : Type 0 where
-  -- "all else unaltered": the area and the axis costs of that job's deck are those of j's
-  pub area_kept : (changed_by changes j.deck).area ≡ j.deck.area
-  pub axis_kept : (changed_by changes j.deck).axis ≡ j.deck.axis
-  -- "After any run of these on a read record, it equals the one read from a job with the resulting lists and all else unaltered": the job
-  -- in any of its spellings, and so in that of the job that was read
-  pub as_read : (bytes : List ℕ) → Spells missing_axis bytes (changed_job changes j) →
-      read_call bytes ≡ record { answer = gives j.rounds; deck = record_after changes (read_call job).deck }
-  pub spelled : (carried : Bool) → job ≡ spell carried j →
-      Spells missing_axis (spell carried (changed_job changes j)) (changed_job changes j)
-  pub sound : Sound (record_after changes (read_call job).deck)
-  -- with card 1: written, it is that job's bytes, without the axis line where the job that was read spells out `axis=1,1`
-  pub written : (carried : Bool) (out : List ℕ) → job ≡ spell carried j → (SpellsOut job j → ⊥) →
-      let text = spell carried (changed_job changes j) in length text ≤ length out →
-      write_call (record_after changes (read_call job).deck) j.rounds out
-      ≡ record { answer = gives (length text); out = overwritten text out }
-  -- and those bytes too are read as the record, by `as_read`
-  pub spelled_without : SpellsOut job j → Spells missing_axis (spell false (changed_job changes j)) (changed_job changes j)
-  pub written_without : (out : List ℕ) → SpellsOut job j → let text = spell false (changed_job changes j) in length text ≤ length out →
-      write_call (record_after changes (read_call job).deck) j.rounds out
-      ≡ record { answer = gives (length text); out = overwritten text out }

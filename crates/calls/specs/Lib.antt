@@ -16,6 +16,7 @@ pub mod EstimateCallLaw
 pub mod SavingLaw
 pub mod RecordLaw
 pub mod ChangeLaw
+pub mod RunLaw
 pub mod RefusalTable
 pub mod CaseA
 pub mod WriteTable

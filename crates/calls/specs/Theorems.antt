@@ -19,7 +19,8 @@ use Rattle.calls.specs.ExhaustiveCallLaw.{ExhaustiveCallLaw}
 use Rattle.calls.specs.EstimateCallLaw.{EstimateCallLaw}
 use Rattle.calls.specs.SavingLaw.{ReadLaw, WriteLaw}
 use Rattle.calls.specs.RecordLaw.{RecordLaw, RefusedRecordLaw}
-use Rattle.calls.specs.ChangeLaw.{ChangeLaw, RunLaw}
+use Rattle.calls.specs.ChangeLaw.{ChangeLaw}
+use Rattle.calls.specs.RunLaw.{RunLaw}
 use Rattle.calls.specs.RefusalTable.{RefusalTable}
 use Rattle.calls.specs.CaseA.{CaseA}
 use Rattle.calls.specs.WriteTable.{WriteTable}
