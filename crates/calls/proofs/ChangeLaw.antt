@@ -25,6 +25,7 @@ use Rattle.change.specs.ChangedRecord.{usable, altered_record, record_refusal, a
 use Rattle.items.proofs.ItemValues.{same_place, place_same, same_stop, stop_same}
 use Rattle.change.proofs.Conditions.{Allows, refusal_none}
 use Rattle.change.proofs.Refusals.{Refuses, refusal_some}
+use Rattle.change.proofs.AlteredLaws.{unless_ind}
 use Rattle.change.proofs.Answered.{when_usable, answer_made}
 use Rattle.change.proofs.ChangedLaws.{changed_sound, made_answer}
 use Rattle.change.proofs.KeptLaws.{deck_of_altered, kept}
@@ -51,7 +52,7 @@ module _ (deck : Deck) (change : Change) where
   answer_is = by_refusal (record_refusal change deck)
 
   -- a refusal in the documents' terms is one of the code's
-  pub refused_why : (number line : ℕ) → (change_call deck change).answer ≡ refuses number line →
+  refused_why : (number line : ℕ) → (change_call deck change).answer ≡ refuses number line →
       (why : Refusal) × (record_refusal change deck ≡ some why) × (number ≡ number_of why) × (line ≡ line_of why)
   refused_why number line e = go (record_refusal change deck) refl
     where
@@ -155,7 +156,7 @@ module _ (deck : Query.Deck) where
   applied (posts_full p h) = inr (refl, p, h)
   applied (stops_full s h) = inr (refl, s, h)
 
-  pub applies_exactly : (change : Change) (why : Refusal) → (change_refusal change deck ≡ some why) ↔ ChangeApplies deck change why
+  applies_exactly : (change : Change) (why : Refusal) → (change_refusal change deck ≡ some why) ↔ ChangeApplies deck change why
   applies_exactly change why = (λ e. applies change why ((refusal_some change deck why).0 e), λ a. (refusal_some change deck why).1 (applied a))
 
 -- ---- the lists
@@ -202,11 +203,7 @@ module _ (deck : Deck) (change : Change) where
   -- what holds of the record, and of what it leaves where the change is made, holds of the record then
   record_ind : (P : Deck → Type 0) → P deck → (record_refusal change deck ≡ none → P (altered_record change deck)) → P (change_call deck change).deck
   unfolding change_call changed_record
-  record_ind P before after = go (record_refusal change deck) after
-    where
-      go : (o : Option Refusal) → (o ≡ none → P (altered_record change deck)) → P (unless_refused o deck (altered_record change deck))
-      go none made = made refl
-      go (some why) made = before
+  record_ind P = unless_ind P (record_refusal change deck)
 
   why_listed : (why : Refusal) → record_refusal change deck ≡ some why → Listed why
   why_listed why e = ⊎_elim
@@ -216,15 +213,15 @@ module _ (deck : Deck) (change : Change) where
       same_some : {a b : Refusal} → ◌≡◌ {A = Option Refusal} (some a) (some b) → a ≡ b
       same_some {a} {b} f = some-injective a b f
 
-  module _ (usable_lem : T (usable deck)) where
+  module _ (t : T (usable deck)) where
     exactly : (why : Refusal) → ((change_call deck change).answer ≡ refusal why) ↔ ChangeApplies (deck_of deck) change why
     exactly why = (
-      λ e. (applies_exactly (deck_of deck) change why).0 (sym (when_usable change deck usable_lem) ∙ (refused_exactly deck change why).0 e),
-      λ a. (refused_exactly deck change why).1 (when_usable change deck usable_lem ∙ (applies_exactly (deck_of deck) change why).1 a),
+      λ e. (applies_exactly (deck_of deck) change why).0 (sym (when_usable change deck t) ∙ (refused_exactly deck change why).0 e),
+      λ a. (refused_exactly deck change why).1 (when_usable change deck t ∙ (applies_exactly (deck_of deck) change why).1 a),
     )
 
     none_of : (change_call deck change).answer ≡ gives tt → change_refusal change (deck_of deck) ≡ none
-    none_of e = sym (when_usable change deck usable_lem) ∙ made_none deck change e
+    none_of e = sym (when_usable change deck t) ∙ made_none deck change e
 
     made_where : ((change_call deck change).answer ≡ gives tt) ↔ ((why : Refusal) → ChangeApplies (deck_of deck) change why → ⊥)
     made_where = (
@@ -234,11 +231,11 @@ module _ (deck : Deck) (change : Change) where
       where
         go : (o : Option Refusal) → change_refusal change (deck_of deck) ≡ o → ((why : Refusal) → ChangeApplies (deck_of deck) change why → ⊥) →
             (change_call deck change).answer ≡ gives tt
-        go none f n = answer_is deck change ∙ ap answer_for (when_usable change deck usable_lem ∙ f)
+        go none f n = answer_is deck change ∙ ap answer_for (when_usable change deck t ∙ f)
         go (some why) f n = absurd (n why ((applies_exactly (deck_of deck) change why).0 f))
 
     made_leaves : Sized deck → (change_call deck change).answer ≡ gives tt → Leaves (deck_of deck) (deck_of (change_call deck change).deck) change
-    made_leaves sized e = subst (λ d. Leaves (deck_of deck) d change) (sym (ap deck_of left ∙ deck_of_altered change deck sized usable_lem (none_of e)))
+    made_leaves sized e = subst (λ d. Leaves (deck_of deck) d change) (sym (ap deck_of left ∙ deck_of_altered change deck sized t (none_of e)))
         (leaves_altered (deck_of deck) change ((refusal_none change (deck_of deck)).0 (none_of e)))
       where
         left : (change_call deck change).deck ≡ altered_record change deck

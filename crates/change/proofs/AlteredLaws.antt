@@ -90,14 +90,14 @@ altered_axis (add_stop s) deck = refl
 altered_axis (remove_stop s) deck = refl
 
 -- ---- a change that may be refused: what holds of the deck and of the deck with the change made
+pub unless_ind : {A : Type 0} (P : A → Type 0) (o : Option Refusal) {before after : A} → P before → (o ≡ none → P after) → P (unless_refused o before after)
+unless_ind P none was made = made refl
+unless_ind P (some why) was made = was
+
 pub changed_ind : (P : Deck → Type 0) (deck : Deck) (change : Change) → P deck → (change_refusal change deck ≡ none → P (altered change deck)) →
     P (changed deck change)
 unfolding changed
-changed_ind P deck change before after = go (change_refusal change deck) after
-  where
-    go : (o : Option Refusal) → (o ≡ none → P (altered change deck)) → P (unless_refused o deck (altered change deck))
-    go none made = made refl
-    go (some why) made = before
+changed_ind P deck change = unless_ind P (change_refusal change deck)
 
 pub changed_range : (deck : Deck) (change : Change) → InRange deck → InRange (changed deck change)
 changed_range deck change range = changed_ind InRange deck change range (altered_range deck change range)
