@@ -18,5 +18,5 @@ pub record EntryLaw (job out : List ℕ) : Type 0 where
   pub short_output : (j : Job) → read_job job ≡ accepted j → length out < output_size →
       entry job out ≡ record { result = neg_ℤ (pos 8); out = out }
   pub never_7 : (entry job out).result ≢ neg_ℤ (pos 7)
-  -- 02 card 6, "the report call never gives 9 or 10"
+  -- 02 card 6, "the report call never gives 9 or 10": nor does the C entry
   pub at_most_eight : (n : ℕ) → (entry job out).result ≡ neg_ℤ (pos n) → n ≤ 8

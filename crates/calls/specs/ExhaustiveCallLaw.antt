@@ -15,7 +15,7 @@ use Rattle.calls.specs.CheapestCall.{exhaustive_call}
 pub record ExhaustiveCallLaw (job : List ℕ) : Type 0 where
   -- "gives refusals 1 to 6 only": those of reading, each exactly under its condition, which the others do not have here
   pub refused_exactly : (why : Refusal) → (exhaustive_call job ≡ refusal why) ↔ Condition job why
-  -- so never 9 or 10: 02 card 6, "the report call never gives 9 or 10", and no more does this one
+  -- so never 9 or 10: 02 card 6, "the report call never gives 9 or 10", nor does this one
   pub at_most_six : (number line : ℕ) → exhaustive_call job ≡ refuses number line → number ≤ 6
   -- an accepted job gets the cheapest crossing, which is in the area, and every other point of the area is worse
   pub given : (j : Job) → read_job job ≡ accepted j → exhaustive_call job ≡ gives (Query.exhaustive (problem j.deck))

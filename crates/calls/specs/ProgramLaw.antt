@@ -15,6 +15,6 @@ pub record ProgramLaw (job : List ℕ) : Type 0 where
   pub refusal : (why : Refusal) → Condition job why → answer_text job ≡ refusal_text (number_of why) (line_of why)
   pub never_7 : (line : ℕ) → answer_text job ≢ refusal_text 7 line
   pub never_8 : (line : ℕ) → answer_text job ≢ refusal_text 8 line
-  -- 02 card 6, "the report call never gives 9 or 10"
+  -- 02 card 6, "the report call never gives 9 or 10": nor does the program
   pub never_9 : (line : ℕ) → answer_text job ≢ refusal_text 9 line
   pub never_10 : (line : ℕ) → answer_text job ≢ refusal_text 10 line

@@ -30,7 +30,7 @@ pub record ReadLaw (job : List ℕ) : Type 0 where
   pub refused_listed : (number line : ℕ) → (read_call job).answer ≡ refuses number line → (why : Refusal)
       × (number ≡ number_of why) × (line ≡ line_of why)
   pub refused_deck : (number line : ℕ) → (read_call job).answer ≡ refuses number line → (read_call job).deck ≡ deck_record empty_deck
-  -- so neither 7 nor 8, nor 9 or 10: 02 card 6, "the report call never gives 9 or 10", and no more does this one
+  -- so neither 7 nor 8, nor 9 or 10: 02 card 6, "the report call never gives 9 or 10", nor does this one
   pub at_most_six : (number line : ℕ) → (read_call job).answer ≡ refuses number line → number ≤ 6
   -- an accepted job, and no other, is read as the record of its deck, which holds that deck
   pub given_exactly : (rounds : ℕ)
@@ -79,7 +79,7 @@ pub record WriteLaw (deck : Deck) (rounds : ℕ) (out : List ℕ) : Type 0 where
   pub refused_exactly : (why : Refusal) → ((write_call deck rounds out).answer ≡ refusal why) ↔ WriteApplies deck rounds out why
   pub refused_listed : (number line : ℕ) → (write_call deck rounds out).answer ≡ refuses number line → (why : Refusal)
       × (number ≡ number_of why) × (line ≡ line_of why)
-  -- neither 9 nor 10: 02 card 6, "the report call never gives 9 or 10", and no more does this one
+  -- neither 9 nor 10: 02 card 6, "the report call never gives 9 or 10", nor does this one
   pub at_most_eight : (number line : ℕ) → (write_call deck rounds out).answer ≡ refuses number line → number ≤ 8
   -- those but for 8 exactly where reading the file's text gives them; so what reading the file answers, unless that is 1
   pub refused_as_read : (why : Refusal) → why ≢ ShortOutput → ((write_call deck rounds out).answer ≡ refusal why)
