@@ -1,16 +1,13 @@
 -- What a change of a deck's record is held to.
 -- Assumes nothing.
 use mathlib.Core.Path.{◌≡◌, refl, sym, ap, subst, ◌∙◌}
-use mathlib.Core.Bool.{Bool, true, false, not, cond}
-use mathlib.Core.Logic.{◌↔◌, inl, inr, ⊎_elim}
-use mathlib.Core.List.Memᴰ
-use mathlib.Core.List.{List, [], ◌∷◌, Memᴰ}
+use mathlib.Core.Bool.{Bool, not, cond}
+use mathlib.Core.Logic.{◌↔◌, ⊎_elim}
+use mathlib.Core.List.{[], ◌∷◌, Memᴰ}
 use mathlib.Core.Option.{Option, none, some, none-ne-some, some-injective}
 use Prim.Native.Nat.{ℕ, ◌≤◌, ◌<◌}
-use native.Mathlib.Omega.{arith}
 use lib.Dec.{T}
-use lib.ListN.{length, get_or}
-use Rattle.numbers.proofs.Members.{each_cons}
+use lib.ListN.{get_or}
 use Rattle.numbers.proofs.Truth.{test, fails}
 use Rattle.query.specs.Deck as Query
 use Rattle.deck.specs.DeckOf.{Sized, deck_of, deck_record}
@@ -20,21 +17,20 @@ use Rattle.refusal.specs.Refusal.{number_of, line_of}
 use Rattle.refusal.specs.declared.Refusal.{Refusal}
 use Rattle.refusal.specs.declared.Refusal.TheVariants.{OutOfRange, NoPosts, NoStops, NotHeld, Full}
 use Rattle.change.specs.Change.{Change, add_post, remove_post, add_stop, remove_stop, altered, change_refusal, unless_refused}
-use Rattle.items.specs.Items.{is_same_place, is_same_stop, remove_first}
 use Rattle.change.specs.ChangedRecord.{usable, altered_record, record_refusal, answered, changed_record}
-use Rattle.items.proofs.ItemValues.{same_place, place_same, same_stop, stop_same}
-use Rattle.change.proofs.Conditions.{Allows, refusal_none}
-use Rattle.change.proofs.Refusals.{Refuses, refusal_some}
+use Rattle.change.specs.Meaning.{ChangeApplies, out_of_range, no_such_post, no_such_stop, only_post, only_stop, posts_full, stops_full, Leaves}
+use Rattle.change.proofs.Conditions.{refusal_none}
+use Rattle.change.proofs.Refusals.{refusal_some}
 use Rattle.change.proofs.AlteredLaws.{unless_ind}
 use Rattle.change.proofs.Answered.{when_usable, answer_made}
 use Rattle.change.proofs.ChangedLaws.{changed_sound, made_answer}
 use Rattle.change.proofs.KeptLaws.{deck_of_altered, kept}
+use Rattle.change.proofs.LeftLists.{leaves_altered}
 use Rattle.change.proofs.UsableExactly.{usable_exactly, sound_usable}
 use Rattle.calls.specs.Answers.{AnswerOf, gives, refuses, refusal, change_answer}
 use Rattle.calls.specs.ChangeCall.{AfterChange, change_call}
 use Rattle.calls.specs.SavingLaw.{Saveable}
-use Rattle.calls.specs.ChangeLaw.{ItemInRange, ChangeApplies, out_of_range, no_such_post, no_such_stop, only_post, only_stop, posts_full, stops_full}
-use Rattle.calls.specs.ChangeLaw.{FirstRemoved, first, Leaves, post_added, post_removed, stop_added, stop_removed, ChangeLaw}
+use Rattle.calls.specs.ChangeLaw.{ChangeLaw}
 use Rattle.calls.proofs.AnswerLaws.{same_number, same_line, same_refusal, not_refused}
 
 -- ---- the answer, by the refusal
@@ -120,69 +116,6 @@ applies_listed (only_stop s e) = six
 applies_listed (posts_full p h) = ten
 applies_listed (stops_full s h) = ten
 
--- ---- their conditions
-one_member : {A : Type 0} (x : A) (xs : List A) → Memᴰ x xs → length xs ≡ 1 → xs ≡ x ∷ []
-one_member x [] m e = absurd (Memᴰ.not-nil m)
-one_member x (y ∷ []) m e = each_cons (λ z. z ≡ x → y ∷ [] ≡ x ∷ []) (λ f. ap (λ z. z ∷ []) f) (λ z n. absurd (Memᴰ.not-nil n)) x m refl
-one_member x (y ∷ z ∷ zs) m e = absurd (omega arith)
-
-only_one : {A : Type 0} {x : A} {xs : List A} → xs ≡ x ∷ [] → Memᴰ x xs × (length xs ≡ 1)
-only_one {A} {x} e = (subst (λ l. Memᴰ x l) (sym e) (Memᴰ.head refl), ap length e)
-
-module _ (deck : Query.Deck) where
-  applies_with : {change : Change} {why other : Refusal} → why ≡ other → ChangeApplies deck change other → ChangeApplies deck change why
-  applies_with {change} e a = subst (ChangeApplies deck change) (sym e) a
-
-  applies : (change : Change) (why : Refusal) → Refuses change deck why → ChangeApplies deck change why
-  applies (add_post p) why = ⊎_elim (λ r. applies_with r.0 (out_of_range r.1)) (λ r. applies_with r.0 (posts_full r.1 r.2))
-  applies (remove_post p) why = ⊎_elim (λ r. applies_with r.0 (out_of_range r.1)) (⊎_elim
-      (λ r. applies_with r.0 (no_such_post r.1 r.2)) (λ r. applies_with r.0 (only_post r.1 (one_member p deck.posts r.2 r.3))))
-  applies (add_stop s) why = ⊎_elim (λ r. applies_with r.0 (out_of_range r.1)) (λ r. applies_with r.0 (stops_full r.1 r.2))
-  applies (remove_stop s) why = ⊎_elim (λ r. applies_with r.0 (out_of_range r.1)) (⊎_elim
-      (λ r. applies_with r.0 (no_such_stop r.1 r.2)) (λ r. applies_with r.0 (only_stop r.1 (one_member s deck.stops r.2 r.3))))
-
-  refuses_out : (change : Change) → (ItemInRange change → ⊥) → Refuses change deck (OutOfRange 0)
-  refuses_out (add_post p) n = inl (refl, n)
-  refuses_out (remove_post p) n = inl (refl, n)
-  refuses_out (add_stop s) n = inl (refl, n)
-  refuses_out (remove_stop s) n = inl (refl, n)
-
-  applied : {change : Change} {why : Refusal} → ChangeApplies deck change why → Refuses change deck why
-  applied {change = change} (out_of_range n) = refuses_out change n
-  applied (no_such_post p n) = inr (inl (refl, p, n))
-  applied (no_such_stop s n) = inr (inl (refl, s, n))
-  applied (only_post p e) = inr (inr (refl, p, (only_one e).0, (only_one e).1))
-  applied (only_stop s e) = inr (inr (refl, s, (only_one e).0, (only_one e).1))
-  applied (posts_full p h) = inr (refl, p, h)
-  applied (stops_full s h) = inr (refl, s, h)
-
-  applies_exactly : (change : Change) (why : Refusal) → (change_refusal change deck ≡ some why) ↔ ChangeApplies deck change why
-  applies_exactly change why = (λ e. applies change why ((refusal_some change deck why).0 e), λ a. (refusal_some change deck why).1 (applied a))
-
--- ---- the lists
-next_first : {A : Type 0} {x : A} (y : A) {xs ys : List A} → (y ≡ x → ⊥) → FirstRemoved x xs ys → FirstRemoved x (y ∷ xs) (y ∷ ys)
-next_first {A} {x} y n (first front later h) =
-    first (y ∷ front) later (λ m. each_cons (λ z. z ≡ x → ⊥) n (λ z i e. h (subst (λ a. Memᴰ a front) e i)) x m refl)
-
-module _ {A : Type 0} (same : A → A → Bool) (equal : (a b : A) → T (same a b) → a ≡ b) (self : (a : A) → T (same a a)) where
-  first_removed : (x : A) (xs : List A) → Memᴰ x xs → FirstRemoved x xs (remove_first (same x) xs)
-  unfolding remove_first
-  first_removed x [] m = absurd (Memᴰ.not-nil m)
-  first_removed x (y ∷ ys) m = go (same x y) (equal x y) (λ e. subst (λ a. T (same x a)) (sym e) (self x)) (first_removed x ys)
-    where
-      go : (b : Bool) → (T b → x ≡ y) → (y ≡ x → T b) → (Memᴰ x ys → FirstRemoved x ys (remove_first (same x) ys)) →
-          FirstRemoved x (y ∷ ys) (cond b ys (y ∷ remove_first (same x) ys))
-      go true is other later = subst (λ a. FirstRemoved x (a ∷ ys) ys) (is tt) (first [] ys (λ n. Memᴰ.not-nil n))
-      go false is other later = next_first y (λ e. absurd (other e))
-          (later (each_cons (λ z. z ≡ x → Memᴰ x ys) (λ e. absurd (other e)) (λ z i e. subst (λ a. Memᴰ a ys) e i) x m refl))
-
-leaves_altered : (deck : Query.Deck) (change : Change) → Allows change deck → Leaves deck (altered change deck) change
-unfolding altered
-leaves_altered deck (add_post p) a = post_added refl refl
-leaves_altered deck (remove_post p) a = post_removed (first_removed is_same_place same_place place_same p deck.posts a.1) refl
-leaves_altered deck (add_stop s) a = stop_added refl refl
-leaves_altered deck (remove_stop s) a = stop_removed (first_removed is_same_stop same_stop stop_same s deck.stops a.1) refl
-
 -- ---- area and axis costs
 same_area : (deck : Deck) (change : Change) → (deck_of (altered_record change deck)).area ≡ (deck_of deck).area
 unfolding altered_record deck_of
@@ -207,7 +140,7 @@ module _ (deck : Deck) (change : Change) where
 
   why_listed : (why : Refusal) → record_refusal change deck ≡ some why → Listed why
   why_listed why e = ⊎_elim
-      (λ t. applies_listed ((applies_exactly (deck_of deck) change why).0 (sym (when_usable change deck t) ∙ e)))
+      (λ t. applies_listed ((refusal_some change (deck_of deck) why).0 (sym (when_usable change deck t) ∙ e)))
       (λ t. subst Listed (same_some (sym (not_usable deck change t) ∙ e)) three) (test (usable deck))
     where
       same_some : {a b : Refusal} → ◌≡◌ {A = Option Refusal} (some a) (some b) → a ≡ b
@@ -216,8 +149,8 @@ module _ (deck : Deck) (change : Change) where
   module _ (t : T (usable deck)) where
     exactly : (why : Refusal) → ((change_call deck change).answer ≡ refusal why) ↔ ChangeApplies (deck_of deck) change why
     exactly why = (
-      λ e. (applies_exactly (deck_of deck) change why).0 (sym (when_usable change deck t) ∙ (refused_exactly deck change why).0 e),
-      λ a. (refused_exactly deck change why).1 (when_usable change deck t ∙ (applies_exactly (deck_of deck) change why).1 a),
+      λ e. (refusal_some change (deck_of deck) why).0 (sym (when_usable change deck t) ∙ (refused_exactly deck change why).0 e),
+      λ a. (refused_exactly deck change why).1 (when_usable change deck t ∙ (refusal_some change (deck_of deck) why).1 a),
     )
 
     none_of : (change_call deck change).answer ≡ gives tt → change_refusal change (deck_of deck) ≡ none
@@ -225,14 +158,14 @@ module _ (deck : Deck) (change : Change) where
 
     made_where : ((change_call deck change).answer ≡ gives tt) ↔ ((why : Refusal) → ChangeApplies (deck_of deck) change why → ⊥)
     made_where = (
-      λ e why a. none-ne-some why (sym (none_of e) ∙ (applies_exactly (deck_of deck) change why).1 a),
+      λ e why a. none-ne-some why (sym (none_of e) ∙ (refusal_some change (deck_of deck) why).1 a),
       λ n. go (change_refusal change (deck_of deck)) refl n,
     )
       where
         go : (o : Option Refusal) → change_refusal change (deck_of deck) ≡ o → ((why : Refusal) → ChangeApplies (deck_of deck) change why → ⊥) →
             (change_call deck change).answer ≡ gives tt
         go none f n = answer_is deck change ∙ ap answer_for (when_usable change deck t ∙ f)
-        go (some why) f n = absurd (n why ((applies_exactly (deck_of deck) change why).0 f))
+        go (some why) f n = absurd (n why ((refusal_some change (deck_of deck) why).0 f))
 
     made_leaves : Sized deck → (change_call deck change).answer ≡ gives tt → Leaves (deck_of deck) (deck_of (change_call deck change).deck) change
     made_leaves sized e = subst (λ d. Leaves (deck_of deck) d change) (sym (ap deck_of left ∙ deck_of_altered change deck sized t (none_of e)))

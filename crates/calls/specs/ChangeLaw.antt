@@ -1,57 +1,19 @@
 -- Document 02, card 6: what the four changes of a deck's record are held to, of every record that the code can hold.
 -- Assumes nothing.
-use Rattle.std.specs.Prelude.{ℕ, ◌≤◌, ◌<◌, ◌≡◌, not, ◌↔◌, T, length, get_or}
-use mathlib.Core.List.{List, [], ◌∷◌, ◌++◌, Memᴰ}
-use Rattle.query.specs.Place.{Place}
-use Rattle.query.specs.Deck as Query
-use Rattle.query.specs.Deck.{Stop}
-use Rattle.query.specs.Range.{PlaceInRange, StopInRange, posts_limit, stops_limit, travel_limit}
+use Rattle.std.specs.Prelude.{ℕ, ◌≤◌, ◌<◌, ◌≡◌, not, ◌↔◌, T, get_or}
+use mathlib.Core.List.{[], ◌∷◌, Memᴰ}
+use Rattle.query.specs.Range.{travel_limit}
 use Rattle.deck.specs.DeckOf.{Sized, deck_of, deck_record}
 use Rattle.deck.specs.Sound.{Sound}
 use Rattle.deck.specs.declared.Deck.{Deck}
 use Rattle.refusal.specs.declared.Refusal.{Refusal}
-use Rattle.refusal.specs.declared.Refusal.TheVariants.{OutOfRange, NoPosts, NoStops, NotHeld, Full}
-use Rattle.change.specs.Change.{Change, add_post, remove_post, add_stop, remove_stop, altered}
+use Rattle.change.specs.Change.{Change, altered}
 use Rattle.change.specs.ChangedRecord.{usable}
+use Rattle.change.specs.Meaning.{ChangeApplies, Leaves}
 use Rattle.calls.specs.Answers.{gives, refuses, refusal}
 use Rattle.calls.specs.SavingLaw.{Saveable}
 use Rattle.calls.specs.ChangeCall.{change_call}
 
--- ---- the answers
--- the values of a change's item are in range
-abbrev pub ItemInRange : Change → Type 0
-ItemInRange (add_post p) = PlaceInRange p
-ItemInRange (remove_post p) = PlaceInRange p
-ItemInRange (add_stop s) = StopInRange s
-ItemInRange (remove_stop s) = StopInRange s
-
--- "Removing the only post gives 5, the only stop 6, a value out of range 3 .. 9, no post or stop with these values to take away; 10, a post
--- added when 64 are held now, or a stop when 512 are. 3 comes before both, and 9 before 5 or 6": each refusal of a change of a deck, with
--- its condition
-pub data ChangeApplies (deck : Query.Deck) : Change → Refusal → Type 0 where
-  out_of_range : {change : Change} → (ItemInRange change → ⊥) → ChangeApplies deck change (OutOfRange 0)
-  no_such_post : {p : Place} → PlaceInRange p → (Memᴰ p deck.posts → ⊥) → ChangeApplies deck (remove_post p) NotHeld
-  no_such_stop : {s : Stop} → StopInRange s → (Memᴰ s deck.stops → ⊥) → ChangeApplies deck (remove_stop s) NotHeld
-  only_post : {p : Place} → PlaceInRange p → deck.posts ≡ p ∷ [] → ChangeApplies deck (remove_post p) NoPosts
-  only_stop : {s : Stop} → StopInRange s → deck.stops ≡ s ∷ [] → ChangeApplies deck (remove_stop s) NoStops
-  posts_full : {p : Place} → PlaceInRange p → posts_limit ≤ length deck.posts → ChangeApplies deck (add_post p) Full
-  stops_full : {s : Stop} → StopInRange s → stops_limit ≤ length deck.stops → ChangeApplies deck (add_stop s) Full
-
--- ---- the lists
--- "removes the first that equals them; later ones move up": xs without its first x is ys
-pub data FirstRemoved {A : Type 0} (x : A) : List A → List A → Type 0 where
-  first : (front later : List A) → (Memᴰ x front → ⊥) → FirstRemoved x (front ++ (x ∷ later)) (front ++ later)
-
--- what a change that is made leaves of a deck: one list is changed, and all else is unaltered. "An added item goes last"
-pub data Leaves (before after : Query.Deck) : Change → Type 0 where
-  post_added : {p : Place} → after.posts ≡ before.posts ++ (p ∷ []) → after.stops ≡ before.stops → Leaves before after (add_post p)
-  post_removed : {p : Place} → FirstRemoved p before.posts after.posts → after.stops ≡ before.stops →
-      Leaves before after (remove_post p)
-  stop_added : {s : Stop} → after.stops ≡ before.stops ++ (s ∷ []) → after.posts ≡ before.posts → Leaves before after (add_stop s)
-  stop_removed : {s : Stop} → FirstRemoved s before.stops after.stops → after.posts ≡ before.posts →
-      Leaves before after (remove_stop s)
-
--- ---- one change
 pub record ChangeLaw (deck : Deck) (change : Change) : Type 0 where
   -- of every record: "A refused change leaves the record unaltered", "All of these have line 0", and there are no other numbers
   pub refused_deck : (number line : ℕ) → (change_call deck change).answer ≡ refuses number line → (change_call deck change).deck ≡ deck

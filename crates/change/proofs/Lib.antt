@@ -7,6 +7,7 @@ pub mod Conditions
 pub mod FrontChanges
 pub mod KeptLaws
 pub mod KeptNears
+pub mod LeftLists
 pub mod MadeRecords
 pub mod NearChanges
 pub mod Refusals

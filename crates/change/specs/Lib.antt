@@ -1,2 +1,3 @@
 pub mod Change
 pub mod ChangedRecord
+pub mod Meaning
