@@ -2,6 +2,7 @@ pub mod AlteredLaws
 pub mod AlteredRecord
 pub mod Answered
 pub mod ChangedLaws
+pub mod CodeTests
 pub mod ColumnChanges
 pub mod Conditions
 pub mod FrontChanges
@@ -13,4 +14,3 @@ pub mod NearChanges
 pub mod Refusals
 pub mod UsableExactly
 pub mod UsableLaws
-pub mod Verdicts

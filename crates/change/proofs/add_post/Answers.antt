@@ -4,7 +4,7 @@ use borrow.Author.Rules.{rules}
 use Rattle.deck.proofs.DeckLaws.{posts_counted}
 use Rattle.job.proofs.RangeLaws.{post_range}
 use Rattle.change.specs.Change.{add_post}
-use Rattle.change.proofs.Verdicts.{out_of_range, within, refused, made, full, room}
+use Rattle.change.proofs.CodeTests.{out_of_range, within, refused, made, full, room}
 use Rattle.change.proofs.add_post.Goals as goal
 
 pub returns-in_err-check_range : goal.returns-in_err-check_range

@@ -4,7 +4,7 @@ use borrow.Author.Rules.{rules}
 use Rattle.deck.proofs.DeckLaws.{stops_counted}
 use Rattle.job.proofs.RangeLaws.{stop_range}
 use Rattle.change.specs.Change.{add_stop}
-use Rattle.change.proofs.Verdicts.{out_of_range, within, refused, made, full, room}
+use Rattle.change.proofs.CodeTests.{out_of_range, within, refused, made, full, room}
 use Rattle.change.proofs.add_stop.Goals as goal
 
 pub returns-in_err-check_range : goal.returns-in_err-check_range

@@ -6,7 +6,7 @@ use Rattle.job.proofs.PartLaws.{handed}
 use Rattle.job.proofs.RangeLaws.{post_range}
 use Rattle.change.specs.Change.{remove_post}
 use Rattle.change.proofs.UsableExactly.{usable_says}
-use Rattle.change.proofs.Verdicts.{out_of_range, within, refused, made, absent, only, others, not_found, is_found, posts_in}
+use Rattle.change.proofs.CodeTests.{out_of_range, within, refused, made, absent, only, others, not_found, is_found, posts_in}
 use Rattle.change.proofs.remove_post.Goals as goal
 
 pub returns-in_err-check_range : goal.returns-in_err-check_range

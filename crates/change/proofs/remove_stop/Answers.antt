@@ -5,7 +5,7 @@ use Rattle.deck.proofs.DeckLaws.{stops_counted}
 use Rattle.job.proofs.PartLaws.{handed}
 use Rattle.change.specs.Change.{remove_stop}
 use Rattle.change.proofs.UsableExactly.{usable_says}
-use Rattle.change.proofs.Verdicts.{out_of_range, within, refused, made, absent, only, others, not_found, is_found, stops_in, without_stop}
+use Rattle.change.proofs.CodeTests.{out_of_range, within, refused, made, absent, only, others, not_found, is_found, stops_in, without_stop}
 use Rattle.change.proofs.remove_stop.Goals as goal
 
 pub returns-in_err-check_range : goal.returns-in_err-check_range
