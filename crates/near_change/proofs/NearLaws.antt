@@ -1,32 +1,24 @@
 -- Travel and near as the code finds them: between two places, by one more post, and over the stops one after another.
 -- Assumes nothing.
-use mathlib.Core.Path.{◌≡◌, refl, sym, ap, ap₂, subst, ◌∙◌}
-use mathlib.Core.Bool.{Bool, true, false, cond}
+use mathlib.Core.Path.{◌≡◌, sym, ap, ap₂, subst, ◌∙◌}
 use mathlib.Core.List.{List, zip_with}
 use Prim.Native.Nat.{ℕ, ◌+◌, ◌*◌, ◌≤◌, ◌<◌}
 use native.Mathlib.Nat.{mul-le-mul}
 use native.Mathlib.Omega.{arith}
-use lib.Dec.{ltb}
-use lib.IntN.{ℤ, pos}
-use lib.ListN.{length, get_or, take, set}
-use lib.Seq.{length-take-le}
-use lib.Signed.{lt_z}
-use mir.Syntax.{w32}
-use mir.Val.{SFits, to_z, of_z}
-use mir.ValLaws.{to_z-of_z}
+use lib.IntN.{ℤ}
+use lib.ListN.{length, get_or, set}
 use Rattle.numbers.specs.Integer.{dist}
 use Rattle.numbers.proofs.Distance.{dist_most}
 use Rattle.numbers.proofs.WordTests.{back}
 use Rattle.query.specs.Place.{Place}
-use Rattle.query.specs.Deck.{AxisCosts, plain}
-use Rattle.query.specs.Travel.{travel, closest}
+use Rattle.query.specs.Deck.{AxisCosts}
+use Rattle.query.specs.Travel.{travel}
 use Rattle.query.specs.Range.{PlaceInRange}
 use Rattle.deck.specs.DeckOf.{places}
-use Rattle.deck.specs.Ranges.{CostsInRange, CoordinatesInRange, PlacesInRange}
-use Rattle.deck.proofs.WordLaws.{wide, coordinate}
-use Rattle.deck.proofs.TravelLaws.{far, travel_plain}
+use Rattle.deck.specs.Ranges.{CostsInRange, PlacesInRange}
+use Rattle.deck.proofs.WordLaws.{wide}
 use Rattle.deck.proofs.DeckLaws.{place_of}
-use Rattle.deck.proofs.ClosestLaws.{zip_length, zip_at, place_at, places_length, places_at, closest_one, closest_snoc, posts_more}
+use Rattle.deck.proofs.ClosestLaws.{zip_length, zip_at, place_at, places_length, places_at}
 use Rattle.deck.proofs.CopyLaws.{Copied, copied_more, copied_next}
 
 -- ---- travel between two places in range, of the distances that were found of words

@@ -3,24 +3,15 @@
 use mathlib.Core.Path.{◌≡◌, refl, sym, ap, ap₂, ◌∙◌}
 use mathlib.Core.Bool.{Bool, true, false, cond}
 use mathlib.Core.List.{List, [], ◌∷◌, map, zip_with}
-use Prim.Native.Nat.{ℕ, ◌≤◌}
-use native.Mathlib.Omega.{arith}
+use Prim.Native.Nat.{ℕ}
 use lib.Dec.{eqb, not_T}
-use lib.IntN.{ℤ, pos}
-use lib.ListN.{length, take, replicate, length-replicate}
-use lib.Seq.{paste, length-paste, length-take-le, take_at}
-use Rattle.numbers.specs.Integer.{times}
+use lib.Seq.{paste}
 use Rattle.numbers.proofs.Truth.{holds, fails}
 use Rattle.query.specs.Place.{Place}
 use Rattle.query.specs.Deck.{AxisCosts, plain}
 use Rattle.query.specs.Travel.{travel, closest}
-use Rattle.deck.specs.DeckOf.{places}
 use Rattle.deck.specs.Objects.{scaled_place}
-use Rattle.deck.specs.Ranges.{CostsInRange, CoordinatesInRange, PlacesInRange}
-use Rattle.deck.proofs.ClosestLaws.{places_front, closest_scaled}
-use Rattle.deck.proofs.DeckLaws.{map_take, scaled_places}
-use Rattle.deck.proofs.MadeNears.{front_range}
-use Rattle.deck.proofs.ScaleLaws.{scaled_range}
+use Rattle.deck.proofs.ClosestLaws.{closest_scaled}
 use Rattle.near_change.specs.NearChange.{near_without, near_but}
 use Rattle.items.proofs.ItemValues.{same_natural}
 

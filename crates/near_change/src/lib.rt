@@ -4,12 +4,10 @@
 ghost use Rattle.std.specs.Prelude.{◌≡◌, ◌≤◌, length};
 ghost use mathlib.Core.List.{zip_with};
 ghost use Rattle.std.proofs.Math.Seq.{paste};
-ghost use Rattle.query.specs.Deck.{plain};
 ghost use Rattle.query.specs.Travel.{travel, closest};
 ghost use Rattle.query.specs.Range.{PlaceInRange};
 ghost use Rattle.deck.specs.DeckOf.{held_axis, places};
 ghost use Rattle.deck.specs.Held.{axis_of_posts, places_of_posts};
-ghost use Rattle.deck.specs.Objects.{scaled_place};
 ghost use Rattle.deck.specs.Ranges.{CostsInRange, PlacesInRange};
 ghost use Rattle.deck.specs.Rectangle.{place_of};
 ghost use Rattle.near_change.specs.NearChange.{near_but, near_with, near_without};
