@@ -1,7 +1,7 @@
 // Changes of a deck's record: a post or a stop is added or removed, and near and before follow.
 #![tactic(auto)]
 
-ghost use Rattle.std.specs.Prelude.{◌≡◌, ◌-◌, ◌≤◌, ◌<◌, leb, pos, take, cond, ◌&&◌, T};
+ghost use Rattle.std.specs.Prelude.{◌≡◌, ◌-◌, ◌≤◌, ◌<◌, leb, pos, cond, ◌&&◌, T};
 ghost use Rattle.std.specs.List.{list_all};
 ghost use Rattle.std.proofs.Math.Option.{none, some};
 ghost use Rattle.query.specs.Range.{PlaceInRange, StopInRange, travel_limit};
