@@ -19,18 +19,25 @@ use Rattle.job.proofs.JobLaws.{InRanges}
 use Rattle.job.proofs.AllowedLaws.{post_in, stop_in_lem}
 use Rattle.refusal.specs.declared.Refusal.{Refusal}
 use Rattle.refusal.specs.declared.Refusal.TheVariants.{OutOfRange, NoPosts, NoStops, NotHeld, Full}
-use Rattle.change.specs.Change.{Change, add_post, remove_post, add_stop, remove_stop, line_in_range, change_refusal}
+use Rattle.change.specs.Change.{Change, add_post, remove_post, add_stop, remove_stop, line_in_range, item_line, change_refusal}
+use Rattle.change.specs.Meaning.{ItemInRange}
 use Rattle.items.specs.Items.{is_same_place, is_same_stop, held}
 use Rattle.items.proofs.ItemValues.{same_natural, post_held, stop_held}
 
 -- ---- values in range
-pub post_ranges : (p : Place) → T (line_in_range (post_line p)) ↔ PlaceInRange p
+post_ranges : (p : Place) → T (line_in_range (post_line p)) ↔ PlaceInRange p
 unfolding InRanges
 post_ranges p = (post_range p, post_in p)
 
-pub stop_ranges : (s : Stop) → T (line_in_range (stop_line s)) ↔ StopInRange s
+stop_ranges : (s : Stop) → T (line_in_range (stop_line s)) ↔ StopInRange s
 unfolding InRanges
 stop_ranges s = (stop_range s, stop_in_lem s)
+
+pub item_ranges : (change : Change) → T (line_in_range (item_line change)) ↔ ItemInRange change
+item_ranges (add_post p) = post_ranges p
+item_ranges (remove_post p) = post_ranges p
+item_ranges (add_stop s) = stop_ranges s
+item_ranges (remove_stop s) = stop_ranges s
 
 -- ---- counts
 not_full : (most n : ℕ) → T (not (leb most n)) ↔ (n < most)

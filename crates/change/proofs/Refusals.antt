@@ -19,7 +19,7 @@ use Rattle.items.proofs.ItemValues.{same_natural, post_held, stop_held}
 use Rattle.change.specs.Change.{Change, add_post, remove_post, add_stop, remove_stop, line_in_range, item_line, list_conditions}
 use Rattle.change.specs.Change.{first_refusal, change_refusal}
 use Rattle.change.specs.Meaning.{ItemInRange, ChangeApplies, out_of_range, no_such_post, no_such_stop, only_post, only_stop, posts_full, stops_full}
-use Rattle.change.proofs.Conditions.{post_ranges, stop_ranges}
+use Rattle.change.proofs.Conditions.{item_ranges}
 
 -- ---- conditions one after another
 both_not : (b : Bool) → T (not (not b)) ↔ T b
@@ -45,12 +45,6 @@ its_member : {A : Type 0} {x : A} {xs : List A} → xs ≡ x ∷ [] → Memᴰ x
 its_member {A} {x} e = subst (λ l. Memᴰ x l) (sym e) (Memᴰ.head refl)
 
 -- ---- a change that is refused: 3, then 10 or 9, then 5 or 6
-item_ranges : (change : Change) → T (line_in_range (item_line change)) ↔ ItemInRange change
-item_ranges (add_post p) = post_ranges p
-item_ranges (remove_post p) = post_ranges p
-item_ranges (add_stop s) = stop_ranges s
-item_ranges (remove_stop s) = stop_ranges s
-
 module _ (deck : Deck) where
   by_lists : (change : Change) {why : Refusal} → ItemInRange change → first_refusal (list_conditions change deck) ≡ some why → ChangeApplies deck change why
   by_lists (add_post p) i = by_first (ChangeApplies deck (add_post p)) (leb 64 (length deck.posts)) Full

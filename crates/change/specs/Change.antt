@@ -48,7 +48,7 @@ item_line (remove_post p) = post_line p
 item_line (add_stop s) = stop_line s
 item_line (remove_stop s) = stop_line s
 
--- the refusals of a change by the lists, each with its condition, in their order: "9 before 5 or 6"
+-- the refusals that the lists of a deck give a change, each with its condition, in their order: "9 before 5 or 6"
 abbrev pub list_conditions : Change → Deck → List (Bool × Refusal)
 list_conditions (add_post p) deck = (leb posts_limit (length deck.posts), Full) ∷ []
 list_conditions (remove_post p) deck =
@@ -57,7 +57,7 @@ list_conditions (add_stop s) deck = (leb stops_limit (length deck.stops), Full) 
 list_conditions (remove_stop s) deck =
     (not (held (is_same_stop s) deck.stops), NotHeld) ∷ (eqb (length deck.stops) 1, NoStops) ∷ []
 
--- all refusals of a change, in their order: "3 comes before both", 9 and 10. "All of these have line 0"
+-- all refusals of a change, in their order: "3 comes before both" 9 and 10. "All of these have line 0"
 unfoldable pub conditions : Change → Deck → List (Bool × Refusal)
 unfolding in_ranges keep
 conditions change deck = (not (line_in_range (item_line change)), OutOfRange 0) ∷ list_conditions change deck
