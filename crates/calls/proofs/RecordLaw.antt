@@ -20,7 +20,8 @@ use Rattle.job.specs.File.{held_job, saved_spelling}
 use Rattle.job.proofs.Meaning.{allowed_in_range}
 use Rattle.job.proofs.AllowedLaws.{in_range_allowed}
 use Rattle.job_check.proofs.AxisLaws.{saved_spells}
-use Rattle.calls.specs.ReadCall.{Read}
+use Rattle.calls.specs.Answers.{gives}
+use Rattle.calls.specs.ReadCall.{Read, read_call}
 use Rattle.calls.specs.RecordLaw.{Made, by_reading, by_change, stop_in, RecordLaw, RefusedRecordLaw}
 use Rattle.calls.proofs.ChangeLaw.{change_law}
 use Rattle.calls.proofs.Demands.{read_exactly}
@@ -36,13 +37,16 @@ made_sound deck (by_reading job rounds e same) =
     (record_sound j.deck (allowed_in_range j allowed) allowed.area_full)
 
 -- ---- and all of them
-sound_made : (deck : Deck) → Sound deck → Made deck
-sound_made deck sound =
+sound_read : (deck : Deck) → Sound deck → (job : List ℕ) × (rounds : ℕ) × ((read_call job).answer ≡ gives rounds) × (deck ≡ (read_call job).deck)
+sound_read deck sound =
     let job = held_job deck 0 in
     let allowed = in_range_allowed job sound.range sound.full (omega arith) in
     let read = (read_exactly (saved_spelling job) job).1 (saved_spells job, allowed) in
     let given = read_given (saved_spelling job) job read in
-    by_reading (saved_spelling job) 0 (ap (λ (r : Read). r.answer) given) (sound.whole ∙ sym (ap (λ (r : Read). r.deck) given))
+    (saved_spelling job, 0, ap (λ (r : Read). r.answer) given, sound.whole ∙ sym (ap (λ (r : Read). r.deck) given))
+
+sound_made : (deck : Deck) → Sound deck → Made deck
+sound_made deck sound = let (job, rounds, given, same) = sound_read deck sound in by_reading job rounds given same
 
 -- ---- near, number by number
 module _ (deck : Deck) (sound : Sound deck) (i : ℕ) where
@@ -68,6 +72,7 @@ module _ (deck : Deck) (sound : Sound deck) (i : ℕ) where
 pub record_law : (deck : Deck) → RecordLaw deck
 record_law deck = record {
   sound_exactly = (made_sound deck, sound_made deck);
+  as_read = sound_read deck;
   near_is = near_at_lem deck;
   near_behind = near_past deck;
   before_is = sound_before;

@@ -29,6 +29,8 @@ pub record RecordLaw (deck : Deck) : Type 0 where
   -- "Every operation that makes or alters a deck leaves them equal to their definitions": a record that was made is sound; and every sound
   -- record can be made
   pub sound_exactly : Made deck ↔ Sound deck
+  -- and each is one that a job is read as: changes make no others
+  pub as_read : Sound deck → (job : List ℕ) × (rounds : ℕ) × ((read_call job).answer ≡ gives rounds) × (deck ≡ (read_call job).deck)
   -- near and before of a sound record, number by number
   pub near_is : Sound deck → (i : ℕ) → i < deck.stops → get_or deck.near i 0 ≡ near (deck_of deck) (stop_in deck i)
   pub near_behind : Sound deck → (i : ℕ) → deck.stops ≤ i → get_or deck.near i 0 ≡ 0
