@@ -1,5 +1,4 @@
 -- The rows of specs/AnswerRows.antt, by computation.
--- Assumes nothing.
 use mathlib.Core.Path.{refl}
 use Rattle.calls.specs.AnswerRows.{AnswerRows}
 

@@ -1,5 +1,4 @@
 -- The rows of specs/CaseA.antt, by computation.
--- Assumes nothing.
 use mathlib.Core.Path.{refl}
 use mathlib.Core.List.{flat_map}
 use Rattle.text.specs.Ascii.{bytes}

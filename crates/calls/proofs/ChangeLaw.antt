@@ -1,5 +1,4 @@
 -- What a change of a deck's record is held to.
--- Assumes nothing.
 use mathlib.Core.Path.{◌≡◌, refl, sym, ap, subst, ◌∙◌}
 use mathlib.Core.Bool.{Bool, not, cond}
 use mathlib.Core.Logic.{◌↔◌, ⊎_elim}

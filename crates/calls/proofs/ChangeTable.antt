@@ -1,5 +1,4 @@
 -- The rows of specs/ChangeTable.antt, by computation.
--- Assumes nothing.
 use mathlib.Core.Path.{refl}
 use Rattle.change.specs.ChangedRecord.{record_after}
 use Rattle.calls.specs.ReadCall.{read_call}

@@ -1,5 +1,4 @@
 -- What is promised of the C entry.
--- Assumes nothing.
 use Prim.Native.Nat.{ℕ, zero, suc, ◌≤◌, ◌<◌}
 use mathlib.Core.Path.{◌≡◌, refl, sym, ap, subst, ◌∙◌}
 use mathlib.Core.List.{List}
@@ -23,9 +22,9 @@ use Rattle.report.specs.Text.{report_text}
 use Rattle.calls.specs.Answers.{gives, refusal}
 use Rattle.calls.specs.Call.{turned_down, job_figures, report_call, own_space}
 use Rattle.calls.specs.Entry.{Returned, result_of, returned, entry}
-use Rattle.calls.specs.Demands.{in_reading, short_output}
+use Rattle.calls.specs.Promises.{in_reading, short_output}
 use Rattle.calls.specs.EntryLaw.{EntryLaw}
-use Rattle.calls.proofs.Demands.{reports, refuses_so}
+use Rattle.calls.proofs.Promises.{reports, refuses_so}
 use Rattle.calls.proofs.OwnSpace.{own_enough, own_accepted}
 
 given_result : (f : Figures) → result_of (gives f) ≡ pos (length (report_text f))

@@ -1,5 +1,4 @@
 -- What the call `estimate` is held to, over a job's bytes.
--- Assumes nothing.
 use Prim.Native.Nat.{ℕ, ◌*◌, ◌≤◌, ◌<◌}
 use mathlib.Core.Path.{◌≡◌, refl, sym, ap, ap₂, ◌∙◌}
 use mathlib.Core.Logic.{◌↔◌}
@@ -19,12 +18,12 @@ use Rattle.job.specs.Meaning.{Condition}
 use Rattle.job.proofs.RefusalLaws.{condition_number}
 use Rattle.calls.specs.Answers.{gives, refuses, refusal}
 use Rattle.calls.specs.Call.{Left, report_call}
-use Rattle.calls.specs.Demands.{Applies, in_reading, small_space, short_output}
+use Rattle.calls.specs.Promises.{Applies, in_reading, small_space, short_output}
 use Rattle.calls.specs.EstimateCall.{estimate_call}
 use Rattle.calls.specs.EstimateCallLaw.{EstimateCallLaw}
 use Rattle.calls.proofs.AnswerLaws.{same_number, same_line, same_given}
 use Rattle.calls.proofs.AcceptedCall as Call
-use Rattle.calls.proofs.Demands.{refused_call, accepted_one, demands}
+use Rattle.calls.proofs.Promises.{refused_call, accepted_one, promises}
 
 abbrev needed : Job → Estimate
 needed j = estimate j.deck j.rounds
@@ -76,7 +75,7 @@ module _ (job : List ℕ) where
 
     small_space_exactly : ((report_call job cells out).answer ≡ refuses 7 0) ↔ (length cells < 5 * e.cells)
     small_space_exactly =
-        let exactly = (demands job cells out).demand_1.refused_exactly SmallSpace in
+        let exactly = (promises job cells out).promise_1.refused_exactly SmallSpace in
         let (j, r, same) = given_one e g in
         (λ a. too_small SmallSpace refl (exactly.0 a), λ h. exactly.1 (small_space j r (omega (arith, space_is j r))))
 
@@ -86,7 +85,7 @@ module _ (job : List ℕ) where
         let (j, h) = accepted_one job cells out f a in
         omega (
           arith,
-          ((demands job cells out).demand_3 j f h a).law.cut_limit_law,
+          ((promises job cells out).promise_3 j f h a).law.cut_limit_law,
           ap (λ (x : Estimate). x.limit) (same_given (needed j) e (sym (call_accepted j h.read) ∙ g)),
         )
 

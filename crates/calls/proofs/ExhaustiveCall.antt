@@ -1,5 +1,4 @@
 -- What the call `exhaustive` is held to, over a job's bytes.
--- Assumes nothing.
 use mathlib.Core.Path.{◌≡◌, sym, ap, ◌∙◌}
 use mathlib.Core.Logic.{◌↔◌}
 use Prim.Native.Nat.{ℕ, ◌≤◌}
@@ -19,7 +18,7 @@ use Rattle.calls.specs.Call.{job_figures, report_call}
 use Rattle.calls.specs.CheapestCall.{exhaustive_call}
 use Rattle.calls.specs.ExhaustiveCallLaw.{ExhaustiveCallLaw}
 use Rattle.calls.proofs.AcceptedCall as Call
-use Rattle.calls.proofs.Demands.{read_exactly, figures_are, accepted_one}
+use Rattle.calls.proofs.Promises.{read_exactly, figures_are, accepted_one}
 
 module _ (job : List ℕ) where
   pub call_accepted : (j : Job) → read_job job ≡ accepted j → exhaustive_call job ≡ gives (Query.exhaustive (problem j.deck))

@@ -1,5 +1,5 @@
 pub mod AnswerLaws
-pub mod Demands
+pub mod Promises
 pub mod OwnSpace
 pub mod EntryLaw
 pub mod ProgramLaw

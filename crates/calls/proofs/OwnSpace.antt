@@ -1,5 +1,4 @@
 -- The cell space that the C entry and the program answer as if lent is enough for every job, so that the call then gives no 7.
--- Assumes nothing.
 use Prim.Native.Nat.{ℕ, ◌≤◌}
 use mathlib.Core.Path.{◌≡◌}
 use mathlib.Core.List.{List}
@@ -11,8 +10,8 @@ use Rattle.query.proofs.EstimateLaws.{needs_most}
 use Rattle.job.specs.Format.{Job, accepted, read_job}
 use Rattle.job.proofs.JobLaws.{most_rounds}
 use Rattle.calls.specs.Call.{own_space}
-use Rattle.calls.specs.Demands.{Accepted}
-use Rattle.calls.proofs.Demands.{read_exactly}
+use Rattle.calls.specs.Promises.{Accepted}
+use Rattle.calls.proofs.Promises.{read_exactly}
 
 module _ (job out : List ℕ) (j : Job) (e : read_job job ≡ accepted j) where
   pub own_enough : space_needed j.deck j.rounds ≤ length own_space

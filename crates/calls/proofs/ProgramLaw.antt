@@ -1,5 +1,4 @@
 -- What is promised of the program's text.
--- Assumes nothing.
 use Prim.Native.Nat.{ℕ, ◌<◌, ◌^◌}
 use mathlib.Core.Path.{◌≡◌, refl, sym, ap, ◌∙◌}
 use mathlib.Core.List.{List}
@@ -18,9 +17,9 @@ use Rattle.report.proofs.TextLaws.{report_no_refusal, refusal_number}
 use Rattle.calls.specs.Answers.{gives, refuses}
 use Rattle.calls.specs.Call.{Left, job_figures, report_call, own_space}
 use Rattle.calls.specs.Program.{text_of, answer_text}
-use Rattle.calls.specs.Demands.{in_reading}
+use Rattle.calls.specs.Promises.{in_reading}
 use Rattle.calls.specs.ProgramLaw.{ProgramLaw}
-use Rattle.calls.proofs.Demands.{reports, refuses_so}
+use Rattle.calls.proofs.Promises.{reports, refuses_so}
 use Rattle.calls.proofs.OwnSpace.{own_accepted}
 
 given_text : (f : Figures) → text_of (gives f) ≡ report_text f

@@ -1,6 +1,5 @@
 -- The law of records: reading leaves a sound record where it accepts, changes keep it sound, and every sound record is read from its saved
 -- spelling.
--- Assumes nothing.
 use mathlib.Core.Path.{◌≡◌, sym, ap, subst, ◌∙◌}
 use mathlib.Core.List.{List, map}
 use Prim.Native.Nat.{ℕ, ◌≤◌, ◌<◌}
@@ -24,7 +23,7 @@ use Rattle.calls.specs.Answers.{gives}
 use Rattle.calls.specs.ReadCall.{Read, read_call}
 use Rattle.calls.specs.RecordLaw.{Made, by_reading, by_change, stop_in, RecordLaw, RefusedRecordLaw}
 use Rattle.calls.proofs.ChangeLaw.{change_law}
-use Rattle.calls.proofs.Demands.{read_exactly}
+use Rattle.calls.proofs.Promises.{read_exactly}
 use Rattle.calls.proofs.SavingLaw.{read_given, read_accepted, refused_zeros}
 
 -- ---- reading makes sound records, and changes keep them so

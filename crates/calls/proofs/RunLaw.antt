@@ -1,5 +1,4 @@
 -- What a run of changes of a record that was read is held to.
--- Assumes nothing.
 use mathlib.Core.Path.{◌≡◌, refl, sym, ap, subst, ◌∙◌}
 use mathlib.Core.Bool.{Bool, true, false}
 use mathlib.Core.List.{List}
@@ -31,7 +30,7 @@ use Rattle.calls.specs.ReadCall.{Read, read_call}
 use Rattle.calls.specs.WriteCall.{write_call}
 use Rattle.calls.specs.SavingLaw.{SpellsOut}
 use Rattle.calls.specs.RunLaw.{changed_job, RunLaw}
-use Rattle.calls.proofs.Demands.{read_exactly}
+use Rattle.calls.proofs.Promises.{read_exactly}
 use Rattle.calls.proofs.SavingLaw.{plain_unwritten, other_written, read_given, record_written}
 
 module _ (changes : List Change) (job : List ℕ) (j : Job) (read : read_job job ≡ accepted j) where

@@ -1,5 +1,4 @@
 -- What the calls `read` and `write` are held to.
--- Assumes nothing.
 use mathlib.Core.Path.{◌≡◌, refl, sym, ap, ap₂, subst, ◌∙◌}
 use mathlib.Core.Bool.{Bool, true, false}
 use mathlib.Core.Logic.{◌≢◌, ⊎_elim}
@@ -37,7 +36,7 @@ use Rattle.calls.specs.ReadCall.{Read, read_as, read_call}
 use Rattle.calls.specs.WriteCall.{Saved, not_saved, saved_as, write_call}
 use Rattle.calls.specs.SavingLaw.{SpellsOut, ReadLaw, Saveable, WriteApplies, in_file, short_output, WrittenLaw, WriteLaw}
 use Rattle.calls.proofs.AnswerLaws.{same_number, same_line, same_refusal, same_given, not_refused}
-use Rattle.calls.proofs.Demands.{read_exactly}
+use Rattle.calls.proofs.Promises.{read_exactly}
 
 -- ---- the spelling that is saved
 pub plain_unwritten : (c : AxisCosts) → c ≡ plain → writes_axis c ≡ false

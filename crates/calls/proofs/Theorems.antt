@@ -1,12 +1,11 @@
 -- The theorems of specs/Theorems.antt.
--- Assumes nothing.
 use Rattle.query.proofs.QueryTheorems.{query_theorems}
 use Rattle.job.proofs.Meaning.{accepted_law, refused_law, spelling_law}
 use Rattle.job.proofs.JobVectors as JobVectors
 use Rattle.report.proofs.Fits.{report_fits}
 use Rattle.report.proofs.ReportVectors as ReportVectors
 use Rattle.calls.specs.Theorems.{Theorems}
-use Rattle.calls.proofs.Demands.{demands}
+use Rattle.calls.proofs.Promises.{promises}
 use Rattle.calls.proofs.EntryLaw.{entry_law}
 use Rattle.calls.proofs.ProgramLaw.{program_law}
 use Rattle.calls.proofs.ExhaustiveCall.{exhaustive_call_law}
@@ -26,7 +25,7 @@ use Rattle.calls.proofs.AnswerRows.{answer_rows}
 
 pub theorems : Theorems
 theorems = record {
-  demands = demands;
+  promises = promises;
   entry = entry_law;
   program = program_law;
   exhaustive = exhaustive_call_law;

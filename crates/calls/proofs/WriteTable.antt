@@ -1,5 +1,4 @@
 -- The rows of specs/WriteTable.antt, by computation.
--- Assumes nothing.
 use mathlib.Core.Path.{refl}
 use Rattle.calls.specs.ReadCall.{read_call}
 use Rattle.calls.specs.WriteCall.{write_call}

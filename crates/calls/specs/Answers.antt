@@ -1,5 +1,4 @@
 -- Document 01, "Where each form belongs": the paper's number, line and values for what each call of the code answers.
--- Assumes nothing.
 use Rattle.std.specs.Prelude.{ℕ, Ok, Err}
 use Rattle.std.specs.Prelude as Std
 use Rattle.query.specs.Figures.{Figures}

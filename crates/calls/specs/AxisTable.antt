@@ -1,6 +1,5 @@
 -- Document 02, card 2: rows of the axis line, from a job's bytes to the number and the line that it gets, and a deck with axis costs
 -- through each call that searches. 0 and 0 stand for a report. The rows of reading and writing records are in WriteTable.
--- Assumes nothing.
 use Rattle.std.specs.Prelude.{ℕ, ◌≡◌, List, [], ◌∷◌, ◌++◌, map, pos, replicate, set, take}
 use Prim.Native.String.{String}
 use Rattle.query.specs.Figures.{done, stopped}

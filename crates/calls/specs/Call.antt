@@ -1,5 +1,4 @@
 -- Document 01, "Job and report" and "Turned down": what the call `report` answers, and what it leaves in the memory that it is lent.
--- Assumes nothing.
 use Rattle.std.specs.Prelude.{ℕ, ◌+◌, ◌*◌, cond, List, ltb, ℤ, pos, length, replicate}
 use Rattle.query.specs.Figures.{Figures, figures}
 use Rattle.query.specs.Estimate.{cells_needed}

@@ -1,6 +1,5 @@
 -- Document 02, card 6: what the calls `add_post`, `remove_post`, `add_stop` and `remove_stop` answer for any deck's record, and the record
 -- as it is then.
--- Assumes nothing.
 use Rattle.deck.specs.declared.Deck.{Deck}
 use Rattle.change.specs.Change.{Change}
 use Rattle.change.specs.ChangedRecord.{Changed, changed_record}

@@ -1,5 +1,4 @@
 -- Document 02, card 6: what the four changes of a deck's record are held to, of every record that the code can hold.
--- Assumes nothing.
 use Rattle.std.specs.Prelude.{ℕ, ◌≤◌, ◌<◌, ◌≡◌, not, ◌↔◌, T, get_or}
 use mathlib.Core.List.{[], ◌∷◌, Memᴰ}
 use Rattle.query.specs.Range.{travel_limit}

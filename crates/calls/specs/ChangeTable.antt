@@ -1,6 +1,5 @@
 -- Document 02, card 6: rows of the changes of a deck's record, from a job's bytes, or a record's numbers, and some changes to the answers,
 -- to all numbers of the record, or to near and before. All were worked out by hand.
--- Assumes nothing.
 use Rattle.std.specs.Prelude.{ℕ, ◌≡◌, List, [], ◌∷◌, ◌++◌, map, ℤ, pos, negsuc, replicate, set}
 use Rattle.numbers.specs.Padded.{padded}
 use Rattle.query.specs.Place.{Place}

@@ -1,5 +1,4 @@
 -- Document 01, "The full walk": what the call `exhaustive` answers.
--- Assumes nothing.
 use Rattle.std.specs.Prelude.{ℕ, List}
 use Rattle.query.specs.Order.{Priced}
 use Rattle.query.specs.Problem.{problem}

@@ -1,5 +1,4 @@
 -- Document 01, "Turned down": the entry called from the robot's C controller.
--- Assumes nothing.
 use Rattle.std.specs.Prelude.{ℕ, List, ℤ, pos, neg_ℤ, length}
 use Rattle.query.specs.Figures.{Figures}
 use Rattle.report.specs.Text.{report_text}

@@ -1,5 +1,4 @@
 -- Document 02, card 3: what the call `estimate` answers.
--- Assumes nothing.
 use Rattle.std.specs.Prelude.{ℕ, List}
 use Rattle.query.specs.Estimate.{Estimate, estimate}
 use Rattle.job.specs.Format.{read_job}

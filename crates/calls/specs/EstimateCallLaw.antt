@@ -1,5 +1,4 @@
 -- Document 02, card 3: what the call `estimate` is held to, over every job's bytes.
--- Assumes nothing.
 use Rattle.std.specs.Prelude.{ℕ, ◌*◌, ◌≤◌, ◌<◌, ◌≡◌, ◌↔◌, List, ℤ, length}
 use Rattle.query.specs.Figures.{Figures}
 use Rattle.query.specs.Estimate.{Estimate, estimate}

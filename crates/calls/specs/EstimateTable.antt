@@ -1,5 +1,4 @@
 -- Document 02, card 3: rows of the call `estimate`, from a job's bytes to the four numbers or the refusal, and of refusal 7 by its cells.
--- Assumes nothing.
 use Rattle.std.specs.Prelude.{ℕ, zero, suc, ◌≡◌, false, List, [], ◌∷◌, pos, replicate, set}
 use Prim.Native.String.{String}
 use Rattle.query.specs.Deck.{Stop, plain}

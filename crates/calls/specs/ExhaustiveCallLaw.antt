@@ -1,5 +1,4 @@
 -- What the call `exhaustive` is held to, over every job's bytes.
--- Assumes nothing.
 use Rattle.std.specs.Prelude.{ℕ, ◌≤◌, ◌≡◌, ◌↔◌, List, ℤ}
 use Rattle.query.specs.Figures.{Figures, done}
 use Rattle.query.specs.Problem.{problem}

@@ -8,7 +8,7 @@ pub mod EstimateCall
 pub mod ReadCall
 pub mod WriteCall
 pub mod ChangeCall
-pub mod Demands
+pub mod Promises
 pub mod EntryLaw
 pub mod ProgramLaw
 pub mod ExhaustiveCallLaw

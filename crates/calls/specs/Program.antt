@@ -1,5 +1,4 @@
 -- Document 01, "Job and report": what the program prints.
--- Assumes nothing.
 use Rattle.std.specs.Prelude.{ℕ, List, replicate}
 use Rattle.query.specs.Figures.{Figures}
 use Rattle.report.specs.Text.{report_text, refusal_text}

@@ -1,5 +1,4 @@
 -- What is promised of the program's text, over every input.
--- Assumes nothing.
 use Rattle.std.specs.Prelude.{ℕ, ◌≡◌, ◌≢◌, List}
 use Rattle.refusal.specs.Refusal.{number_of, line_of}
 use Rattle.refusal.specs.declared.Refusal.{Refusal}

@@ -1,5 +1,4 @@
 -- Document 02, card 1: what the call `read` answers: a job's bytes as the deck's record and the rounds that they spell.
--- Assumes nothing.
 use Rattle.std.specs.Prelude.{ℕ, List, Ok, Err}
 use Rattle.std.specs.Prelude as Std
 use Rattle.deck.specs.DeckOf.{deck_record, empty_deck}

@@ -1,5 +1,4 @@
 -- Document 02, cards 5 and 6: the law of records.
--- Assumes nothing.
 use Rattle.std.specs.Prelude.{ℕ, ◌≤◌, ◌<◌, ◌≡◌, ◌↔◌, List, pos, get_or}
 use Rattle.query.specs.Deck.{Stop}
 use Rattle.query.specs.Travel.{near}

@@ -1,5 +1,4 @@
 -- Document 02, card 5: rows of the figures that a record keeps, from a job's bytes to the near of each stop and to before.
--- Assumes nothing.
 use Rattle.std.specs.Prelude.{ℕ, ◌≡◌, List, [], ◌∷◌, ◌++◌, map, replicate, set}
 use Prim.Native.String.{String}
 use Rattle.numbers.specs.Padded.{padded}

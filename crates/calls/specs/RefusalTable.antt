@@ -1,6 +1,5 @@
 -- Document 01, "Turned down" and "Decks to try": the table of refusals as rows of one theorem, from a job's bytes and what is lent to the
 -- number and the line; and both sides of the end of every range. 0 and 0 stand for a report.
--- Assumes nothing.
 use Rattle.std.specs.Prelude.{ℕ, ◌-◌, ◌≡◌, pos, replicate, set, take, drop}
 use Prim.Native.String.{String}
 use mathlib.Core.List.{List, [], ◌∷◌, ◌++◌, map, flat_map}

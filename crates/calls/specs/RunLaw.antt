@@ -1,5 +1,4 @@
 -- Document 02, card 6: what every run of changes of a record that was read is held to.
--- Assumes nothing.
 use Rattle.std.specs.Prelude.{ℕ, ◌≤◌, ◌≡◌, Bool, false, List, length}
 use Rattle.deck.specs.Sound.{Sound}
 use Rattle.change.specs.Change.{Change, changed_by}

@@ -1,6 +1,5 @@
 -- Document 02, cards 1, 2 and 5: what the calls `read` and `write` are held to, over every job's bytes, every record that the code can
 -- hold, and every output.
--- Assumes nothing.
 use Rattle.std.specs.Prelude.{ℕ, ◌+◌, ◌≤◌, ◌<◌, ◌≡◌, true, false, ◌↔◌, ◌≢◌, List, length, take, drop}
 use Rattle.query.specs.Deck.{plain}
 use Rattle.query.specs.Range.{posts_limit, stops_limit}

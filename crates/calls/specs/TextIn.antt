@@ -1,5 +1,4 @@
 -- A text as the code holds it, in an array.
--- Assumes nothing.
 use Rattle.std.specs.Prelude.{ℕ, ◌≡◌, ◌≤◌, List, take}
 use Rattle.numbers.specs.Padded.{padded}
 

@@ -1,6 +1,5 @@
 -- All that is proved of the calls and of the rules, with its quantifiers and hypotheses: `theorems : Theorems` in proofs/Theorems.antt.
 -- That the code computes the definitions is said by the contracts of crates/siting/src/lib.rt.
--- Assumes nothing.
 use Rattle.std.specs.Prelude.{ℕ, ◌≡◌, List, ℤ}
 use Rattle.query.specs.Deck.{AxisCosts}
 use Rattle.query.specs.QueryTheorems.{QueryTheorems}
@@ -12,7 +11,7 @@ use Rattle.job.specs.Meaning.{AcceptedLaw, RefusedLaw, SpellingLaw}
 use Rattle.job.specs.JobVectors.{JobVectors}
 use Rattle.report.specs.Limits.{ReportFits}
 use Rattle.report.specs.ReportVectors.{ReportVectors}
-use Rattle.calls.specs.Demands.{Demands}
+use Rattle.calls.specs.Promises.{Promises}
 use Rattle.calls.specs.EntryLaw.{EntryLaw}
 use Rattle.calls.specs.ProgramLaw.{ProgramLaw}
 use Rattle.calls.specs.ExhaustiveCallLaw.{ExhaustiveCallLaw}
@@ -33,7 +32,7 @@ use Rattle.refusal.specs.declared.Refusal.{Refusal}
 
 pub record Theorems : Type 0 where
   -- for every file, however garbled, and all that is lent
-  pub demands : (job : List ℕ) (cells : List ℤ) (out : List ℕ) → Demands job cells out
+  pub promises : (job : List ℕ) (cells : List ℤ) (out : List ℕ) → Promises job cells out
   pub entry : (job out : List ℕ) → EntryLaw job out
   pub program : (job : List ℕ) → ProgramLaw job
   pub exhaustive : (job : List ℕ) → ExhaustiveCallLaw job

@@ -1,5 +1,4 @@
 -- Document 02, card 1: what the call `write` answers for any deck's record and rounds, and what it leaves of the output that it is lent.
--- Assumes nothing.
 use Rattle.std.specs.Prelude.{ℕ, cond, List, ltb, length}
 use Rattle.deck.specs.declared.Deck.{Deck}
 use Rattle.job.specs.Format.{Result, refused, accepted, job_lines, checked, read_text}

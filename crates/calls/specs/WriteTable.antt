@@ -1,6 +1,5 @@
 -- Document 02, cards 1 and 2: rows of the calls `write` and `read`, from a record's numbers and an output to all that the call answers
 -- and leaves.
--- Assumes nothing.
 use Rattle.std.specs.Prelude.{ℕ, ◌≡◌, List, [], ◌∷◌, ◌++◌, map, ℤ, pos, negsuc, neg_ℤ, length, replicate, get_or, set}
 use Prim.Native.String.{String}
 use Rattle.numbers.specs.Padded.{padded}

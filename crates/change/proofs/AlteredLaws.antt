@@ -1,5 +1,4 @@
 -- A deck with a change made: its values stay in range, and its area and its axis costs are kept; and so after a run of changes.
--- Assumes nothing.
 use mathlib.Core.Path.{◌≡◌, refl, ◌∙◌}
 use mathlib.Core.Option.{Option, none, some}
 use mathlib.Core.List.Memᴰ

@@ -1,5 +1,4 @@
 -- The numbers that a change leaves in the record of a deck are those of the record of the deck with the change made.
--- Assumes nothing.
 use mathlib.Core.Path.{◌≡◌, refl, sym, ap, ap₂, ◌∙◌}
 use mathlib.Core.Option.{none}
 use mathlib.Core.List.{List, [], ◌∷◌, ◌++◌, map, zip_with}

@@ -1,5 +1,4 @@
 -- What a change of any record answers and leaves: where it is refused, and where it is not; and what refuses it.
--- Assumes nothing.
 use mathlib.Core.Path.{◌≡◌, ap}
 use mathlib.Core.Option.{Option, none, some}
 use lib.Dec.{T}

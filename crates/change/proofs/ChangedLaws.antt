@@ -1,5 +1,4 @@
 -- Changes of a sound record leave the record of the deck with them made, which is sound; a refused change leaves any record as it was.
--- Assumes nothing.
 use mathlib.Core.Path.{◌≡◌, refl, sym, ap, subst, ◌∙◌}
 use mathlib.Core.Option.{Option, none, some}
 use mathlib.Core.List.{List, [], ◌∷◌, foldl}

@@ -1,5 +1,4 @@
 -- What a change answers: first that its values or the record are out of range, then by the tests of the code in their order.
--- Assumes nothing.
 use mathlib.Core.Path.{◌≡◌, refl, sym, subst, ◌∙◌}
 use mathlib.Core.Bool.{Bool, true, false, not, cond, ◌&&◌}
 use mathlib.Core.List.{List}

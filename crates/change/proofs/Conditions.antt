@@ -1,5 +1,4 @@
 -- When a change is not refused, in plain terms: the item is in range, the list is not full, or holds the item and another.
--- Assumes nothing.
 use mathlib.Core.Path.{◌≡◌, refl, sym}
 use mathlib.Core.Bool.{Bool, true, false, not, cond}
 use mathlib.Core.Logic.{◌↔◌}

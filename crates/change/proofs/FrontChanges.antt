@@ -1,5 +1,4 @@
 -- The first n of a column: one more behind them, one taken out, and their range.
--- Assumes nothing.
 use mathlib.Core.Path.{◌≡◌, ap, ◌∙◌}
 use mathlib.Core.Logic.{◌↔◌}
 use mathlib.Core.List.{List, [], ◌∷◌, ◌++◌, append_assoc}

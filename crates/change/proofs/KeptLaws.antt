@@ -1,5 +1,4 @@
 -- A change of any record that can be changed: it leaves a record of the changed deck, which can be changed again.
--- Assumes nothing.
 use mathlib.Core.Path.{◌≡◌, sym, ap, subst, ◌∙◌}
 use mathlib.Core.List.{List}
 use mathlib.Core.Option.{none}

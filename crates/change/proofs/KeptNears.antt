@@ -1,5 +1,4 @@
 -- A column of near after a change: as long as before, and as before up to the longest travel. What is past the end of a column is 0.
--- Assumes nothing.
 use mathlib.Core.Path.{◌≡◌, refl, sym, ap, ◌∙◌}
 use mathlib.Core.Logic.{⊎_elim}
 use mathlib.Core.List.{List, [], ◌∷◌, ◌++◌, zip_with, Memᴰ}

@@ -1,5 +1,4 @@
 -- What a change that is made leaves of the lists, in plain terms.
--- Assumes nothing.
 use mathlib.Core.Path.{◌≡◌, refl, sym, subst}
 use mathlib.Core.Bool.{Bool, true, false, cond}
 use mathlib.Core.List.Memᴰ

@@ -1,5 +1,4 @@
 -- near of a stop with one more post, and with one less.
--- Assumes nothing.
 use mathlib.Core.Path.{◌≡◌, refl, sym, ap, ◌∙◌}
 use mathlib.Core.Bool.{not, cond}
 use mathlib.Core.List.{List, [], ◌∷◌, ◌++◌}

@@ -1,5 +1,4 @@
 -- Which refusal a change meets, in plain terms: the first whose condition holds, exactly.
--- Assumes nothing.
 use mathlib.Core.Path.{◌≡◌, refl, sym, ap, subst, ◌∙◌}
 use mathlib.Core.Bool.{Bool, true, false, not, cond}
 use mathlib.Core.Logic.{◌↔◌}

@@ -1,5 +1,4 @@
 -- Which records can be changed, in plain terms: those whose file would be accepted, and whose near is no more than a travel can be.
--- Assumes nothing.
 use mathlib.Core.Path.{◌≡◌, refl, sym, ap, ◌∙◌}
 use mathlib.Core.Logic.{◌↔◌}
 use mathlib.Core.Option.{none, none-ne-some}

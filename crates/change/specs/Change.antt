@@ -1,5 +1,4 @@
 -- Document 02, card 6: the changes of a deck, on its plain lists of posts and stops.
--- Assumes nothing.
 use Rattle.std.specs.Prelude.{Bool, not, cond, leb, eqb, length}
 use mathlib.Core.List.{List, [], ◌∷◌, ◌++◌, foldl}
 use Rattle.std.proofs.Math.Option.{Option, none, some}

@@ -1,5 +1,4 @@
 -- Document 02, card 6: the changes of a deck's record, of any numbers that it holds.
--- Assumes nothing.
 use Rattle.std.specs.Prelude.{ℕ, suc, ◌-◌, Bool, true, false, cond, ◌&&◌, leb, ℤ, pos, take, set, Ok, Err}
 use Rattle.std.specs.Prelude as Std
 use Rattle.std.specs.List.{list_all}

@@ -1,5 +1,4 @@
 -- Document 02, card 6: what refuses a change of a deck, and what a change that is made leaves of its lists, in plain terms.
--- Assumes nothing.
 use Rattle.std.specs.Prelude.{◌≤◌, ◌≡◌, length}
 use mathlib.Core.List.{List, [], ◌∷◌, ◌++◌, Memᴰ}
 use Rattle.query.specs.Place.{Place}

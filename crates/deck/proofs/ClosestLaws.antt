@@ -1,5 +1,4 @@
 -- The closest of some posts: of one more, and by scaled places.
--- Assumes nothing.
 use mathlib.Core.Path.{◌≡◌, refl, ap}
 use mathlib.Core.Bool.{cond}
 use mathlib.Core.List.{List, [], ◌∷◌, ◌++◌, zip_with, map, map-map}

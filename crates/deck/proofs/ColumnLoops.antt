@@ -1,5 +1,4 @@
 -- Columns side by side, as a chain goes over them: it yields the places, or the stops, that they hold.
--- Assumes nothing.
 use mathlib.Core.Path.{◌≡◌, refl, ap, ap₂, subst}
 use mathlib.Core.List.{List, [], ◌∷◌, map}
 use Prim.Native.Nat.{ℕ}

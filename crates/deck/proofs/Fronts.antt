@@ -1,5 +1,4 @@
 -- The first n rows of columns, as columns of their own: in range as before, and with the same places, objects and sum.
--- Assumes nothing.
 use mathlib.Core.Path.{◌≡◌, sym, ap, subst, ◌∙◌}
 use mathlib.Core.List.{List, zip_with}
 use Prim.Native.Nat.{ℕ, ◌*◌, ◌≤◌}

@@ -1,5 +1,4 @@
 -- The columns of objects as they are made of columns of numbers, one behind another: x and y scaled, and behind them visits and near.
--- Assumes nothing.
 use mathlib.Core.Path.{◌≡◌, refl, sym, ap, ◌∙◌}
 use mathlib.Core.List.{List, [], ◌∷◌, ◌++◌, map, append_assoc}
 use Prim.Native.Nat.{ℕ, ◌+◌, ◌-◌, ◌≤◌}

@@ -1,5 +1,4 @@
 -- Posts at scaled places: those that were scaled in words, and the closest of them to a place, post after post.
--- Assumes nothing.
 use mathlib.Core.Path.{◌≡◌, refl, sym, ap, ap₂, ◌∙◌}
 use mathlib.Core.Bool.{Bool, true, false, cond}
 use mathlib.Core.List.{List, ◌++◌, map}

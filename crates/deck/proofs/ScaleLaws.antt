@@ -1,5 +1,4 @@
 -- A coordinate multiplied by an axis cost, in 32-bit words; and columns of such coordinates.
--- Assumes nothing.
 use mathlib.Core.Path.{◌≡◌, refl, ap, ◌∙◌}
 use mathlib.Core.List.{List, map}
 use Prim.Native.Nat.{ℕ, ◌≤◌}

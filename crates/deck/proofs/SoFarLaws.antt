@@ -1,5 +1,4 @@
 -- Near found post by post: the figures before the first post, by one more post, and after the last.
--- Assumes nothing.
 use mathlib.Core.Path.{◌≡◌, refl, sym, ap, ◌∙◌}
 use mathlib.Core.Bool.{Bool, true, false, cond}
 use mathlib.Core.List.{List, [], ◌∷◌, ◌++◌, zip_with, map}

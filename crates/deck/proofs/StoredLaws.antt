@@ -1,5 +1,4 @@
 -- The objects of what a record holds: their columns are the record's own, scaled.
--- Assumes nothing.
 use mathlib.Core.Path.{◌≡◌, refl, ap, ◌∙◌}
 use mathlib.Core.List.{List, ◌++◌, map}
 use Prim.Native.Nat.{ℕ}

@@ -1,5 +1,4 @@
 -- Natural numbers in signed 32-bit words, as the passes over objects compute with them.
--- Assumes nothing.
 use mathlib.Core.Path.{◌≡◌}
 use mathlib.Core.Bool.{true, false}
 use Prim.Native.Nat.{ℕ, ◌+◌, ◌^◌, ◌≤◌, ◌<◌, min}

@@ -1,5 +1,4 @@
 -- Document 02, card 4: near found post by post, in columns of scaled places, between which travel is plain (Objects.antt).
--- Assumes nothing.
 use Rattle.std.specs.Prelude.{ℕ, suc, cond, ℤ, pos, drop}
 use mathlib.Core.List.{List, [], ◌∷◌, map, zip_with}
 use Rattle.std.proofs.Math.Seq.{paste}

@@ -1,5 +1,4 @@
 -- The deck that a record of the code holds, and the record that holds a deck.
--- Assumes nothing.
 use Rattle.std.specs.Prelude.{ℕ, ◌≡◌, ℤ, pos, length, take}
 use mathlib.Core.List.{List, [], map, zip_with}
 use Rattle.numbers.specs.Padded.{padded}

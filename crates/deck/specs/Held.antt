@@ -1,5 +1,4 @@
 -- What the code holds: posts at scaled places.
--- Assumes nothing.
 use Rattle.std.specs.Prelude.{List, take}
 use Rattle.query.specs.Place.{Place}
 use Rattle.deck.specs.DeckOf.{places}

@@ -1,6 +1,5 @@
 -- What pricing needs as the code holds it, in one array: four columns of objects, x, y, visits and near, of which the first so many rows
 -- count, and the two axis costs behind them.
--- Assumes nothing.
 use Rattle.std.specs.Prelude.{ℕ, zero, suc, ◌+◌, List, [], ◌∷◌, ◌++◌, map, ℤ, pos, nat_abs, get_or}
 use Rattle.numbers.specs.Padded.{padded}
 use Rattle.query.specs.Deck.{AxisCosts}

@@ -1,5 +1,4 @@
 -- Objects: stops with their near, at scaled places; those of a deck, and those of what a record holds.
--- Assumes nothing.
 use Rattle.std.specs.Prelude.{ℕ, ℤ, take}
 use mathlib.Core.List.{List, map, zip_with}
 use Rattle.numbers.specs.Integer.{times}

@@ -1,5 +1,4 @@
 -- The range of the numbers that objects are made of: coordinates up to 9 × 20,000, as axis costs up to 9 scale them.
--- Assumes nothing.
 use Rattle.std.specs.Prelude.{ℕ, ◌+◌, ◌≤◌, ◌<◌, ◌≡◌, List, ℤ, pos, nat_abs, length, drop, get_or, ◌≤ℤ◌}
 use Rattle.numbers.specs.Integer.{times}
 use Rattle.query.specs.Deck.{AxisCosts}

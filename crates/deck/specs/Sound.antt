@@ -1,5 +1,4 @@
 -- Document 02, card 5: which records are sound.
--- Assumes nothing.
 use Rattle.std.specs.Prelude.{◌≡◌}
 use Rattle.query.specs.Place.{NonEmpty}
 use Rattle.query.specs.Range.{InRange}

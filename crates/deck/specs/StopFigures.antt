@@ -1,5 +1,4 @@
 -- Document 02, card 5: the figures that a record keeps with its stops, as the code finds them from columns of numbers.
--- Assumes nothing.
 use Rattle.std.specs.Prelude.{ℕ, ◌*◌, ◌≡◌, length, take}
 use mathlib.Core.List.{List, map, zip_with}
 use Rattle.numbers.specs.Lists.{sum_of}

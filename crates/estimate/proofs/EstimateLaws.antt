@@ -1,5 +1,4 @@
 -- The estimate of a deck's problem, and of a job that was prepared.
--- Assumes nothing.
 use Prim.Native.Nat.{ℕ, ◌≤◌}
 use mathlib.Core.Path.{◌≡◌, sym, ap, ◌∙◌}
 use mathlib.Core.List.{List}
@@ -22,7 +21,7 @@ use Rattle.job.proofs.ReadDeck.{spelt_range}
 use Rattle.calls.specs.declared.Estimate.{Estimate}
 use Rattle.calls.specs.Answers.{gives, estimate_numbers, estimated_answer}
 use Rattle.calls.specs.EstimateCall.{estimate_call}
-use Rattle.calls.proofs.Demands.{read_exactly}
+use Rattle.calls.proofs.Promises.{read_exactly}
 use Rattle.calls.proofs.EstimateCall.{call_accepted, call_refused, given_one}
 use Rattle.estimate.specs.LineCounts.{LineCounts, estimate_by, GivenCounts, given_estimate}
 use Rattle.estimate.proofs.LineCounts.{deck_counted, deck_small}

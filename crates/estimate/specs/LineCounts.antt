@@ -1,5 +1,4 @@
 -- The estimate of document 02, card 3, by how many lines there are.
--- Assumes nothing.
 use Rattle.std.specs.Prelude.{ℕ, ◌+◌, ◌-◌, ◌*◌, min, max, ◌≤◌, length}
 use Rattle.query.specs.Estimate.{Estimate}
 use Rattle.query.specs.Range.{stops_limit, rounds_limit}

@@ -1,5 +1,4 @@
 -- The ramps of all objects, one object after another: what they come to at a line is the cost there.
--- Assumes nothing.
 use mathlib.Core.Path.{◌≡◌, refl, ap, ◌∙◌}
 use mathlib.Core.List.{List}
 use mathlib.Core.Logic.{⊎_elim}

@@ -1,5 +1,4 @@
 -- The cheapest of a spot and some places, the first among equals: taken list by list.
--- Assumes nothing.
 use mathlib.Core.Path.{◌≡◌, refl}
 use mathlib.Core.Bool.{not}
 use mathlib.Core.List.{List, [], ◌∷◌, ◌++◌, foldl-append}

@@ -1,5 +1,4 @@
 -- The exhaustive search of a problem as the code prepares it: its lines in range, and its crossings in turn.
--- Assumes nothing.
 use mathlib.Core.Path.{◌≡◌, sym, ap, subst, ◌∙◌}
 use mathlib.Core.Bool.{not}
 use mathlib.Core.List.Memᴰ

@@ -1,5 +1,4 @@
 -- Heights: coordinates as natural numbers, in the same order and at the same distances.
--- Assumes nothing.
 use mathlib.Core.Path.{◌≡◌}
 use Prim.Native.Nat.{ℕ, ◌+◌, ◌-◌, ◌^◌, ◌≤◌, ◌<◌}
 use native.Mathlib.Omega.{arith}

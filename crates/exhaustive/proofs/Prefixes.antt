@@ -1,5 +1,4 @@
 -- Sums of the first numbers of a list, and what one larger number changes.
--- Assumes nothing.
 use mathlib.Core.Path.{◌≡◌, refl}
 use mathlib.Core.List.{List, [], ◌∷◌}
 use mathlib.Core.Logic.{⊎_elim}

@@ -1,5 +1,4 @@
 -- A sweep along a vertical line: after j lines the sums are those of the first j buckets, and the array holds the costs at these lines.
--- Assumes nothing.
 use mathlib.Core.Path.{◌≡◌, refl, sym, ◌∙◌}
 use mathlib.Core.List.{List}
 use Prim.Native.Nat.{ℕ, ◌+◌, ◌*◌, ◌^◌, ◌≤◌, ◌<◌}

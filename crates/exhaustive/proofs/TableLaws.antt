@@ -1,5 +1,4 @@
 -- The table of line numbers: how it is filled, run after run, and what is read from it.
--- Assumes nothing.
 use mathlib.Core.Path.{◌≡◌, sym, ap, subst, ◌∙◌}
 use mathlib.Core.List.{List}
 use mathlib.Core.Logic.{⊎_elim}

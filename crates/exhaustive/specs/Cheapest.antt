@@ -1,6 +1,5 @@
 -- The exhaustive search as the code runs it: the crossings in their order, one vertical line after another, the costs of a line in an
 -- array, and of equal costs the first.
--- Assumes nothing.
 use Rattle.std.specs.Prelude.{ℕ, ◌≡◌, cond, ltb, ℤ, length, drop}
 use mathlib.Core.List.{List, map, foldl, ◌++◌}
 use Rattle.query.specs.Place.{Place}

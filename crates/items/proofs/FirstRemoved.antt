@@ -1,5 +1,4 @@
 -- A list without its first element that passes a test: how long it is, and which elements it has; and whether one passes.
--- Assumes nothing.
 use mathlib.Core.Path.{◌≡◌, sym, subst}
 use mathlib.Core.Bool.{Bool, true, false, not, cond}
 use mathlib.Core.Logic.{◌↔◌}

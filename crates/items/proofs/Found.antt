@@ -1,5 +1,4 @@
 -- What the library's search finds: the place of the first element that passes a test.
--- Assumes nothing.
 use mathlib.Core.Path.{◌≡◌, refl, ap, ◌∙◌}
 use mathlib.Core.Bool.{Bool, cond}
 use mathlib.Core.List.{List, ◌∷◌}

@@ -1,5 +1,4 @@
 -- Posts and stops with equal values are equal; one is held exactly if it is in the list.
--- Assumes nothing.
 use mathlib.Core.Path.{◌≡◌, refl, ap₂, subst}
 use mathlib.Core.Logic.{◌↔◌}
 use mathlib.Core.List.{List, Memᴰ}

@@ -1,5 +1,4 @@
 -- Posts and stops as items of a list: those with equal values, the first of them, and a list and an array without it.
--- Assumes nothing.
 use Rattle.std.specs.Prelude.{ℕ, suc, Bool, cond, ◌&&◌, List, [], ◌∷◌, ◌++◌, eqb, take, drop, Option, Some, None}
 use Rattle.numbers.specs.Integer.{eq_z}
 use Rattle.numbers.specs.Lists.{keep, non_empty}

@@ -1,5 +1,4 @@
 -- A job whose deck is in range is allowed: the other way round than `allowed_in_range` (Meaning.antt).
--- Assumes nothing.
 use mathlib.Core.Bool.{true}
 use mathlib.Core.List.Memᴰ
 use mathlib.Core.List.{map}

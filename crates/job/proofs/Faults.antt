@@ -1,5 +1,4 @@
 -- The first fault of a text, by the kinds of lines that are due: reading a job gives it where there is one.
--- Assumes nothing.
 use mathlib.Core.Path.{◌≡◌, refl, sym, ap, subst, ◌∙◌}
 use mathlib.Core.Bool.{Bool, true, false, not, cond}
 use mathlib.Core.Logic.{◌↔◌}

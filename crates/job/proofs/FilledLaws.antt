@@ -1,5 +1,4 @@
 -- What was read of posts and stops: it is in range, and near and before found of it are those of the job's deck.
--- Assumes nothing.
 use mathlib.Core.Path.{◌≡◌, sym, ap, subst, ◌∙◌}
 use mathlib.Core.Bool.{Bool, true, false, not}
 use mathlib.Core.List.{List, map, map-map, Memᴰ}

@@ -1,5 +1,4 @@
 -- Lines: the form of a row reads a line as the numbers that it spells, and reads nothing but spellings.
--- Assumes nothing.
 use mathlib.Core.Path.{◌≡◌, refl, ap, ◌∙◌}
 use mathlib.Core.Bool.{not}
 use mathlib.Core.List.{List, [], ◌∷◌, ◌++◌, append-nil, append_assoc}

@@ -1,6 +1,5 @@
 -- Reading every line of a job: it goes through for the spellings of jobs whose lines have their ranges, with the axis line or without it,
 -- and for no other text.
--- Assumes nothing.
 use mathlib.Core.Path.{◌≡◌, refl, sym, ap, subst, ◌∙◌}
 use mathlib.Core.Bool.{Bool, true, false, not, cond}
 use mathlib.Core.List.Memᴰ

@@ -1,5 +1,4 @@
 -- The rows of specs/JobVectors.antt, by computation.
--- Assumes nothing.
 use mathlib.Core.Path.{refl}
 use Rattle.text.specs.Ascii.{bytes}
 use Rattle.job.specs.Format.{read_job}

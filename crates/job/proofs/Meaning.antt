@@ -1,5 +1,4 @@
 -- What reading a job's bytes gives, exactly: the statements of specs/Meaning.antt.
--- Assumes nothing.
 use mathlib.Core.Path.{◌≡◌, refl, ap, subst, ◌∙◌}
 use mathlib.Core.Bool.{Bool, false, not}
 use mathlib.Core.Logic.{◌↔◌}

@@ -1,6 +1,5 @@
 -- The parts of a job: the axis line, which may be missing; lines that repeat, the record that they fill and the reading that is left; the
 -- last line.
--- Assumes nothing.
 use mathlib.Core.Path.{◌≡◌, refl, sym, ap, ◌∙◌}
 use mathlib.Core.Bool.{true, false, true≢false}
 use mathlib.Core.List.{List, [], ◌∷◌, ◌++◌}

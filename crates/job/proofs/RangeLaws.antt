@@ -1,5 +1,4 @@
 -- The ranges of a line: what it says of its numbers that they are in them.
--- Assumes nothing.
 use mathlib.Core.Path.{◌≡◌, refl, sym, ap, subst}
 use mathlib.Core.Bool.{true}
 use mathlib.Core.Logic.{◌↔◌}

@@ -1,5 +1,4 @@
 -- A job that was read: what the record says of the bytes, and of the deck that they spell.
--- Assumes nothing.
 use mathlib.Core.Path.{◌≡◌, refl, sym, ap, subst, ◌∙◌}
 use mathlib.Core.Bool.{true, false}
 use mathlib.Core.List.{List}

@@ -1,5 +1,4 @@
 -- From the parts to the job: refusals 4, 5 and 6, and the whole reading.
--- Assumes nothing.
 use mathlib.Core.Path.{◌≡◌, refl, sym, ap, subst, ◌∙◌}
 use mathlib.Core.Bool.{Bool, true, false, cond, not}
 use mathlib.Core.List.{List, [], ◌∷◌, map, map-map}

@@ -1,5 +1,4 @@
 -- What reading line by line gives where it finds no fault: the values that the lines spell, each in its range.
--- Assumes nothing.
 use mathlib.Core.Path.{◌≡◌, refl, sym, ap, ◌∙◌}
 use mathlib.Core.Bool.{Bool, true, false, not, cond}
 use mathlib.Core.List.Memᴰ

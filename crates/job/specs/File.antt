@@ -1,5 +1,4 @@
 -- Document 02, cards 1 and 2: the file that a deck's record and a number of rounds would be saved in.
--- Assumes nothing.
 use Rattle.std.specs.Prelude.{ℕ, Bool, not, ◌&&◌, eqb}
 use mathlib.Core.List.{List, flat_map}
 use Rattle.query.specs.Deck.{AxisCosts}

@@ -1,5 +1,4 @@
 -- Document 01, "Job and report" and "Turned down", and document 02, card 2: what a job's bytes are read as.
--- Assumes nothing.
 use Rattle.std.specs.Prelude as Std
 use Rattle.std.specs.Prelude.{Ok, Err, ℕ, Bool, cond, ◌||◌, List, [], ◌∷◌, map, eqb, ltb, length, get_or, ℤ, pos, nat_abs}
 use Rattle.std.specs.Int.Signed.{lt_z}

@@ -1,5 +1,4 @@
 -- A job as the code holds it.
--- Assumes nothing.
 use Rattle.std.specs.Prelude as Std
 use Rattle.std.specs.Prelude.{Ok, Err}
 use Rattle.deck.specs.DeckOf.{deck_record}

@@ -1,7 +1,6 @@
 -- Document 01, "Job and report" and "Decks to try": the bytes of cases A and B, and what they are read as. Document 02, card 2: a job with
 -- the axis line and without it. The other rows of what is refused are in calls/specs/RefusalTable and AxisTable; the three
 -- here are checked with this crate, so that a wrong edit of it alone is refused.
--- Assumes nothing.
 use Rattle.std.specs.Prelude.{ℕ, ◌≡◌, List, [], ◌∷◌, ◌++◌, pos, negsuc}
 use Prim.Native.String.{String}
 use Rattle.query.specs.Marked.{at, stop, deck_a, deck_b}

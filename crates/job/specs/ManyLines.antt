@@ -1,5 +1,4 @@
 -- What the functions that read several lines answer, as the definitions of `Reader` and `Format` have it. No public contract cites these.
--- Assumes nothing.
 use Rattle.std.specs.Prelude as Std
 use Rattle.std.specs.Prelude.{ℕ, ◌+◌, ◌≤◌, ◌≡◌, List, [], ◌∷◌, map, ℤ, pos, length, replicate, Ok, Err, IfOk}
 use Rattle.job_line.specs.Kinds.{Kind, axis, posts, post, stops, stop, rounds, row}

@@ -1,5 +1,4 @@
--- Demands 1 and 2 of the reader: what an accepted job's bytes are, and what each refusal says of the bytes.
--- Assumes nothing.
+-- Promises 1 and 2 of the reader: what an accepted job's bytes are, and what each refusal says of the bytes.
 use Rattle.std.specs.Prelude.{ℕ, suc, ◌≤◌, ◌<◌, ◌≡◌, Bool, not, cond, false, ◌↔◌, ◌≢◌, T, ℤ, length, replicate}
 use mathlib.Core.List.{List, [], ◌∷◌, ◌++◌, flatten}
 use Rattle.std.proofs.Math.Option.{none, some}

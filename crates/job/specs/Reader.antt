@@ -1,5 +1,4 @@
 -- Reading line by line, one reader of a line after another.
--- Assumes nothing.
 use Rattle.std.specs.Prelude.{ℕ, zero, suc, cond, List, [], ◌∷◌, ◌++◌, ℤ}
 use Rattle.text.specs.TextReading.{starts_with}
 use Rattle.job_line.specs.Kinds.{Row}

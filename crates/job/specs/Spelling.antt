@@ -1,5 +1,4 @@
 -- How a job is spelled, with its axis line or without it, and which jobs can be.
--- Assumes nothing.
 use Rattle.std.specs.Prelude.{ℕ, ◌≤◌, ◌≡◌, Bool, true, false, cond, T, ℤ, pos, length}
 use mathlib.Core.List.{List, [], ◌∷◌, ◌++◌, map, flat_map, Memᴰ}
 use Rattle.query.specs.Place.{Place, Rect, NonEmpty}

@@ -1,5 +1,4 @@
 -- The line of the axis costs, which a file has where they are not 1 and 1: what its absence says, its fault and its place among the lines.
--- Assumes nothing.
 use mathlib.Core.Path.{◌≡◌, refl, ap₂}
 use mathlib.Core.Bool.{Bool, true, false, not, cond, ◌&&◌}
 use mathlib.Core.List.{List, [], ◌∷◌}

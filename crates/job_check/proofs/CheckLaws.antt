@@ -1,6 +1,5 @@
 -- The refusal of a file by its parts: the lines of the area and of the axis costs, those of the posts, those of the stops, that of the
 -- rounds, and what they hold.
--- Assumes nothing.
 use mathlib.Core.Path.{◌≡◌, refl, sym, ap, ap₂, subst, ◌∙◌}
 use mathlib.Core.Bool.{cond}
 use mathlib.Core.List.{List, [], ◌∷◌, ◌++◌}

@@ -1,5 +1,4 @@
 -- What reading a record's file finds: the refusal of the first of its lines that has one, and then refusals 4, 5 and 6.
--- Assumes nothing.
 use mathlib.Core.Path.{◌≡◌, refl, sym, ap, ap₂, subst, ◌∙◌}
 use mathlib.Core.Bool.{Bool, true, false, not, cond, ◌&&◌}
 use mathlib.Core.Logic.{◌⊎◌, inl, inr, ⊎_elim}

@@ -1,5 +1,4 @@
 -- Items and the numbers of their lines, side by side: what a chain yields with an open range zipped behind it.
--- Assumes nothing.
 use mathlib.Core.Path.{◌≡◌, refl, ap, ap₂, ◌∙◌}
 use mathlib.Core.Logic.{inl, inr}
 use mathlib.Core.List.{List, [], ◌∷◌}

@@ -1,5 +1,4 @@
 -- What reading finds in lines that numbers were spelled in: their first refusal, by the numbers themselves.
--- Assumes nothing.
 use Rattle.std.specs.Prelude as Std
 use Rattle.std.specs.Prelude.{Ok, Err, ℕ, ◌+◌, Bool, true, cond, ◌&&◌, List, [], ◌∷◌, ltb, ℤ, nat_abs}
 use Rattle.std.proofs.Math.Option.{Option, none, some}

@@ -1,5 +1,4 @@
 -- A file as the join of the parts that `put` writes, its length, and the room for each part.
--- Assumes nothing.
 use mathlib.Core.Path.{◌≡◌, refl, ap}
 use Prim.Native.Nat.{ℕ, ◌+◌, ◌≤◌}
 use native.Mathlib.Omega.{arith}

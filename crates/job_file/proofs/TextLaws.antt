@@ -1,5 +1,4 @@
 -- The texts of lines: one line more in a loop over a list, the parts that the functions write, and their lengths.
--- Assumes nothing.
 use mathlib.Core.Path.{◌≡◌, refl, sym, ap, ◌∙◌}
 use Prim.Native.Nat.{ℕ, zero, suc, ◌+◌, ◌≤◌, ◌<◌}
 use native.Mathlib.Numerals.{add-one}

@@ -1,6 +1,5 @@
 -- Each public contract of this crate leaves one answer: it is had back from the reading that it stands for, so that two answers that meet the contract are the
 -- same, wherever what is left of the text lies.
--- Assumes nothing.
 use mathlib.Core.Path.{◌≡◌, refl, sym, ap, ◌∙◌}
 use mathlib.Core.List.{List}
 use Prim.Native.Nat.{ℕ}

@@ -1,5 +1,4 @@
 -- Forms: how a text starts. A form gives what it reads and the text after it, or nothing where the text does not start so.
--- Assumes nothing.
 use Rattle.std.specs.Prelude.{ℕ, cond, List, [], ◌∷◌, eqb, ℤ}
 use Rattle.std.proofs.Math.Option.{Option, none, some, bind}
 use Rattle.text.specs.Numeral.{number}

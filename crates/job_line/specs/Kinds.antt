@@ -1,6 +1,5 @@
 -- Document 01, "Job and report", and document 02, card 2: the lines of a job in one table, and the form and the ranges that a line has by
 -- its row.
--- Assumes nothing.
 use Rattle.std.specs.Prelude.{ℕ, Bool, true, false, ◌&&◌, List, [], ◌∷◌, ℤ, pos, neg_ℤ}
 use Rattle.numbers.specs.Integer.{between}
 use Rattle.query.specs.Range.{coordinate_limit, posts_limit, stops_limit, visits_limit, rounds_limit, axis_cost_limit}

@@ -1,5 +1,4 @@
 -- One line of a job: first by its form (refusal 2), then by its ranges (refusal 3), with lines counted from 1.
--- Assumes nothing.
 use Rattle.std.specs.Prelude.{ℕ, ◌+◌, cond, List, ℤ}
 use Rattle.std.proofs.Math.Option.{Option, none, some}
 use Rattle.job_line.specs.Kinds.{Row, form_of, in_ranges}

@@ -1,5 +1,4 @@
 -- What the functions of this crate answer, as the definitions of `Form`, `Kinds` and `OneLine` have it: of the public ones `LineAt`.
--- Assumes nothing.
 use Rattle.std.specs.Prelude.{ℕ, ◌+◌, ◌-◌, ◌<◌, ◌^◌, ◌≡◌, min, List, [], ◌∷◌, ℤ, pos, nat_abs, Result, Ok, Err, IfOk}
 use Rattle.std.proofs.Math.Option.{Option, none, some}
 use Rattle.job_line.specs.Form.{key, field}

@@ -1,5 +1,4 @@
 -- Sums over turns, and the places and rectangles of the turns.
--- Assumes nothing.
 use mathlib.Core.Path.{◌≡◌, refl, sym, ap, ◌∙◌}
 use mathlib.Core.Bool.{Bool, cond}
 use mathlib.Core.List.{List}

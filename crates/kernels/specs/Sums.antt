@@ -1,5 +1,4 @@
 -- Figures that are summed over places and rectangles made from an index, for the benchmarks.
--- Assumes nothing.
 use Rattle.std.specs.Prelude.{ℕ, zero, suc, ◌+◌, ◌*◌, ◌%◌, ◌≤◌, ◌≡◌, cond, [], ◌∷◌, map, ltb, ℤ, pos, nat_abs, ◌-ℤ◌}
 use Rattle.std.specs.Prelude.{get_or, Option, Some, None}
 use Rattle.std.specs.Int.Signed.{lt_z}

@@ -1,5 +1,4 @@
 -- The lines that `find_lines` finds for a deck's stops are the deck's, and stand in order.
--- Assumes nothing.
 use mathlib.Core.Path.{◌≡◌, refl, ap}
 use mathlib.Core.Bool.{Bool, true, false, cond}
 use mathlib.Core.List.{List, [], ◌∷◌, map}

@@ -1,5 +1,4 @@
 -- Travel and near as the code finds them: between two places, by one more post, and over the stops one after another.
--- Assumes nothing.
 use mathlib.Core.Path.{◌≡◌, sym, ap, ap₂, subst, ◌∙◌}
 use mathlib.Core.List.{List, zip_with}
 use Prim.Native.Nat.{ℕ, ◌+◌, ◌*◌, ◌≤◌, ◌<◌}

@@ -1,5 +1,4 @@
 -- The closest post by scaled places: of a place and of posts that were scaled in words, it is that of the places themselves.
--- Assumes nothing.
 use mathlib.Core.Path.{◌≡◌, refl, sym, ap, ap₂, ◌∙◌}
 use mathlib.Core.Bool.{Bool, true, false, cond}
 use mathlib.Core.List.{List, [], ◌∷◌, map, zip_with}

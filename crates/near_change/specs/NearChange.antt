@@ -1,5 +1,4 @@
 -- Document 02, card 6: near of a stop with one post more, and with one less.
--- Assumes nothing.
 use Rattle.std.specs.Prelude.{ℕ, min, cond, List, eqb}
 use Rattle.query.specs.Place.{Place}
 use Rattle.query.specs.Deck.{AxisCosts, plain}

@@ -1,7 +1,6 @@
 -- Whole numbers as differences of two natural numbers, z = pp z − nn z, so that `omega` proves facts of order and distance:
 -- `omega (arith, order)` reads and proves `≤ℤ`, `<ℤ`, the tests `le_z`, `lt_z`, `eq_z` and equations of ℤ; `add_nat`, `sub_nat`,
 -- `dist_nat` and `half_nat` say what a sum, a difference, a distance and a half are.
--- Assumes nothing.
 use mathlib.Core.Path.{◌≡◌, refl, ap, subst}
 use mathlib.Core.Bool.{not}
 use mathlib.Core.Logic.{◌↔◌}

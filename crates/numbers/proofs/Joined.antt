@@ -1,6 +1,5 @@
 -- Lists joined end to end: what `flatten` and `flat_map` make, and how long it is; an element with those behind it; and maps, element by
 -- element.
--- Assumes nothing.
 use mathlib.Core.Path.{◌≡◌, refl, sym, ap, ap₂, ◌∙◌}
 use mathlib.Core.List.{List, [], ◌∷◌, ◌++◌, foldr, foldr-append, append_assoc, map, flatten, flat_map, Memᴰ}
 use Prim.Native.Nat.{ℕ, zero, suc, ◌+◌, ◌*◌, ◌≤◌, ◌<◌}

@@ -1,5 +1,4 @@
 -- Strict orders: of ℕ, of ℤ, and lexicographic ones, which go by one order first and settle ties by another.
--- Assumes nothing.
 use mathlib.Core.Path.{◌≡◌, subst}
 use mathlib.Core.Bool.{Bool, not, ◌&&◌, ◌||◌}
 use mathlib.Core.Logic.{⊎_elim}

@@ -1,5 +1,4 @@
 -- The tests of a range, `between` and `strictly_between`, as facts of order.
--- Assumes nothing.
 use lib.Dec.{T}
 use lib.IntN.{ℤ}
 use lib.Signed.{le_z, lt_z, ◌≤ℤ◌, ◌<ℤ◌}

@@ -1,5 +1,4 @@
 -- Whole numbers multiplied by a natural number: sizes, distances, orders and closest numbers scale with them.
--- Assumes nothing.
 use mathlib.Core.Path.{◌≡◌, refl, sym, ap, ◌∙◌}
 use mathlib.Core.Bool.{Bool, true, false, not, cond}
 use mathlib.Core.List.{List, map}

@@ -1,5 +1,4 @@
 -- Tests: what a conjunction, a disjunction and a choice say.
--- Assumes nothing.
 use mathlib.Core.Path.{◌≡◌, refl}
 use mathlib.Core.Bool.{Bool, true, false, not, cond, ◌&&◌, ◌||◌}
 use mathlib.Core.Logic.{◌⊎◌, inl, inr, ◌↔◌}

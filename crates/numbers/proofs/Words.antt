@@ -1,5 +1,4 @@
 -- Signed machine words: the logic has a signed value as what its bits read back as, `to_z w (of_z w z)`, which is z where z fits the width.
--- Assumes nothing.
 use mathlib.Core.Path.{◌≡◌, refl}
 use mathlib.Core.Bool.{Bool, true, false, not}
 use Prim.Native.Nat.{ℕ, zero, suc, ◌/◌, ◌^◌, ◌≤◌, ◌<◌}

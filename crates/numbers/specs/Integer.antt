@@ -1,5 +1,4 @@
 -- Whole numbers ℤ: what document 01 needs of them beyond the library's `◌+ℤ◌`, `◌-ℤ◌`, `nat_abs`, `le_z` and `lt_z`.
--- Assumes nothing.
 use Rattle.std.specs.Prelude.{ℕ, suc, ◌+◌, ◌/◌, Bool, false, cond, ◌&&◌, eqb, ℤ, pos, negsuc, neg_ℤ, nat_abs, ◌-ℤ◌, ◌*ℤ◌}
 use Rattle.std.specs.Int.Signed.{le_z, lt_z}
 

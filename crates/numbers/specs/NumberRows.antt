@@ -1,5 +1,4 @@
 -- Rows of the definitions of this crate, each chosen so that a rule told wrongly gives another value; `proofs/NumberRows.antt` proves them.
--- Assumes nothing.
 use Rattle.std.specs.Prelude.{ℕ, ◌≡◌, Bool, true, false, [], ◌∷◌, ltb, pos, negsuc}
 use Rattle.numbers.specs.Integer.{between, strictly_between, clamp}
 use Rattle.numbers.specs.Lists.{least_by, insert_by, insert_once}

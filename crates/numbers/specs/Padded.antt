@@ -1,5 +1,4 @@
 -- A list at the front of an array.
--- Assumes nothing.
 use Rattle.std.specs.Prelude.{ℕ, ◌-◌, List, ◌++◌, length, replicate}
 
 -- a list at the front of an array of so many elements, with z behind it

@@ -1,5 +1,4 @@
 -- Coordinates and rectangles in signed 64-bit words.
--- Assumes nothing.
 use mathlib.Core.Path.{◌≡◌}
 use Prim.Native.Nat.{◌≤◌}
 use native.Mathlib.Omega.{arith}

@@ -1,5 +1,4 @@
 -- What preparing a job gives: made of the job that was read, and what it says of that job.
--- Assumes nothing.
 use Prim.Native.Nat.{ℕ, ◌≤◌}
 use mathlib.Core.Path.{◌≡◌, refl, sym, ap, ◌∙◌}
 use mathlib.Core.List.{List}

@@ -1,5 +1,4 @@
 -- What `of_deck` makes of a sound record: the columns and the flags give the deck's lines.
--- Assumes nothing.
 use mathlib.Core.Path.{◌≡◌, sym, ap, ◌∙◌}
 use mathlib.Core.Bool.{Bool, false}
 use mathlib.Core.List.{List}

@@ -1,5 +1,4 @@
 -- The problem of a job's deck as the code prepares it, once for each call.
--- Assumes nothing.
 use Rattle.std.specs.Prelude.{ℕ, List, ℤ, length, Ok, Err}
 use Rattle.std.specs.Prelude as Std
 use Rattle.query.specs.Place.{x_axis, y_axis}

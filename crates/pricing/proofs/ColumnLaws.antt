@@ -1,5 +1,4 @@
 -- The rows of columns, one after another: a pass over the columns that adds up a figure of each row has the sum over the rows passed.
--- Assumes nothing.
 use mathlib.Core.Path.{◌≡◌}
 use mathlib.Core.List.{List, [], ◌∷◌, ◌++◌}
 use Prim.Native.Nat.{ℕ, zero, suc, ◌+◌, ◌*◌, ◌≤◌, ◌<◌}

@@ -1,5 +1,4 @@
 -- The figures of objects as sums over them, and as the figures of the deck whose objects they are.
--- Assumes nothing.
 use mathlib.Core.Path.{◌≡◌, refl, ap, sym, ◌∙◌}
 use mathlib.Core.Bool.{cond}
 use mathlib.Core.List.{List, [], ◌∷◌, map}

@@ -1,5 +1,4 @@
 -- What pricing computes with, as words: casts of a row's numbers, a scaled place, the sides of a scaled rectangle.
--- Assumes nothing.
 use mathlib.Core.Path.{◌≡◌, ap, ◌∙◌}
 use Prim.Native.Nat.{ℕ, ◌+◌, ◌*◌, ◌≤◌, min}
 use native.Mathlib.Omega.{arith}

@@ -1,6 +1,5 @@
 -- One turn of each pass of pricing: what the code computes of a row, read from words, is the object's part of the figure; and the most that
 -- the figures of columns in range can be.
--- Assumes nothing.
 use mathlib.Core.Path.{◌≡◌, ap, ◌∙◌}
 use mathlib.Core.Bool.{cond}
 use mathlib.Core.List.{List}

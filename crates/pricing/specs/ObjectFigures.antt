@@ -1,6 +1,5 @@
 -- The figures of document 01 over axis costs and objects, which are at scaled places: travel is plain travel between scaled places. And
 -- what the code's figures stay within.
--- Assumes nothing.
 use Rattle.std.specs.Prelude.{ℕ, ◌*◌, ◌≤◌, min, ◌≡◌}
 use Rattle.numbers.specs.Lists.{sum_of, keep}
 use Rattle.query.specs.Place.{Place, Rect}

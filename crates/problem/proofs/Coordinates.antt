@@ -1,5 +1,4 @@
 -- Places in signed 64-bit words, and priced ones.
--- Assumes nothing.
 use mathlib.Core.Path.{◌≡◌}
 use Prim.Native.Nat.{◌≤◌}
 use lib.IntN.{ℤ, nat_abs}

@@ -1,5 +1,4 @@
 -- The problem that the code prepares of a deck is the deck's, and its figures are in range.
--- Assumes nothing.
 use mathlib.Core.Path.{◌≡◌, refl, sym, ap, subst, ◌∙◌}
 use Prim.Native.Nat.{ℕ, ◌+◌, ◌*◌, max}
 use lib.IntN.{pos, ◌-ℤ◌}

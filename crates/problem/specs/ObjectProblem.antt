@@ -1,5 +1,4 @@
 -- The problem of document 01 over axis costs, objects and lines, and places with their costs as the code holds them.
--- Assumes nothing.
 use Rattle.std.specs.Prelude.{ℕ, ◌+◌, ◌*◌, max, ℤ, pos, ◌-ℤ◌}
 use Rattle.numbers.specs.Integer.{half_up}
 use Rattle.query.specs.Place.{Place, Rect}

@@ -1,5 +1,4 @@
 -- Both axes in the same words: a rectangle's points and edges along an axis, and places moved along one.
--- Assumes nothing.
 use mathlib.Core.Path.{◌≡◌, refl}
 use lib.IntN.{ℤ}
 use lib.Signed.{◌≤ℤ◌}

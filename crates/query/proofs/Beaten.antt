@@ -1,5 +1,4 @@
 -- The cheapest point of an area, the earliest among equals: it beats every other point, and there is only one.
--- Assumes nothing.
 use mathlib.Core.Path.{◌≡◌, sym, ap, subst}
 use mathlib.Core.Bool.{not}
 use mathlib.Core.Logic.{⊎_elim, ◌≢◌}
@@ -14,7 +13,7 @@ use Rattle.query.specs.Cost.{cost}
 use Rattle.query.specs.Problem.{problem}
 use Rattle.query.specs.Order.{Priced, better}
 use Rattle.query.specs.Search.{priced_at}
-use Rattle.query.specs.Demand3.{Beaten, costs_more, further_right, further_back}
+use Rattle.query.specs.Promise3.{Beaten, costs_more, further_right, further_back}
 use Rattle.query.proofs.Axes.{for_both, place_eq}
 use Rattle.query.proofs.KeyOrder.{not_better_cost, not_better_earlier, not_earlier_x, not_earlier_y, not_better_antisym}
 use Rattle.query.proofs.Invariant.{NotBetter, BestOk}

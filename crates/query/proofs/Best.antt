@@ -1,5 +1,4 @@
 -- The best of the places priced so far: it is one of them, and none of them is better.
--- Assumes nothing.
 use mathlib.Core.Path.{◌≡◌, refl}
 use mathlib.Core.Bool.{not, cond}
 use mathlib.Core.Logic.{◌⊎◌, inl, inr, ⊎_elim}

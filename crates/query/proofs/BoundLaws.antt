@@ -1,6 +1,5 @@
 -- The bound of a rectangle is at most the cost of each of its points, and at most the bound of each rectangle within it.
 -- Halves are upwards.
--- Assumes nothing.
 use mathlib.Core.Path.{◌≡◌, refl}
 use Prim.Native.Nat.{ℕ, ◌+◌, ◌*◌, ◌≤◌, max}
 use native.Mathlib.Nat.{mul-le-mul_left}

@@ -1,5 +1,4 @@
 -- The cells after a cut: the two parts of the cut cell and the other cells, which hold every point that the cells held before.
--- Assumes nothing.
 use mathlib.Core.Path.{◌≡◌, refl, subst}
 use mathlib.Core.Logic.{◌⊎◌, inl, inr, ⊎_elim}
 use mathlib.Core.List.{List, ◌∷◌, Memᴰ}

@@ -1,5 +1,4 @@
 -- The chord inequality: while a place moves along an axis past no stop within reach, its cost is concave.
--- Assumes nothing.
 use mathlib.Core.Path.{◌≡◌, refl, ap}
 use mathlib.Core.Logic.{◌⊎◌, inl, inr, ⊎_elim}
 use mathlib.Core.List.{Memᴰ}

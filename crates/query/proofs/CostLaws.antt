@@ -1,5 +1,4 @@
 -- Reach in numbers, and cost and load as sums over the stops, so that proofs need not open `near`.
--- Assumes nothing.
 use mathlib.Core.Path.{◌≡◌, refl}
 use mathlib.Core.Bool.{not, cond}
 use Prim.Native.Nat.{ℕ, ◌*◌, ◌≤◌, ◌<◌, min}

@@ -1,6 +1,5 @@
 -- What is counted: a round makes one cut unless none is live, so that a run of n rounds makes n cuts unless it is done; it keeps at most
 -- n + 1 live cells, and its count is that of its cuts.
--- Assumes nothing.
 use mathlib.Core.Path.{◌≡◌, refl, ap, subst, ◌∙◌}
 use mathlib.Core.List.{List, [], ◌∷◌, map}
 use Prim.Native.Nat.{ℕ, zero, suc, ◌+◌, ◌≤◌}

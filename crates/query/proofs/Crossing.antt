@@ -1,5 +1,4 @@
 -- Theorem 2 of 000 with document 01's rule for ties: for every place of the area some crossing of lines is as good.
--- Assumes nothing.
 use mathlib.Core.Path.{◌≡◌, refl, ap}
 use mathlib.Core.Bool.{not}
 use mathlib.Core.Logic.{◌⊎◌, inl, inr, ⊎_elim}

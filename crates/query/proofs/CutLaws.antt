@@ -1,5 +1,4 @@
 -- When a cell can be cut, and at which line: an inside line closest to the middle of the longer side that has one.
--- Assumes nothing.
 use mathlib.Core.Path.{◌≡◌, refl}
 use mathlib.Core.Bool.{not}
 use mathlib.Core.Logic.{⊎_elim}

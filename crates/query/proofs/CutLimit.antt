@@ -1,5 +1,4 @@
 -- The cut limit: each cut takes one from (gaps across × gaps deep − 1) summed over the live cells, of which each has at least one.
--- Assumes nothing.
 use mathlib.Core.Path.{◌≡◌, refl, ap}
 use mathlib.Core.Logic.{⊎_elim}
 use mathlib.Core.List.{List, [], ◌∷◌, Memᴰ, Pairwise}

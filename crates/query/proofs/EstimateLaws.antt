@@ -1,5 +1,4 @@
 -- The estimate: no search of a deck passes its cut limit, and its cells suffice.
--- Assumes nothing.
 use mathlib.Core.Path.{◌≡◌, refl, ap}
 use mathlib.Core.List.{List, [], ◌∷◌}
 use Prim.Native.Nat.{ℕ, ◌+◌, ◌-◌, ◌*◌, ◌≤◌}

@@ -1,5 +1,4 @@
 -- The exhaustive search finds the cheapest point of the area, the earliest among equals, which is also what every done search reports.
--- Assumes nothing.
 use mathlib.Core.Path.{◌≡◌, sym, ap, subst}
 use mathlib.Core.List.Memᴰ
 use mathlib.Core.List.{map, Memᴰ}
@@ -23,7 +22,7 @@ use Rattle.query.proofs.Best.{best_of_new}
 use Rattle.query.proofs.Lawful.{OnLines}
 use Rattle.query.proofs.Invariant.{first_ok, best_of_ok}
 use Rattle.query.proofs.Beaten.{Cheapest, best_costs, cheapest_beats, cheapest_only}
-use Rattle.query.proofs.Demand3.{lawful, done_cheapest, demand_3}
+use Rattle.query.proofs.Promise3.{lawful, done_cheapest, promise_3}
 
 -- ---- the crossings are the places on a vertical and a horizontal line
 abbrev at : ℤ → ℤ → Place
@@ -76,4 +75,4 @@ module _ (deck : Deck) (full : NonEmpty deck.area) where
     where
       same : (n : ℕ) → (figures deck n).state ≡ done → (run (problem deck) n).best ≡ exhaustive (problem deck)
       same n e = cheapest_only deck (run (problem deck) n).best (exhaustive (problem deck))
-          (done_cheapest deck full n ((demand_3 deck full n).done_exactly.0 e)) exhaustive_cheapest
+          (done_cheapest deck full n ((promise_3 deck full n).done_exactly.0 e)) exhaustive_cheapest

@@ -1,5 +1,4 @@
 -- The figures of a run: low is at most every cost and never falls, high never rises, and a finished search's place is the best of the area.
--- Assumes nothing.
 use mathlib.Core.Path.{◌≡◌, refl, sym, subst}
 use mathlib.Core.Bool.{not}
 use mathlib.Core.Logic.{⊎_elim}

@@ -1,5 +1,4 @@
 -- The figures of a report and the cells of a search stay in range where the deck is.
--- Assumes nothing.
 use mathlib.Core.Path.{subst}
 use mathlib.Core.List.Memᴰ
 use mathlib.Core.List.{◌∷◌, map, Memᴰ}
@@ -22,7 +21,7 @@ use Rattle.query.proofs.CutLaws.{cut_law}
 use Rattle.query.proofs.Invariant.{Ok, run_ok}
 use Rattle.query.proofs.Beaten.{best_costs}
 use Rattle.query.proofs.Counts.{cuts_most}
-use Rattle.query.proofs.Demand3.{lawful, demand_3}
+use Rattle.query.proofs.Promise3.{lawful, promise_3}
 
 -- a point of a rectangle in range is in range
 within_range : (k : ℕ) (lo v hi : ℤ) → nat_abs lo ≤ k → nat_abs hi ≤ k → lo ≤ℤ v → v ≤ℤ hi → nat_abs v ≤ k
@@ -71,7 +70,7 @@ module _ (deck : Deck) (range : InRange deck) (full : NonEmpty deck.area) where
   unfolding figures figures_of
   run_in_range n = record {
     figures_range = record {
-      place = point_in_range deck.area (run (problem deck) n).best.at range.area (demand_3 deck full n).in_area;
+      place = point_in_range deck.area (run (problem deck) n).best.at range.area (promise_3 deck full n).in_area;
       high_limit = high_in_range n;
       low_limit = low_in_range n;
       before_limit = (figure_limits deck range).before_limit;

@@ -1,6 +1,5 @@
 -- Places, priced places and cells are each in a strict order: `earlier`, `precedes`, `better`, `cell_before`; and how to show that one does
 -- not come before another.
--- Assumes nothing.
 use mathlib.Core.Path.{◌≡◌, sym}
 use mathlib.Core.Bool.{not}
 use Prim.Native.Nat.{◌≤◌}

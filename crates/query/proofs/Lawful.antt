@@ -1,6 +1,5 @@
 -- What the search is proved from: a problem whose lines hold the area's edges, whose bound is one, and whose crossings hold a best place.
 -- Any bound with the laws `below` and `part` will do.
--- Assumes nothing.
 use mathlib.Core.Bool.{not}
 use mathlib.Core.List.{Memᴰ, Pairwise}
 use lib.Dec.{T}

@@ -22,7 +22,7 @@ pub mod SearchLaws
 pub mod CutLimit
 pub mod EstimateLaws
 pub mod Beaten
-pub mod Demand3
+pub mod Promise3
 pub mod SpaceLaws
 pub mod ExhaustiveLaws
 pub mod Ranges

@@ -1,5 +1,4 @@
 -- Lines are strictly increasing and stand at exactly the named coordinates; gaps are the lines strictly inside the area and one more.
--- Assumes nothing.
 use mathlib.Core.Path.{◌≡◌, refl, sym}
 use mathlib.Core.Logic.{⊎_elim}
 use mathlib.Core.List.Memᴰ

@@ -1,5 +1,4 @@
 -- A place costs at most what another costs and, beside that, the travel between them times the load of a rectangle that holds the other.
--- Assumes nothing.
 use mathlib.Core.Bool.{Bool, true, false, not, cond}
 use Prim.Native.Nat.{ℕ, ◌+◌, ◌*◌, ◌≤◌, min}
 use native.Mathlib.Nat.{mul-le-mul_left}

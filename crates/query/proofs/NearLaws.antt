@@ -1,5 +1,4 @@
 -- near is the least travel from a stop to a post, and the travel to a rectangle the least travel to its points.
--- Assumes nothing.
 use mathlib.Core.Path.{◌≡◌, refl, sym}
 use mathlib.Core.List.Memᴰ
 use mathlib.Core.List.{List, [], ◌∷◌, map, Memᴰ}

@@ -1,5 +1,4 @@
 -- All theorems of this crate, under one name.
--- Assumes nothing.
 use Rattle.numbers.proofs.NumberRows.{number_rows}
 use Rattle.query.specs.QueryTheorems.{QueryTheorems}
 use Rattle.query.proofs.Marked.{marked}
@@ -11,7 +10,7 @@ use Rattle.query.proofs.CutLaws.{cut_law}
 use Rattle.query.proofs.Crossing.{crossing}
 use Rattle.query.proofs.Counts.{round_law}
 use Rattle.query.proofs.SearchLaws.{taken_law, partition_law}
-use Rattle.query.proofs.Demand3.{demand_3}
+use Rattle.query.proofs.Promise3.{promise_3}
 use Rattle.query.proofs.EstimateLaws.{estimate_law}
 use Rattle.query.proofs.SpaceLaws.{space_law}
 use Rattle.query.proofs.ExhaustiveLaws.{exhaustive_law}
@@ -23,7 +22,7 @@ query_theorems = record {
   marked = marked;
   rows = rows;
   number_rows = number_rows;
-  demand_3 = demand_3;
+  promise_3 = promise_3;
   exhaustive = exhaustive_law;
   half = half_law;
   near = near_law;

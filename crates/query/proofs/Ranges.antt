@@ -1,5 +1,4 @@
 -- The figures of a deck whose values are in range stay within `travel_limit`, `load_limit` and `cost_limit`.
--- Assumes nothing.
 use mathlib.Core.List.{Memᴰ}
 use Prim.Native.Nat.{ℕ, ◌*◌, ◌≤◌, min}
 use native.Mathlib.Nat.{mul-le-mul, mul-le-mul_right}

@@ -9,7 +9,7 @@ use Rattle.query.specs.Figures.{figures}
 use Rattle.query.specs.Estimate.{cut_limit, estimate}
 use Rattle.query.specs.Space.{space}
 use Rattle.query.specs.Exhaustive.{exhaustive}
-use Rattle.query.specs.Demand3.{further_right}
+use Rattle.query.specs.Promise3.{further_right}
 use Rattle.query.specs.Rows.{Rows}
 
 pub rows : Rows

@@ -1,5 +1,4 @@
 -- The search keeps the live cells of the partition, in the order in which rounds take them.
--- Assumes nothing.
 use mathlib.Core.Path.{◌≡◌, refl, sym, ap, subst}
 use mathlib.Core.Bool.{Bool, not}
 use mathlib.Core.Logic.{⊎_elim}

@@ -1,5 +1,4 @@
 -- Five times as many numbers of cell space as the estimate has cells suffice, and all that is lent is written.
--- Assumes nothing.
 use mathlib.Core.Path.{◌≡◌, refl}
 use mathlib.Core.List.{List, [], ◌∷◌}
 use Prim.Native.Nat.{ℕ, ◌*◌, ◌≤◌}

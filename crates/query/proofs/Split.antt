@@ -1,5 +1,4 @@
 -- A cell and its two parts, told once for both axes: points, edges, corners and lines of the parts are those of the cell and of the cut.
--- Assumes nothing.
 use mathlib.Core.Path.{◌≡◌, refl, sym, subst, ◌∙◌}
 use mathlib.Core.Bool.{not}
 use mathlib.Core.Logic.{◌⊎◌, inl, inr, ⊎_elim}

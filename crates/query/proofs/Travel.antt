@@ -1,5 +1,4 @@
 -- Travel: triangle, the closest point of a rectangle, and a rectangle's span through one of its points.
--- Assumes nothing.
 use Prim.Native.Nat.{◌+◌, ◌≤◌}
 use native.Mathlib.Nat.{mul-le-mul_left}
 use native.Mathlib.Omega.{arith}

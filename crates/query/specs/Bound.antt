@@ -1,5 +1,4 @@
 -- Document 01, "Lines, cells and bounds": the bound of a cell.
--- Assumes nothing.
 use Rattle.std.specs.Prelude.{ℕ, ◌+◌, ◌*◌, max, ℤ, pos, ◌-ℤ◌}
 use Rattle.numbers.specs.Integer.{dist, half_up}
 use Rattle.query.specs.Place.{Rect}

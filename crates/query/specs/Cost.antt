@@ -1,5 +1,4 @@
 -- Document 01, "The deck": cost and before.
--- Assumes nothing.
 use Rattle.std.specs.Prelude.{ℕ, ◌*◌, min}
 use Rattle.numbers.specs.Lists.{sum_of}
 use Rattle.query.specs.Place.{Place}

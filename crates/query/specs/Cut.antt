@@ -1,5 +1,4 @@
 -- Document 01, "Lines, cells and bounds": when a cell can be cut, on which axis, at which line, and what that makes of it.
--- Assumes nothing.
 use Rattle.std.specs.Prelude.{ℕ, Bool, cond, ◌&&◌, ◌||◌, List, [], ◌∷◌, ltb, eqb, ℤ, ◌+ℤ◌}
 use Rattle.std.specs.Int.Signed.{lt_z}
 use Rattle.numbers.specs.Integer.{dist, strictly_between}

@@ -1,5 +1,4 @@
 -- Document 01, "The deck": an instance of the min-dist optimal-location query of 000.
--- Assumes nothing.
 use Rattle.std.specs.Prelude.{ℕ, List}
 use Rattle.query.specs.Place.{Place, Rect}
 

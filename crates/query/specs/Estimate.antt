@@ -1,5 +1,4 @@
 -- Document 02, card 3: what a job will need (a resource estimate), from the lines of its deck and its rounds alone.
--- Assumes nothing.
 use Rattle.std.specs.Prelude.{ℕ, ◌+◌, ◌-◌, ◌*◌, min}
 use Rattle.query.specs.Place.{x_axis, y_axis}
 use Rattle.query.specs.Deck.{Deck}

@@ -1,5 +1,4 @@
 -- Document 01, "The full walk": the exhaustive search (MDOL_basic of 000).
--- Assumes nothing.
 use mathlib.Core.List.{List, map, flat_map}
 use Rattle.query.specs.Place.{Place, corner}
 use Rattle.query.specs.Grid.{Grid}

@@ -1,5 +1,4 @@
 -- What the exhaustive search gives: the earliest cheapest point of the area, which is that of every finished search.
--- Assumes nothing.
 use Rattle.std.specs.Prelude.{ℕ, ◌≡◌, ◌≢◌}
 use Rattle.query.specs.Place.{Place, In}
 use Rattle.query.specs.Deck.{Deck}
@@ -7,7 +6,7 @@ use Rattle.query.specs.Cost.{cost}
 use Rattle.query.specs.Problem.{problem}
 use Rattle.query.specs.Figures.{figures, done}
 use Rattle.query.specs.Exhaustive.{exhaustive}
-use Rattle.query.specs.Demand3.{Beaten}
+use Rattle.query.specs.Promise3.{Beaten}
 
 pub record ExhaustiveLaw (deck : Deck) : Type 0 where
   pub in_area : In deck.area (exhaustive (problem deck)).at

@@ -1,5 +1,4 @@
 -- Document 01, "Lines, cells and bounds" and "Job and report": the figures of a report.
--- Assumes nothing.
 use Rattle.std.specs.Prelude.{ℕ, List, [], ◌∷◌, map, ℤ, pos}
 use Rattle.std.specs.Int.Signed.{lt_z}
 use Rattle.numbers.specs.Lists.{least_by}

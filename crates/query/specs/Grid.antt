@@ -1,5 +1,4 @@
 -- Document 01, "Lines, cells and bounds": the lines of both axes, on which cuts are made.
--- Assumes nothing.
 use Rattle.std.specs.Prelude.{List, ℤ}
 use Rattle.query.specs.Place.{Axis, x_axis, y_axis}
 use Rattle.query.specs.Deck.{Deck}

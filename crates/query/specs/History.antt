@@ -1,5 +1,4 @@
 -- The cuts that the rounds of a search make, one after another: which cell, on which axis, at which line.
--- Assumes nothing.
 use Rattle.std.specs.Prelude.{ℕ, zero, suc, List, [], ◌++◌, map, take}
 use Rattle.query.specs.Place.{Rect}
 use Rattle.query.specs.Grid.{Grid}

@@ -1,5 +1,4 @@
 -- What a reader may hold the definitions to, in plain terms. QueryTheorems.antt states for which parameters each holds.
--- Assumes nothing.
 use Rattle.std.specs.Prelude.{ℕ, suc, ◌+◌, ◌*◌, ◌≤◌, ◌≡◌, not, ◌↔◌, T, ℤ, pos, ◌+ℤ◌, length, ◌≤ℤ◌, ◌<ℤ◌}
 use mathlib.Core.List.{[], ◌∷◌, ◌++◌, Memᴰ, Pairwise}
 use Rattle.numbers.specs.Integer.{half_up}

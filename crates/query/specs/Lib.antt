@@ -17,7 +17,7 @@ pub mod Exhaustive
 pub mod Partition
 pub mod History
 pub mod Laws
-pub mod Demand3
+pub mod Promise3
 pub mod ExhaustiveLaw
 pub mod Range
 pub mod Marked

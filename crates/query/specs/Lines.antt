@@ -1,5 +1,4 @@
 -- Document 01, "Lines, cells and bounds": lines and gaps.
--- Assumes nothing.
 use Rattle.std.specs.Prelude.{ℕ, ◌-◌, max, ℤ, length}
 use mathlib.Core.List.{List, [], map, foldr}
 use Rattle.numbers.specs.Integer.{between}

@@ -1,6 +1,5 @@
 -- Document 01, "Lines, cells and bounds": figures of priced places and cells, compared first by the figure and then by which place is
 -- earlier.
--- Assumes nothing.
 use Rattle.std.specs.Prelude.{ℕ, Bool, not, ◌&&◌, ◌||◌, T, ℤ, pos}
 use mathlib.Core.List.{List, Pairwise}
 use Rattle.std.specs.Int.Signed.{lt_z}

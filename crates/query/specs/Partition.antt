@@ -1,6 +1,5 @@
 -- The cells into which the cuts divide the area: the live ones, which a search keeps, and the dead ones, which it has dropped.
 -- Used to state laws; no figure of a report depends on it.
--- Assumes nothing.
 use Rattle.std.specs.Prelude.{ℕ, zero, suc, not, List, [], ◌∷◌, ◌++◌}
 use Rattle.numbers.specs.Lists.{keep}
 use Rattle.query.specs.Grid.{Grid}

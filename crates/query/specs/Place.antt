@@ -1,5 +1,4 @@
 -- Document 01, "The deck": places, the order "earlier", and rectangles.
--- Assumes nothing.
 use Rattle.std.specs.Prelude.{Bool, ◌&&◌, ◌||◌, ℤ, ◌≤ℤ◌}
 use Rattle.std.specs.Int.Signed.{lt_z}
 use Rattle.numbers.specs.Integer.{eq_z}

@@ -1,5 +1,4 @@
 -- What the searches see of a deck: its area, and the rules by which rounds go: the lines, the cost of a place and the bound of a cell.
--- Assumes nothing.
 use Rattle.std.specs.Prelude.{ℕ, ℤ}
 use Rattle.query.specs.Place.{Place, Rect}
 use Rattle.query.specs.Deck.{Deck}

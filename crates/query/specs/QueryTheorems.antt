@@ -1,6 +1,5 @@
 -- What is proved of the rules of document 01, in one statement: a field for each theorem, with all that it speaks of and all that it
 -- supposes. What a theorem says stands in the file of its record. `proofs/QueryTheorems.antt` proves it, as `query_theorems`.
--- Assumes nothing.
 use Rattle.std.specs.Prelude.{ℕ, ◌≡◌, List, ◌∷◌, ℤ}
 use Rattle.numbers.specs.NumberRows.{NumberRows}
 use Rattle.query.specs.Place.{Place, Rect, In, NonEmpty, Axis}
@@ -12,7 +11,7 @@ use Rattle.query.specs.Search.{run}
 use Rattle.query.specs.Figures.{figures}
 use Rattle.query.specs.Laws.{HalfLaw, NearLaw, TravelToLaw, BoundLaw, LinesLaw, GapsLaw, AsGood, CutLaw, RoundLaw, TakenLaw}
 use Rattle.query.specs.Laws.{PartitionLaw, EstimateLaw, SpaceLaw}
-use Rattle.query.specs.Demand3.{Demand3}
+use Rattle.query.specs.Promise3.{Promise3}
 use Rattle.query.specs.ExhaustiveLaw.{ExhaustiveLaw}
 use Rattle.query.specs.Range.{InRange, FigureLimits, RunInRange}
 use Rattle.query.specs.Marked.{Marked}
@@ -25,7 +24,7 @@ pub record QueryTheorems : Type 0 where
   -- of whole numbers and lists
   pub number_rows : NumberRows
   -- demand 3, of every deck whose area has a point and every number of rounds
-  pub demand_3 : (deck : Deck) → NonEmpty deck.area → (n : ℕ) → Demand3 deck n (figures deck n)
+  pub promise_3 : (deck : Deck) → NonEmpty deck.area → (n : ℕ) → Promise3 deck n (figures deck n)
   -- the full walk, of every such deck
   pub exhaustive : (deck : Deck) → NonEmpty deck.area → ExhaustiveLaw deck
   -- the parts of the rules. A grid is any lines, and a problem any area with any lines, prices and bounds

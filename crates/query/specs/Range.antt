@@ -1,5 +1,4 @@
 -- Document 01, "The deck": the ranges of a deck's values, and the limits that they put on its figures.
--- Assumes nothing.
 use Rattle.std.specs.Prelude.{ℕ, ◌≤◌, nat_abs, length}
 use mathlib.Core.List.{Memᴰ}
 use Rattle.query.specs.Place.{Place, Rect, corner}

@@ -1,5 +1,4 @@
 -- Document 01, "The deck": within reach of a rectangle, and load.
--- Assumes nothing.
 use Rattle.std.specs.Prelude.{ℕ, Bool, ltb}
 use Rattle.numbers.specs.Integer.{clamp}
 use Rattle.numbers.specs.Lists.{sum_of, keep}

@@ -1,6 +1,5 @@
 -- Rows beside the eight marked decks: figures of small decks, each chosen so that a rule told wrongly gives another figure.
 -- The figures are those of a program written from documents 01 and 02 alone; `proofs/Rows.antt` proves that the definitions give them.
--- Assumes nothing.
 use Rattle.std.specs.Prelude.{ℕ, ◌<◌, ◌≡◌, [], ◌∷◌, ◌++◌, map, pos, negsuc, length, replicate, ◌<ℤ◌}
 use Rattle.numbers.specs.Integer.{half_up}
 use Rattle.query.specs.Place.{Place, x_axis, y_axis}
@@ -12,7 +11,7 @@ use Rattle.query.specs.Figures.{figures, done, stopped}
 use Rattle.query.specs.Estimate.{cut_limit, Estimate, estimate}
 use Rattle.query.specs.Space.{space}
 use Rattle.query.specs.Exhaustive.{exhaustive}
-use Rattle.query.specs.Demand3.{Beaten}
+use Rattle.query.specs.Promise3.{Beaten}
 use Rattle.query.specs.Marked.{at, rect, stop, report, deck_a, deck_b, deck_c, deck_d}
 
 -- a cell whose bound equals the best cost holds an earlier place of that cost: 1,0 is priced first and costs 5, as 0,3 does

@@ -1,5 +1,4 @@
 -- Document 01, "Lines, cells and bounds": the search by cells (MDOL_prog of 000), from its start and round by round.
--- Assumes nothing.
 use Rattle.std.specs.Prelude.{ℕ, zero, suc, Bool, ◌&&◌, List, [], ◌∷◌, map}
 use Rattle.numbers.specs.Lists.{keep, least_by, insert_by}
 use Rattle.query.specs.Place.{Place, Rect, corner}

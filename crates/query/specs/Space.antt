@@ -1,5 +1,4 @@
 -- Document 01, "Lines, cells and bounds": what the cell space holds at the end. Document 02, card 3: how many numbers suffice.
--- Assumes nothing.
 use Rattle.std.specs.Prelude.{ℕ, ◌*◌, ℤ, pos}
 use mathlib.Core.List.{List, [], ◌∷◌, flat_map}
 use Rattle.numbers.specs.Padded.{padded}

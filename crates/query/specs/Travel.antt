@@ -1,5 +1,4 @@
 -- Document 01, "The deck": travel and near.
--- Assumes nothing.
 use Rattle.std.specs.Prelude.{ℕ, ◌+◌, ◌*◌, List, [], ◌∷◌, map, ltb}
 use Rattle.numbers.specs.Integer.{dist}
 use Rattle.numbers.specs.Lists.{least_by}

@@ -1,5 +1,4 @@
 -- How far a number lies above another, and beyond the ends of a range: its distance to the closest number of the range.
--- Assumes nothing.
 use mathlib.Core.Path.{◌≡◌, ap, ◌∙◌}
 use mathlib.Core.Bool.{true, false}
 use mathlib.Core.Logic.{⊎_elim}

@@ -1,5 +1,4 @@
 -- Rows, scaled places and scaled rectangles as 32-bit words, which hold their numbers.
--- Assumes nothing.
 use mathlib.Core.Path.{◌≡◌, refl, sym, ap, subst, ◌∙◌}
 use Prim.Native.Nat.{ℕ, ◌^◌, ◌≤◌, ◌<◌}
 use native.Mathlib.Omega.{arith}

@@ -1,5 +1,4 @@
 -- The flags of objects, one for each, and as the reach of the stops of the deck whose objects they are.
--- Assumes nothing.
 use mathlib.Core.Path.{◌≡◌, refl, ap, ◌∙◌}
 use mathlib.Core.Bool.{Bool, false}
 use mathlib.Core.List.{map, map-map}

@@ -1,5 +1,4 @@
 -- The columns of a deck's objects: they can be priced where the deck is in range, and they hold the objects.
--- Assumes nothing.
 use mathlib.Core.Path.{◌≡◌, sym, ap, subst, ◌∙◌}
 use mathlib.Core.List.Memᴰ
 use mathlib.Core.List.{List, [], ◌∷◌, map, Memᴰ}

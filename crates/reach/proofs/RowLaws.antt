@@ -1,5 +1,4 @@
 -- A row of the columns, read from words; and one turn of the pass that sets the flags.
--- Assumes nothing.
 use mathlib.Core.Path.{◌≡◌, sym, ap, ◌∙◌}
 use mathlib.Core.Bool.{Bool, false}
 use mathlib.Core.List.{List, map}

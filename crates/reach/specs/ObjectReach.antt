@@ -1,5 +1,4 @@
 -- Which objects, at scaled places, reach a rectangle: document 01's reach, over axis costs and objects.
--- Assumes nothing.
 use Rattle.std.specs.Prelude.{Bool, false, List, map, ltb}
 use Rattle.numbers.specs.Padded.{padded}
 use Rattle.query.specs.Place.{Rect}

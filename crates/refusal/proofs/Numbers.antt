@@ -1,5 +1,4 @@
 -- How large the number of a refusal can be, also where it has a line; and its number and line tell which it is.
--- Assumes nothing.
 use Prim.Native.Nat.{ℕ, ◌≤◌}
 use mathlib.Core.Path.{◌≡◌, refl, sym, ap, ◌∙◌}
 use mathlib.Core.Bool.{cond}

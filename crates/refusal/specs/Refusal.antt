@@ -1,5 +1,4 @@
 -- Document 01, "Turned down", and document 02, card 6: the number and the line of each reason for a refusal.
--- Assumes nothing.
 use Rattle.std.specs.Prelude.{ℕ}
 use Rattle.refusal.specs.declared.Refusal.{Refusal}
 use Rattle.refusal.specs.declared.Refusal.TheVariants.{TooLong, Malformed, OutOfRange, EmptyArea, NoPosts, NoStops, SmallSpace}

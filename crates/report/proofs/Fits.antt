@@ -1,5 +1,4 @@
 -- 128 bytes hold every report, and 36 every refusal: the record of specs/Limits.antt.
--- Assumes nothing.
 use mathlib.Core.Path.{refl}
 use Prim.Native.Nat.{◌≤◌}
 use native.Mathlib.Omega.{arith}

@@ -1,5 +1,4 @@
 -- The rows of specs/ReportVectors.antt, by computation.
--- Assumes nothing.
 use mathlib.Core.Path.{refl}
 use Rattle.query.specs.Figures.{figures}
 use Rattle.text.specs.Ascii.{bytes}

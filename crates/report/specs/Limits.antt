@@ -1,5 +1,4 @@
 -- The figures of a report in their ranges keep its text within 128 bytes.
--- Assumes nothing.
 use Rattle.std.specs.Prelude.{◌≡◌, ◌≤◌, pos, negsuc, neg_ℤ, length}
 use Rattle.query.specs.Figures.{Figures, stopped}
 use Rattle.query.specs.Range.{cost_limit, FiguresInRange}

@@ -1,5 +1,4 @@
 -- The figures of document 01 that a report of the code carries.
--- Assumes nothing.
 use Rattle.query.specs.Figures as Query
 use Rattle.query.specs.Figures.{Figures}
 use Rattle.report.specs.declared.Report.{Report}

@@ -1,5 +1,4 @@
 -- Document 01, "Job and report": the report of case A, whole, as bytes, and the two lines of refusals.
--- Assumes nothing.
 use Rattle.std.specs.Prelude.{◌≡◌}
 use Rattle.query.specs.Figures.{figures}
 use Rattle.query.specs.Marked.{deck_a}

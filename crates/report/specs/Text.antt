@@ -1,5 +1,4 @@
 -- Document 01, "Job and report": the text of a report, and of a refusal.
--- Assumes nothing.
 use Rattle.std.specs.Prelude.{ℕ}
 use mathlib.Core.List.{List, [], ◌∷◌, flatten}
 use Rattle.query.specs.Figures.{Figures, State, done, stopped}

@@ -1,5 +1,4 @@
 -- A cut cell as the code makes its parts: the rectangles, new corners and corner costs are those of document 01, and stay in range.
--- Assumes nothing.
 use mathlib.Core.Path.{◌≡◌, refl, sym, ap, subst, ◌∙◌}
 use Prim.Native.Nat.{◌≤◌}
 use native.Mathlib.Omega.{arith}

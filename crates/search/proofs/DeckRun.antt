@@ -1,5 +1,4 @@
 -- A deck's search as the code prepares it: what its runs keep in range, and its answer.
--- Assumes nothing.
 use mathlib.Core.Path.{◌≡◌, sym, ap, subst, ◌∙◌}
 use mathlib.Core.List.{List, map}
 use Prim.Native.Nat.{ℕ, ◌*◌, ◌≤◌}
@@ -18,7 +17,7 @@ use Rattle.query.specs.Range.{InRange}
 use Rattle.query.proofs.CutLaws.{cut_law}
 use Rattle.query.proofs.SpaceLaws.{all_numbers_length}
 use Rattle.query.proofs.Invariant.{run_ok}
-use Rattle.query.proofs.Demand3.{lawful}
+use Rattle.query.proofs.Promise3.{lawful}
 use Rattle.query.proofs.FigureRanges.{run_in_range}
 use Rattle.deck.specs.Objects.{Pricing}
 use Rattle.prepare.specs.declared.Problem.{Problem}

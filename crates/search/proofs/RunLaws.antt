@@ -1,5 +1,4 @@
 -- A run as the code makes it: what a round may ask of the search so far, where the rounds end, and what the answer is.
--- Assumes nothing.
 use mathlib.Core.Path.{◌≡◌, refl, sym, ap, subst, ◌∙◌}
 use mathlib.Core.Bool.{Bool, cond, not}
 use mathlib.Core.Logic.{⊎_elim}

@@ -1,5 +1,4 @@
 -- What a search answers at its end.
--- Assumes nothing.
 use Rattle.std.specs.Prelude.{ℕ, ◌≤◌, ◌≡◌, Bool, true, false, List, [], ◌∷◌, map}
 use Rattle.query.specs.Problem.{Problem}
 use Rattle.query.specs.Order as Query

@@ -1,5 +1,4 @@
 -- Cells with the costs of their corners, and the better of two places, as the code has them.
--- Assumes nothing.
 use Rattle.std.specs.Prelude.{◌≤◌, cond}
 use Rattle.query.specs.Place.{Rect, corner}
 use Rattle.query.specs.Order.{better}

@@ -1,5 +1,4 @@
 -- A search while the code runs it: the search of document 01 that its live entries and its state hold, and what a round asks.
--- Assumes nothing.
 use Rattle.std.specs.Prelude.{ℕ, ◌≤◌, ◌<◌, ◌≡◌, T}
 use mathlib.Core.List.{List, ◌∷◌, map, Memᴰ}
 use Rattle.query.specs.Grid.{Grid}

@@ -1,5 +1,4 @@
 -- `exhaustive` of a job: the answer of `cheapest` is the call's.
--- Assumes nothing.
 use mathlib.Core.Path.{◌≡◌, sym, ap, ◌∙◌}
 use mathlib.Core.List.{List}
 use Prim.Native.Nat.{ℕ}

@@ -1,5 +1,4 @@
 -- `read` and `write`, from what `job` reads and what `job_check` and `job_file` answer.
--- Assumes nothing.
 use Prim.Native.Nat.{ℕ, ◌≤◌, ◌<◌}
 use mathlib.Core.Path.{◌≡◌, refl, sym, ap, ap₂, ◌∙◌}
 use mathlib.Core.List.{List}

@@ -1,5 +1,4 @@
 -- The parts of `solve` and `respond` make up the call of document 01.
--- Assumes nothing.
 use Prim.Native.Nat.{ℕ, ◌*◌, ◌≤◌, ◌<◌}
 use mathlib.Core.Path.{◌≡◌, refl, sym, ap, ap₂, subst, ◌∙◌}
 use mathlib.Core.List.{List, [], ◌∷◌, map}
@@ -54,7 +53,7 @@ use Rattle.search.specs.declared.run.Found.{Found}
 use Rattle.calls.specs.declared.Estimate as Calls
 use Rattle.calls.specs.Answers.{gives, estimate_numbers}
 use Rattle.calls.specs.Call.{Left, turned_down, reported, answered, report_call, own_space}
-use Rattle.calls.proofs.Demands.{more_rounds, call_of, small_answer, short_answer, report_answer_lem}
+use Rattle.calls.proofs.Promises.{more_rounds, call_of, small_answer, short_answer, report_answer_lem}
 use Rattle.estimate.specs.LineCounts.{estimate_by}
 use Rattle.estimate.proofs.EstimateLaws.{deck_estimate}
 use Rattle.siting.specs.declared.Response.{Response}

@@ -1,5 +1,4 @@
 -- What the parts of the call answer and leave.
--- Assumes nothing.
 use Rattle.std.specs.Prelude.{ℕ, ◌*◌, ◌≤◌, ◌<◌, ◌≡◌, Bool, cond, List, [], ℤ, pos, length, Ok, Err}
 use Rattle.std.specs.Prelude as Std
 use mathlib.Core.List.{map}

@@ -1,5 +1,4 @@
 -- What the program leaves behind what its output held, where the bytes that its input has left are known.
--- Assumes nothing.
 use Rattle.std.specs.Prelude.{ℕ, List, take, Option, IfSome}
 use Rattle.std.specs.Io.KnownBytes.{Appends}
 use Rattle.siting_cli.specs.declared.Filled.{Filled}

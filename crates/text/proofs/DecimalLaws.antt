@@ -1,5 +1,4 @@
 -- Decimal digits: how a number is spelled, and which digits spell which number. A text does not start with a digit where `digits` finds none.
--- Assumes nothing.
 use mathlib.Core.Path.{◌≡◌, refl, ap, ◌∙◌}
 use mathlib.Core.Logic.{⊎_elim, ◌≢◌}
 use mathlib.Core.List.{List, [], ◌∷◌, ◌++◌, append-nil, foldl, foldl-append}

@@ -1,5 +1,4 @@
 -- How a number is spelled: the last digit apart, the sign apart, and how many bytes there are.
--- Assumes nothing.
 use mathlib.Core.Path.{◌≡◌, refl, sym, ap, ◌∙◌}
 use mathlib.Core.Bool.{cond, true, false, true≢false}
 use mathlib.Core.Logic.{⊎_elim}

@@ -1,5 +1,4 @@
 -- What a text starts with: laws of `starts_with` and of the text behind it.
--- Assumes nothing.
 use mathlib.Core.Path.{◌≡◌, refl, sym, ap}
 use mathlib.Core.Bool.{Bool, true, false, cond, ◌&&◌}
 use mathlib.Core.List.{List, [], ◌∷◌}

@@ -1,5 +1,4 @@
 -- A number that a text starts with is read as what it spells, and only its spelling is read so.
--- Assumes nothing.
 use mathlib.Core.Path.{◌≡◌, refl, ap, subst, ◌∙◌}
 use mathlib.Core.Bool.{Bool, true, false, not, cond, ◌&&◌, ◌||◌}
 use mathlib.Core.Logic.{◌≢◌, ◌↔◌}

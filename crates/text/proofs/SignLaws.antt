@@ -1,5 +1,4 @@
 -- A number with its sign: from the digits to the value that 64 bits hold, and to the definitions `negative` and `number`.
--- Assumes nothing.
 use mathlib.Core.Path.{◌≡◌, refl, sym, ap, ◌∙◌}
 use mathlib.Core.Bool.{Bool, true, false, not, cond, ◌&&◌}
 use mathlib.Core.List.{List, [], ◌∷◌}

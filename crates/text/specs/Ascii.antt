@@ -1,5 +1,4 @@
 -- Text as bytes: fixed strings, and the bytes of the job format that have a meaning of their own.
--- Assumes nothing.
 use Rattle.std.specs.Prelude.{ℕ, zero, suc, ◌+◌, Bool, ◌&&◌, List, [], ◌∷◌, leb}
 use Prim.Native.Char.{code}
 use Prim.Native.String.{String, len, char_at}

@@ -1,5 +1,4 @@
 -- Numbers as they are written: decimal digits, with a `-` in front where negative.
--- Assumes nothing.
 use Rattle.std.specs.Prelude.{ℕ, zero, suc, ◌+◌, ◌/◌, ◌%◌, cond, List, [], ◌∷◌, ◌++◌, ltb, ℤ, pos, negsuc}
 use Rattle.text.specs.Ascii.{minus, zero_digit}
 

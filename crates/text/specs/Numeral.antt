@@ -1,6 +1,5 @@
 -- Document 01, "Job and report": a number has 1 to 9 digits, a leading `-` if negative, no `+`, no leading zero save in `0` itself, no
 -- `-0`.
--- Assumes nothing.
 use Rattle.std.specs.Prelude.{ℕ, ◌+◌, ◌-◌, ◌*◌, Bool, cond, not, ◌&&◌, ◌||◌, leb, eqb, ℤ, pos, neg_ℤ, length, get_or, drop}
 use mathlib.Core.List.{List, [], ◌∷◌, foldl}
 use Rattle.std.proofs.Math.Option.{Option, none, some}

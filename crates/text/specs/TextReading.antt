@@ -1,5 +1,4 @@
 -- What the functions of this crate answer, as the definitions of `Numeral` have it: of the public ones `behind` and `number_read`.
--- Assumes nothing.
 use Rattle.std.specs.Prelude.{ℕ, ◌-◌, ◌<◌, ◌^◌, min, ◌≡◌, Bool, true, false, cond, ◌&&◌, List, [], ◌∷◌, eqb, ℤ, pos, length}
 use Rattle.std.specs.Prelude.{drop, take, Option, Some, None, option_map}
 use Rattle.std.specs.Borrow.{Bor}

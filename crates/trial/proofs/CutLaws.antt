@@ -1,5 +1,4 @@
 -- The cut that is found for an opened job is that of its deck, and so are the lines that are written out.
--- Assumes nothing.
 use mathlib.Core.Path.{◌≡◌, refl, sym, ap, ◌∙◌}
 use mathlib.Core.Bool.{Bool, true, false, cond, ◌&&◌}
 use mathlib.Core.List.{List, ◌++◌}

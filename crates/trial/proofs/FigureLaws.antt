@@ -1,5 +1,4 @@
 -- The figures of an opened job's record and problem are those of its deck.
--- Assumes nothing.
 use mathlib.Core.Path.{◌≡◌, sym, ap, subst, ◌∙◌}
 use mathlib.Core.Bool.{true, cond}
 use mathlib.Core.List.{List, map}

@@ -1,5 +1,4 @@
 -- The numbers that `refusal_figure`, `trial_reading` and `trial_figure` choose from, by their place.
--- Assumes nothing.
 use Prim.Native.Nat.{ℕ, zero, suc, ◌<◌}
 use mathlib.Core.Path.{◌≡◌, refl, ap, ◌∙◌}
 use mathlib.Core.Logic.{◌≢◌}

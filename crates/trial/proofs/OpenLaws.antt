@@ -1,5 +1,4 @@
 -- A job that was opened: what the record says of the bytes, and of the deck that they spell.
--- Assumes nothing.
 use mathlib.Core.Path.{◌≡◌, refl, sym, ap, ◌∙◌}
 use mathlib.Core.Bool.{Bool, true, false, cond}
 use mathlib.Core.List.{List}

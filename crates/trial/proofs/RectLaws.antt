@@ -1,5 +1,4 @@
 -- A place or rectangle that is allowed, by the tests of a job's lines.
--- Assumes nothing.
 use mathlib.Core.Path.{◌≡◌, refl, ◌∙◌}
 use mathlib.Core.Bool.{Bool, true, false, not, ◌&&◌, ◌||◌}
 use mathlib.Core.Logic.{◌⊎◌, inl, inr, ◌↔◌}

@@ -1,5 +1,4 @@
 -- A job that was read, with the problem of its deck, as the code holds it.
--- Assumes nothing.
 use Rattle.std.specs.Prelude.{Option, None, Some}
 use Rattle.query.specs.Deck as Query
 use Rattle.job.specs.Format.{Result, refused, accepted}

@@ -1,5 +1,4 @@
 -- The calls `report` and `exhaustive` as the tests see them: what their answers carry, as numbers.
--- Assumes nothing.
 use Prim.Native.Nat.{ℕ, ◌-◌, ◌≤◌, ◌<◌}
 use mathlib.Core.Path.{◌≡◌, refl, sym, ap, subst, ◌∙◌}
 use mathlib.Core.List.{List}
@@ -28,9 +27,9 @@ use Rattle.std.specs.Prelude as Std
 use Rattle.calls.specs.Answers.{gives, report_answer, cheapest_answer}
 use Rattle.calls.specs.Call.{Left, report_call}
 use Rattle.calls.specs.CheapestCall.{exhaustive_call}
-use Rattle.calls.specs.Demands.{Applies, in_reading, small_space, short_output}
+use Rattle.calls.specs.Promises.{Applies, in_reading, small_space, short_output}
 use Rattle.calls.proofs.AnswerLaws.{same_given, not_refused}
-use Rattle.calls.proofs.Demands.{job_limits, read_exactly, accepted_one, figures_are, demands}
+use Rattle.calls.proofs.Promises.{job_limits, read_exactly, accepted_one, figures_are, promises}
 use Rattle.calls.proofs.ExhaustiveCall.{exhaustive_call_law}
 use Rattle.trial.specs.Trial.{least, refusal_numbers}
 use Rattle.trial_calls.specs.Calls.{refused_numbers}
@@ -59,7 +58,7 @@ module _ (job : List ℕ) (cells : List ℤ) (out : List ℕ) (answer : Std.Resu
 
   -- the line of a refusal is small
   pub report_line : (why : Refusal) → answer ≡ Err why → line_of why ≤ 16385
-  report_line why a = line_few why job cells out (((demands job cells out).demand_1.refused_exactly why).0 (answer_is ∙ ap report_answer a))
+  report_line why a = line_few why job cells out (((promises job cells out).promise_1.refused_exactly why).0 (answer_is ∙ ap report_answer a))
 
 -- ---- the call `exhaustive`
 module _ (job : List ℕ) (answer : Std.Result Spot Refusal) (e : cheapest_answer answer ≡ exhaustive_call job) where

@@ -1,5 +1,4 @@
 -- The changes as the tests see them: the line of a refusal, and a record's numbers in two lists.
--- Assumes nothing.
 use Prim.Native.Nat.{ℕ, ◌≤◌}
 use mathlib.Core.Path.{◌≡◌, sym, ap, ◌∙◌}
 use mathlib.Core.Bool.{Bool, cond, ◌&&◌}

@@ -1,5 +1,4 @@
 -- The call `estimate` as the tests see it: what its answer carries, as numbers.
--- Assumes nothing.
 use Prim.Native.Nat.{ℕ, ◌≤◌}
 use mathlib.Core.Path.{◌≡◌, sym, ap, ◌∙◌}
 use mathlib.Core.List.{List}

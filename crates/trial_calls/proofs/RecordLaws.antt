@@ -1,5 +1,4 @@
 -- The calls `read` and `write` as the tests see them: a record's numbers in two lists, and what the answers carry.
--- Assumes nothing.
 use Prim.Native.Nat.{ℕ, ◌+◌, ◌-◌, ◌≤◌}
 use mathlib.Core.Path.{◌≡◌, refl, sym, ap, ◌∙◌}
 use mathlib.Core.Bool.{Bool, true, cond}
@@ -24,7 +23,7 @@ use Rattle.calls.specs.Answers.{refusal, read_answer, written_answer}
 use Rattle.calls.specs.ReadCall.{Read, read_deck, read_call}
 use Rattle.calls.specs.WriteCall.{Saved, write_call}
 use Rattle.calls.specs.SavingLaw.{WriteLaw}
-use Rattle.calls.proofs.Demands.{read_exactly}
+use Rattle.calls.proofs.Promises.{read_exactly}
 use Rattle.calls.proofs.SavingLaw.{read_law, write_law}
 use Rattle.trial.specs.Trial.{least}
 use Rattle.trial_calls.specs.Records.{coordinates_of, naturals_of, is_record, deck_from, count_figure, read_into, trial_read}

@@ -1,6 +1,5 @@
 -- What the functions over the calls `report` and `exhaustive` answer: a figure of the answer, and what `report` leaves of the memory that
 -- it is lent. And the numbers of any refused call.
--- Assumes nothing.
 use Rattle.std.specs.Prelude.{ℕ, List, [], ◌∷◌, ◌++◌, ℤ, pos, get_or, replicate}
 use Rattle.query.specs.Order.{Priced}
 use Rattle.query.specs.Figures.{Figures, State, done, stopped}

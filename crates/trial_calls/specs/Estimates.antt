@@ -1,5 +1,4 @@
 -- What the function over the call `estimate` answers: a figure of the answer.
--- Assumes nothing.
 use Rattle.std.specs.Prelude.{ℕ, ◌^◌, ◌<◌, List, [], ◌∷◌, ℤ, pos, get_or}
 use Rattle.query.specs.Estimate.{Estimate}
 use Rattle.calls.specs.Answers.{AnswerOf, gives, refuses}

@@ -1,6 +1,5 @@
 -- What the functions over the calls that read, write and change records answer: a deck's record as two lists of numbers, and a figure of
 -- the answer.
--- Assumes nothing.
 use Rattle.std.specs.Prelude.{ℕ, Bool, cond, ◌&&◌, List, [], ◌∷◌, ◌++◌, eqb, ltb, ℤ, pos, length, get_or, take, drop}
 use Rattle.query.specs.Place.{Place}
 use Rattle.deck.specs.declared.Deck.{Deck}

@@ -1,5 +1,4 @@
 -- Digits: how many there are, by tests of a number's size, and how they are stored from the last one to the first.
--- Assumes nothing.
 use mathlib.Core.Path.{◌≡◌, refl, sym, ap, ◌∙◌}
 use mathlib.Core.Logic.{⊎_elim}
 use mathlib.Core.List.{List, [], ◌∷◌, ◌++◌}

@@ -1,5 +1,4 @@
 -- How a signed number z is spelled, by what the code has of it: z as it is read back from its bits, the outcome of the test z < 0, and the absolute value n.
--- Assumes nothing.
 use mathlib.Core.Path.{◌≡◌, refl, sym, ap, ◌∙◌}
 use mathlib.Core.Bool.{Bool, true, false}
 use native.Mathlib.Omega.{arith}

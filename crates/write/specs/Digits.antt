@@ -1,5 +1,4 @@
 -- How the code counts the digits of a number: one more at each power of ten that it reaches.
--- Assumes nothing.
 use Rattle.std.specs.Prelude.{ℕ, cond, ltb}
 
 -- 1 where n is `least` or more, else 0

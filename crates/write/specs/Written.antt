@@ -1,5 +1,4 @@
 -- Bytes put over the front, or over a part, of a buffer.
--- Assumes nothing.
 use Rattle.std.specs.Prelude.{◌≡◌, ◌≤◌, ℕ, ◌+◌, List, ◌++◌, length, take, drop}
 use Rattle.std.specs.Borrow.{GName}
 use Rattle.write.specs.declared.Writer.{Writer}

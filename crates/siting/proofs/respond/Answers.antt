@@ -2,7 +2,7 @@
 use mathlib.Core.Path.{sym, ap, ◌∙◌}
 use native.Mathlib.Omega.{arith}
 use Rattle.job.proofs.PartLaws.{handed}
-use Rattle.calls.proofs.Demands.{refused_call}
+use Rattle.calls.proofs.Promises.{refused_call}
 use Rattle.prepare.specs.ProblemRecord.{given_by}
 use Rattle.prepare.proofs.JobProblem.{given_refused}
 use Rattle.estimate.proofs.EstimateLaws.{job_counts}

@@ -1,7 +1,7 @@
 -- What `siting::respond_alone` owes.
 use mathlib.Core.Path.{sym, ap, ◌∙◌}
 use Rattle.job.proofs.PartLaws.{handed}
-use Rattle.calls.proofs.Demands.{refused_call}
+use Rattle.calls.proofs.Promises.{refused_call}
 use Rattle.prepare.specs.ProblemRecord.{given_by}
 use Rattle.prepare.proofs.JobProblem.{given_refused}
 use Rattle.siting.proofs.SolveLaws.{refused_alone, responded_alone}

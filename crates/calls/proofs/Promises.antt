@@ -1,5 +1,4 @@
 -- The demands of the call `report`.
--- Assumes nothing.
 use Prim.Native.Nat.{ℕ, suc, ◌≤◌, ◌<◌}
 use mathlib.Core.Path.{◌≡◌, refl, sym, ap, subst, subst₂, ◌∙◌}
 use mathlib.Core.Bool.{Bool, true, false}
@@ -14,8 +13,8 @@ use lib.Signed.{◌≤ℤ◌}
 use Rattle.numbers.proofs.Truth.{test, cond-true, cond-false}
 use Rattle.query.specs.Figures.{Figures}
 use Rattle.query.specs.Space.{space_needed}
-use Rattle.query.specs.Demand3.{Demand3}
-use Rattle.query.proofs.Demand3 as Query
+use Rattle.query.specs.Promise3.{Promise3}
+use Rattle.query.proofs.Promise3 as Query
 use Rattle.query.specs.Range.{FiguresInRange}
 use Rattle.query.proofs.FigureRanges.{run_in_range}
 use Rattle.job.specs.Format.{Job, Result, refused, accepted, missing_axis, read_job}
@@ -31,7 +30,7 @@ use Rattle.report.specs.Text.{report_text}
 use Rattle.report.proofs.Fits.{report_fits}
 use Rattle.calls.specs.Answers.{gives, refuses, refusal}
 use Rattle.calls.specs.Call.{Left, turned_down, job_figures, reported, answered, report_call}
-use Rattle.calls.specs.Demands.{Accepted, Applies, in_reading, small_space, short_output, Demand1, Reported, Demand2, one_more, Demand3Report, Demands}
+use Rattle.calls.specs.Promises.{Accepted, Applies, in_reading, small_space, short_output, Promise1, Reported, Promise2, one_more, Promise3Report, Promises}
 use Rattle.calls.proofs.AnswerLaws.{same_number, same_line, same_refusal, same_given, not_refused}
 
 -- the figures of an allowed job are in range, so that its report fits 128 bytes
@@ -144,8 +143,8 @@ module _ (job : List ℕ) (cells : List ℤ) (out : List ℕ) where
     cell_space = ap (λ (l : Left). l.cells) e;
   }
 
-  demand_2 : Demand2 job cells out
-  demand_2 = record { read_exactly = read_exactly job; fault_exactly = refused_job job; reported = reports }
+  promise_2 : Promise2 job cells out
+  promise_2 = record { read_exactly = read_exactly job; fault_exactly = refused_job job; reported = reports }
 
   -- the figures that an accepted job gets
   pub figures_are : (j : Job) (f : Figures) → Accepted job cells out j → (report_call job cells out).answer ≡ gives f → job_figures j ≡ f
@@ -184,8 +183,8 @@ module _ (job : List ℕ) (cells : List ℤ) (out : List ℕ) where
   applies_number _ (small_space j e h) = omega arith
   applies_number _ (short_output j e h k) = omega arith
 
-  demand_1 : Demand1 job cells out
-  demand_1 = record {
+  promise_1 : Promise1 job cells out
+  promise_1 = record {
     reported_exactly = (λ r. accepted_one r.0 r.1, λ r. (job_figures r.0, (reports r.0 r.1).answer));
     refused_exactly = λ why. (given why, λ h. answer_of (turned_down why cells out) (refuses_so why h));
     refused_listed = λ number line e. let (w, c, f) = refused_one number line e in let g = sym e ∙ answer_of _ f in
@@ -197,13 +196,13 @@ module _ (job : List ℕ) (cells : List ℤ) (out : List ℕ) where
   }
 
 -- ---- demand 3
-demand_3 : (job : List ℕ) (cells : List ℤ) (out : List ℕ) (j : Job) (f : Figures) → Accepted job cells out j → (report_call job cells out).answer ≡ gives f →
-    Demand3Report j f
-demand_3 job cells out j f a e =
+promise_3 : (job : List ℕ) (cells : List ℤ) (out : List ℕ) (j : Job) (f : Figures) → Accepted job cells out j → (report_call job cells out).answer ≡ gives f →
+    Promise3Report j f
+promise_3 job cells out j f a e =
     let allowed = ((read_exactly job j).0 a.read).1 in
-    let law = Query.demand_3 j.deck allowed.area_full in
+    let law = Query.promise_3 j.deck allowed.area_full in
     let same = figures_are job cells out j f a e in record {
-      law = subst (Demand3 j.deck j.rounds) same (law j.rounds);
+      law = subst (Promise3 j.deck j.rounds) same (law j.rounds);
       one_more_low = λ job' cells' out' f' a' e'. subst₂ (λ (p q : Figures). p.low ≤ℤ q.low) same (figures_are job' cells' out' (one_more j) f' a' e')
           (law j.rounds).low_rises;
       one_more_high = λ job' cells' out' f' a' e'. subst₂ (λ (p q : Figures). q.high ≤ p.high) same (figures_are job' cells' out' (one_more j) f' a' e')
@@ -212,5 +211,5 @@ demand_3 job cells out j f a e =
       every_n = law;
     }
 
-pub demands : (job : List ℕ) (cells : List ℤ) (out : List ℕ) → Demands job cells out
-demands job cells out = record { demand_1 = demand_1 job cells out; demand_2 = demand_2 job cells out; demand_3 = demand_3 job cells out }
+pub promises : (job : List ℕ) (cells : List ℤ) (out : List ℕ) → Promises job cells out
+promises job cells out = record { promise_1 = promise_1 job cells out; promise_2 = promise_2 job cells out; promise_3 = promise_3 job cells out }

@@ -1,6 +1,5 @@
 -- Demand 3, one field for each clause, of the figures f that a report of a deck carries after at most n rounds.
 -- It holds of `figures deck n`, for every deck with a non-empty area and every n (QueryTheorems.antt).
--- Assumes nothing.
 use Rattle.std.specs.Prelude.{ℕ, suc, ◌≤◌, ◌<◌, ◌≡◌, ◌↔◌, ◌≢◌, [], T, pos, length, ◌≤ℤ◌, ◌<ℤ◌}
 use Rattle.numbers.specs.Lists.{non_empty}
 use Rattle.query.specs.Place.{Place, In}
@@ -18,7 +17,7 @@ pub data Beaten (deck : Deck) (best p : Place) : Type 0 where
   further_right : cost deck p ≡ cost deck best → best.x <ℤ p.x → Beaten deck best p
   further_back : cost deck p ≡ cost deck best → p.x ≡ best.x → best.y <ℤ p.y → Beaten deck best p
 
-pub record Demand3 (deck : Deck) (n : ℕ) (f : Figures) : Type 0 where
+pub record Promise3 (deck : Deck) (n : ℕ) (f : Figures) : Type 0 where
   -- "the reported place is a whole-number point of the area and costs exactly the high figure"
   pub in_area : In deck.area f.at
   pub costs_high : cost deck f.at ≡ f.high

@@ -1,10 +1,9 @@
 -- The customer's demands of the call `report`, over every job's bytes and all that is lent. A reviewer may start here.
 -- Theorems.antt states that they hold for all of them.
--- Assumes nothing.
 use Rattle.std.specs.Prelude.{ℕ, suc, ◌≤◌, ◌<◌, ◌≡◌, Bool, ◌↔◌, List, ℤ, length, ◌≤ℤ◌}
 use Rattle.query.specs.Figures.{Figures, figures}
 use Rattle.query.specs.Space.{space, space_needed}
-use Rattle.query.specs.Demand3.{Demand3}
+use Rattle.query.specs.Promise3.{Promise3}
 use Rattle.refusal.specs.Refusal.{number_of, line_of}
 use Rattle.refusal.specs.declared.Refusal.{Refusal}
 use Rattle.refusal.specs.declared.Refusal.TheVariants.{SmallSpace, ShortOutput}
@@ -34,7 +33,7 @@ pub data Applies (job : List ℕ) (cells : List ℤ) (out : List ℕ) : Refusal 
 
 -- "A job file, however garbled, short or long, gets a report or one of the eight numbered refusals .. A refusal changes neither the
 -- output nor the cell space"
-pub record Demand1 (job : List ℕ) (cells : List ℤ) (out : List ℕ) : Type 0 where
+pub record Promise1 (job : List ℕ) (cells : List ℤ) (out : List ℕ) : Type 0 where
   -- a report exactly where the job is accepted with what is lent
   pub reported_exactly : ((f : Figures) × ((report_call job cells out).answer ≡ gives f)) ↔ ((j : Job) × Accepted job cells out j)
   -- each refusal, with its number and line, exactly under its condition; and no other number and line
@@ -55,7 +54,7 @@ pub record Reported (job : List ℕ) (cells : List ℤ) (out : List ℕ) (j : Jo
   pub text_fits : length (report_text (job_figures j)) ≤ output_size
   pub cell_space : (report_call job cells out).cells ≡ space j.deck j.rounds (length cells)
 
-pub record Demand2 (job : List ℕ) (cells : List ℤ) (out : List ℕ) : Type 0 where
+pub record Promise2 (job : List ℕ) (cells : List ℤ) (out : List ℕ) : Type 0 where
   -- "A job is read as exactly the deck that it spells, and bytes that spell none are refused at their first fault"
   pub read_exactly : (j : Job) → (read_job job ≡ accepted j) ↔ (Spells missing_axis job j × Allowed j)
   pub fault_exactly : (why : Refusal) → (read_job job ≡ refused why) ↔ Condition job why
@@ -69,8 +68,8 @@ abbrev pub one_more : Job → Job
 one_more j = record { deck = j.deck; rounds = suc j.rounds }
 
 -- of the figures f that the report of an accepted job carries
-pub record Demand3Report (j : Job) (f : Figures) : Type 0 where
-  pub law : Demand3 j.deck j.rounds f
+pub record Promise3Report (j : Job) (f : Figures) : Type 0 where
+  pub law : Promise3 j.deck j.rounds f
   -- "The same job with one more round has a low at least as large and a high at most as large", with enough lent for it
   pub one_more_low : (job : List ℕ) (cells : List ℤ) (out : List ℕ) (more : Figures) → Accepted job cells out (one_more j) →
       (report_call job cells out).answer ≡ gives more → f.low ≤ℤ more.low
@@ -80,10 +79,10 @@ pub record Demand3Report (j : Job) (f : Figures) : Type 0 where
   pub one_more_read : (carried : Bool) → Spells missing_axis (spell carried j) j → j.rounds < rounds_limit →
       read_job (spell carried (one_more j)) ≡ accepted (one_more j)
   -- past 1,000 rounds, where no job exists, of what the rules give
-  pub every_n : (n : ℕ) → Demand3 j.deck n (figures j.deck n)
+  pub every_n : (n : ℕ) → Promise3 j.deck n (figures j.deck n)
 
 -- the three demands together
-pub record Demands (job : List ℕ) (cells : List ℤ) (out : List ℕ) : Type 0 where
-  pub demand_1 : Demand1 job cells out
-  pub demand_2 : Demand2 job cells out
-  pub demand_3 : (j : Job) (f : Figures) → Accepted job cells out j → (report_call job cells out).answer ≡ gives f → Demand3Report j f
+pub record Promises (job : List ℕ) (cells : List ℤ) (out : List ℕ) : Type 0 where
+  pub promise_1 : Promise1 job cells out
+  pub promise_2 : Promise2 job cells out
+  pub promise_3 : (j : Job) (f : Figures) → Accepted job cells out j → (report_call job cells out).answer ≡ gives f → Promise3Report j f

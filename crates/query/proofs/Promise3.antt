@@ -1,5 +1,4 @@
 -- Demand 3 of the rules, for every deck with a non-empty area and every number of rounds.
--- Assumes nothing.
 use mathlib.Core.Path.{◌≡◌, refl}
 use mathlib.Core.Logic.{◌↔◌}
 use mathlib.Core.List.{List, [], ◌∷◌}
@@ -15,7 +14,7 @@ use Rattle.query.specs.Order.{Cell}
 use Rattle.query.specs.Search.{round, run}
 use Rattle.query.specs.Figures.{done, stopped, state_of, high, low, figures_of, figures}
 use Rattle.query.specs.Laws.{edge_low, edge_high}
-use Rattle.query.specs.Demand3.{Demand3}
+use Rattle.query.specs.Promise3.{Promise3}
 use Rattle.query.proofs.BoundLaws as BoundLaws
 use Rattle.query.proofs.LineLaws.{lines_along_lem, lines_law}
 use Rattle.query.proofs.CutLaws.{cut_law}
@@ -76,9 +75,9 @@ module _ (deck : Deck) (full : NonEmpty deck.area) where
   one_more_high n = FigureLaws.high_falls (problem deck) (lawful deck full) (cut_law (problem deck).rules.grid) (run (problem deck) n)
       (run (problem deck) n).live (ok n)
 
-  pub demand_3 : (n : ℕ) → Demand3 deck n (figures deck n)
+  pub promise_3 : (n : ℕ) → Promise3 deck n (figures deck n)
   unfolding figures figures_of problem
-  demand_3 n = record {
+  promise_3 n = record {
     in_area = (ok n).best_ok.inside;
     costs_high = best_costs deck (run (problem deck) n).best (ok n).best_ok;
     low_below_all = FigureLaws.low_le_cost (problem deck) (lawful deck full) (cut_law (problem deck).rules.grid) (run (problem deck) n) (ok n);
