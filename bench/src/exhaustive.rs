@@ -4,7 +4,7 @@
 use crate::read::{read, scaled, Deck, Objects};
 
 /// Cost, x, y.
-pub type Spot = (i64, i32, i32);
+pub type PricedPlace = (i64, i32, i32);
 
 /// A deck with its lines, in plain tenths. `scaled` has the horizontal ones at the scaled y.
 struct Lined {
@@ -49,7 +49,7 @@ struct Site {
 /// The cheapest crossing, by ramps along each vertical line. `first` numbers the first line that is not below a scaled y, from 0 to the count
 /// of lines.
 #[inline(always)]
-fn by_ramps(lined: &Lined, first: impl Fn(i32) -> usize) -> Spot {
+fn by_ramps(lined: &Lined, first: impl Fn(i32) -> usize) -> PricedPlace {
     let Lined { deck, objects, vertical, horizontal, scaled } = lined;
     let area = deck.axis.scaled(deck.area);
     let sites: Vec<Site> = objects
@@ -84,12 +84,12 @@ fn by_ramps(lined: &Lined, first: impl Fn(i32) -> usize) -> Spot {
     best
 }
 
-pub fn searched(job: &[u8]) -> Spot {
+pub fn searched(job: &[u8]) -> PricedPlace {
     let lined = lined(job);
     by_ramps(&lined, |y| lined.scaled.partition_point(|&h| h < y))
 }
 
-pub fn looked_up(job: &[u8]) -> Spot {
+pub fn looked_up(job: &[u8]) -> PricedPlace {
     let lined = lined(job);
     let (lo, hi, b) = (lined.deck.area.ylo, lined.deck.area.yhi, lined.deck.axis.b);
     // the number for each y of the area, and behind it
@@ -106,7 +106,7 @@ pub fn looked_up(job: &[u8]) -> Spot {
     })
 }
 
-pub fn every_crossing(job: &[u8]) -> Spot {
+pub fn every_crossing(job: &[u8]) -> PricedPlace {
     let Lined { deck, objects, vertical, horizontal, scaled } = lined(job);
     let mut best = (i64::MAX, 0, 0);
     for &v in &vertical {

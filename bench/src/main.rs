@@ -346,7 +346,7 @@ fn changes() {
 }
 
 /// The exhaustive call, `turns` times: place and cost must be the same. The plain pass over all crossings, last of the twins, is long, and has few repetitions.
-fn compare_exhaustive(name: &str, job: &[u8], turns: usize, twins: &[(&str, fn(&[u8]) -> exhaustive::Spot)]) {
+fn compare_exhaustive(name: &str, job: &[u8], turns: usize, twins: &[(&str, fn(&[u8]) -> exhaustive::PricedPlace)]) {
     let proved = |job: &[u8], which| unsafe { trial_exhaustive(job.as_ptr(), job.len(), which) };
     assert_eq!(proved(job, 3), 0, "{name}: refused");
     let found = (proved(job, 2), proved(job, 0) as i32, proved(job, 1) as i32);
@@ -372,7 +372,7 @@ fn compare_exhaustive(name: &str, job: &[u8], turns: usize, twins: &[(&str, fn(&
 fn exhaustive_calls() {
     println!();
     println!("{:<52} {:>10} {:>10} {:>7}", "the exhaustive call, us a call", "proved", "twin", "ratio");
-    let twins: [(&str, fn(&[u8]) -> exhaustive::Spot); 3] = [("ramps by search", exhaustive::searched), ("ramps by table", exhaustive::looked_up), ("every crossing", exhaustive::every_crossing)];
+    let twins: [(&str, fn(&[u8]) -> exhaustive::PricedPlace); 3] = [("ramps by search", exhaustive::searched), ("ramps by table", exhaustive::looked_up), ("every crossing", exhaustive::every_crossing)];
     let job = |deck: Sizes| Sizes { rounds: 0, ..deck }.job();
     compare_exhaustive("largest", &job(LARGEST), 1, &twins);
     compare_exhaustive("a post in a corner", &exhaustive::cornered(job(Sizes { posts: 1, ..LARGEST })), 1, &twins);

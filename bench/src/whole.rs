@@ -229,7 +229,7 @@ impl Pricing for Listed {
 // ---- the search
 
 /// A place with its cost, ordered as the best place is: by cost, then x, then y.
-type Spot = (u64, i32, i32);
+type PricedPlace = (u64, i32, i32);
 
 #[derive(Clone, Copy)]
 struct Cell<S> {
@@ -261,7 +261,7 @@ fn bounded<S>(mut c: Cell<S>, edges: Rect, load: u64) -> Cell<S> {
 
 struct Found {
     done: bool,
-    best: Spot,
+    best: PricedPlace,
     low: i64,
     rounds: usize,
 }
@@ -275,11 +275,11 @@ fn search<P: Pricing>(deck: &Deck, grid: &Grid, pricing: &mut P, out: &mut [i64]
     let (a, axis) = (deck.area, deck.axis);
     let (x, y) = ((0, vs.len() as u16 - 1), (0, hs.len() as u16 - 1));
     let (costs, load, stops) = pricing.start(axis.scaled(a));
-    let mut best: Spot = [(costs[0], a.xlo, a.ylo), (costs[1], a.xlo, a.yhi), (costs[2], a.xhi, a.ylo), (costs[3], a.xhi, a.yhi)].into_iter().min().unwrap();
+    let mut best: PricedPlace = [(costs[0], a.xlo, a.ylo), (costs[1], a.xlo, a.yhi), (costs[2], a.xhi, a.ylo), (costs[3], a.xhi, a.yhi)].into_iter().min().unwrap();
     // lines are in order, so that (xlo, ylo) and the numbers of their lines have the same order
     let key = |c: &Cell<P::Stops>, i: usize| Reverse((c.bound, (c.x.0 as u32) << 16 | c.y.0 as u32, i as u32));
     let can_cut = |c: &Cell<P::Stops>| c.x.1 - c.x.0 > 1 || c.y.1 - c.y.0 > 1;
-    let precedes = |c: &Cell<P::Stops>, best: Spot| (c.bound, vs[c.x.0 as usize], hs[c.y.0 as usize]) < (best.0 as i64, best.1, best.2);
+    let precedes = |c: &Cell<P::Stops>, best: PricedPlace| (c.bound, vs[c.x.0 as usize], hs[c.y.0 as usize]) < (best.0 as i64, best.1, best.2);
     let mut cells: Vec<Cell<P::Stops>> = Vec::with_capacity(deck.rounds * 2 + 1);
     let mut heap = BinaryHeap::with_capacity(deck.rounds + 2);
     let area = bounded(Cell { x, y, bound: 0, costs, stops }, axis.scaled(a), load);

@@ -8,8 +8,8 @@ use Rattle.refusal.specs.Refusal.{number_of, line_of}
 use Rattle.refusal.specs.declared.Refusal.{Refusal}
 use Rattle.report.specs.Report.{report_figures}
 use Rattle.report.specs.declared.Report.{Report}
-use Rattle.problem.specs.ObjectProblem.{priced_of}
-use Rattle.problem.specs.declared.Spot.{Spot}
+use Rattle.priced_place.specs.ObjectProblem.{priced_of}
+use Rattle.priced_place.specs.declared.PricedPlace.{PricedPlace}
 use Rattle.calls.specs.declared.Estimate.{Estimate}
 use Rattle.job.specs.Format.{Job, Result, refused, accepted}
 use Rattle.job.specs.declared.Job as Held
@@ -37,7 +37,7 @@ abbrev pub report_answer : Std.Result Report Refusal → AnswerOf Figures
 report_answer = answer_of report_figures
 
 -- 01 "the place and cost of the cheapest", or one refusal
-abbrev pub cheapest_answer : Std.Result Spot Refusal → AnswerOf Priced
+abbrev pub cheapest_answer : Std.Result PricedPlace Refusal → AnswerOf Priced
 cheapest_answer = answer_of priced_of
 
 -- 02, card 3: the four numbers of an estimate, or one refusal

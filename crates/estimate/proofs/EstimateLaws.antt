@@ -12,7 +12,7 @@ use Rattle.query.specs.Estimate as Query
 use Rattle.query.specs.Estimate.{estimate}
 use Rattle.lines.proofs.DeckLines.{deck_lined}
 use Rattle.prepare.specs.ProblemRecord.{Parts, problem_record, given_by, given_for}
-use Rattle.prepare.specs.declared.Given.{Given}
+use Rattle.prepare.specs.declared.PreparedJob.{PreparedJob}
 use Rattle.prepare.proofs.JobProblem.{spelt, rounds_same, rounds_limit_lem, problem_same, given_refused}
 use Rattle.refusal.specs.declared.Refusal.{Refusal}
 use Rattle.job.specs.Format.{read_job}
@@ -50,7 +50,7 @@ module _ (deck : Deck) (p : Parts) (e : p ≡ problem_record deck) where
 
 -- ---- the call
 module _ (job : List ℕ) where
-  module _ (g : Given) (e : given_by (Ok g) ≡ given_for (read_job job)) where
+  module _ (g : PreparedJob) (e : given_by (Ok g) ≡ given_for (read_job job)) where
     pub job_counts : GivenCounts g
     job_counts = counts _ _ (problem_same job g e) (spelt_range (spelt job g e)).most_stops g.rounds (rounds_limit_lem job g e)
 

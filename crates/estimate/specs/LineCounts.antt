@@ -2,7 +2,7 @@
 use Rattle.std.specs.Prelude.{ℕ, ◌+◌, ◌-◌, ◌*◌, min, max, ◌≤◌, length}
 use Rattle.query.specs.Estimate.{Estimate}
 use Rattle.query.specs.Range.{stops_limit, rounds_limit}
-use Rattle.prepare.specs.declared.Given.{Given}
+use Rattle.prepare.specs.declared.PreparedJob.{PreparedJob}
 
 -- lines of a deck in range, two more than stops at most, and rounds of a job
 pub record LineCounts (nv nh rounds : ℕ) : Type 0 where
@@ -22,8 +22,8 @@ estimate_by nv nh rounds = record {
 }
 
 -- ---- of what a job gives
-abbrev pub GivenCounts : Given → Type 0
+abbrev pub GivenCounts : PreparedJob → Type 0
 GivenCounts g = LineCounts (length g.problem.vertical) (length g.problem.horizontal) g.rounds
 
-abbrev pub given_estimate : Given → Estimate
+abbrev pub given_estimate : PreparedJob → Estimate
 given_estimate g = estimate_by (length g.problem.vertical) (length g.problem.horizontal) g.rounds

@@ -7,7 +7,7 @@ ghost use Rattle.calls.specs.EstimateCall.{estimate_call};
 ghost use Rattle.estimate.specs.LineCounts.{LineCounts, estimate_by, GivenCounts, given_estimate};
 
 use calls::Estimate;
-use prepare::Given;
+use prepare::PreparedJob;
 use refusal::Refusal;
 
 // The estimate by the number of vertical lines, that of horizontal ones, and the rounds.
@@ -29,7 +29,7 @@ pub fn of_lines(nv: usize, nh: usize, rounds: u64) -> Estimate
 }
 
 // The estimate of what a job gives.
-pub fn of_given(given: &Given) -> Estimate
+pub fn of_given(given: &PreparedJob) -> Estimate
     requires { GivenCounts given.now }
     ensures { estimate_numbers result ≡ given_estimate given.now }
 {

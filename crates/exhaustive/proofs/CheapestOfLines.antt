@@ -9,7 +9,7 @@ use Rattle.numbers.specs.Integer.{times}
 use Rattle.query.specs.Range.{cost_limit}
 use Rattle.deck.specs.Objects.{Pricing}
 use Rattle.pricing.specs.ObjectFigures.{before_of, Figure}
-use Rattle.problem.specs.declared.Spot.{Spot}
+use Rattle.priced_place.specs.declared.PricedPlace.{PricedPlace}
 use Rattle.numbers.proofs.WordTests.{back}
 use Rattle.exhaustive.specs.declared.ramp_sums.Ramps.{Ramps}
 use Rattle.exhaustive.specs.declared.ramp_sums.ObjectRamps.{ObjectRamps}
@@ -54,18 +54,18 @@ module _ (P : Pricing) (m : ℕ) (ls : List ℤ) (v : ℤ) (r : ObjectRamps) (be
   swept_line b old costs e s = s.is P m v e added now.is
 
 -- ---- line after line
-pub record Compared (P : Pricing) (hs vs : List ℤ) (first found : Spot) (i : ℕ) : Type 0 where
+pub record Compared (P : Pricing) (hs vs : List ℤ) (first found : PricedPlace) (i : ℕ) : Type 0 where
   pub left : first_cheapest P first (flat_map (along hs) vs) ≡ first_cheapest P found (flat_map (along hs) (drop i vs))
 
-module _ (P : Pricing) (hs vs : List ℤ) (first : Spot) where
+module _ (P : Pricing) (hs vs : List ℤ) (first : PricedPlace) where
   pub compared_none : Compared P hs vs first first 0
   compared_none = record { left = refl }
 
-  pub compared_all : {found : Spot} {i : ℕ} → Compared P hs vs first found i → length vs ≤ i → found ≡ first_cheapest P first (flat_map (along hs) vs)
+  pub compared_all : {found : PricedPlace} {i : ℕ} → Compared P hs vs first found i → length vs ≤ i → found ≡ first_cheapest P first (flat_map (along hs) vs)
   unfolding flat_map
   compared_all {found} {i} w h = sym (w.left ∙ rw (drop_of_length-le vs {i = i} h) (cheapest_none P found))
 
-  pub compared_more : {found : Spot} {i : ℕ} → LinesInRange vs → Compared P hs vs first found i → i < length vs → (found' : Spot)
+  pub compared_more : {found : PricedPlace} {i : ℕ} → LinesInRange vs → Compared P hs vs first found i → i < length vs → (found' : PricedPlace)
       → found' ≡ first_cheapest P found (along hs (back (get_or vs i (pos 0)))) → Compared P hs vs first found' (i + 1)
   unfolding flat_map
   compared_more {found} {i} lines w h found' b =

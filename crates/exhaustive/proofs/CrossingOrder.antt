@@ -24,8 +24,8 @@ use Rattle.query.proofs.Best.{best_of_nil, best_of_cons}
 use Rattle.query.proofs.KeyOrder.{not_earlier}
 use Rattle.deck.specs.Objects.{Pricing}
 use Rattle.pricing.specs.ObjectFigures.{cost_of}
-use Rattle.problem.specs.declared.Spot.{Spot}
-use Rattle.problem.specs.ObjectProblem.{object_rules, object_problem, priced_of, spot_of}
+use Rattle.priced_place.specs.declared.PricedPlace.{PricedPlace}
+use Rattle.priced_place.specs.ObjectProblem.{object_rules, object_problem, priced_of, priced_place_of}
 use Rattle.exhaustive.specs.Cheapest.{cheaper_of, first_cheapest, along}
 use Rattle.exhaustive.proofs.CheapestLaws.{cheapest_none, cheapest_more}
 
@@ -81,7 +81,7 @@ module _ (P : Pricing) (G : Grid) where
   abbrev R : Rules
   R = object_rules P G
 
-  cheaper_is : (best p : Spot) → T (not (earlier (priced_of p).at (priced_of best).at)) →
+  cheaper_is : (best p : PricedPlace) → T (not (earlier (priced_of p).at (priced_of best).at)) →
       priced_of (cheaper_of best p) ≡ cond (better (priced_of p) (priced_of best)) (priced_of p) (priced_of best)
   unfolding cheaper_of
   cheaper_is best p t = rw (better_cheaper (priced_of p) (priced_of best) t) (go (ltb p.cost best.cost))
@@ -90,22 +90,22 @@ module _ (P : Pricing) (G : Grid) where
       go true = refl
       go false = refl
 
-  later : (first : Spot) (p q : Place) → T (not (earlier q p)) → T (not (earlier q (priced_of first).at))
-      → T (not (earlier q (priced_of (cheaper_of first (spot_of P p))).at))
+  later : (first : PricedPlace) (p q : Place) → T (not (earlier q p)) → T (not (earlier q (priced_of first).at))
+      → T (not (earlier q (priced_of (cheaper_of first (priced_place_of P p))).at))
   unfolding cheaper_of
-  later first p q a b = cond_ind (λ (s : Spot). T (not (earlier q (priced_of s).at))) (ltb (cost_of P p) first.cost) (λ u. a) (λ u. b)
+  later first p q a b = cond_ind (λ (s : PricedPlace). T (not (earlier q (priced_of s).at))) (ltb (cost_of P p) first.cost) (λ u. a) (λ u. b)
 
-  cheapest_best : (first : Spot) (ps : List Place) → InTurn ps → ((q : Place) → Memᴰ q ps → T (not (earlier q (priced_of first).at)))
+  cheapest_best : (first : PricedPlace) (ps : List Place) → InTurn ps → ((q : Place) → Memᴰ q ps → T (not (earlier q (priced_of first).at)))
       → priced_of (first_cheapest P first ps) ≡ best_of R (priced_of first) ps
   cheapest_best first [] none h = ap priced_of (cheapest_none P first) ∙ sym (best_of_nil R (priced_of first))
   cheapest_best first (p ∷ ps) (then f t) h =
       ap priced_of (cheapest_more P first p ps)
-      ∙ cheapest_best (cheaper_of first (spot_of P p)) ps t (λ q m. later first p q (f q m) (h q (Memᴰ.tail m)))
-      ∙ ap (λ (b : Priced). best_of R b ps) (cheaper_is first (spot_of P p) (h p (Memᴰ.head refl)))
+      ∙ cheapest_best (cheaper_of first (priced_place_of P p)) ps t (λ q m. later first p q (f q m) (h q (Memᴰ.tail m)))
+      ∙ ap (λ (b : Priced). best_of R b ps) (cheaper_is first (priced_place_of P p) (h p (Memᴰ.head refl)))
       ∙ sym (best_of_cons R (priced_of first) p ps)
 
   pub cheapest_is : (area : Rect) → InTurn (flat_map (along G.horizontal) G.vertical)
       → ((q : Place) → Memᴰ q (flat_map (along G.horizontal) G.vertical) → T (not (earlier q (corner area))))
-      → priced_of (first_cheapest P (spot_of P (corner area)) (flat_map (along G.horizontal) G.vertical)) ≡ exhaustive (object_problem P G area)
+      → priced_of (first_cheapest P (priced_place_of P (corner area)) (flat_map (along G.horizontal) G.vertical)) ≡ exhaustive (object_problem P G area)
   unfolding exhaustive crossings
-  cheapest_is area t h = cheapest_best (spot_of P (corner area)) (flat_map (along G.horizontal) G.vertical) t h
+  cheapest_is area t h = cheapest_best (priced_place_of P (corner area)) (flat_map (along G.horizontal) G.vertical) t h

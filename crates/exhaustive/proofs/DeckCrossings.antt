@@ -27,11 +27,11 @@ use Rattle.lines.specs.LineRecord.{grid_of}
 use Rattle.lines.proofs.Indexed.{member_at}
 use Rattle.lines.proofs.DeckLines.{lines_in_order}
 use Rattle.prepare.specs.declared.Problem.{Problem}
-use Rattle.problem.specs.declared.Spot.{Spot}
-use Rattle.problem.specs.ObjectProblem.{priced_of, spot_of}
-use Rattle.problem.specs.Prepared.{problem_of, Prepared}
-use Rattle.problem.proofs.Coordinates.{near_places, spot_back}
-use Rattle.problem.proofs.DeckProblem.{prepared_ranged}
+use Rattle.priced_place.specs.declared.PricedPlace.{PricedPlace}
+use Rattle.priced_place.specs.ObjectProblem.{priced_of, priced_place_of}
+use Rattle.priced_place.specs.Prepared.{problem_of, Prepared}
+use Rattle.priced_place.proofs.Coordinates.{near_places, spot_back}
+use Rattle.priced_place.proofs.DeckProblem.{prepared_ranged}
 use Rattle.exhaustive.specs.Ramps.{LinesInRange}
 use Rattle.exhaustive.specs.Cheapest.{first_cheapest, along}
 use Rattle.exhaustive.proofs.CrossingOrder.{InTurn, crossing_turn, cheapest_is}
@@ -87,10 +87,10 @@ module _ {p : Problem} (prepared : Prepared p) where
   pub corner_near : PlaceInRange (record { x = back p.area.xlo; y = back p.area.ylo })
   corner_near = let low = (prepared_ranged prepared).range.low_corner_law in near_places p.area.xlo p.area.ylo low.x_range low.y_range
 
-  pub answers : (first r : Spot) → first ≡ spot_of P (record { x = back p.area.xlo; y = back p.area.ylo })
+  pub answers : (first r : PricedPlace) → first ≡ priced_place_of P (record { x = back p.area.xlo; y = back p.area.ylo })
       → r ≡ first_cheapest P first (flat_map (along p.horizontal) p.vertical) → priced_of r ≡ exhaustive (problem_of p)
   answers first r e b =
       let low = (prepared_ranged prepared).range.low_corner_law in
-      let corner_first : first ≡ spot_of P (corner (rect_of p.area)) = spot_back P p.area.xlo p.area.ylo first low.x_range low.y_range e in
-      ap priced_of (b ∙ ap (λ (s : Spot). first_cheapest P s (flat_map (along p.horizontal) p.vertical)) corner_first)
+      let corner_first : first ≡ priced_place_of P (corner (rect_of p.area)) = spot_back P p.area.xlo p.area.ylo first low.x_range low.y_range e in
+      ap priced_of (b ∙ ap (λ (s : PricedPlace). first_cheapest P s (flat_map (along p.horizontal) p.vertical)) corner_first)
       ∙ cheapest_is P (grid_of p.vertical p.horizontal) (rect_of p.area) turn none_earlier

@@ -5,19 +5,19 @@ use mathlib.Core.List.{List, map, foldl, ◌++◌}
 use Rattle.query.specs.Place.{Place}
 use Rattle.deck.specs.Objects.{Pricing}
 use Rattle.pricing.specs.ObjectFigures.{cost_of, before_of}
-use Rattle.problem.specs.declared.Spot.{Spot}
-use Rattle.problem.specs.ObjectProblem.{spot_of}
+use Rattle.priced_place.specs.declared.PricedPlace.{PricedPlace}
+use Rattle.priced_place.specs.ObjectProblem.{priced_place_of}
 use Rattle.exhaustive.specs.declared.ramp_sums.ObjectRamps.{ObjectRamps}
 use Rattle.exhaustive.specs.Ramps.{ObjectsAdded}
 
 -- the cheaper of two spots, the first of them where they cost the same
-unfoldable pub cheaper_of : Spot → Spot → Spot
+unfoldable pub cheaper_of : PricedPlace → PricedPlace → PricedPlace
 cheaper_of best p = cond (ltb p.cost best.cost) p best
 
 -- the cheapest of a spot and some places, the first among equals
-unfoldable pub first_cheapest : Pricing → Spot → List Place → Spot
+unfoldable pub first_cheapest : Pricing → PricedPlace → List Place → PricedPlace
 unfolding cheaper_of cost_of
-first_cheapest P first places = foldl (λ best p. cheaper_of best (spot_of P p)) first places
+first_cheapest P first places = foldl (λ best p. cheaper_of best (priced_place_of P p)) first places
 
 -- the crossings of the vertical line at v, in their order
 abbrev pub along : List ℤ → ℤ → List Place
@@ -34,5 +34,5 @@ pub record Swept (ls : List ℤ) (b : ℕ) (r : ObjectRamps) (before : ℕ) (old
   pub is : (P : Pricing) (m : ℕ) (v : ℤ) → P.axis.b ≡ b → ObjectsAdded P m ls v r → before ≡ before_of P → costs ≡ costs_along P ls v old
 
 -- the cheapest of a spot and the crossings of the vertical line at v, whatever the objects whose costs the array holds
-pub record Chosen (ls : List ℤ) (v : ℤ) (costs : List ℕ) (first r : Spot) : Type 0 where
+pub record Chosen (ls : List ℤ) (v : ℤ) (costs : List ℕ) (first r : PricedPlace) : Type 0 where
   pub is : (P : Pricing) (old : List ℕ) → costs ≡ costs_along P ls v old → r ≡ first_cheapest P first (along ls v)

@@ -9,8 +9,8 @@ ghost use Rattle.query.specs.Range.{cost_limit};
 ghost use Rattle.query.specs.Exhaustive.{exhaustive};
 ghost use Rattle.reach.specs.Held.{count_of_objects, pricing_of_objects};
 ghost use Rattle.pricing.specs.ObjectFigures.{before_of, Figure};
-ghost use Rattle.problem.specs.ObjectProblem.{priced_of};
-ghost use Rattle.problem.specs.Prepared.{problem_of, Prepared};
+ghost use Rattle.priced_place.specs.ObjectProblem.{priced_of};
+ghost use Rattle.priced_place.specs.Prepared.{problem_of, Prepared};
 ghost use Rattle.exhaustive.specs.Ramps.{LinesInRange, ObjectLines, LinesFound, ObjectSums, ObjectsAdded};
 ghost use Rattle.exhaustive.specs.Cheapest.{cheaper_of, first_cheapest, along, costs_along, Chosen};
 
@@ -22,7 +22,7 @@ use limits::{LINES, STOPS};
 use line_numbers::{Divisor, ScaledLines};
 pub use line_numbers::{NumberedLines, number_lines};
 use prepare::Problem;
-use problem::Spot;
+use priced_place::PricedPlace;
 use ramp_sums::{ObjectRamps, Ramps};
 use reach::Objects;
 
@@ -116,7 +116,7 @@ impl<'a> Crossings<'a> {
     }
 
     // The cheapest of a spot and the crossings of the vertical line at `v`, the first among equals. `costs` holds their costs then.
-    fn cheapest_on(&self, v: i64, costs: &mut [u64; LINES], first: Spot) -> Spot
+    fn cheapest_on(&self, v: i64, costs: &mut [u64; LINES], first: PricedPlace) -> PricedPlace
         requires { (nat_abs v ≤ 20000) × (length costs.old ≡ 514) }
         ensures chosen { result
             ≡ first_cheapest (pricing_of_objects self.now.objects.now) first
@@ -129,7 +129,7 @@ impl<'a> Crossings<'a> {
     }
 
     // The cheapest of a spot and the crossings of all lines, the first among equals.
-    fn cheapest_of(&self, vertical: &[i64], first: Spot) -> Spot
+    fn cheapest_of(&self, vertical: &[i64], first: PricedPlace) -> PricedPlace
         requires { LinesInRange vertical.now }
         ensures { result
             ≡ first_cheapest (pricing_of_objects self.now.objects.now) first
@@ -146,11 +146,11 @@ impl<'a> Crossings<'a> {
 
 // The cheaper of two spots, the first of them where they cost the same.
 // kept: field by field, since of a whole spot the compiler picks the address and copies what is there, at each crossing.
-fn cheaper(best: Spot, p: Spot) -> Spot
+fn cheaper(best: PricedPlace, p: PricedPlace) -> PricedPlace
     ensures { result ≡ cheaper_of best p }
 {
     if p.cost < best.cost {
-        return Spot {
+        return PricedPlace {
             at: Place {
                 x: p.at.x,
                 y: p.at.y,
@@ -158,7 +158,7 @@ fn cheaper(best: Spot, p: Spot) -> Spot
             cost: p.cost,
         };
     }
-    Spot {
+    PricedPlace {
         at: Place {
             x: best.at.x,
             y: best.at.y,
@@ -170,13 +170,13 @@ fn cheaper(best: Spot, p: Spot) -> Spot
 // The cheapest of a spot and the crossings of the vertical line at `v`, the first among equals, from their costs.
 // Not inlined, as `cheapest`.
 #[inline(never)]
-fn choose(lines: &NumberedLines, v: i64, costs: &[u64; LINES], first: Spot) -> Spot
+fn choose(lines: &NumberedLines, v: i64, costs: &[u64; LINES], first: PricedPlace) -> PricedPlace
     ensures { Chosen lines.now.at.now v costs.now first result }
 {
     let mut found = first;
     for (j, y) in lines.at.iter().enumerate() {
         let at = Place { x: v, y: *y };
-        found = cheaper(found, problem::place(at, costs[j]));
+        found = cheaper(found, priced_place::place(at, costs[j]));
     }
     found
 }
@@ -184,7 +184,7 @@ fn choose(lines: &NumberedLines, v: i64, costs: &[u64; LINES], first: Spot) -> S
 // The cheapest crossing of the lines of a deck's problem, the earliest among equals, with its cost. `before` is what the objects pay with
 // the posts that there are. Not inlined: within a caller, its loops lay where they took up to 1.14 times as long.
 #[inline(never)]
-pub fn cheapest(problem: &Problem, before: u64) -> Spot
+pub fn cheapest(problem: &Problem, before: u64) -> PricedPlace
     requires { Prepared problem.now
         × Figure (before_of (pricing_of_objects problem.now.objects)) cost_limit before }
     ensures { priced_of result ≡ exhaustive (problem_of problem.now) }
@@ -205,6 +205,6 @@ pub fn cheapest(problem: &Problem, before: u64) -> Spot
         x: problem.area.xlo,
         y: problem.area.ylo,
     };
-    let first = problem::priced(objects, corner);
+    let first = priced_place::priced(objects, corner);
     crossings.cheapest_of(v, first)
 }

@@ -27,8 +27,8 @@ use Rattle.reach.specs.Held.{pricing_of_objects}
 use Rattle.pricing.specs.ObjectFigures.{cost_of, load_of, Figure}
 use Rattle.pricing.proofs.ObjectLaws.{cost_law, load_law}
 use Rattle.prepare.proofs.Coordinates.{rect_back}
-use Rattle.problem.specs.ObjectProblem.{bound_of}
-use Rattle.problem.proofs.DeckProblem.{bound_law}
+use Rattle.priced_place.specs.ObjectProblem.{bound_of}
+use Rattle.priced_place.proofs.DeckProblem.{bound_law}
 use Rattle.std.specs.Prelude.{Option, None}
 use Rattle.std.specs.Option.{option_map}
 use Rattle.trial.specs.Opened.{parts_of, opened_record}

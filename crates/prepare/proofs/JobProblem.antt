@@ -15,7 +15,7 @@ use Rattle.job.proofs.Meaning.{accepted_job}
 use Rattle.job.proofs.ReadDeck.{Spelt, read_accepted, read_rounds, read_refused, read_deck_of, read_sound}
 use Rattle.deck.specs.DeckOf.{deck_of}
 use Rattle.deck.proofs.SoundLaws.{sound_before}
-use Rattle.prepare.specs.declared.Given.{Given}
+use Rattle.prepare.specs.declared.PreparedJob.{PreparedJob}
 use Rattle.prepare.specs.ProblemRecord.{Parts, parts_in, problem_record, GivenParts, given_for}
 
 -- ---- of the job that was read
@@ -54,7 +54,7 @@ given_refused bytes why e = go (read_job bytes) refl e
     go (accepted job) p q = given_apart (sym q)
 
 -- a problem
-module _ (bytes : List ℕ) (g : Given) (e : Ok (record { rounds = g.rounds; before = g.before; problem = parts_in g.problem })
+module _ (bytes : List ℕ) (g : PreparedJob) (e : Ok (record { rounds = g.rounds; before = g.before; problem = parts_in g.problem })
     ≡ given_for (read_job bytes)) where
   pub spelt : Spelt bytes
   unfolding given_for

@@ -13,7 +13,7 @@ use Rattle.reach.specs.Held.{columns_of_objects, count_of_objects}
 use Rattle.refusal.specs.declared.Refusal.{Refusal}
 use Rattle.job.specs.Format.{Result, refused, accepted}
 use Rattle.prepare.specs.declared.Problem.{Problem}
-use Rattle.prepare.specs.declared.Given.{Given}
+use Rattle.prepare.specs.declared.PreparedJob.{PreparedJob}
 
 -- what a problem consists of: its area, the columns of its objects with the axis costs, and its lines
 pub record Parts : Type 0 where
@@ -52,7 +52,7 @@ pub record GivenParts : Type 0 where
   pub problem : Parts
 
 -- as the code holds it, or the refusal
-abbrev pub given_by : Std.Result Given Refusal → Std.Result GivenParts Refusal
+abbrev pub given_by : Std.Result PreparedJob Refusal → Std.Result GivenParts Refusal
 given_by (Ok g) = Ok (record { rounds = g.rounds; before = g.before; problem = parts_in g.problem })
 given_by (Err why) = Err why
 

@@ -23,7 +23,7 @@ pub struct Problem {
 
 // What an accepted job gives: its rounds, what is paid before, and the problem of its deck.
 #[derive(Drop)]
-pub struct Given {
+pub struct PreparedJob {
     pub rounds: u64,
     pub before: u64,
     pub problem: Problem,
@@ -52,12 +52,12 @@ fn of_deck(deck: &Deck) -> Problem
 
 // What a job gives, or its refusal. Not inlined, so that the job's record is gone from the stack when a search runs.
 #[inline(never)]
-pub fn of_job(bytes: &[u8]) -> Result<Given, Refusal>
+pub fn of_job(bytes: &[u8]) -> Result<PreparedJob, Refusal>
     ensures { given_by result ≡ given_for (read_job bytes.now) }
 {
     let job = job::read(bytes)?;
     let problem = of_deck(&job.deck);
-    Ok(Given {
+    Ok(PreparedJob {
         rounds: job.rounds,
         before: job.deck.before,
         problem,

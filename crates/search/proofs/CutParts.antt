@@ -24,8 +24,8 @@ use Rattle.cuts.specs.declared.Cut.{Cut}
 use Rattle.cuts.proofs.CutRecordLaws.{cut_record_found, cut_record_cut}
 use Rattle.slots.specs.declared.Entry.{Entry}
 use Rattle.slots.specs.declared.Costs.{Costs}
-use Rattle.problem.specs.declared.Spot.{Spot}
-use Rattle.problem.specs.ObjectProblem.{spot_of}
+use Rattle.priced_place.specs.declared.PricedPlace.{PricedPlace}
+use Rattle.priced_place.specs.ObjectProblem.{priced_place_of}
 use Rattle.search.specs.declared.halves.Halves.{Halves}
 use Rattle.search.specs.declared.halves.Part.{Part}
 use Rattle.search.specs.declared.halves.Part.TheVariants.{Before, Behind}
@@ -134,7 +134,7 @@ module _ (P : Pricing) (G : Grid) (r : Rect) (k : Costs) (h : Cutting P G r k) w
     pub part_is : (part : Part) (p : Deck.Rect) → p ≡ rect_record (cut_part part (axis_of cut.axis) cut.at r) → IsPart part p
     part_is part p e = ap rect_of e ∙ (λ i. cut_part part (axis_is i) (cut_is i).at r)
 
-    pub costs_are : (low high : Spot) → low ≡ spot_of P (low_corner line.axis line.at r) → high ≡ spot_of P (high_corner line.axis line.at r)
+    pub costs_are : (low high : PricedPlace) → low ≡ priced_place_of P (low_corner line.axis line.at r) → high ≡ priced_place_of P (high_corner line.axis line.at r)
         → (part : Part) (l : Costs) → l ≡ part_costs part (axis_of cut.axis) k low.cost high.cost
         → (p : Deck.Rect) → IsPart part p → l ≡ corner_costs P (rect_of p)
     costs_are low high f g part l e p is_part =
@@ -148,25 +148,25 @@ module _ (P : Pricing) (G : Grid) (r : Rect) (k : Costs) (h : Cutting P G r k) w
     pub low_place : PlaceInRange (place_of at)
     low_place = subst (λ (a : Code.Place). PlaceInRange (place_of a)) (sym low) (part_ranged Behind p e).range.low_corner_law
 
-    pub new_low : (spot : Spot) → spot ≡ spot_of P (place_of at) → spot ≡ spot_of P (low_corner line.axis line.at r)
+    pub new_low : (spot : PricedPlace) → spot ≡ priced_place_of P (place_of at) → spot ≡ priced_place_of P (low_corner line.axis line.at r)
     new_low spot q =
         q
-        ∙ ap (λ (a : Code.Place). spot_of P (place_of a)) low
-        ∙ ap (λ (s : Rect). spot_of P (corner s)) e
-        ∙ ap (spot_of P) (low_is_corner line.axis line.at r)
+        ∙ ap (λ (a : Code.Place). priced_place_of P (place_of a)) low
+        ∙ ap (λ (s : Rect). priced_place_of P (corner s)) e
+        ∙ ap (priced_place_of P) (low_is_corner line.axis line.at r)
 
   module _ (p : Deck.Rect) (e : IsPart Before p) (at : Code.Place) (high : at ≡ record { x = p.xhi; y = p.yhi }) where
     pub high_place : PlaceInRange (place_of at)
     high_place = subst (λ (a : Code.Place). PlaceInRange (place_of a)) (sym high) (part_ranged Before p e).range.high_corner_law
 
-    pub new_high : (spot : Spot) → spot ≡ spot_of P (place_of at) → spot ≡ spot_of P (high_corner line.axis line.at r)
+    pub new_high : (spot : PricedPlace) → spot ≡ priced_place_of P (place_of at) → spot ≡ priced_place_of P (high_corner line.axis line.at r)
     new_high spot q =
         q
-        ∙ ap (λ (a : Code.Place). spot_of P (place_of a)) high
-        ∙ ap (λ (s : Rect). spot_of P (record { x = s.xhi; y = s.yhi })) e
-        ∙ ap (spot_of P) (high_is_corner line.axis line.at r)
+        ∙ ap (λ (a : Code.Place). priced_place_of P (place_of a)) high
+        ∙ ap (λ (s : Rect). priced_place_of P (record { x = s.xhi; y = s.yhi })) e
+        ∙ ap (priced_place_of P) (high_is_corner line.axis line.at r)
 
-  pub halves_are : (low high : Spot) → low ≡ spot_of P (low_corner line.axis line.at r) → high ≡ spot_of P (high_corner line.axis line.at r)
+  pub halves_are : (low high : PricedPlace) → low ≡ priced_place_of P (low_corner line.axis line.at r) → high ≡ priced_place_of P (high_corner line.axis line.at r)
       → (before behind : Deck.Rect) → IsPart Before before → IsPart Behind behind → (first second : Entry) → first ≡ entry_for P (rect_of before)
       → second ≡ entry_for P (rect_of behind)
       → ◌≡◌ {A = Halves} (record { low = low; high = high; first = first; second = second }) (halves_of P line r)

@@ -21,8 +21,8 @@ use Rattle.query.proofs.Promise3.{lawful}
 use Rattle.query.proofs.FigureRanges.{run_in_range}
 use Rattle.deck.specs.Objects.{Pricing}
 use Rattle.prepare.specs.declared.Problem.{Problem}
-use Rattle.problem.specs.Prepared.{problem_of, Prepared}
-use Rattle.problem.proofs.DeckProblem.{prepared_problem}
+use Rattle.priced_place.specs.Prepared.{problem_of, Prepared}
+use Rattle.priced_place.proofs.DeckProblem.{prepared_problem}
 use Rattle.slots.specs.Slot.{entry_cell}
 use Rattle.cells.specs.Live.{Live}
 use Rattle.search.specs.declared.run.Running.{Running}

@@ -18,14 +18,14 @@ use Rattle.query.specs.Search.{is_live, best_of, other_corners, start_best}
 use Rattle.query.proofs.Best.{best_of_nil, best_of_cons}
 use Rattle.query.proofs.KeyOrder.{cell_before_strict}
 use Rattle.deck.specs.Objects.{Pricing}
-use Rattle.problem.specs.declared.Spot.{Spot}
+use Rattle.priced_place.specs.declared.PricedPlace.{PricedPlace}
 use Rattle.slots.specs.declared.Entry.{Entry}
 use Rattle.slots.specs.Slot.{entry_cell}
 use Rattle.cells.specs.Entries.{entry_before}
 use Rattle.cells.specs.Live.{Live, with_entry}
 use Rattle.search.specs.Corners.{priced_corners, improved, best_corner}
 use Rattle.search.specs.LiveEntries.{with_live, Added}
-use Rattle.problem.specs.ObjectProblem.{object_rules, object_problem, priced_of, spot_of}
+use Rattle.priced_place.specs.ObjectProblem.{object_rules, object_problem, priced_of, priced_place_of}
 use Rattle.cells.proofs.SpaceLaws.{keep_insert_in, keep_insert_out, keep_agree, cells_insert}
 
 -- ---- one more entry, if it is live
@@ -111,7 +111,7 @@ unfolding with_cell keep insert_by
 single G best x = refl
 
 -- ---- the best place
-improved_is : (best p : Spot) → priced_of (improved best p) ≡ cond (better (priced_of p) (priced_of best)) (priced_of p) (priced_of best)
+improved_is : (best p : PricedPlace) → priced_of (improved best p) ≡ cond (better (priced_of p) (priced_of best)) (priced_of p) (priced_of best)
 unfolding improved
 improved_is best p = go (better (priced_of p) (priced_of best))
   where
@@ -120,24 +120,24 @@ improved_is best p = go (better (priced_of p) (priced_of best))
     go false = refl
 
 module _ (P : Pricing) (G : Grid) where
-  best_more : (best : Spot) (p : Place) (ps : List Place)
-      → best_of (object_rules P G) (priced_of best) (p ∷ ps) ≡ best_of (object_rules P G) (priced_of (improved best (spot_of P p))) ps
-  best_more best p ps = rw (best_of_cons (object_rules P G) (priced_of best) p ps, improved_is best (spot_of P p))
+  best_more : (best : PricedPlace) (p : Place) (ps : List Place)
+      → best_of (object_rules P G) (priced_of best) (p ∷ ps) ≡ best_of (object_rules P G) (priced_of (improved best (priced_place_of P p))) ps
+  best_more best p ps = rw (best_of_cons (object_rules P G) (priced_of best) p ps, improved_is best (priced_place_of P p))
 
-  pub best_two : (best : Spot) (p q : Place)
-      → best_of (object_rules P G) (priced_of best) (p ∷ q ∷ []) ≡ priced_of (improved (improved best (spot_of P p)) (spot_of P q))
+  pub best_two : (best : PricedPlace) (p q : Place)
+      → best_of (object_rules P G) (priced_of best) (p ∷ q ∷ []) ≡ priced_of (improved (improved best (priced_place_of P p)) (priced_place_of P q))
   best_two best p q =
       best_more best p (q ∷ [])
-      ∙ best_more (improved best (spot_of P p)) q []
-      ∙ best_of_nil (object_rules P G) (priced_of (improved (improved best (spot_of P p)) (spot_of P q)))
+      ∙ best_more (improved best (priced_place_of P p)) q []
+      ∙ best_of_nil (object_rules P G) (priced_of (improved (improved best (priced_place_of P p)) (priced_place_of P q)))
 
   pub start_best_lem : (area : Rect) → priced_of (best_corner (priced_corners P area)) ≡ start_best (object_problem P G area)
   unfolding start_best other_corners best_corner
   start_best_lem area =
-      let c₁ = spot_of P (corner area) in
-      let c₂ = improved c₁ (spot_of P (record { x = area.xlo; y = area.yhi })) in
-      let c₃ = improved c₂ (spot_of P (record { x = area.xhi; y = area.ylo })) in
-      let c₄ = improved c₃ (spot_of P (record { x = area.xhi; y = area.yhi })) in
+      let c₁ = priced_place_of P (corner area) in
+      let c₂ = improved c₁ (priced_place_of P (record { x = area.xlo; y = area.yhi })) in
+      let c₃ = improved c₂ (priced_place_of P (record { x = area.xhi; y = area.ylo })) in
+      let c₄ = improved c₃ (priced_place_of P (record { x = area.xhi; y = area.yhi })) in
       sym (best_more c₁ (record { x = area.xlo; y = area.yhi }) (record { x = area.xhi; y = area.ylo } ∷ record { x = area.xhi; y = area.yhi } ∷ [])
       ∙ best_more c₂ (record { x = area.xhi; y = area.ylo }) (record { x = area.xhi; y = area.yhi } ∷ [])
       ∙ best_more c₃ (record { x = area.xhi; y = area.yhi }) []

@@ -27,7 +27,7 @@ use Rattle.reach.specs.declared.columns.Objects.{Objects}
 use Rattle.pricing.proofs.TurnLaws.{cost_most}
 use Rattle.slots.specs.declared.Cell.{Cell}
 use Rattle.slots.specs.declared.Costs.{Costs}
-use Rattle.problem.specs.declared.Spot.{Spot}
+use Rattle.priced_place.specs.declared.PricedPlace.{PricedPlace}
 use Rattle.search.specs.declared.halves.Halves.{Halves}
 use Rattle.search.specs.declared.halves.Part.TheVariants.{Before, Behind}
 use Rattle.search.specs.declared.run.Corners.{Corners}
@@ -40,7 +40,7 @@ use Rattle.search.specs.Corners.{priced_corners, corner_costs, entry_for, improv
 use Rattle.search.specs.CutCell.{halves_of, Cutting}
 use Rattle.search.specs.LiveEntries.{with_live, Added, Costed}
 use Rattle.search.specs.Running.{Takeable, search_of, Holds}
-use Rattle.problem.specs.ObjectProblem.{object_rules, object_problem, priced_of, rect_in}
+use Rattle.priced_place.specs.ObjectProblem.{object_rules, object_problem, priced_of, rect_in}
 use Rattle.cells.proofs.SpaceLaws.{cells_keep, cells_in_order}
 use Rattle.search.proofs.StepLaws.{improved_limit}
 use Rattle.search.proofs.CutParts.{halved_ranged}
@@ -56,7 +56,7 @@ start_is : (Q : Problem)
 unfolding start
 start_is Q = refl
 
-pub started : (P : Pricing) (G : Grid) (e : Entry) (area : Rect) (k : Corners) (best : Spot) (l : Live) → k ≡ priced_corners P area
+pub started : (P : Pricing) (G : Grid) (e : Entry) (area : Rect) (k : Corners) (best : PricedPlace) (l : Live) → k ≡ priced_corners P area
     → best ≡ best_corner k → e ≡ entry_for P area → Added G (priced_of best) e none_live l
     → Holds P (start (object_problem P G area)) 1000 l (record { best = best; cuts = 0 })
 started P G e area k best l corners best-is entry added = record {
@@ -92,10 +92,10 @@ started P G e area k best l corners best-is entry added = record {
 
 -- ---- a round
 -- the best place after a cut, and whether an entry comes before a best place
-abbrev best_with : Spot → Halves → Spot
+abbrev best_with : PricedPlace → Halves → PricedPlace
 best_with best hv = improved (improved best hv.low) hv.high
 
-abbrev leads : Spot → Entry → Bool
+abbrev leads : PricedPlace → Entry → Bool
 leads best e = precedes (cell_key (entry_cell e)) (priced_key (priced_of best))
 
 round_on_lem : (R : Rules) (s : Search) (c : Query.Cell) (cs : List Query.Cell) → s.live ≡ c ∷ cs
@@ -139,13 +139,13 @@ module _ (P : Pricing) (G : Grid) (c : Cell) (can : T (can_cut G (rect_in c))) w
   unfolding best_after
   best_after_is best = refl
 
-  best_after_lem : (best : Spot) → priced_of (best_with best halves) ≡ best_after R (priced_of best) (query_cell c)
+  best_after_lem : (best : PricedPlace) → priced_of (best_with best halves) ≡ best_after R (priced_of best) (query_cell c)
   unfolding halves_of
   best_after_lem best =
       rw (best_after_is (priced_of best))
       (sym (best_two P G best (low_corner line.axis line.at (rect_in c)) (high_corner line.axis line.at (rect_in c))))
 
-  module _ (k : Costs) (rest : List Entry) (best : Spot) (order : EntriesInOrder rest)
+  module _ (k : Costs) (rest : List Entry) (best : PricedPlace) (order : EntriesInOrder rest)
       (cuttable : (e : Entry) → Memᴰ e rest → T (can_cut G (entry_cell e).rect)) where
     abbrev best' : Priced
     best' = priced_of (best_with best halves)
@@ -207,7 +207,7 @@ pub halves_ranged : (P : Pricing) (hv : Halves) (G : Grid) (r : Rect) → T (can
 unfolding halves_of
 halves_ranged P hv G r can h e = let part = halved_ranged G r can h in rw e ((part Before).range, (part Behind).range)
 
-pub limit_of : (r best p : Spot) → r ≡ improved best p → best.cost ≤ cost_limit → p.cost ≤ cost_limit → r.cost ≤ cost_limit
+pub limit_of : (r best p : PricedPlace) → r ≡ improved best p → best.cost ≤ cost_limit → p.cost ≤ cost_limit → r.cost ≤ cost_limit
 limit_of r best p e h g = rw e (improved_limit best p cost_limit h g)
 
 pub leading_free : (best : Query.Key) (l l' : Live) → l' ≡ leading best l → l'.free ≡ l.free
@@ -225,10 +225,10 @@ module _ (P : Pricing) (G : Grid) (e : Entry) (l : Live) (st : Running) (h : Tak
   abbrev halved : Halves
   halved = halves_of P (cut_line G (rect_in e.cell)) (rect_in e.cell)
 
-  abbrev new_best : Spot
+  abbrev new_best : PricedPlace
   new_best = best_with st.best halved
 
-  pub rounded : (hv : Halves) → hv ≡ halved → (b best : Spot) → b ≡ improved st.best hv.low → best ≡ improved b hv.high
+  pub rounded : (hv : Halves) → hv ≡ halved → (b best : PricedPlace) → b ≡ improved st.best hv.low → best ≡ improved b hv.high
       → (l₁ : Live) → l₁ ≡ leading (priced_key (priced_of best)) l → (l₂ : Live) → Added G (priced_of best) hv.second l₁ l₂
       → (l₃ : Live) → Added G (priced_of best) hv.first l₂ l₃
       → Holds P (round (object_rules P G) (search_of (e ∷ l.entries) st)) (l.free - 2) l₃ (record { best = best; cuts = st.cuts + 1 })

@@ -36,7 +36,7 @@ use Rattle.cells.specs.Live.{Live, first_of, rest_of, without_first}
 use Rattle.search.specs.LiveEntries.{Costed}
 use Rattle.search.specs.Running.{search_of, Takeable, Holds}
 use Rattle.search.specs.Answer.{Answerable, is_done, found_of}
-use Rattle.problem.specs.ObjectProblem.{priced_of}
+use Rattle.priced_place.specs.ObjectProblem.{priced_of}
 use Rattle.numbers.proofs.WordTests.{back, fitting}
 use Rattle.cells.proofs.SpaceLaws.{cells_in_order}
 use Rattle.search.proofs.RoundLaws.{search_is}

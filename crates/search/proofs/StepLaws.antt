@@ -23,26 +23,26 @@ use Rattle.pricing.specs.ObjectFigures.{load_of, BoundInRange}
 use Rattle.pricing.proofs.TurnLaws.{cost_most}
 use Rattle.slots.specs.declared.Entry.{Entry}
 use Rattle.slots.specs.declared.Costs.{Costs}
-use Rattle.problem.specs.declared.Spot.{Spot}
-use Rattle.problem.specs.ObjectProblem.{priced_of, rect_in, bound_of}
+use Rattle.priced_place.specs.declared.PricedPlace.{PricedPlace}
+use Rattle.priced_place.specs.ObjectProblem.{priced_of, rect_in, bound_of}
 use Rattle.search.specs.declared.run.Corners.{Corners}
 use Rattle.search.specs.Corners.{priced_corners, costs_of, corner_costs, entry_for, CostsInRange, improved, best_corner}
 
 -- ---- the better of two
-pub spot_better : (p best : Spot) (r : Bool) (k l : Key) → k ≡ priced_key (priced_of p) → l ≡ priced_key (priced_of best)
+pub spot_better : (p best : PricedPlace) (r : Bool) (k l : Key) → k ≡ priced_key (priced_of p) → l ≡ priced_key (priced_of best)
     → r ≡ precedes k l → r ≡ better (priced_of p) (priced_of best)
 unfolding better
 spot_better p best r k l f g e = e ∙ (λ i. precedes (f i) (g i))
 
-pub improve_taken : (best p : Spot) (r : Bool) → r ≡ better (priced_of p) (priced_of best) → r ≡ true → p ≡ improved best p
+pub improve_taken : (best p : PricedPlace) (r : Bool) → r ≡ better (priced_of p) (priced_of best) → r ≡ true → p ≡ improved best p
 unfolding improved
 improve_taken best p r e t = let f : better (priced_of p) (priced_of best) ≡ true = sym e ∙ t in rw f
 
-pub improve_left : (best p : Spot) (r : Bool) → r ≡ better (priced_of p) (priced_of best) → r ≡ false → best ≡ improved best p
+pub improve_left : (best p : PricedPlace) (r : Bool) → r ≡ better (priced_of p) (priced_of best) → r ≡ false → best ≡ improved best p
 unfolding improved
 improve_left best p r e t = let f : better (priced_of p) (priced_of best) ≡ false = sym e ∙ t in rw f
 
-pub improved_limit : (best p : Spot) (k : ℕ) → best.cost ≤ k → p.cost ≤ k → (improved best p).cost ≤ k
+pub improved_limit : (best p : PricedPlace) (k : ℕ) → best.cost ≤ k → p.cost ≤ k → (improved best p).cost ≤ k
 unfolding improved
 improved_limit best p k h g = go (better (priced_of p) (priced_of best))
   where
@@ -97,7 +97,7 @@ module _ (k : Corners) (h : CostsInRange (costs_of k)) where
   unfolding best_corner
   best_limit = improved_limit (improved (improved k.c00 k.c01) k.c10) k.c11 cost_limit best_three_limit h.corner_11
 
-pub best_corner_is : (k : Corners) (one two three : Spot) → one ≡ improved k.c00 k.c01 → two ≡ improved one k.c10 → three ≡ improved two k.c11 → three
+pub best_corner_is : (k : Corners) (one two three : PricedPlace) → one ≡ improved k.c00 k.c01 → two ≡ improved one k.c10 → three ≡ improved two k.c11 → three
     ≡ best_corner k
 unfolding best_corner
 best_corner_is k one two three a b d = rw (d, b, a)

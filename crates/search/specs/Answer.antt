@@ -5,7 +5,7 @@ use Rattle.query.specs.Order as Query
 use Rattle.query.specs.Search.{Search, run}
 use Rattle.query.specs.Figures as Figures
 use Rattle.query.specs.Range.{cost_limit}
-use Rattle.problem.specs.ObjectProblem.{spot_at}
+use Rattle.priced_place.specs.ObjectProblem.{priced_place_at}
 use Rattle.search.specs.declared.run.Running.{Running}
 use Rattle.search.specs.declared.run.Found.{Found}
 use Rattle.slots.specs.Slot.{entry_cell}
@@ -25,7 +25,7 @@ unfoldable pub found_of : Search → Found
 unfolding Figures.low
 found_of s = record {
   done = is_done s.live;
-  best = spot_at s.best.at.x s.best.at.y (Figures.high s);
+  best = priced_place_at s.best.at.x s.best.at.y (Figures.high s);
   low = Figures.low s;
   cuts = s.cuts;
 }

@@ -8,17 +8,17 @@ use Rattle.deck.specs.Rectangle.{rect_record}
 use Rattle.slots.specs.declared.Cell.{Cell}
 use Rattle.slots.specs.declared.Costs.{Costs}
 use Rattle.slots.specs.declared.Entry.{Entry}
-use Rattle.problem.specs.ObjectProblem.{bound_of, priced_of, spot_of}
-use Rattle.problem.specs.declared.Spot.{Spot}
+use Rattle.priced_place.specs.ObjectProblem.{bound_of, priced_of, priced_place_of}
+use Rattle.priced_place.specs.declared.PricedPlace.{PricedPlace}
 use Rattle.search.specs.declared.run.Corners.{Corners}
 
 -- the corners of a rectangle, priced
 abbrev pub priced_corners : Pricing → Rect → Corners
 priced_corners P r = record {
-  c00 = spot_of P (corner r);
-  c01 = spot_of P (record { x = r.xlo; y = r.yhi });
-  c10 = spot_of P (record { x = r.xhi; y = r.ylo });
-  c11 = spot_of P (record { x = r.xhi; y = r.yhi });
+  c00 = priced_place_of P (corner r);
+  c01 = priced_place_of P (record { x = r.xlo; y = r.yhi });
+  c10 = priced_place_of P (record { x = r.xhi; y = r.ylo });
+  c11 = priced_place_of P (record { x = r.xhi; y = r.yhi });
 }
 
 -- their costs
@@ -36,7 +36,7 @@ abbrev pub entry_for : Pricing → Rect → Entry
 entry_for P r = record { cell = cell_for P r; costs = corner_costs P r }
 
 -- the better of two
-unfoldable pub improved : Spot → Spot → Spot
+unfoldable pub improved : PricedPlace → PricedPlace → PricedPlace
 unfolding better
 improved best p = cond (better (priced_of p) (priced_of best)) p best
 
@@ -47,6 +47,6 @@ pub record CostsInRange (k : Costs) : Type 0 where
   pub corner_11 : k.c11 ≤ cost_limit
 
 -- the best of a rectangle's corners
-unfoldable pub best_corner : Corners → Spot
+unfoldable pub best_corner : Corners → PricedPlace
 unfolding improved
 best_corner k = improved (improved (improved k.c00 k.c01) k.c10) k.c11

@@ -7,7 +7,7 @@ use Rattle.deck.specs.Objects.{Pricing}
 use Rattle.pricing.specs.ObjectFigures.{cost_of}
 use Rattle.slots.specs.declared.Costs.{Costs}
 use Rattle.reach.specs.Columns.{Ranged}
-use Rattle.problem.specs.ObjectProblem.{bound_of, spot_of}
+use Rattle.priced_place.specs.ObjectProblem.{bound_of, priced_place_of}
 use Rattle.search.specs.declared.halves.Halves.{Halves}
 use Rattle.search.specs.Corners.{corner_costs, entry_for}
 use Rattle.search.specs.declared.halves.Part.{Part}
@@ -36,8 +36,8 @@ cut_part Behind = cut_after
 unfoldable pub halves_of : Pricing → Line → Rect → Halves
 unfolding cost_of bound_of
 halves_of P line r = record {
-  low = spot_of P (low_corner line.axis line.at r);
-  high = spot_of P (high_corner line.axis line.at r);
+  low = priced_place_of P (low_corner line.axis line.at r);
+  high = priced_place_of P (high_corner line.axis line.at r);
   first = entry_for P (cut_before line.axis line.at r);
   second = entry_for P (cut_after line.axis line.at r);
 }

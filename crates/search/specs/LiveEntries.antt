@@ -8,8 +8,8 @@ use Rattle.query.specs.Search.{is_live}
 use Rattle.query.specs.Range.{RectInRange, cost_limit}
 use Rattle.deck.specs.Objects.{Pricing}
 use Rattle.slots.specs.declared.Entry.{Entry}
-use Rattle.problem.specs.ObjectProblem.{rect_in}
-use Rattle.problem.specs.declared.Spot.{Spot}
+use Rattle.priced_place.specs.ObjectProblem.{rect_in}
+use Rattle.priced_place.specs.declared.PricedPlace.{PricedPlace}
 use Rattle.slots.specs.Slot.{entry_cell}
 use Rattle.cells.specs.Entries.{entry_before}
 use Rattle.cells.specs.Live.{Live}
@@ -21,7 +21,7 @@ unfolding is_live insert_by entry_before
 with_live G best e es = cond (is_live G best (entry_cell e)) (insert_by entry_before e es) es
 
 -- where an entry more may go: a slot is free, and its cell and the best place are in range
-pub record Addable (l : Live) (e : Entry) (best : Spot) : Type 0 where
+pub record Addable (l : Live) (e : Entry) (best : PricedPlace) : Type 0 where
   pub room : 1 ≤ l.free
   pub ranged : RectInRange (rect_in e.cell)
   pub cost_limit_lem : best.cost ≤ cost_limit

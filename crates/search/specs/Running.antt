@@ -7,7 +7,7 @@ use Rattle.query.specs.Search.{Search}
 use Rattle.query.specs.Range.{cost_limit, rounds_limit}
 use Rattle.deck.specs.Objects.{Pricing}
 use Rattle.reach.specs.Columns.{Ranged}
-use Rattle.problem.specs.ObjectProblem.{priced_of, rect_in}
+use Rattle.priced_place.specs.ObjectProblem.{priced_of, rect_in}
 use Rattle.search.specs.declared.run.Running.{Running}
 use Rattle.slots.specs.declared.Entry.{Entry}
 use Rattle.slots.specs.Slot.{entry_cell}

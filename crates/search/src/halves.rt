@@ -7,8 +7,8 @@ ghost use Rattle.deck.specs.Rectangle.{rect_of, rect_record};
 ghost use Rattle.reach.specs.Columns.{Ranged};
 ghost use Rattle.reach.specs.Held.{pricing_of_objects};
 ghost use Rattle.cuts.specs.CutRecord.{axis_of, cut_record};
-ghost use Rattle.problem.specs.ObjectProblem.{priced_of, rect_in};
-ghost use Rattle.problem.specs.Prepared.{problem_of};
+ghost use Rattle.priced_place.specs.ObjectProblem.{priced_of, rect_in};
+ghost use Rattle.priced_place.specs.Prepared.{problem_of};
 ghost use Rattle.cells.specs.Entries.{query_key};
 ghost use Rattle.search.specs.Corners.{corner_costs, entry_for, improved};
 ghost use Rattle.search.specs.CutCell.{cut_part, part_costs, halves_of, Cutting};
@@ -17,15 +17,15 @@ use cells::Key;
 use cuts::{Axis, Cut};
 use deck::Rect;
 use prepare::Problem;
-use problem::Spot;
+use priced_place::PricedPlace;
 use reach::Objects;
 use slots::{Cell, Costs, Entry};
 
 // What a cut makes of a cell: its two new corners, and its two parts with the costs of their corners.
 #[derive(Clone, Copy)]
 pub struct Halves {
-    pub low: Spot,
-    pub high: Spot,
+    pub low: PricedPlace,
+    pub high: PricedPlace,
     pub first: Entry,
     pub second: Entry,
 }
@@ -38,7 +38,7 @@ enum Part {
 }
 
 // The key of a place: its cost, and the place by which equal costs are told apart.
-pub(crate) fn spot_key(spot: Spot) -> Key
+pub(crate) fn spot_key(spot: PricedPlace) -> Key
     requires { spot.cost ≤ cost_limit }
     ensures { query_key result ≡ priced_key (priced_of spot) }
 {
@@ -49,7 +49,7 @@ pub(crate) fn spot_key(spot: Spot) -> Key
 }
 
 // The better of two places.
-pub(crate) fn improve(best: Spot, p: Spot) -> Spot
+pub(crate) fn improve(best: PricedPlace, p: PricedPlace) -> PricedPlace
     requires { (best.cost ≤ cost_limit) × (p.cost ≤ cost_limit) }
     ensures { result ≡ improved best p }
 {
@@ -138,8 +138,8 @@ pub(crate) fn halve(problem: &Problem, entry: Entry) -> Halves
     let before = rect_part(rect, cut, Part::Before);
     let behind = rect_part(rect, cut, Part::Behind);
     let objects = &problem.objects;
-    let low = problem::priced(objects, behind.low());
-    let high = problem::priced(objects, before.high());
+    let low = priced_place::priced(objects, behind.low());
+    let high = priced_place::priced(objects, before.high());
     let first_costs = costs_part(k, cut.axis, Part::Before, low.cost, high.cost);
     let second_costs = costs_part(k, cut.axis, Part::Behind, low.cost, high.cost);
     let first = bounded(objects, before, first_costs);

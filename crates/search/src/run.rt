@@ -11,21 +11,21 @@ ghost use Rattle.search.specs.Corners.{priced_corners, costs_of, CostsInRange, b
 ghost use Rattle.search.specs.LiveEntries.{Addable, Added};
 ghost use Rattle.search.specs.Running.{search_of, Takeable, Holds};
 ghost use Rattle.search.specs.Answer.{Answerable, found_of, Searched};
-ghost use Rattle.problem.specs.ObjectProblem.{priced_of, rect_in};
-ghost use Rattle.problem.specs.Prepared.{problem_of, Prepared};
+ghost use Rattle.priced_place.specs.ObjectProblem.{priced_of, rect_in};
+ghost use Rattle.priced_place.specs.Prepared.{problem_of, Prepared};
 
 use crate::halves::{bounded, cut_of, halve, improve, spot_key};
 use cells::{Key, LiveCells};
 use deck::{Place, Rect};
 use prepare::Problem;
-use problem::Spot;
+use priced_place::PricedPlace;
 use reach::Objects;
 use slots::{Cell, Costs, Entry};
 
 // What a search holds while it runs, beside its live cells: the best place so far and the cuts made.
 #[derive(Clone, Copy)]
 pub struct Running {
-    pub best: Spot,
+    pub best: PricedPlace,
     pub cuts: u64,
 }
 
@@ -34,7 +34,7 @@ pub struct Running {
 #[derive(Clone, Copy)]
 pub struct Found {
     pub done: bool,
-    pub best: Spot,
+    pub best: PricedPlace,
     pub low: i64,
     pub cuts: u64,
 }
@@ -43,10 +43,10 @@ pub struct Found {
 // kept: beside `slots::Costs`: a type over what stands at a corner would be named for each of the two all the same.
 #[derive(Clone, Copy)]
 struct Corners {
-    c00: Spot,
-    c01: Spot,
-    c10: Spot,
-    c11: Spot,
+    c00: PricedPlace,
+    c01: PricedPlace,
+    c10: PricedPlace,
+    c11: PricedPlace,
 }
 
 impl Corners {
@@ -59,10 +59,10 @@ impl Corners {
         let right = Place { x: r.xhi, y: r.ylo };
         let back = Place { x: r.xhi, y: r.yhi };
         Corners {
-            c00: problem::priced(objects, front),
-            c01: problem::priced(objects, left),
-            c10: problem::priced(objects, right),
-            c11: problem::priced(objects, back),
+            c00: priced_place::priced(objects, front),
+            c01: priced_place::priced(objects, left),
+            c10: priced_place::priced(objects, right),
+            c11: priced_place::priced(objects, back),
         }
     }
 
@@ -77,7 +77,7 @@ impl Corners {
         }
     }
 
-    fn best(&self) -> Spot
+    fn best(&self) -> PricedPlace
         requires { CostsInRange (costs_of self.now) }
         ensures { result ≡ best_corner self.now }
     {
@@ -86,7 +86,7 @@ impl Corners {
 }
 
 // Whether a cell is live: it comes before the best place and can be cut.
-fn is_live(problem: &Problem, c: Cell, best: Spot) -> bool
+fn is_live(problem: &Problem, c: Cell, best: PricedPlace) -> bool
     requires { RectInRange (rect_in c) × (best.cost ≤ cost_limit) }
     ensures { result ≡ Search.is_live (problem_of problem.now).rules.grid (priced_of best) (query_cell c) }
 {
@@ -94,7 +94,7 @@ fn is_live(problem: &Problem, c: Cell, best: Spot) -> bool
 }
 
 // One more entry among the live ones, if its cell is live.
-fn add(problem: &Problem, live: &mut LiveCells, entry: Entry, best: Spot)
+fn add(problem: &Problem, live: &mut LiveCells, entry: Entry, best: PricedPlace)
     requires { Addable live.old entry best }
     ensures { Added (problem_of problem.now).rules.grid (priced_of best) entry live.old
         live.new }

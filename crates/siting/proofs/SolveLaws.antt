@@ -37,11 +37,11 @@ use Rattle.pricing.proofs.ObjectLaws.{before_law}
 use Rattle.slots.specs.Slot.{entry_cell}
 use Rattle.cells.specs.Live.{Live}
 use Rattle.prepare.specs.declared.Problem as Held
-use Rattle.prepare.specs.declared.Given.{Given}
+use Rattle.prepare.specs.declared.PreparedJob.{PreparedJob}
 use Rattle.prepare.specs.ProblemRecord.{given_by, given_for}
 use Rattle.prepare.proofs.JobProblem.{spelt, rounds_same, rounds_limit_lem, before_same, problem_same}
-use Rattle.problem.specs.Prepared.{problem_of, Prepared}
-use Rattle.problem.proofs.DeckProblem.{prepared_pricing, prepared_problem, made_prepared}
+use Rattle.priced_place.specs.Prepared.{problem_of, Prepared}
+use Rattle.priced_place.proofs.DeckProblem.{prepared_pricing, prepared_problem, made_prepared}
 use Rattle.report.specs.Report.{report_state, report_figures}
 use Rattle.report.specs.Text.{report_text}
 use Rattle.write.specs.Written.{overwritten}
@@ -137,7 +137,7 @@ unfolding reported
 reported_is job cells cells' out out' r text e f g h = rw (h, g, f, e)
 
 -- ---- what an accepted job gives
-module _ (bytes : List ℕ) (g : Given) (e : given_by (Ok g) ≡ given_for (read_job bytes)) where
+module _ (bytes : List ℕ) (g : PreparedJob) (e : given_by (Ok g) ≡ given_for (read_job bytes)) where
   abbrev pub spells : Spelt bytes
   spells = spelt bytes g e
 

@@ -16,11 +16,11 @@ use Rattle.write.specs.Written.{Overwrote}
 use Rattle.report.specs.declared.Report.{Report}
 use Rattle.report.specs.declared.State.{State}
 use Rattle.report.specs.declared.State.TheVariants.{Done, Stopped}
-use Rattle.prepare.specs.declared.Given.{Given}
+use Rattle.prepare.specs.declared.PreparedJob.{PreparedJob}
 use Rattle.prepare.specs.ProblemRecord.{given_by, given_for}
 use Rattle.slots.specs.Slot.{entry_cell}
 use Rattle.cells.specs.Live.{Live}
-use Rattle.problem.specs.Prepared.{problem_of}
+use Rattle.priced_place.specs.Prepared.{problem_of}
 use Rattle.estimate.specs.LineCounts.{estimate_by}
 use Rattle.siting.specs.declared.Response.{Response}
 use Rattle.calls.specs.Answers.{AnswerOf, answer_of}
@@ -35,12 +35,12 @@ pub record Solved (Q : Problem) (paid rounds : ℕ) (l : Live) (r : Report) : Ty
   pub cells : map entry_cell l.entries ≡ (run Q rounds).live
 
 -- some job gives it
-pub record OfJob (g : Given) : Type 0 where
+pub record OfJob (g : PreparedJob) : Type 0 where
   pub job : List ℕ
   pub given : given_by (Ok g) ≡ given_for (read_job job)
 
 -- so many numbers of cell space are enough for its live cells
-pub record Fits (g : Given) (lent : ℕ) : Type 0 where
+pub record Fits (g : PreparedJob) (lent : ℕ) : Type 0 where
   pub enough : 5 * (estimate_by (length g.problem.vertical) (length g.problem.horizontal) g.rounds).cells ≤ lent
 
 -- the answer
@@ -49,7 +49,7 @@ response_answer = answer_of (λ r. report_figures r.report)
 
 -- ---- of what a job gives, where refusal 8 alone may apply
 -- the output is long enough and holds the text of the report
-pub record Reported (g : Given) (out : List ℕ) (l : Live) (out' : List ℕ) (r : Response) : Type 0 where
+pub record Reported (g : PreparedJob) (out : List ℕ) (l : Live) (out' : List ℕ) (r : Response) : Type 0 where
   pub long : output_size ≤ length out
   pub solved : Solved (problem_of g.problem) g.before g.rounds l r.report
   pub text : Overwrote out (report_text (report_figures r.report)) out' r.bytes
@@ -60,7 +60,7 @@ pub record Lacking (out out' : List ℕ) (why : Refusal) : Type 0 where
   pub short : length out < output_size
   pub kept : out' ≡ out
 
-abbrev pub Answered : Given → List ℕ → Live → List ℕ → Std.Result Response Refusal → Type 0
+abbrev pub Answered : PreparedJob → List ℕ → Live → List ℕ → Std.Result Response Refusal → Type 0
 Answered g out l out' (Ok r) = Reported g out l out' r
 Answered g out l out' (Err why) = Lacking out out' why
 
@@ -70,13 +70,13 @@ cells_after l cells (Ok r) = padded (length cells) (pos 0) (all_numbers (map ent
 cells_after l cells (Err why) = cells
 
 -- the same with the live cells in the cell space, and with live cells that nobody sees
-pub record AnsweredIn (g : Given) (cells : List ℤ) (out : List ℕ) (cells' : List ℤ) (out' : List ℕ) (r : Std.Result Response Refusal)
+pub record AnsweredIn (g : PreparedJob) (cells : List ℤ) (out : List ℕ) (cells' : List ℤ) (out' : List ℕ) (r : Std.Result Response Refusal)
     : Type 0 where
   pub live : Live
   pub answered : Answered g out live out' r
   pub cells_are : cells' ≡ cells_after live cells r
 
-pub record AnsweredAlone (g : Given) (out out' : List ℕ) (r : Std.Result Response Refusal) : Type 0 where
+pub record AnsweredAlone (g : PreparedJob) (out out' : List ℕ) (r : Std.Result Response Refusal) : Type 0 where
   pub live : Live
   pub answered : Answered g out live out' r
 

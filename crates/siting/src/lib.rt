@@ -15,7 +15,7 @@ ghost use Rattle.calls.specs.ChangeCall.{change_call};
 ghost use Rattle.cells.specs.Live.{none_live};
 ghost use Rattle.change.specs.Change.{add_post, remove_post, add_stop, remove_stop};
 ghost use Rattle.deck.specs.Rectangle.{place_of, stop_of};
-ghost use Rattle.problem.specs.Prepared.{problem_of, Prepared};
+ghost use Rattle.priced_place.specs.Prepared.{problem_of, Prepared};
 ghost use Rattle.siting.specs.Response.{state_for, Solved, OfJob, Fits, Answered, AnsweredIn, AnsweredAlone, Responded, RespondedAlone};
 
 use calls::{Estimate, Text};
@@ -23,8 +23,8 @@ use cells::LiveCells;
 use deck::{Deck, Place, Stop};
 use job::Job;
 use limits::{CELL_NUMBERS, REPORT_BYTES};
-use prepare::{Given, Problem};
-use problem::Spot;
+use prepare::{PreparedJob, Problem};
+use priced_place::PricedPlace;
 use refusal::Refusal;
 use report::{Report, State};
 use search::run;
@@ -64,9 +64,13 @@ fn solve(problem: &Problem, before: u64, rounds: u64, live: &mut LiveCells) -> R
 
 // The report of what a job gives, with its text in the output, or refusal 8, which comes before any place is priced.
 // Not inlined: where it is, a report of many rounds takes 2 % longer.
-// kept: `OfJob`, here and below, is a clause and no ghost field of `Given`, since it gives the job, and a field only that there is one.
+// kept: `OfJob`, here and below, is a clause and no ghost field of `PreparedJob`, since it gives the job, and a field only that there is one.
 #[inline(never)]
-fn respond_to(given: &Given, live: &mut LiveCells, out: &mut [u8]) -> Result<Response, Refusal>
+fn respond_to(
+    given: &PreparedJob,
+    live: &mut LiveCells,
+    out: &mut [u8],
+) -> Result<Response, Refusal>
     requires { OfJob given.now × (live.old ≡ none_live) }
     ensures { Answered given.now out.old live.new out.new result }
 {
@@ -80,7 +84,7 @@ fn respond_to(given: &Given, live: &mut LiveCells, out: &mut [u8]) -> Result<Res
 
 // The same, with the live cells in the cell space. Not inlined, so that the arrays are not on the stack while a job is read.
 #[inline(never)]
-fn respond_in(given: &Given, cells: &mut [i64], out: &mut [u8]) -> Result<Response, Refusal>
+fn respond_in(given: &PreparedJob, cells: &mut [i64], out: &mut [u8]) -> Result<Response, Refusal>
     requires { OfJob given.now × Fits given.now (length cells.old) }
     ensures { AnsweredIn given.now cells.old out.old cells.new out.new result }
 {
@@ -93,7 +97,7 @@ fn respond_in(given: &Given, cells: &mut [i64], out: &mut [u8]) -> Result<Respon
 
 // The same for a caller with no cell space. Not inlined, as `respond_in`.
 #[inline(never)]
-fn respond_without_cells(given: &Given, out: &mut [u8]) -> Result<Response, Refusal>
+fn respond_without_cells(given: &PreparedJob, out: &mut [u8]) -> Result<Response, Refusal>
     requires { OfJob given.now }
     ensures { AnsweredAlone given.now out.old out.new result }
 {
@@ -143,7 +147,7 @@ pub fn siting_report(job: &[u8], out: &mut [u8]) -> i64
 }
 
 // The cheapest crossing of lines, the earliest among equals, or the refusal of the job. Its rounds are not used.
-pub fn exhaustive(job: &[u8]) -> Result<Spot, Refusal>
+pub fn exhaustive(job: &[u8]) -> Result<PricedPlace, Refusal>
     ensures { cheapest_answer result ≡ exhaustive_call job.now }
 {
     let prepared = prepare::of_job(job)?;

@@ -29,8 +29,8 @@ use Rattle.deck.proofs.SoundLaws.{sound_limit}
 use Rattle.reach.specs.Held.{pricing_of_objects}
 use Rattle.pricing.specs.ObjectFigures.{cost_of, load_of, Figure}
 use Rattle.pricing.proofs.ObjectLaws.{cost_law, load_law}
-use Rattle.problem.specs.ObjectProblem.{bound_of}
-use Rattle.problem.proofs.DeckProblem.{bound_law}
+use Rattle.priced_place.specs.ObjectProblem.{bound_of}
+use Rattle.priced_place.proofs.DeckProblem.{bound_law}
 use Rattle.trial.specs.Ranges.{place_in_range, rect_allowed}
 use Rattle.trial.specs.Trial.{minus_one, least, before_figure, near_figure, cost_figure, load_figure, bound_figure}
 use Rattle.trial.specs.declared.opened.Opened.{Opened}

@@ -18,15 +18,15 @@ use Rattle.deck.specs.DeckOf.{deck_of, deck_record}
 use Rattle.deck.specs.Sound.{Sound}
 use Rattle.deck.proofs.DeckLaws.{held_deck}
 use Rattle.job.proofs.ReadDeck.{Spelt, read_accepted, read_deck, read_deck_of, read_sound, read_rounds}
-use Rattle.prepare.specs.declared.Given.{Given}
+use Rattle.prepare.specs.declared.PreparedJob.{PreparedJob}
 use Rattle.prepare.specs.ProblemRecord.{parts_in, problem_record, given_by, given_for}
 use Rattle.prepare.proofs.JobProblem.{spelt, problem_same, given_refused}
 use Rattle.lines.specs.LineRecord.{grid_of}
 use Rattle.query.specs.Grid.{grid}
 use Rattle.deck.specs.Objects.{pricing_of}
 use Rattle.reach.specs.Held.{pricing_of_objects}
-use Rattle.problem.specs.Prepared.{Prepared}
-use Rattle.problem.proofs.DeckProblem.{made_prepared, prepared_pricing, prepared_grid}
+use Rattle.priced_place.specs.Prepared.{Prepared}
+use Rattle.priced_place.proofs.DeckProblem.{made_prepared, prepared_pricing, prepared_grid}
 use Rattle.numbers.proofs.Words.{is_true}
 use Rattle.query.specs.Place.{Rect}
 use Rattle.reach.specs.Columns.{Ranged}
@@ -54,12 +54,12 @@ ok_some (Ok b) a e = cc
 ok_some (Err why) a e = cc
 
 -- ---- a job that was read, and what preparing it gives
-module _ (bytes : List ℕ) (q : Std.Result Given Refusal) (f : given_by q ≡ given_for (read_job bytes)) where
+module _ (bytes : List ℕ) (q : Std.Result PreparedJob Refusal) (f : given_by q ≡ given_for (read_job bytes)) where
   pub unprepared : (why : Refusal) → q ≡ Err why → None ≡ opened_record (read_job bytes)
   unfolding opened_record
   unprepared why o = sym (ap opened_record (given_refused bytes why (sym (ap given_by o) ∙ f)))
 
-  module _ (g : Given) (o : q ≡ Ok g) (r : Std.Result Held.Job Refusal) (e : r ≡ job_result (read_job bytes)) where
+  module _ (g : PreparedJob) (o : q ≡ Ok g) (r : Std.Result Held.Job Refusal) (e : r ≡ job_result (read_job bytes)) where
     given : Ok (record { rounds = g.rounds; before = g.before; problem = parts_in g.problem }) ≡ given_for (read_job bytes)
     given = sym (ap given_by o) ∙ f
 

@@ -10,7 +10,7 @@ ghost use Rattle.reach.specs.Columns.{Ranged};
 ghost use Rattle.reach.specs.Held.{pricing_of_objects};
 ghost use Rattle.cuts.specs.CutRecord.{cut_record};
 ghost use Rattle.prepare.specs.ProblemRecord.{parts_in, problem_record};
-ghost use Rattle.problem.specs.ObjectProblem.{bound_of};
+ghost use Rattle.priced_place.specs.ObjectProblem.{bound_of};
 ghost use Rattle.trial.specs.Ranges.{place_in_range, rect_allowed};
 
 use cuts::Cut;

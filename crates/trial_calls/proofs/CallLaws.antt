@@ -20,8 +20,8 @@ use Rattle.job.proofs.RefusalLaws.{condition_line}
 use Rattle.report.specs.Report.{report_figures}
 use Rattle.query.specs.Range.{PlaceInRange, FiguresInRange, cost_limit}
 use Rattle.report.specs.declared.Report.{Report}
-use Rattle.problem.specs.ObjectProblem.{priced_of}
-use Rattle.problem.specs.declared.Spot.{Spot}
+use Rattle.priced_place.specs.ObjectProblem.{priced_of}
+use Rattle.priced_place.specs.declared.PricedPlace.{PricedPlace}
 use Rattle.std.specs.Prelude.{Ok, Err}
 use Rattle.std.specs.Prelude as Std
 use Rattle.calls.specs.Answers.{gives, report_answer, cheapest_answer}
@@ -61,9 +61,9 @@ module _ (job : List ℕ) (cells : List ℤ) (out : List ℕ) (answer : Std.Resu
   report_line why a = line_few why job cells out (((promises job cells out).promise_1.refused_exactly why).0 (answer_is ∙ ap report_answer a))
 
 -- ---- the call `exhaustive`
-module _ (job : List ℕ) (answer : Std.Result Spot Refusal) (e : cheapest_answer answer ≡ exhaustive_call job) where
+module _ (job : List ℕ) (answer : Std.Result PricedPlace Refusal) (e : cheapest_answer answer ≡ exhaustive_call job) where
   -- the cheapest crossing is a place of the area, and its cost that of a place
-  pub spot_limits : (s : Spot) → answer ≡ Ok s → PlaceInRange (priced_of s).at × (s.cost ≤ cost_limit)
+  pub spot_limits : (s : PricedPlace) → answer ≡ Ok s → PlaceInRange (priced_of s).at × (s.cost ≤ cost_limit)
   spot_limits s a = go (read_job job) refl
     where
       found : exhaustive_call job ≡ gives (priced_of s)

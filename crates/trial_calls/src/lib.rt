@@ -9,7 +9,7 @@ pub mod records;
 ghost use Rattle.std.specs.Prelude.{◌≡◌, ◌≤◌, get_or};
 ghost use Rattle.refusal.specs.Refusal.{line_of};
 ghost use Rattle.report.specs.Report.{report_state, report_figures};
-ghost use Rattle.problem.specs.ObjectProblem.{priced_of};
+ghost use Rattle.priced_place.specs.ObjectProblem.{priced_of};
 ghost use Rattle.query.specs.Range.{PlaceInRange, FiguresInRange, cost_limit};
 ghost use Rattle.calls.specs.Call.{report_call};
 ghost use Rattle.calls.specs.CheapestCall.{exhaustive_call};
@@ -17,7 +17,7 @@ ghost use Rattle.trial.specs.Trial.{least};
 ghost use Rattle.trial_calls.specs.Calls.{called, state_number, report_numbers, figure_for, spot_numbers, cheapest_figure};
 ghost use Rattle.trial_calls.specs.Calls.{refused_numbers};
 
-use problem::Spot;
+use priced_place::PricedPlace;
 use refusal::Refusal;
 use report::{Report, State};
 use trial::NO_FIGURE;
@@ -76,7 +76,7 @@ pub fn trial_report(job: &[u8], cells: &mut [i64], out: &mut [u8], which: u64) -
 }
 
 // A number that goes with the cheapest crossing: x, y, cost; then 0 twice, for no refusal. The least number behind them.
-fn spot_figure(s: Spot, which: u64) -> i64
+fn spot_figure(s: PricedPlace, which: u64) -> i64
     requires { PlaceInRange (priced_of s).at × (s.cost ≤ cost_limit) }
     ensures { result ≡ get_or (spot_numbers (priced_of s)) which least }
 {

@@ -3,7 +3,7 @@ use mathlib.Core.Path.{◌≡◌, ap, ◌∙◌}
 use Rattle.std.specs.Prelude.{is_some}
 use Rattle.query.specs.Order.{precedes, cell_key, priced_key}
 use Rattle.cuts.proofs.CutRecordLaws.{cut_record_found}
-use Rattle.problem.specs.ObjectProblem.{priced_of}
+use Rattle.priced_place.specs.ObjectProblem.{priced_of}
 use Rattle.slots.specs.Slot.{query_cell}
 use Rattle.search.proofs.LiveLaws.{live_behind, live_cut}
 use Rattle.search.proofs.run.is_live.Goals as goal

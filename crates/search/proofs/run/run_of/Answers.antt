@@ -1,7 +1,7 @@
 -- What `search::run::run_of` owes.
 use mathlib.Core.Path.{sym, ◌∙◌}
 use native.Mathlib.Omega.{arith}
-use Rattle.problem.specs.Prepared.{problem_of}
+use Rattle.priced_place.specs.Prepared.{problem_of}
 use Rattle.search.proofs.DeckRun.{steady}
 use Rattle.search.proofs.RunLaws.{holds_first, holds_more, holds_run, ended, finished, takeable}
 use Rattle.search.proofs.run.run_of.Goals as goal

@@ -1,7 +1,7 @@
 -- The loops of `search::run::run_of`.
 use Prim.Native.Nat.{◌-◌, ◌≤◌}
 use Rattle.reach.specs.Held.{pricing_of_objects}
-use Rattle.problem.specs.Prepared.{problem_of}
+use Rattle.priced_place.specs.Prepared.{problem_of}
 use Rattle.search.specs.Running.{search_of, Holds}
 use Rattle.search.proofs.RunLaws.{rounds_from}
 use Rattle.search.proofs.run.run_of.Given as goal

@@ -2,7 +2,7 @@
 use mathlib.Core.Path.{ap, ◌∙◌}
 use native.Mathlib.Omega.{arith}
 use Rattle.deck.specs.Rectangle.{rect_of}
-use Rattle.problem.proofs.DeckProblem.{prepared_ranged}
+use Rattle.priced_place.proofs.DeckProblem.{prepared_ranged}
 use Rattle.search.specs.Corners.{costs_of}
 use Rattle.search.proofs.RoundLaws.{started}
 use Rattle.search.proofs.StepLaws.{corners_limit, best_limit, entry_range}

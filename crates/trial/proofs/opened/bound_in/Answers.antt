@@ -3,7 +3,7 @@ use mathlib.Core.Path.{◌∙◌}
 use mir.Syntax.{w64}
 use mir.ValLaws.{to_z-of_z}
 use Rattle.prepare.proofs.Coordinates.{near_back}
-use Rattle.problem.proofs.DeckProblem.{bound_of_is}
+use Rattle.priced_place.proofs.DeckProblem.{bound_of_is}
 use Rattle.trial.proofs.opened.bound_in.Goals as goal
 
 pub returns : goal.returns

@@ -5,30 +5,30 @@ ghost use Rattle.std.specs.Prelude.{◌≡◌};
 ghost use Rattle.query.specs.Range.{PlaceInRange};
 ghost use Rattle.deck.specs.Rectangle.{place_of};
 ghost use Rattle.reach.specs.Held.{pricing_of_objects};
-ghost use Rattle.problem.specs.ObjectProblem.{spot_of, spot_at};
+ghost use Rattle.priced_place.specs.ObjectProblem.{priced_place_of, priced_place_at};
 
 use deck::Place;
 use reach::Objects;
 
 // A place with its cost.
 #[derive(Clone, Copy)]
-pub struct Spot {
+pub struct PricedPlace {
     pub at: Place,
     pub cost: u64,
 }
 
 // A place, priced.
-pub fn priced(objects: &Objects, at: Place) -> Spot
+pub fn priced(objects: &Objects, at: Place) -> PricedPlace
     requires { PlaceInRange (place_of at) }
-    ensures { result ≡ spot_of (pricing_of_objects objects.now) (place_of at) }
+    ensures { result ≡ priced_place_of (pricing_of_objects objects.now) (place_of at) }
 {
     let cost = pricing::cost(objects, at);
     place(at, cost)
 }
 
 // A place with a cost that is known.
-pub fn place(at: Place, cost: u64) -> Spot
-    ensures { result ≡ spot_at at.x at.y cost }
+pub fn place(at: Place, cost: u64) -> PricedPlace
+    ensures { result ≡ priced_place_at at.x at.y cost }
 {
-    Spot { at, cost }
+    PricedPlace { at, cost }
 }

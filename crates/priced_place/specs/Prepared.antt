@@ -11,7 +11,7 @@ use Rattle.deck.specs.ObjectColumns.{columns_of}
 use Rattle.reach.specs.Held.{columns_of_objects, count_of_objects, pricing_of_objects}
 use Rattle.lines.specs.LineRecord.{grid_of}
 use Rattle.prepare.specs.declared.Problem.{Problem}
-use Rattle.problem.specs.ObjectProblem.{object_problem}
+use Rattle.priced_place.specs.ObjectProblem.{object_problem}
 
 -- the problem of the objects, the lines and the area that a record holds
 abbrev pub problem_of : Problem → QueryProblem.Problem

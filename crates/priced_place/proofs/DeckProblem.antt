@@ -25,8 +25,8 @@ use Rattle.lines.specs.LineRecord.{LinesInOrder, Lined, grid_of}
 use Rattle.lines.proofs.DeckLines.{deck_lined}
 use Rattle.prepare.specs.declared.Problem.{Problem}
 use Rattle.prepare.specs.ProblemRecord.{Parts, parts_in, problem_record}
-use Rattle.problem.specs.ObjectProblem.{bound_of, object_problem}
-use Rattle.problem.specs.Prepared.{problem_of, Prepared}
+use Rattle.priced_place.specs.ObjectProblem.{bound_of, object_problem}
+use Rattle.priced_place.specs.Prepared.{problem_of, Prepared}
 
 -- ---- the figures and the problem of a deck
 pub bound_of_is : (P : Pricing) (r : Place.Rect) → bound_of P r ≡ half_up (pos

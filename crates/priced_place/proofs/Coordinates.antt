@@ -6,11 +6,11 @@ use Rattle.numbers.proofs.WordTests.{back}
 use Rattle.query.specs.Range.{PlaceInRange}
 use Rattle.deck.specs.Objects.{Pricing}
 use Rattle.prepare.proofs.Coordinates.{near_back}
-use Rattle.problem.specs.declared.Spot.{Spot}
-use Rattle.problem.specs.ObjectProblem.{spot_of}
+use Rattle.priced_place.specs.declared.PricedPlace.{PricedPlace}
+use Rattle.priced_place.specs.ObjectProblem.{priced_place_of}
 
-pub spot_back : (P : Pricing) (x y : ℤ) (r : Spot) → nat_abs x ≤ 20000 → nat_abs y ≤ 20000 →
-    r ≡ spot_of P (record { x = back x; y = back y }) → r ≡ spot_of P (record { x = x; y = y })
+pub spot_back : (P : Pricing) (x y : ℤ) (r : PricedPlace) → nat_abs x ≤ 20000 → nat_abs y ≤ 20000 →
+    r ≡ priced_place_of P (record { x = back x; y = back y }) → r ≡ priced_place_of P (record { x = x; y = y })
 spot_back P x y r h k e = rw (near_back x h, near_back y k) at e
 
 pub near_places : (x y : ℤ) → nat_abs x ≤ 20000 → nat_abs y ≤ 20000 → PlaceInRange (record { x = back x; y = back y })

@@ -10,7 +10,7 @@ use Rattle.deck.specs.Rectangle.{place_of, rect_of}
 use Rattle.deck.specs.Objects.{Pricing}
 use Rattle.pricing.specs.ObjectFigures.{cost_of, load_of}
 use Rattle.slots.specs.declared.Cell.{Cell}
-use Rattle.problem.specs.declared.Spot.{Spot}
+use Rattle.priced_place.specs.declared.PricedPlace.{PricedPlace}
 
 -- the bound of a cell
 unfoldable pub bound_of : Pricing → Rect → ℤ
@@ -30,14 +30,14 @@ object_problem P G area = record { area = area; rules = object_rules P G }
 
 -- ---- places and cells as the code holds them
 -- a place with a cost
-abbrev pub spot_at : ℤ → ℤ → ℕ → Spot
-spot_at x y cost = record { at = record { x = x; y = y }; cost = cost }
+abbrev pub priced_place_at : ℤ → ℤ → ℕ → PricedPlace
+priced_place_at x y cost = record { at = record { x = x; y = y }; cost = cost }
 
-abbrev pub priced_of : Spot → Priced
+abbrev pub priced_of : PricedPlace → Priced
 priced_of p = record { at = place_of p.at; cost = p.cost }
 
-abbrev pub spot_of : Pricing → Place → Spot
-spot_of P p = spot_at p.x p.y (cost_of P p)
+abbrev pub priced_place_of : Pricing → Place → PricedPlace
+priced_place_of P p = priced_place_at p.x p.y (cost_of P p)
 
 abbrev pub rect_in : Cell → Rect
 rect_in c = rect_of c.rect
