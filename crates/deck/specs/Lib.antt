@@ -1,3 +1,4 @@
+pub mod Columns
 pub mod Rectangle
 pub mod DeckOf
 pub mod Sound
