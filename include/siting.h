@@ -26,7 +26,7 @@ extern "C" {
  *     stop=x,y,visits         a line for each stop, with 1 to 65535 visits
  *     rounds=n                how many rounds the search may take, 0 to 1000
  *
- * Coordinates count tenths of a millimetre from the centre of the deck, -20000 to 20000. A number is at most nine digits, with a '-' before
+ * Coordinates count tenths of a millimetre from the centre of the deck, -20000 to 20000. A number is one to nine digits, with a '-' before
  * them if it is below 0: '+5', '05' and '-0' are not accepted, and spaces are not either. The travel from one place to another is a times
  * the difference in x plus b times that in y.
  *

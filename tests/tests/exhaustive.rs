@@ -190,7 +190,7 @@ fn finds(bytes: &str, cost: i64, at: Place) {
 }
 
 #[test]
-fn the_worked_cases_have_their_places() {
+fn the_marked_decks_have_their_places() {
     for rounds in [0, 1, 2, 3, 10, 1_000] {
         finds(&case_a(rounds), 13, (4, 3));
         finds(&case_b(rounds), 10, (0, 0));

@@ -304,7 +304,7 @@ fn prints(bytes: &str, want: &str) {
 }
 
 #[test]
-fn the_worked_cases_print_their_reports() {
+fn the_marked_decks_print_their_reports() {
     prints(&case_a(10), "state=done\nat=4,3\nhigh=13\nlow=13\nbefore=34\nrounds=3\n");
     prints(&case_a(0), "state=stopped\nat=8,8\nhigh=18\nlow=4\nbefore=34\nrounds=0\n");
     prints(&case_a(1), "state=stopped\nat=4,2\nhigh=16\nlow=4\nbefore=34\nrounds=1\n");
