@@ -22,6 +22,10 @@ deck_equal = record { axis = plain; area = rect 0 0 2 4; posts = at 2 1 ∷ []; 
 abbrev pub deck_level : Deck
 deck_level = record { axis = plain; area = rect 1 1 1 4; posts = at 5 2 ∷ []; stops = stop 0 3 1 ∷ stop 0 2 1 ∷ stop 0 0 3 ∷ [] }
 
+-- after one cut a cell's bound equals the best cost, and its corner 1,0 is the best place: it is not live, though a line is inside it
+abbrev pub deck_corner : Deck
+deck_corner = record { axis = plain; area = rect 0 0 2 2; posts = at 0 2 ∷ []; stops = stop 1 0 2 ∷ stop 0 1 1 ∷ [] }
+
 -- the stop's travel to the area equals its near: no line, no load
 abbrev pub deck_reach : Deck
 deck_reach = record { axis = plain; area = rect 0 0 1 2; posts = at 2 2 ∷ []; stops = stop 5 1 2 ∷ [] }
@@ -38,6 +42,10 @@ deck_load = record { axis = plain; area = rect 0 0 3 3; posts = at 2 3 ∷ []; s
 abbrev pub deck_tie : Deck
 deck_tie = record { axis = plain; area = rect 0 0 3 0; posts = at 0 1 ∷ []; stops = stop 1 0 2 ∷ stop 2 0 2 ∷ [] }
 
+-- the middle is at 2.5, between the lines 1 and 3, and closer to 3
+abbrev pub deck_middle : Deck
+deck_middle = record { axis = plain; area = rect 0 0 5 3; posts = at 8 6 ∷ []; stops = stop 3 2 1 ∷ stop 1 0 2 ∷ [] }
+
 -- equal sides with a line inside each
 abbrev pub deck_square : Deck
 deck_square = record { axis = plain; area = rect 0 2 2 4; posts = at 5 2 ∷ []; stops = stop 1 3 1 ∷ [] }
@@ -53,6 +61,10 @@ deck_first = record { axis = plain; area = rect 0 0 0 3; posts = at 4 1 ∷ []; 
 -- the first cut leaves two cells of bound 0
 abbrev pub deck_order : Deck
 deck_order = record { axis = plain; area = rect 0 0 5 2; posts = at 4 1 ∷ []; stops = stop 2 0 1 ∷ stop 1 1 2 ∷ [] }
+
+-- the first cut leaves two cells of bound 0, with corners 0,0 and 0,2; the second leaves two of bound 0, with corners 0,2 and 1,0
+abbrev pub deck_columns : Deck
+deck_columns = record { axis = plain; area = rect 0 0 3 4; posts = at 0 0 ∷ []; stops = stop 2 1 1 ∷ stop 1 2 3 ∷ [] }
 
 -- the bound of the area is half of 3
 abbrev pub deck_half : Deck
@@ -148,12 +160,16 @@ pub record Rows : Type 0 where
   -- when a cell is live
   pub equal : figures deck_equal 10 ≡ report done (at 0 3) 5 (pos 5) 9 4
   pub level : figures deck_level 10 ≡ report done (at 1 1) 11 (pos 11) 32 1
+  -- not: a cell is live where its corner is the best place and its bound the best cost (3 rounds)
+  pub best_corner : figures deck_corner 10 ≡ report done (at 1 0) 1 (pos 1) 7 2
   -- what is within reach
   pub reach : figures deck_reach 10 ≡ report done (at 0 0) 8 (pos 8) 8 0
   pub far : figures deck_far 10 ≡ report done (at 2 4) 4 (pos 4) 14 1
   pub load_1 : figures deck_load 1 ≡ report stopped (at 2 0) 3 (pos 0) 4 1
   -- where a cell is cut
   pub tie_1 : figures deck_tie 1 ≡ report stopped (at 1 0) 2 (pos 0) 10 1
+  -- not: the middle is rounded down, and lines 1 and 3 are as close to it (at 1,0, high 4)
+  pub middle_1 : figures deck_middle 1 ≡ report stopped (at 3 0) 6 (pos 0) 35 1
   pub square_1 : figures deck_square 1 ≡ report stopped (at 1 2) 1 (pos 0) 5 1
   pub long_1 : figures deck_long 1 ≡ report stopped (at 0 1) 1 (pos 0) 4 1
   -- which place is the best, and which cell is next
@@ -185,6 +201,9 @@ pub record Rows : Type 0 where
   pub space_a_3 : space deck_a 3 22 ≡ replicate 22 (pos 0)
   pub space_d_0 : space deck_d 0 7 ≡ pos 0 ∷ pos 0 ∷ pos 9 ∷ pos 0 ∷ negsuc 2 ∷ pos 0 ∷ pos 0 ∷ []
   pub space_order_2 : space deck_order 2 17 ≡ map pos (1 ∷ 0 ∷ 2 ∷ 2 ∷ 0 ∷ 2 ∷ 0 ∷ 5 ∷ 2 ∷ 0 ∷ 0 ∷ 0 ∷ 1 ∷ 2 ∷ 1 ∷ 0 ∷ 0 ∷ [])
+  -- not: equal bounds by y before x, by x alone, or by x and the larger y
+  pub space_columns_2 : space deck_columns 2 17
+      ≡ map pos (0 ∷ 2 ∷ 3 ∷ 4 ∷ 0 ∷ 1 ∷ 0 ∷ 3 ∷ 2 ∷ 0 ∷ 0 ∷ 0 ∷ 1 ∷ 2 ∷ 1 ∷ 0 ∷ 0 ∷ [])
   -- the full walk
   pub exhaustive_a : exhaustive (problem deck_a) ≡ record { at = at 4 3; cost = 13 }
   pub exhaustive_b : exhaustive (problem deck_b) ≡ record { at = at 0 0; cost = 10 }
