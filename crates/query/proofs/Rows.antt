@@ -1,4 +1,4 @@
--- The rows beside the marked decks, by computation.
+-- The rows beside the worked cases, by computation.
 use mathlib.Core.Path.{refl}
 use lib.Dec.{ltb→lt}
 use Rattle.numbers.specs.Integer.{half_up}
