@@ -1,5 +1,5 @@
--- Rows beside the worked cases: figures of small decks, each chosen so that a rule told wrongly gives another figure (RULES "Wrong
--- readings"). The figures come from a program apart from the definitions; `proofs/Rows.antt` proves that the definitions give them.
+-- Rows beside the worked cases: figures of small decks, each chosen so that a rule told wrongly (RULES "Wrong readings") gives another
+-- figure. The figures come from a program apart from the definitions; `proofs/Rows.antt` proves that the definitions give them.
 use Rattle.std.specs.Prelude.{ℕ, ◌<◌, ◌≡◌, [], ◌∷◌, ◌++◌, map, pos, negsuc, length, replicate, ◌<ℤ◌}
 use Rattle.numbers.specs.Integer.{half_up}
 use Rattle.query.specs.Place.{Place, x_axis, y_axis}
