@@ -1,4 +1,4 @@
--- The deck that a record of the code holds, and the record that holds a deck.
+-- The deck (RULES "Deck") that a record of the code holds, and the record that holds a deck.
 use Rattle.std.specs.Prelude.{ℕ, ◌≡◌, ℤ, pos, length, take}
 use mathlib.Core.List.{List, [], map, zip_with}
 use Rattle.numbers.specs.Padded.{padded}
@@ -11,7 +11,7 @@ use Rattle.deck.specs.declared.AxisCosts.{AxisCosts}
 use Rattle.deck.specs.declared.Deck.{Deck}
 use Rattle.query.specs.Range.{posts_limit, stops_limit}
 
--- axis costs of document 02 that a record of the code holds, and the record that holds axis costs
+-- the axis costs that a record of the code holds, and the record that holds axis costs
 abbrev pub held_axis : AxisCosts → Query.AxisCosts
 held_axis c = record { a = c.a; b = c.b }
 
@@ -44,7 +44,7 @@ deck_of deck = record {
   stops = take deck.stops (stops_of (places deck.stop_x deck.stop_y) deck.visits);
 }
 
--- the record of a deck: its lists at the front of the arrays, and 0 behind them. 02 card 5: the near of each stop, and before
+-- the record of a deck: its lists at the front of the arrays, and 0 behind them, with the near of each stop and before (RULES "Change 5")
 unfoldable pub deck_record : Query.Deck → Deck
 unfolding padded near before
 deck_record deck = record {

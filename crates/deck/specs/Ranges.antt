@@ -1,4 +1,5 @@
--- The range of the numbers that objects are made of: coordinates up to 9 × 20,000, as axis costs up to 9 scale them.
+-- The ranges (RULES "Deck", "Travel") of the numbers that objects are made of: coordinates up to 9 × 20,000, as axis costs up to 9 scale
+-- them.
 use Rattle.std.specs.Prelude.{ℕ, ◌+◌, ◌≤◌, ◌<◌, ◌≡◌, List, ℤ, pos, nat_abs, length, drop, get_or, ◌≤ℤ◌}
 use Rattle.numbers.specs.Integer.{times}
 use Rattle.query.specs.Deck.{AxisCosts}
@@ -8,7 +9,7 @@ pub record Near180000 (x y : ℤ) : Type 0 where
   pub x_range : nat_abs x ≤ 180000
   pub y_range : nat_abs y ≤ 180000
 
--- an axis cost, from 1 to 9
+-- an axis cost
 pub record AxisCostInRange (c : ℤ) : Type 0 where
   pub some : pos 1 ≤ℤ c
   pub most : nat_abs c ≤ axis_cost_limit
@@ -53,7 +54,7 @@ pub record NearColumn (columns : List ℤ) (n : ℕ) : Type 0 where
   pub some : (i : ℕ) → i < n → pos 0 ≤ℤ get_or columns (1536 + i) (pos 0)
 
 -- ---- what a record holds
--- axis costs, each from 1 to 9
+-- axis costs
 pub record CostsInRange (axis : AxisCosts) : Type 0 where
   pub some : (1 ≤ axis.a) × (1 ≤ axis.b)
   pub most : (axis.a ≤ axis_cost_limit) × (axis.b ≤ axis_cost_limit)

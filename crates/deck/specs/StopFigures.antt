@@ -1,4 +1,4 @@
--- Document 02, card 5: the figures that a record keeps with its stops, as the code finds them from columns of numbers.
+-- The figures that a record keeps with its stops (RULES "Change 5"), as the code finds them from columns of numbers.
 use Rattle.std.specs.Prelude.{ℕ, ◌*◌, ◌≡◌, length, take}
 use mathlib.Core.List.{List, map, zip_with}
 use Rattle.numbers.specs.Lists.{sum_of}

@@ -265,7 +265,7 @@ module _ {carried : Bool} {job : Job} (w : Writable carried job) where
   rounds_in_lem : Ranged rounds (pos job.rounds ∷ [])
   rounds_in_lem = behind (Memᴰ.tail (Memᴰ.append_right (map stop_line job.deck.stops) (Memᴰ.head refl)))
 
-  -- its values, by the ranges of document 01
+  -- its values, by the ranges of a deck
   pub ranged_area : RectInRange job.deck.area
   ranged_area = area_range job.deck.area area_in
 
@@ -284,7 +284,7 @@ module _ {carried : Bool} {job : Job} (w : Writable carried job) where
   pub most_rounds : job.rounds ≤ 1000
   most_rounds = (count_range 1000 job.rounds).0 rounds_in_lem
 
--- and of document 02, where its lines are those with the axis line
+-- and those of its axis costs, where its lines are those with the axis line
 pub ranged_axis : {job : Job} → Writable true job →
     ((1 ≤ job.deck.axis.a) × (1 ≤ job.deck.axis.b)) × ((job.deck.axis.a ≤ 9) × (job.deck.axis.b ≤ 9))
 ranged_axis {job} w = axis_range job.deck.axis (axis_numbers_in true w tt)

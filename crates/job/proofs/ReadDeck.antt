@@ -77,6 +77,6 @@ module _ {bytes : List ℕ} (s : Spelt bytes) where
     pub read_deck_of : deck_of j.deck ≡ s.job.deck
     read_deck_of = ap deck_of (read_deck bytes j e s) ∙ held_deck s.job.deck
 
-    -- 02 card 5: reading leaves a sound record
+    -- reading leaves a sound record
     pub read_sound : Sound j.deck
     read_sound = subst Sound (sym (read_deck bytes j e s)) (record_sound s.job.deck spelt_range s.allowed.area_full)

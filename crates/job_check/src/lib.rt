@@ -1,4 +1,4 @@
-// The refusal that reading the file of a deck's record and rounds would give, found from their numbers.
+// The refusal that reading the file of a deck's record and rounds would give (RULES "Change 1"), found from their numbers.
 #![tactic(auto)]
 
 ghost use Rattle.std.specs.Prelude.{◌≡◌, cond, [], ◌∷◌, map, ◌≤◌, pos, length, take};
@@ -159,7 +159,8 @@ fn posts_at(c: AxisCosts) -> u64
     if job::writes_axis(c) { 3 } else { 2 }
 }
 
-// The refusal that reading the file of a record and rounds would give, its size aside.
+/// The refusal, of 2 to 6, that reading the file of a record and these rounds would give, with the line that it would have there. The
+/// file's size is not looked at, nor are the record's near and before, which no file holds.
 pub fn check(deck: &Deck, rounds: u64) -> Result<(), Refusal>
     ensures { checked_as result ≡ refusal_in (read_text (file_text deck.now rounds)) }
 {

@@ -1,4 +1,4 @@
-// The file of a deck's record and rounds: its length, and its bytes written into an output that has room for them.
+// The file of a deck's record and rounds (RULES "Change 1"): its length, and its bytes written into an output that has room for them.
 #![tactic(auto)]
 
 ghost use Rattle.std.specs.Prelude.{◌≡◌, [], ◌∷◌, ◌++◌, ◌+◌, ◌*◌, ◌≤◌, pos, length};
@@ -61,7 +61,7 @@ fn stops_len(stops: Stops<'_>) -> usize
     len
 }
 
-// How many bytes the file takes.
+/// How many bytes the file of a record and these rounds takes.
 pub fn file_len(deck: &Deck, rounds: u64) -> usize
     requires { (deck.now.posts ≤ 64) × (deck.now.stops ≤ 512) }
     ensures { result ≡ length (file_text deck.now rounds) }
@@ -95,7 +95,7 @@ fn put_number<T: Decimal>(w: &mut Writer, n: T, end: u8)
     w.put_byte(end);
 }
 
-// Two numbers, with a comma behind the first. Always inlined, without which writing takes longer.
+// Two numbers, with a comma behind the first. Not inlined, it makes writing take longer.
 #[inline(always)]
 fn put_place(w: &mut Writer, p: Place, end: u8)
     requires { HasRoom w.old (length (place_text p.x p.y end)) }
@@ -172,7 +172,8 @@ fn put_stops(w: &mut Writer, stops: Stops<'_>)
 
 // ---- the file
 
-// The bytes of the file at the start of `out`, and how many they are.
+/// Writes the file of a record and these rounds over the first bytes of `out`, which has room for it, and gives how many bytes it takes.
+/// Any numbers are written, also those that a reader would refuse; the bytes of `out` behind the file stay.
 pub fn put_file(deck: &Deck, rounds: u64, out: &mut [u8]) -> usize
     requires { (deck.now.posts ≤ 64) × (deck.now.stops ≤ 512) × (length (file_text deck.now rounds) ≤ length out.old) }
     ensures { Overwrote out.old (file_text deck.now rounds) out.new result }

@@ -131,7 +131,7 @@ decimal_onwards (d ∷ ds) most v e h =
 alone : (most d : ℕ) → 48 ≤ d → d ≤ 57 → decimal (suc most) (0 + (d - 48)) ≡ d ∷ []
 alone most d low high = let e : 48 + (0 + (d - 48)) ≡ d = omega arith in decimal_small most (0 + (d - 48)) (omega arith) ∙ ap (λ (b : ℕ). b ∷ []) e
 
--- digits with no leading zero, save in `0` itself, are the digits of their number
+-- digits of which the first is a zero only where it is alone are the digits of their number
 pub decimal_value : (ds : List ℕ) → digits ds ≡ ds → 1 ≤ length ds → length ds ≤ 20 → (get_or ds 0 0 ≡ 48 → length ds ≡ 1) → decimal 20 (value_of ds) ≡ ds
 unfolding value_of
 decimal_value [] e some_digit short first = absurd (omega arith)

@@ -213,7 +213,7 @@ module _ {bs : List ℕ} {count value : ℕ} (run : FirstDigits bs count value) 
     pub natural_small : value < 10 ^ 9
     natural_small = omega (arith, run.below, pow-le-pow_right {n = 10} (omega arith) high)
 
-    -- a run of digits with no leading zero save in `0` itself
+    -- a run of digits of which the first is a zero only where it is alone
     pub natural_one : count ≤ 1 → number_then value (drop count bs) ≡ natural bs
     natural_one h = rw (natural_is, eq-eqb count 1 (omega arith)) refl
 

@@ -1,9 +1,9 @@
--- Bytes put over the front, or over a part, of a buffer.
+-- Bytes put over the front, or over a part, of a buffer: what a call that writes leaves of the output (RULES "Calls").
 use Rattle.std.specs.Prelude.{◌≡◌, ◌≤◌, ℕ, ◌+◌, List, ◌++◌, length, take, drop}
 use Rattle.std.specs.Borrow.{GName}
 use Rattle.write.specs.declared.Writer.{Writer}
 
--- 01 "A report fills the first bytes of the output; later bytes keep their values"
+-- an output with a text over its first bytes
 unfoldable pub overwritten : List ℕ → List ℕ → List ℕ
 overwritten text out = text ++ drop (length text) out
 
