@@ -10,14 +10,14 @@ pub record Near180000 (x y : ℤ) : Type 0 where
   pub y_range : nat_abs y ≤ 180000
 
 -- an axis cost
-pub record AxisCostInRange (c : ℤ) : Type 0 where
-  pub some : pos 1 ≤ℤ c
-  pub most : nat_abs c ≤ axis_cost_limit
+pub record AxisCostInRange (cost : ℤ) : Type 0 where
+  pub some : pos 1 ≤ℤ cost
+  pub most : nat_abs cost ≤ axis_cost_limit
 
--- a coordinate v multiplied by an axis cost k
-pub record Scaled (k v r : ℤ) : Type 0 where
-  pub is : r ≡ times (nat_abs k) v
-  pub small : nat_abs r ≤ 180000
+-- a coordinate multiplied by an axis cost
+pub record Scaled (cost coordinate product : ℤ) : Type 0 where
+  pub is : product ≡ times (nat_abs cost) coordinate
+  pub small : nat_abs product ≤ 180000
 
 -- columns of coordinates up to a limit, and scaled ones, of which the first n count
 pub record CoordinatesUpTo (most : ℕ) (xs : List ℤ) (n : ℕ) : Type 0 where

@@ -161,21 +161,21 @@ impl Deck {
 }
 
 /// A coordinate multiplied by an axis cost. Travel with axis costs is plain travel between places that are scaled so.
-pub fn scaled(k: i32, v: i64) -> i32
-    requires { AxisCostInRange k × (nat_abs v ≤ 20000) }
-    ensures { Scaled k v result }
+pub fn scaled(cost: i32, coordinate: i64) -> i32
+    requires { AxisCostInRange cost × (nat_abs coordinate ≤ 20000) }
+    ensures { Scaled cost coordinate result }
 {
-    let narrow = v as i32;
-    k * narrow
+    let narrow = coordinate as i32;
+    cost * narrow
 }
 
 /// Puts the coordinates of a column, each multiplied by an axis cost, into another column of its length.
-pub fn copy_coordinates(from: &[i64], k: i32, to: &mut [i32])
-    requires { CoordinatesUpTo 20000 from.now (length from.now) × AxisCostInRange k × (length to.old ≡ length from.now) }
-    ensures { to.new ≡ map (times (nat_abs k)) from.now }
+pub fn copy_coordinates(from: &[i64], cost: i32, to: &mut [i32])
+    requires { CoordinatesUpTo 20000 from.now (length from.now) × AxisCostInRange cost × (length to.old ≡ length from.now) }
+    ensures { to.new ≡ map (times (nat_abs cost)) from.now }
 {
     for i in 0..from.len() {
-        to[i] = scaled(k, from[i]);
+        to[i] = scaled(cost, from[i]);
     }
 }
 
@@ -207,13 +207,13 @@ pub struct ScaledPlace {
 
 impl ScaledPlace {
     /// A place, scaled by these costs.
-    pub fn of(axis: AxisCosts, p: Place) -> ScaledPlace
-        requires { CostsInRange (held_axis axis) × PlaceInRange (place_of p) }
-        ensures { (result.x ≡ times axis.a p.x) × (result.y ≡ times axis.b p.y) }
+    pub fn of(axis: AxisCosts, place: Place) -> ScaledPlace
+        requires { CostsInRange (held_axis axis) × PlaceInRange (place_of place) }
+        ensures { (result.x ≡ times axis.a place.x) × (result.y ≡ times axis.b place.y) }
     {
         ScaledPlace {
-            x: scaled(axis.a as i32, p.x),
-            y: scaled(axis.b as i32, p.y),
+            x: scaled(axis.a as i32, place.x),
+            y: scaled(axis.b as i32, place.y),
         }
     }
 
@@ -298,13 +298,13 @@ impl ScaledPosts {
     }
 
     /// The travel from a place, not scaled yet, to the closest of the posts: its near (RULES "Near").
-    pub fn closest_to(&self, p: Place) -> u64
-        requires { PlaceInRange (place_of p) }
-        ensures { result ≡ closest plain (scaled_place (held_axis (axis_of_posts self.now)) (place_of p))
+    pub fn closest_to(&self, place: Place) -> u64
+        requires { PlaceInRange (place_of place) }
+        ensures { result ≡ closest plain (scaled_place (held_axis (axis_of_posts self.now)) (place_of place))
             (places_of_posts self.now) }
     {
-        let t = self.closest(ScaledPlace::of(self.axis, p));
-        (t as u32) as u64
+        let travel = self.closest(ScaledPlace::of(self.axis, place));
+        (travel as u32) as u64
     }
 }
 

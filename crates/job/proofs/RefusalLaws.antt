@@ -35,13 +35,13 @@ some_bytes k (b ∷ text) e = omega arith
 
 good_length : {lines : List (List ℕ)} {rest : List ℕ} {due : List Kind} → Good lines rest due → length lines ≤ length (flatten lines)
 good_length top = omega arith
-good_length (one_more {lines} {rest} {k} {due} text ns good e t) =
+good_length (one_more {lines} {rest} {kind} {due} text ns good e t) =
     let joined : flatten (lines ++ (text ∷ [])) ++ [] ≡ flatten lines ++ (text ++ []) = flatten_snoc lines text [] in
     let same = ap length joined in
     omega (
       arith,
       good_length good,
-      some_bytes k text e,
+      some_bytes kind text e,
       length-append lines (text ∷ []),
       length-append (flatten lines) (text ++ []),
       length-append text [],

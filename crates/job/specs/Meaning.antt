@@ -43,14 +43,14 @@ due_after rounds ns rest = []
 -- due next
 pub data Good : List (List ℕ) → List ℕ → List Kind → Type 0 where
   top : {rest : List ℕ} → Good [] rest (area ∷ posts ∷ stops ∷ rounds ∷ [])
-  one_more : {lines : List (List ℕ)} {rest : List ℕ} {k : Kind} {due : List Kind} (text : List ℕ) (ns : List ℤ) →
-      Good lines (text ++ rest) (k ∷ due) → form_of (row k) text ≡ some (ns, []) → T (in_ranges (row k).ranges ns) →
-      Good (lines ++ (text ∷ [])) rest (due_after k ns rest ++ due)
+  one_more : {lines : List (List ℕ)} {rest : List ℕ} {kind : Kind} {due : List Kind} (text : List ℕ) (ns : List ℤ) →
+      Good lines (text ++ rest) (kind ∷ due) → form_of (row kind) text ≡ some (ns, []) → T (in_ranges (row kind).ranges ns) →
+      Good (lines ++ (text ∷ [])) rest (due_after kind ns rest ++ due)
 
 -- the first fault is in line n: the line that is due there is missing or has not its form, or none is due and text is left
 pub data FirstMalformed (bytes : List ℕ) (n : ℕ) : Type 0 where
-  no_form : (lines : List (List ℕ)) (rest : List ℕ) (k : Kind) (due : List Kind) → Good lines rest (k ∷ due) →
-      bytes ≡ flatten lines ++ rest → n ≡ suc (length lines) → form_of (row k) rest ≡ none → FirstMalformed bytes n
+  no_form : (lines : List (List ℕ)) (rest : List ℕ) (kind : Kind) (due : List Kind) → Good lines rest (kind ∷ due) →
+      bytes ≡ flatten lines ++ rest → n ≡ suc (length lines) → form_of (row kind) rest ≡ none → FirstMalformed bytes n
   too_much : (lines : List (List ℕ)) (rest : List ℕ) → Good lines rest [] → bytes ≡ flatten lines ++ rest → n ≡ suc (length lines) →
       rest ≢ [] → FirstMalformed bytes n
 
@@ -59,14 +59,14 @@ pub record FirstOutOfRange (bytes : List ℕ) (n : ℕ) : Type 0 where
   pub lines : List (List ℕ)
   pub rest : List ℕ
   pub after : List ℕ
-  pub k : Kind
+  pub kind : Kind
   pub due : List Kind
-  pub before : Good lines rest (k ∷ due)
+  pub before : Good lines rest (kind ∷ due)
   pub split : bytes ≡ flatten lines ++ rest
   pub number : n ≡ suc (length lines)
   pub numbers : List ℤ
-  pub form : form_of (row k) rest ≡ some (numbers, after)
-  pub range : T (not (in_ranges (row k).ranges numbers))
+  pub form : form_of (row kind) rest ≡ some (numbers, after)
+  pub range : T (not (in_ranges (row kind).ranges numbers))
 
 -- the bytes spell a job, and the values of all their lines are in range, so that only refusals 4 to 6 are left
 pub record Spelled (bytes : List ℕ) : Type 0 where

@@ -84,10 +84,10 @@ fn last_line(unread: Unread<'_>) -> Result<u64, Refusal>
 // ---- the job
 
 /// Whether a rectangle has no point, as refusal 4 says of an area (RULES "Refusals").
-pub fn empty_area(a: Rect) -> bool
-    ensures { result ≡ empty_area (area_of (area_numbers a)) }
+pub fn empty_area(area: Rect) -> bool
+    ensures { result ≡ empty_area (area_of (area_numbers area)) }
 {
-    a.xhi < a.xlo || a.yhi < a.ylo
+    area.xhi < area.xlo || area.yhi < area.ylo
 }
 
 /// Refusals 4, 5 and 6, in this order, of a job with this area and so many posts and stops (RULES "Refusals").
@@ -165,8 +165,8 @@ pub fn read(bytes: &[u8]) -> Result<Job, Refusal>
 }
 
 /// Whether the file of a record with these axis costs has a line for them: costs of 1 and 1 have none (RULES "Change 2").
-pub fn writes_axis(c: AxisCosts) -> bool
-    ensures { result ≡ writes_axis (held_axis c) }
+pub fn writes_axis(costs: AxisCosts) -> bool
+    ensures { result ≡ writes_axis (held_axis costs) }
 {
-    c.a != 1 || c.b != 1
+    costs.a != 1 || costs.b != 1
 }

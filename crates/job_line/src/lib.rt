@@ -35,17 +35,17 @@ fn coordinate_in_range(v: i64) -> bool
 }
 
 /// Whether both coordinates of a place are in range.
-pub fn place_in_range(p: Place) -> bool
-    ensures { result ≡ in_ranges (row post).ranges (place_numbers p) }
+pub fn place_in_range(place: Place) -> bool
+    ensures { result ≡ in_ranges (row post).ranges (place_numbers place) }
 {
-    coordinate_in_range(p.x) && coordinate_in_range(p.y)
+    coordinate_in_range(place.x) && coordinate_in_range(place.y)
 }
 
 /// Whether all edges of a rectangle are in range. It may have no point.
-pub fn area_in_range(a: Rect) -> bool
-    ensures { result ≡ in_ranges (row area).ranges (area_numbers a) }
+pub fn area_in_range(rectangle: Rect) -> bool
+    ensures { result ≡ in_ranges (row area).ranges (area_numbers rectangle) }
 {
-    place_in_range(a.low()) && place_in_range(a.high())
+    place_in_range(rectangle.low()) && place_in_range(rectangle.high())
 }
 
 fn cost_in_range(v: u64) -> bool
@@ -55,17 +55,17 @@ fn cost_in_range(v: u64) -> bool
 }
 
 /// Whether both axis costs are in range.
-pub fn axis_in_range(c: AxisCosts) -> bool
-    ensures { result ≡ in_ranges (row axis).ranges (cost_numbers c) }
+pub fn axis_in_range(costs: AxisCosts) -> bool
+    ensures { result ≡ in_ranges (row axis).ranges (cost_numbers costs) }
 {
-    cost_in_range(c.a) && cost_in_range(c.b)
+    cost_in_range(costs.a) && cost_in_range(costs.b)
 }
 
 /// Whether a stop's place and its visits are in range.
-pub fn stop_in_range(p: Place, visits: i64) -> bool
-    ensures { result ≡ in_ranges (row stop).ranges (p.x ∷ p.y ∷ visits ∷ []) }
+pub fn stop_in_range(place: Place, visits: i64) -> bool
+    ensures { result ≡ in_ranges (row stop).ranges (place.x ∷ place.y ∷ visits ∷ []) }
 {
-    place_in_range(p) && between(1, MOST_VISITS, visits)
+    place_in_range(place) && between(1, MOST_VISITS, visits)
 }
 
 // ---- parts of a line: without one the line is malformed

@@ -12,12 +12,12 @@ struct DigitRun {
     value: u64,
 }
 
-/// The text after its first byte, if that is `b`.
-pub fn after_byte(text: &[u8], b: u8) -> Option<&[u8]>
-    ensures { option_copied result ≡ behind (b ∷ []) text.now }
+/// The text after its first byte, if that is `byte`.
+pub fn after_byte(text: &[u8], byte: u8) -> Option<&[u8]>
+    ensures { option_copied result ≡ behind (byte ∷ []) text.now }
 {
     let (first, rest) = text.split_first()?;
-    if *first == b { Some(rest) } else { None }
+    if *first == byte { Some(rest) } else { None }
 }
 
 /// The text after `key`, if it starts with these bytes.

@@ -32,12 +32,12 @@ impl<'a> Writer<'a> {
     }
 
     /// Writes these bytes.
-    pub fn put(&mut self, s: &[u8])
-        requires { HasRoom self.old (length s.now) }
-        ensures { Wrote self.old s.now self.new }
+    pub fn put(&mut self, bytes: &[u8])
+        requires { HasRoom self.old (length bytes.now) }
+        ensures { Wrote self.old bytes.now self.new }
     {
-        let end = self.at + s.len();
-        self.out[self.at..end].copy_from_slice(s);
+        let end = self.at + bytes.len();
+        self.out[self.at..end].copy_from_slice(bytes);
         self.at = end;
     }
 
@@ -51,12 +51,12 @@ impl<'a> Writer<'a> {
     }
 
     /// Writes the decimal text of a number.
-    pub fn put_decimal<T: Decimal>(&mut self, n: T)
-        requires { HasRoom self.old (length (T.spelling n)) }
-        ensures { Wrote self.old (T.spelling n) self.new }
+    pub fn put_decimal<T: Decimal>(&mut self, number: T)
+        requires { HasRoom self.old (length (T.spelling number)) }
+        ensures { Wrote self.old (T.spelling number) self.new }
     {
-        let end = self.at + n.text_len();
-        n.put_text(&mut self.out[self.at..end]);
+        let end = self.at + number.text_len();
+        number.put_text(&mut self.out[self.at..end]);
         self.at = end;
     }
 }
