@@ -11,6 +11,7 @@ use mir.Syntax.{w32, w64}
 use mir.Val.{to_z, of_z}
 use mir.ValLaws.{to_z-of_z, to_z_pos}
 use Rattle.numbers.proofs.Words.{word_fits}
+use Rattle.deck.specs.Ranges.{scaled_limit}
 
 -- the sum of two natural numbers
 pub sum_is : (a b : ℤ) (u v : ℕ) → a ≡ pos u → b ≡ pos v → u < 2 ^ 31 → v < 2 ^ 31 → to_z w32 (of_z w32 a) +ℤ to_z w32 (of_z w32 b) ≡ pos (u + v)
@@ -28,11 +29,11 @@ module _ (z : ℤ) (t n : ℕ) (e : z ≡ pos t) (g : t < 2 ^ 31) (h : n < 2 ^ 3
   smaller_second m q p = let l : n ≤ t = ltb-false t n (rw test_is at q) in omega arith
 
 -- a coordinate as a word
-pub coordinate : (z : ℤ) → nat_abs z ≤ 180000 → to_z w32 (of_z w32 z) ≡ z
+pub coordinate : (z : ℤ) → nat_abs z ≤ scaled_limit → to_z w32 (of_z w32 z) ≡ z
 coordinate z h = to_z-of_z w32 z (word_fits w32 z (omega arith))
 
 -- a coordinate that a 64-bit word is narrowed to
-module _ (z : ℤ) (h : nat_abs z ≤ 180000) where
+module _ (z : ℤ) (h : nat_abs z ≤ scaled_limit) where
   pub wide : to_z w64 (of_z w64 z) ≡ z
   wide = to_z-of_z w64 z (word_fits w64 z (omega arith))
 

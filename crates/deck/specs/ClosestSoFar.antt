@@ -8,6 +8,7 @@ use Rattle.query.specs.Deck.{plain}
 use Rattle.query.specs.Travel.{travel, closest}
 use Rattle.query.specs.Range.{travel_limit}
 use Rattle.deck.specs.DeckOf.{places}
+use Rattle.deck.specs.Columns.{y_column, near_column}
 
 -- the figure of a stop at p by the posts that were taken: `closest`, by which near is defined. The number for no post, one more than any
 -- travel, is of this definition alone: the code starts with the travel to the first post
@@ -19,7 +20,8 @@ closest_so_far (post ∷ posts) p = closest plain p (post ∷ posts)
 -- columns in which the figures of the first n stops, in the column of near, are those by these posts
 unfoldable pub columns_so_far : List ℤ → ℕ → List Place → List ℤ
 unfolding closest_so_far places
-columns_so_far columns n posts = paste columns 1536 (map (λ p. pos (closest_so_far posts p)) (places columns (drop 512 columns))) n
+columns_so_far columns n posts =
+    paste columns near_column (map (λ p. pos (closest_so_far posts p)) (places columns (drop y_column columns))) n
 
 -- one more post: what it leaves of the figure of a stop at p, and of those of the first n stops in columns
 unfoldable pub improved : Place → Place → ℤ → ℤ
@@ -28,4 +30,5 @@ improved post p figure = cond (lt_z (pos (travel plain p post)) figure) (pos (tr
 
 unfoldable pub columns_improved : List ℤ → ℕ → Place → List ℤ
 unfolding improved places zip_with
-columns_improved columns n post = paste columns 1536 (zip_with (improved post) (places columns (drop 512 columns)) (drop 1536 columns)) n
+columns_improved columns n post =
+    paste columns near_column (zip_with (improved post) (places columns (drop y_column columns)) (drop near_column columns)) n

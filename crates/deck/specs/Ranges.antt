@@ -1,13 +1,17 @@
--- The ranges (RULES "Deck", "Travel") of the numbers that objects are made of: coordinates up to 9 × 20,000, as axis costs up to 9 scale
--- them.
-use Rattle.std.specs.Prelude.{ℕ, ◌+◌, ◌≤◌, ◌<◌, ◌≡◌, List, ℤ, pos, nat_abs, length, drop, get_or, ◌≤ℤ◌}
+-- The ranges (RULES "Deck", "Travel") of the numbers that objects are made of.
+use Rattle.std.specs.Prelude.{ℕ, ◌+◌, ◌*◌, ◌≤◌, ◌<◌, ◌≡◌, List, ℤ, pos, nat_abs, length, drop, get_or, ◌≤ℤ◌}
 use Rattle.numbers.specs.Integer.{times}
 use Rattle.query.specs.Deck.{AxisCosts}
-use Rattle.query.specs.Range.{coordinate_limit, visits_limit, axis_cost_limit, travel_limit}
+use Rattle.query.specs.Range.{coordinate_limit, visits_limit, axis_cost_limit, travel_limit, stops_limit}
+use Rattle.deck.specs.Columns.{y_column, near_column, columns_size}
+
+-- the most of a coordinate that is multiplied by an axis cost, and a place whose coordinates are so
+abbrev pub scaled_limit : ℕ
+scaled_limit = axis_cost_limit * coordinate_limit
 
 pub record Near180000 (x y : ℤ) : Type 0 where
-  pub x_range : nat_abs x ≤ 180000
-  pub y_range : nat_abs y ≤ 180000
+  pub x_range : nat_abs x ≤ scaled_limit
+  pub y_range : nat_abs y ≤ scaled_limit
 
 -- an axis cost
 pub record AxisCostInRange (cost : ℤ) : Type 0 where
@@ -17,7 +21,7 @@ pub record AxisCostInRange (cost : ℤ) : Type 0 where
 -- a coordinate multiplied by an axis cost
 pub record Scaled (cost coordinate product : ℤ) : Type 0 where
   pub is : product ≡ times (nat_abs cost) coordinate
-  pub small : nat_abs product ≤ 180000
+  pub small : nat_abs product ≤ scaled_limit
 
 -- columns of coordinates up to a limit, and scaled ones, of which the first n count
 pub record CoordinatesUpTo (most : ℕ) (xs : List ℤ) (n : ℕ) : Type 0 where
@@ -25,7 +29,7 @@ pub record CoordinatesUpTo (most : ℕ) (xs : List ℤ) (n : ℕ) : Type 0 where
   pub range : (i : ℕ) → i < n → nat_abs (get_or xs i (pos 0)) ≤ most
 
 abbrev pub CoordinatesInRange : List ℤ → ℕ → Type 0
-CoordinatesInRange = CoordinatesUpTo 180000
+CoordinatesInRange = CoordinatesUpTo scaled_limit
 
 -- columns of natural numbers up to a limit: of visits, and of near
 pub record NaturalsUpTo (most : ℕ) (vs : List ℕ) (n : ℕ) : Type 0 where
@@ -40,18 +44,18 @@ NearsInRange = NaturalsUpTo travel_limit
 
 -- all columns, of which the first n rows have their scaled places in the first two
 pub record ColumnsFit (columns : List ℤ) (n : ℕ) : Type 0 where
-  pub few : n ≤ 512
-  pub long : length columns ≡ 2050
+  pub few : n ≤ stops_limit
+  pub long : length columns ≡ columns_size
 
 pub record StopsInRange (columns : List ℤ) (n : ℕ) : Type 0 where
   pub fit : ColumnsFit columns n
   pub x : CoordinatesInRange columns n
-  pub y : CoordinatesInRange (drop 512 columns) n
+  pub y : CoordinatesInRange (drop y_column columns) n
 
 -- the first n rows of the column of near in all columns
 pub record NearColumn (columns : List ℤ) (n : ℕ) : Type 0 where
-  pub long : length columns ≡ 2050
-  pub some : (i : ℕ) → i < n → pos 0 ≤ℤ get_or columns (1536 + i) (pos 0)
+  pub long : length columns ≡ columns_size
+  pub some : (i : ℕ) → i < n → pos 0 ≤ℤ get_or columns (near_column + i) (pos 0)
 
 -- ---- what a record holds
 -- axis costs

@@ -7,8 +7,9 @@ ghost use Rattle.std.proofs.Math.Seq.{paste};
 ghost use Rattle.numbers.specs.Integer.{dist, times};
 ghost use Rattle.query.specs.Deck.{plain};
 ghost use Rattle.query.specs.Travel.{closest};
-ghost use Rattle.query.specs.Range.{travel_limit, PlaceInRange};
+ghost use Rattle.query.specs.Range.{coordinate_limit, posts_limit, stops_limit, travel_limit, PlaceInRange};
 ghost use Rattle.numbers.specs.Padded.{padded};
+ghost use Rattle.deck.specs.Columns.{y_column, near_column, columns_size};
 ghost use Rattle.deck.specs.DeckOf.{places, held_axis};
 ghost use Rattle.deck.specs.Rectangle.{place_of};
 ghost use Rattle.deck.specs.Objects.{scaled_place, stored_pricing};
@@ -129,7 +130,7 @@ impl Deck {
 
     /// The columns of the posts that count.
     pub fn post_places(&self) -> Places<'_>
-        requires { self.now.posts ≤ 64 }
+        requires { self.now.posts ≤ posts_limit }
         ensures x { result.x.now ≡ take self.now.posts self.now.post_x }
         ensures y { result.y.now ≡ take self.now.posts self.now.post_y }
     {
@@ -141,7 +142,7 @@ impl Deck {
 
     /// The columns of the stops that count.
     pub fn stop_columns(&self) -> Stops<'_>
-        requires { self.now.stops ≤ 512 }
+        requires { self.now.stops ≤ stops_limit }
         ensures x { result.at.x.now ≡ take self.now.stops self.now.stop_x }
         ensures y { result.at.y.now ≡ take self.now.stops self.now.stop_y }
         ensures visits { result.visits.now ≡ take self.now.stops self.now.visits }
@@ -162,7 +163,7 @@ impl Deck {
 
 /// A coordinate multiplied by an axis cost. Travel with axis costs is plain travel between places that are scaled so.
 pub fn scaled(cost: i32, coordinate: i64) -> i32
-    requires { AxisCostInRange cost × (nat_abs coordinate ≤ 20000) }
+    requires { AxisCostInRange cost × (nat_abs coordinate ≤ coordinate_limit) }
     ensures { Scaled cost coordinate result }
 {
     let narrow = coordinate as i32;
@@ -171,7 +172,7 @@ pub fn scaled(cost: i32, coordinate: i64) -> i32
 
 /// Puts the coordinates of a column, each multiplied by an axis cost, into another column of its length.
 pub fn copy_coordinates(from: &[i64], cost: i32, to: &mut [i32])
-    requires { CoordinatesUpTo 20000 from.now (length from.now) × AxisCostInRange cost × (length to.old ≡ length from.now) }
+    requires { CoordinatesUpTo coordinate_limit from.now (length from.now) × AxisCostInRange cost × (length to.old ≡ length from.now) }
     ensures { to.new ≡ map (times (nat_abs cost)) from.now }
 {
     for i in 0..from.len() {
@@ -253,7 +254,7 @@ impl ScaledPosts {
 
     /// Posts at these places, scaled by these costs.
     pub fn of(axis: AxisCosts, posts: Places<'_>) -> ScaledPosts
-        requires { CostsInRange (held_axis axis) × PlacesInRange 64 posts.x.now posts.y.now (length posts.x.now)
+        requires { CostsInRange (held_axis axis) × PlacesInRange posts_limit posts.x.now posts.y.now (length posts.x.now)
             × (1 ≤ length posts.x.now) }
         ensures axis { axis_of_posts result ≡ axis }
         ensures posts { places_of_posts result
@@ -342,9 +343,9 @@ fn improve_nears(columns: &mut [i32], n: usize, post: ScaledPlace)
 fn put_nears(columns: &mut [i32], n: usize, posts: &ScaledPosts)
     requires { StopsInRange columns.old n }
     ensures { columns.new
-        ≡ paste columns.old 1536
+        ≡ paste columns.old near_column
         (map (λ p. pos (closest plain p (take posts.now.count (places posts.now.x posts.now.y))))
-        (places columns.old (drop 512 columns.old))) n }
+        (places columns.old (drop y_column columns.old))) n }
 {
     start_nears(columns, n, posts.post(0));
     for j in 1..posts.count {
@@ -354,8 +355,8 @@ fn put_nears(columns: &mut [i32], n: usize, posts: &ScaledPosts)
 
 // The column of near as a record keeps it: of the first n stops, with 0 behind the last.
 fn nears_in(columns: &[i32], n: usize) -> [u64; STOPS]
-    requires { (n ≤ 512) × NearColumn columns.now n }
-    ensures { result ≡ padded 512 0 (take n (map nat_abs (drop 1536 columns.now))) }
+    requires { (n ≤ stops_limit) × NearColumn columns.now n }
+    ensures { result ≡ padded stops_limit 0 (take n (map nat_abs (drop near_column columns.now))) }
 {
     let mut near = [0u64; STOPS];
     for row in 0..n {
@@ -366,10 +367,10 @@ fn nears_in(columns: &[i32], n: usize) -> [u64; STOPS]
 
 // Puts the places of stops, scaled, into the columns of x and of y.
 fn put_places(axis: AxisCosts, stops: Places<'_>, columns: &mut [i32])
-    requires { CostsInRange (held_axis axis) × PlacesInRange 512 stops.x.now stops.y.now (length stops.x.now)
-        × (columns.old ≡ replicate 2050 (pos 0)) }
+    requires { CostsInRange (held_axis axis) × PlacesInRange stops_limit stops.x.now stops.y.now (length stops.x.now)
+        × (columns.old ≡ replicate columns_size (pos 0)) }
     ensures { columns.new
-        ≡ paste (paste columns.old 0 (map (times axis.a) stops.entry.x.now) (length stops.entry.x.now)) 512
+        ≡ paste (paste columns.old 0 (map (times axis.a) stops.entry.x.now) (length stops.entry.x.now)) y_column
         (map (times axis.b) stops.entry.y.now) (length stops.entry.x.now) }
 {
     let n = stops.x.len();
@@ -384,8 +385,8 @@ fn put_places(axis: AxisCosts, stops: Places<'_>, columns: &mut [i32])
 /// The near of each stop, at these places, by the posts at those (RULES "Near"), with 0 behind the last: the column that a record keeps
 /// (RULES "Change 5").
 pub fn nears_of(axis: AxisCosts, posts: Places<'_>, stops: Places<'_>) -> [u64; STOPS]
-    requires { CostsInRange (held_axis axis) × PlacesInRange 64 posts.x.now posts.y.now (length posts.x.now)
-        × PlacesInRange 512 stops.x.now stops.y.now (length stops.x.now) × (1 ≤ length posts.x.now) }
+    requires { CostsInRange (held_axis axis) × PlacesInRange posts_limit posts.x.now posts.y.now (length posts.x.now)
+        × PlacesInRange stops_limit stops.x.now stops.y.now (length stops.x.now) × (1 ≤ length posts.x.now) }
     ensures { Nears (held_axis axis) (places posts.entry.x.now posts.entry.y.now) (places stops.entry.x.now stops.entry.y.now) result }
 {
     let posts = ScaledPosts::of(axis, posts);
@@ -398,7 +399,7 @@ pub fn nears_of(axis: AxisCosts, posts: Places<'_>, stops: Places<'_>) -> [u64; 
 /// What all stops cost by the posts alone: the sum of visits × near (RULES "Cost").
 pub fn before_of<'a>(visits: &'a [u64], near: &'a [u64]) -> u64
     requires { VisitsInRange visits.now (length visits.now) × NearsInRange near.now (length visits.now)
-        × (length visits.now ≤ 512) }
+        × (length visits.now ≤ stops_limit) }
     ensures { result ≡ paid visits.now near.now (length visits.now) }
 {
     let mut sum = 0;
@@ -411,9 +412,9 @@ pub fn before_of<'a>(visits: &'a [u64], near: &'a [u64]) -> u64
 /// Puts what pricing reads into an array of `COLUMNS` zeros: the columns of the stops' scaled x and y, their visits and the near that is
 /// kept with them, each with 0 behind its last number, and the axis costs behind all of them.
 pub fn put_columns(axis: AxisCosts, stops: Stops<'_>, columns: &mut [i32])
-    requires { CostsInRange (held_axis axis) × PlacesInRange 512 stops.at.x.now stops.at.y.now (length stops.at.x.now)
+    requires { CostsInRange (held_axis axis) × PlacesInRange stops_limit stops.at.x.now stops.at.y.now (length stops.at.x.now)
         × VisitsInRange stops.visits.now (length stops.at.x.now) × NearsInRange stops.near.now (length stops.at.x.now)
-        × (columns.old ≡ replicate 2050 (pos 0)) }
+        × (columns.old ≡ replicate columns_size (pos 0)) }
     ensures { columns.new
         ≡ columns_of (stored_pricing (held_axis axis) stops.entry.at.x.now stops.entry.at.y.now stops.entry.visits.now stops.entry.near.now
         (length stops.entry.at.x.now)) }

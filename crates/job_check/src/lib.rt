@@ -2,6 +2,7 @@
 #![tactic(auto)]
 
 ghost use Rattle.std.specs.Prelude.{◌≡◌, cond, [], ◌∷◌, map, ◌≤◌, pos, length, take};
+ghost use Rattle.query.specs.Range.{posts_limit, stops_limit};
 ghost use Rattle.deck.specs.DeckOf.{held_axis, places, stops_of};
 ghost use Rattle.job_line.specs.Kinds.{area, axis, posts, post, stops, stop, up_to, row};
 ghost use Rattle.job_line.specs.Reading.{area_numbers, cost_numbers, place_numbers, stop_numbers};
@@ -104,7 +105,7 @@ fn stop_line(s: Stop, line: u64) -> Result<(), Refusal>
 
 // The lines of posts, from line `first` on.
 fn post_lines(posts: Places<'_>, first: u64) -> Result<(), Refusal>
-    requires { (length posts.x.now ≤ 512) × (first ≤ 1000) }
+    requires { (length posts.x.now ≤ posts_limit) × (first ≤ 1000) }
     ensures { checked_as result ≡ first_fault first (map post_line (places posts.entry.x.now posts.entry.y.now)) }
 {
     for ((x, y), line) in posts.x.iter().zip(posts.y).zip(first..) {
@@ -115,7 +116,7 @@ fn post_lines(posts: Places<'_>, first: u64) -> Result<(), Refusal>
 
 // The lines of stops, from line `first` on.
 fn stop_lines(stops: Stops<'_>, first: u64) -> Result<(), Refusal>
-    requires { (length stops.at.x.now ≤ 512) × (first ≤ 1000) }
+    requires { (length stops.at.x.now ≤ stops_limit) × (first ≤ 1000) }
     ensures { checked_as result ≡ first_fault first
         (map stop_line (stops_of (places stops.entry.at.x.now stops.entry.at.y.now) stops.entry.visits.now)) }
 {
