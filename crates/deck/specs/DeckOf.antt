@@ -1,6 +1,6 @@
 -- The deck (RULES "Deck") that a record of the code holds, and the record that holds a deck.
 use Rattle.std.specs.Prelude.{ℕ, ◌≡◌, ℤ, pos, length, take}
-use mathlib.Core.List.{List, [], map, zip_with}
+use mathlib.Core.List.{List, map, zip_with}
 use Rattle.numbers.specs.Padded.{padded}
 use Rattle.query.specs.Place.{Place}
 use Rattle.query.specs.Deck as Query
@@ -62,15 +62,6 @@ deck_record deck = record {
   visits = padded stops_limit 0 (map (λ s. s.visits) deck.stops);
   near = padded stops_limit 0 (map (near deck) deck.stops);
   before = before deck;
-}
-
--- the deck whose record is all zeros
-abbrev pub empty_deck : Query.Deck
-empty_deck = record {
-  axis = record { a = 0; b = 0 };
-  area = record { xlo = pos 0; ylo = pos 0; xhi = pos 0; yhi = pos 0 };
-  posts = [];
-  stops = [];
 }
 
 -- a record that differs at most in these two figures
