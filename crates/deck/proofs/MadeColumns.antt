@@ -15,7 +15,7 @@ use Rattle.query.specs.Deck.{AxisCosts}
 use Rattle.query.specs.Range.{stops_limit}
 use Rattle.deck.specs.Objects.{stored_pricing}
 use Rattle.deck.specs.ObjectColumns.{object_columns, columns_of}
-use Rattle.deck.specs.Ranges.{NaturalsUpTo, VisitsInRange, NearsInRange, PlacesInRange}
+use Rattle.deck.specs.Ranges.{VisitsInRange, NearsInRange, PlacesInRange}
 use Rattle.deck.specs.Columns.{y_column, visits_column, near_column, x_cost_place, y_cost_place, columns_size}
 use Rattle.deck.proofs.CopyLaws.{put_column}
 use Rattle.deck.proofs.ColumnLaws.{columns_length}
@@ -28,10 +28,6 @@ costs_put xs u v e = rw (set_at xs (pos 0) (pos 0 ∷ []) u x_cost_place e) (
     ap (λ (l : List ℤ). set l y_cost_place v) (sym (append_assoc xs (u ∷ []) (pos 0 ∷ [])))
     ∙ set_at (xs ++ (u ∷ [])) (pos 0) [] v y_cost_place (omega (arith, length-append xs (u ∷ [])))
     ∙ append_assoc xs (u ∷ []) (v ∷ []))
-
--- numbers up to a limit are up to a larger one
-pub wider : {most more : ℕ} {vs : List ℕ} {n : ℕ} → most ≤ more → NaturalsUpTo most vs n → NaturalsUpTo more vs n
-wider h range = record { count = range.count; range = λ i l. omega (arith, range.range i l) }
 
 -- ---- columns of n numbers, one behind another
 module _ (n : ℕ) (few : n ≤ stops_limit) where
@@ -113,8 +109,19 @@ module _ (axis : AxisCosts) {xs ys : List ℤ} {vs ns : List ℕ} {n : ℕ} (pla
   abbrev v : List ℤ
   v = padded_column n places.few (map pos vs)
 
-  module _ {b c d : List ℤ} (eb : b ≡ paste (paste (replicate columns_size (pos 0)) 0 (map (times axis.a) xs) n) y_column (map (times axis.b) ys) n)
-      (ec : c ≡ paste b visits_column (map pos vs) n) (ed : d ≡ paste c near_column (map pos ns) n) where
+  -- a column of natural numbers put at its place
+  naturals_put : (at : ℕ) (d : List ℤ) (l : List ℕ) {part : List ℤ} → n ≤ length l → part ≡ map pos (take n l) →
+      put_mid at (at + n - at) d part ≡ paste d at (map pos l) n
+  naturals_put at d l h e = part_put at n d (map pos l) (e ∙ map_take pos n l) (naturals l h)
+
+  module _ {b us ws : List ℤ} (eb : b ≡ paste (paste (replicate columns_size (pos 0)) 0 (map (times axis.a) xs) n) y_column (map (times axis.b) ys) n)
+      (eu : us ≡ map pos (take n vs)) (ew : ws ≡ map pos (take n ns)) where
+    abbrev c : List ℤ
+    c = put_mid visits_column (visits_column + n - visits_column) b us
+
+    abbrev d : List ℤ
+    d = put_mid near_column (near_column + n - near_column) c ws
+
     two : length (x ++ y) ≡ visits_column
     two = two_columns n places.few _ _ scaled_x scaled_y refl eb
 
@@ -123,18 +130,18 @@ module _ (axis : AxisCosts) {xs ys : List ℤ} {vs ns : List ℕ} {n : ℕ} (pla
 
     objects : d ≡ x ++ y ++ v ++ padded_column n places.few (map pos ns) ++ replicate 2 (pos 0)
     objects =
-        ed
+        naturals_put near_column c ns nears.count ew
         ∙ ap (λ (l : List ℤ). paste l near_column (map pos ns) n)
-        (ec ∙ ap (λ (l : List ℤ). paste l visits_column (map pos vs) n) (places_put n places.few _ _ scaled_x scaled_y refl eb)
+        (naturals_put visits_column b vs visits.count eu ∙ ap (λ (l : List ℤ). paste l visits_column (map pos vs) n) (places_put n places.few _ _ scaled_x scaled_y refl eb)
         ∙ put_column (x ++ y) visits_column (stops_limit + 2) n (map pos vs) two places.few (naturals vs visits.count))
         ∙ put_column (x ++ y ++ v) near_column 2 n (map pos ns) three places.few (naturals ns nears.count)
 
     -- and the costs behind them
     pub made_columns : {t u : ℤ} → t ≡ pos axis.a → u ≡ pos axis.b → set (set d x_cost_place t) y_cost_place u ≡ columns_of (stored_pricing axis xs ys vs ns n)
     unfolding columns_of
-    made_columns et eu =
+    made_columns ex ey =
         let held = stored axis places visits nears in
         let count = stored_count axis places visits nears in
         let columns = stored_columns axis places visits nears in
-        (λ i. set (set ((objects ∙ ap (λ (l : List ℤ). l ++ replicate 2 (pos 0)) (sym columns)) i) x_cost_place (et i)) y_cost_place (eu i))
+        (λ i. set (set ((objects ∙ ap (λ (l : List ℤ). l ++ replicate 2 (pos 0)) (sym columns)) i) x_cost_place (ex i)) y_cost_place (ey i))
         ∙ costs_put (object_columns held) (pos axis.a) (pos axis.b) (columns_length held (omega (arith, count, places.few)))

@@ -33,9 +33,6 @@ module _ (ux uy vx vy : ℤ) (u : Near180000 ux uy) (v : Near180000 vx vy) where
   pub far_small : far ux uy vx vy < 2 ^ 31
   far_small = omega (arith, dist_most scaled_limit ux vx u.x_range v.x_range, dist_most scaled_limit uy vy u.y_range v.y_range)
 
-  pub far_word : far (to_z w32 (of_z w32 ux)) (to_z w32 (of_z w32 uy)) (to_z w32 (of_z w32 vx)) (to_z w32 (of_z w32 vy)) ≡ far ux uy vx vy
-  far_word = rw (coordinate ux u.x_range, coordinate uy u.y_range, coordinate vx v.x_range, coordinate vy v.y_range)
-
   pub far_sum : (a b : ℤ) → a ≡ pos (dist (to_z w32 (of_z w32 ux)) (to_z w32 (of_z w32 vx)))
       → b ≡ pos (dist (to_z w32 (of_z w32 uy)) (to_z w32 (of_z w32 vy))) →
       to_z w32 (of_z w32 a) +ℤ to_z w32 (of_z w32 b) ≡ pos (far ux uy vx vy)

@@ -170,8 +170,8 @@ pub fn scaled(cost: i32, coordinate: i64) -> i32
     cost * narrow
 }
 
-/// Puts the coordinates of a column, each multiplied by an axis cost, into another column of its length.
-pub fn copy_coordinates(from: &[i64], cost: i32, to: &mut [i32])
+// Puts the coordinates of a column, each multiplied by an axis cost, into another column of its length.
+fn copy_coordinates(from: &[i64], cost: i32, to: &mut [i32])
     requires { CoordinatesUpTo coordinate_limit from.now (length from.now) × AxisCostInRange cost × (length to.old ≡ length from.now) }
     ensures { to.new ≡ map (times (nat_abs cost)) from.now }
 {
@@ -225,8 +225,8 @@ impl ScaledPlace {
         apart(self.x, other.x) + apart(self.y, other.y)
     }
 
-    /// The smaller of a travel and the travel to another place.
-    pub fn closer(self, least: i32, other: ScaledPlace) -> i32
+    // The smaller of a travel and the travel to another place.
+    fn closer(self, least: i32, other: ScaledPlace) -> i32
         ensures { result
             ≡ cond (lt_z (pos (dist self.x other.x + dist self.y other.y)) least)
             (pos (dist self.x other.x + dist self.y other.y)) least }

@@ -111,9 +111,6 @@ module _ {bs : List ℕ} where
         none : length (digits bs) - count ≡ 0
         none = sym (length-drop count (digits bs)) ∙ ap length (m.left ∙ digit_stop digit)
 
-    pub scanned_ten : 10 ≤ count → count ≤ 10 → FirstDigits bs count value
-    scanned_ten g h = record { count_is = omega (arith, m.enough); value_is = m.value_is; below = m.below }
-
     pub scanned_small : count ≤ 10 → value < 10 ^ 10
     scanned_small h = omega (arith, m.below, pow-le-pow_right {n = 10} (omega arith) h)
 
