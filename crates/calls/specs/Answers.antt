@@ -7,9 +7,10 @@ use Rattle.query.specs.Estimate as Query
 use Rattle.refusal.specs.Refusal.{number_of, line_of}
 use Rattle.refusal.specs.declared.Refusal.{Refusal}
 use Rattle.report.specs.Report.{report_figures}
-use Rattle.report.specs.declared.Report.{Report}
 use Rattle.priced_place.specs.ObjectProblem.{priced_of}
 use Rattle.priced_place.specs.declared.PricedPlace.{PricedPlace}
+use Rattle.calls.specs.declared.Answer.{Answer}
+use Rattle.calls.specs.declared.Answer.TheVariants.{Report, Refused}
 use Rattle.calls.specs.declared.Estimate.{Estimate}
 use Rattle.job.specs.Format.{Job, Result, refused, accepted}
 use Rattle.job.specs.declared.Job as Held
@@ -33,8 +34,9 @@ answer_of meant (Ok a) = gives (meant a)
 answer_of meant (Err why) = refusal why
 
 -- 01 "Each answer is either a report, itself done or stopped, or one refusal with its line"
-abbrev pub report_answer : Std.Result Report Refusal → AnswerOf Figures
-report_answer = answer_of report_figures
+abbrev pub report_answer : Answer → AnswerOf Figures
+report_answer (Report r) = gives (report_figures r)
+report_answer (Refused why) = refusal why
 
 -- 01 "the place and cost of the cheapest", or one refusal
 abbrev pub cheapest_answer : Std.Result PricedPlace Refusal → AnswerOf Priced

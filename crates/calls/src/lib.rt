@@ -6,7 +6,16 @@ ghost use Rattle.std.specs.Prelude.{◌≡◌, ◌≤◌, take, length};
 ghost use Rattle.calls.specs.TextIn.{TextIn};
 
 use limits::REPORT_BYTES;
+use refusal::Refusal;
+use report::Report;
 use std::marker::Model;
+
+// What `siting::report` answers: a report, itself done or stopped, or one refusal.
+#[derive(Clone, Copy, PartialEq, Eq)]
+pub enum Answer {
+    Report(Report),
+    Refused(Refusal),
+}
 
 // What a job needs: the gaps across and deep, the cut limit, and the cells that suffice.
 #[derive(Clone, Copy)]

@@ -18,7 +18,7 @@ ghost use Rattle.deck.specs.Rectangle.{place_of, stop_of};
 ghost use Rattle.priced_place.specs.Prepared.{problem_of, Prepared};
 ghost use Rattle.siting.specs.Response.{state_for, Solved, OfJob, Fits, Answered, AnsweredIn, AnsweredAlone, Responded, RespondedAlone};
 
-use calls::{Estimate, Text};
+use calls::{Answer, Estimate, Text};
 use cells::LiveCells;
 use deck::{Deck, Place, Stop};
 use job::Job;
@@ -128,12 +128,14 @@ fn respond_alone(job: &[u8], out: &mut [u8]) -> Result<Response, Refusal>
 }
 
 // The report of a job, with its text in the output and its live cells in the cell space, or the refusal that applies first.
-pub fn report(job: &[u8], cells: &mut [i64], out: &mut [u8]) -> Result<Report, Refusal>
+pub fn report(job: &[u8], cells: &mut [i64], out: &mut [u8]) -> Answer
     ensures { record { answer = report_answer result; cells = cells.new; out = out.new }
         ≡ report_call job.now cells.old out.old }
 {
-    let response = respond(job, cells, out)?;
-    Ok(response.report)
+    match respond(job, cells, out) {
+        Ok(response) => Answer::Report(response.report),
+        Err(why) => Answer::Refused(why),
+    }
 }
 
 // The entry for C: the bytes written, or minus the number of the refusal.

@@ -17,6 +17,7 @@ ghost use Rattle.trial.specs.Trial.{least};
 ghost use Rattle.trial_calls.specs.Calls.{called, state_number, report_numbers, figure_for, spot_numbers, cheapest_figure};
 ghost use Rattle.trial_calls.specs.Calls.{refused_numbers};
 
+use calls::Answer;
 use priced_place::PricedPlace;
 use refusal::Refusal;
 use report::{Report, State};
@@ -70,8 +71,8 @@ pub fn trial_report(job: &[u8], cells: &mut [i64], out: &mut [u8], which: u64) -
         ≡ called (figure_for which) (report_call job.now cells.old out.old) }
 {
     match siting::report(job, cells, out) {
-        Ok(r) => figure(r, which),
-        Err(why) => refused_figure(7, why, which),
+        Answer::Report(r) => figure(r, which),
+        Answer::Refused(why) => refused_figure(7, why, which),
     }
 }
 
