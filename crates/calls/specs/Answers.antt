@@ -49,9 +49,9 @@ estimate_numbers e = record { across = e.across; deep = e.deep; limit = e.limit;
 abbrev pub estimated_answer : Std.Result Estimate Refusal → AnswerOf Query.Estimate
 estimated_answer = answer_of estimate_numbers
 
--- 02, card 1: the rounds of a job that was read, or one refusal
-abbrev pub read_answer : Std.Result Held.Job Refusal → AnswerOf ℕ
-read_answer = answer_of (λ j. j.rounds)
+-- 02, card 1: a job that was read, as the code holds it, or one refusal
+abbrev pub read_answer : Std.Result Held.Job Refusal → AnswerOf Held.Job
+read_answer = answer_of (λ job. job)
 
 -- 02, card 1: the number of bytes written, or one refusal
 abbrev pub written_answer : Std.Result ℕ Refusal → AnswerOf ℕ

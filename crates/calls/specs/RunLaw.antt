@@ -8,7 +8,7 @@ use Rattle.job.specs.Spelling.{spell, Spells}
 use Rattle.job.specs.File.{saved_spelling}
 use Rattle.write.specs.Written.{overwritten}
 use Rattle.calls.specs.Answers.{gives}
-use Rattle.calls.specs.ReadCall.{read_call}
+use Rattle.calls.specs.ReadCall.{job_record, read_call}
 use Rattle.calls.specs.WriteCall.{write_call}
 use Rattle.calls.specs.SavingLaw.{SpellsOut}
 
@@ -24,13 +24,13 @@ pub record RunLaw (changes : List Change) (job : List ℕ) (j : Job) : Type 0 wh
   -- "After any run of these on a read record, it equals the one read from a job with the resulting lists and all else unaltered": the job
   -- in any of its spellings, and so in that of the job that was read
   pub as_read : (bytes : List ℕ) → Spells missing_axis bytes (changed_job changes j) →
-      read_call bytes ≡ record { answer = gives j.rounds; deck = record_after changes (read_call job).deck }
+      read_call bytes ≡ gives (record { rounds = j.rounds; deck = record_after changes (job_record j).deck })
   pub spelled : (carried : Bool) → job ≡ spell carried j →
       Spells missing_axis (spell carried (changed_job changes j)) (changed_job changes j)
-  pub sound : Sound (record_after changes (read_call job).deck)
+  pub sound : Sound (record_after changes (job_record j).deck)
   -- with card 1: written, it is that job's bytes, in the spelling that is saved; and they too are read as the record, by `as_read`
   pub written : (out : List ℕ) → let text = saved_spelling (changed_job changes j) in length text ≤ length out →
-      write_call (record_after changes (read_call job).deck) j.rounds out
+      write_call (record_after changes (job_record j).deck) j.rounds out
       ≡ record { answer = gives (length text); out = overwritten text out }
   pub written_spells : Spells missing_axis (saved_spelling (changed_job changes j)) (changed_job changes j)
   -- this spelling is that of the job that was read, but for "a job that spells out `axis=1,1`" (card 2): then it is without the axis line

@@ -17,7 +17,7 @@ use Rattle.calls.specs.ProgramLaw.{ProgramLaw}
 use Rattle.calls.specs.ExhaustiveCallLaw.{ExhaustiveCallLaw}
 use Rattle.calls.specs.EstimateCallLaw.{EstimateCallLaw}
 use Rattle.calls.specs.SavingLaw.{ReadLaw, WriteLaw}
-use Rattle.calls.specs.RecordLaw.{RecordLaw, RefusedRecordLaw}
+use Rattle.calls.specs.RecordLaw.{RecordLaw}
 use Rattle.calls.specs.ChangeLaw.{ChangeLaw}
 use Rattle.calls.specs.RunLaw.{RunLaw}
 use Rattle.calls.specs.RefusalTable.{RefusalTable}
@@ -44,7 +44,6 @@ pub record Theorems : Type 0 where
   pub refusing : (missing : AxisCosts) (job : List ℕ) (why : Refusal) → RefusedLaw missing job why
   -- document 02, cards 5 and 6: the records that reading and the changes make, and what reading leaves where it refuses
   pub records : (deck : Deck) → RecordLaw deck
-  pub refused_records : (job : List ℕ) → RefusedRecordLaw job
   -- document 02, card 6: each change of every record, and every run of changes of a record that was read
   pub changes : (deck : Deck) (change : Change) → ChangeLaw deck change
   pub runs : (changes : List Change) (job : List ℕ) (j : Job) → read_job job ≡ accepted j → RunLaw changes job j

@@ -9,9 +9,10 @@ use Rattle.deck.specs.DeckOf.{deck_record, with_figures}
 use Rattle.deck.specs.declared.Deck.{Deck}
 use Rattle.job.specs.File.{file_text}
 use Rattle.job.specs.Meaning.{longest_job}
-use Rattle.calls.specs.Answers.{gives, refuses}
+use Rattle.job.specs.declared.Job as Held
+use Rattle.calls.specs.Answers.{AnswerOf, gives, refuses}
 use Rattle.calls.specs.ReadCall.{read_call}
-use Rattle.calls.specs.WriteCall.{write_call}
+use Rattle.calls.specs.WriteCall.{Saved, write_call}
 use Rattle.calls.specs.RefusalTable.{case_a, behind, ended, number_and_line}
 
 -- a record by its numbers: the axis costs; those of the area; the count of posts and each post's x, y; the count of stops and each stop's
@@ -92,17 +93,22 @@ gets_with rounds deck = number_and_line (write_call deck rounds (replicate 16384
 abbrev pub gets : Deck → ℕ × ℕ
 gets = gets_with 10
 
+-- a job that was read, written again; a refusal of reading leaves the output
+abbrev pub written_again : AnswerOf Held.Job → List ℕ → Saved
+written_again (gives job) out = write_call job.deck job.rounds out
+written_again (refuses number line) out = record { answer = refuses number line; out = out }
+
 pub record WriteTable : Type 0 where
   -- case A's record, with room for just its 71 bytes, with two bytes more, and with one less
   pub case_a_exact : write_call (deck_record deck_a) 10 (replicate 71 7) ≡ record { answer = gives 71; out = ended case_a }
   pub case_a_more : write_call (deck_record deck_a) 10 (replicate 73 7) ≡ record { answer = gives 71; out = ended case_a ++ (7 ∷ 7 ∷ []) }
   pub case_a_short : write_call (deck_record deck_a) 10 (replicate 70 7) ≡ record { answer = refuses 8 0; out = replicate 70 7 }
-  pub case_a_read : read_call (ended case_a) ≡ record { answer = gives 10; deck = deck_record deck_a }
-  pub refused_read : read_call (ended (set case_a 1 "posts=65")) ≡ record { answer = refuses 3 2; deck = record_of (0, 0) [] 0 [] 0 [] }
+  pub case_a_read : read_call (ended case_a) ≡ gives (record { rounds = 10; deck = deck_record deck_a })
+  pub refused_read : read_call (ended (set case_a 1 "posts=65")) ≡ refuses 3 2
   -- each number in its place
   pub each_place : write_call apart 0 (replicate 95 7) ≡ record { answer = gives 95; out = ended apart_lines }
   pub each_place_read : read_call (ended apart_lines)
-      ≡ record { answer = gives 0; deck = with_figures apart (padded stops_limit 0 (26 ∷ 65 ∷ [])) 1287 }
+      ≡ gives (record { rounds = 0; deck = with_figures apart (padded stops_limit 0 (26 ∷ 65 ∷ [])) 1287 })
   -- numbers behind the lists are not written
   pub behind_lists : write_call (counting 1 (pos 5, negsuc 6) 1 (negsuc 0, pos 20000, 65535)) 0 (replicate 80 7)
       ≡ record {
@@ -157,11 +163,11 @@ pub record WriteTable : Type 0 where
   -- card 2: the line is left out for 1,1 and for no other costs; spelled out, it is not saved
   pub axis_written : map (λ axis. file_text (with_axis axis) 10) ((1, 1) ∷ (1, 2) ∷ (2, 1) ∷ (9, 9) ∷ []) ≡ map ended
       (case_a ∷ carrying "axis=1,2" ∷ carrying "axis=2,1" ∷ carrying "axis=9,9" ∷ [])
-  pub spelled_out : write_call (read_call (ended (carrying "axis=1,1"))).deck 10 (replicate 73 7)
+  pub spelled_out : written_again (read_call (ended (carrying "axis=1,1"))) (replicate 73 7)
       ≡ record { answer = gives 71; out = ended case_a ++ (7 ∷ 7 ∷ []) }
-  pub own_bytes : write_call (read_call (ended (carrying "axis=2,1"))).deck 10 (replicate 80 7)
+  pub own_bytes : written_again (read_call (ended (carrying "axis=2,1"))) (replicate 80 7)
       ≡ record { answer = gives 80; out = ended (carrying "axis=2,1") }
-  pub own_bytes_short : write_call (read_call (ended (carrying "axis=2,1"))).deck 10 (replicate 79 7)
+  pub own_bytes_short : written_again (read_call (ended (carrying "axis=2,1"))) (replicate 79 7)
       ≡ record { answer = refuses 8 0; out = replicate 79 7 }
   -- an axis cost out of range, and of ten digits; later lines' numbers move by one
   pub axis_beyond : map (λ axis. gets (with_axis axis)) ((0, 1) ∷ (1, 0) ∷ (0, 0) ∷ (10, 1) ∷ (1, 10) ∷ (nine_digits, 1) ∷ [])
