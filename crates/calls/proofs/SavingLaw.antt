@@ -27,7 +27,7 @@ use Rattle.job.specs.declared.Job as Held
 use Rattle.job.specs.File.{held_job, writes_axis, saved_spelling, file_text}
 use Rattle.job.proofs.JobLaws.{most_posts, most_stops}
 use Rattle.job.proofs.Meaning.{refused_law, refused_job, spelling_law, allowed_text}
-use Rattle.job.proofs.RefusalLaws.{text_number, condition_number}
+use Rattle.job.proofs.RefusalLaws.{text_number}
 use Rattle.job_check.specs.LineFaults.{refusal_in}
 use Rattle.job_check.proofs.AxisLaws.{left_out, saved_spells}
 use Rattle.job_check.proofs.FileFaults.{file_is, file_spelled, file_line}

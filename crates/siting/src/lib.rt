@@ -9,7 +9,7 @@ ghost use Rattle.calls.specs.Entry.{entry};
 ghost use Rattle.calls.specs.Program.{answer_text};
 ghost use Rattle.calls.specs.CheapestCall.{exhaustive_call};
 ghost use Rattle.calls.specs.EstimateCall.{estimate_call};
-ghost use Rattle.calls.specs.ReadCall.{read_deck, read_call};
+ghost use Rattle.calls.specs.ReadCall.{read_call};
 ghost use Rattle.calls.specs.WriteCall.{write_call};
 ghost use Rattle.calls.specs.ChangeCall.{change_call};
 ghost use Rattle.cells.specs.Live.{none_live};
@@ -165,7 +165,7 @@ pub fn estimate(job: &[u8]) -> Result<Estimate, Refusal>
 
 // A job's bytes as the deck's record and the rounds that they spell, or the refusal of the job.
 pub fn read(job: &[u8]) -> Result<Job, Refusal>
-    ensures { record { answer = read_answer result; deck = read_deck result } ≡ read_call job.now }
+    ensures { read_answer result ≡ read_call job.now }
 {
     job::read(job)
 }

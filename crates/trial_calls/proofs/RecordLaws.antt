@@ -8,7 +8,7 @@ use lib.IntN.{ℤ, pos}
 use lib.ListN.{length, length-append, take, drop, set, replicate, length-set, length-drop, drop_of_length-le, replicate}
 use lib.Seq.{take_all, take_at, drop_at, take-suc-set, length-take-le}
 use borrow.Author.Tests.{eq-eqb}
-use Rattle.deck.specs.DeckOf.{Sized, deck_record, empty_deck}
+use Rattle.deck.specs.DeckOf.{Sized}
 use Rattle.deck.specs.declared.Deck.{Deck}
 use Rattle.refusal.specs.Refusal.{number_of, line_of}
 use Rattle.refusal.specs.declared.Refusal.{Refusal}
@@ -20,13 +20,13 @@ use Rattle.job.specs.declared.Job as Held
 use Rattle.job.proofs.JobLaws.{most_rounds}
 use Rattle.job.proofs.RefusalLaws.{condition_line}
 use Rattle.calls.specs.Answers.{refusal, read_answer, written_answer}
-use Rattle.calls.specs.ReadCall.{Read, read_deck, read_call}
+use Rattle.calls.specs.ReadCall.{read_call}
 use Rattle.calls.specs.WriteCall.{Saved, write_call}
 use Rattle.calls.specs.SavingLaw.{WriteLaw}
 use Rattle.calls.proofs.Promises.{read_exactly}
 use Rattle.calls.proofs.SavingLaw.{read_law, write_law}
 use Rattle.trial.specs.Trial.{least}
-use Rattle.trial_calls.specs.Records.{coordinates_of, naturals_of, is_record, deck_from, count_figure, read_into, trial_read}
+use Rattle.trial_calls.specs.Records.{coordinates_of, naturals_of, is_record, deck_from, count_figure, ReadInto, read_into, trial_read}
 
 -- ---- the numbers of a record, put into lists one part after another
 -- a part behind those that are done
@@ -108,44 +108,31 @@ module _ (zs : List ℤ) (ns : List ℕ) where
   pub as_long : length zs ≡ 1156 → length ns ≡ 1029 → is_record zs ns ≡ true
   as_long h k = rw (eq-eqb (length zs) 1156 h, eq-eqb (length ns) 1029 k)
 
--- ---- the numbers of the record that counts for a refusal
-zero_coordinates : replicate 1156 (pos 0) ≡ coordinates_of (deck_record empty_deck)
-unfolding deck_record
-zero_coordinates = refl
-
-zero_naturals : replicate 1029 0 ≡ naturals_of (deck_record empty_deck)
-unfolding deck_record
-zero_naturals = refl
-
 -- ---- the call `read`, by its case
-module _ (job : List ℕ) (r : Std.Result Held.Job Refusal) (e : record { answer = read_answer r; deck = read_deck r } ≡ read_call job) where
-  pub read_is : (zs : List ℤ) (ns : List ℕ) (which : ℕ) {v : ℤ} {zs' : List ℤ} {ns' : List ℕ} → length zs ≡ 1156 → length ns ≡ 1029 →
-      v ≡ count_figure which (read_answer r) → zs' ≡ coordinates_of (read_deck r) → ns' ≡ naturals_of (read_deck r) →
-      record { result = v; coordinates = zs'; naturals = ns' } ≡ trial_read job zs ns which
-  read_is zs ns which h k f g j =
-      (λ i. record { result = f i; coordinates = g i; naturals = j i }) ∙ ap (read_into which) e
+module _ (job : List ℕ) (r : Std.Result Held.Job Refusal) (e : read_answer r ≡ read_call job) where
+  pub read_is : (zs : List ℤ) (ns : List ℕ) (which : ℕ) {after : ReadInto} → length zs ≡ 1156 → length ns ≡ 1029 →
+      after ≡ read_into which (read_answer r) → after ≡ trial_read job zs ns which
+  read_is zs ns which h k f =
+      f ∙ ap (read_into which) e
       ∙ ap (λ (b : Bool). cond b (read_into which (read_call job)) (record { result = least; coordinates = zs; naturals = ns })) (sym (as_long zs ns h k))
-
-  answer_is : (read_call job).answer ≡ read_answer r
-  answer_is = sym (ap (λ (x : Read). x.answer) e)
 
   -- the rounds of an accepted job are few, and so is the line of a refusal
   pub rounds_few : (j : Held.Job) → r ≡ Ok j → j.rounds ≤ 20000
   rounds_few j a =
-      let (k, g, same) = ((read_law job).given_exactly j.rounds).0 (answer_is ∙ ap read_answer a) in
-      omega (arith, same, most_rounds ((read_exactly job k).0 g).1.writable)
+      let (k, g, same) = ((read_law job).given_exactly j).0 (sym e ∙ ap read_answer a) in
+      omega (arith, ap (λ (h : Held.Job). h.rounds) same, most_rounds ((read_exactly job k).0 g).1.writable)
 
   pub read_line : (why : Refusal) → r ≡ Err why → line_of why ≤ 16385
-  read_line why a = condition_line job why (((read_law job).refused_exactly why).0 (answer_is ∙ ap read_answer a))
+  read_line why a = condition_line job why (((read_law job).refused_exactly why).0 (sym e ∙ ap read_answer a))
 
   -- a refusal: zeros are put
   pub read_none : (why : Refusal) → r ≡ Err why → (zs : List ℤ) (ns : List ℕ) (which : ℕ) {v : ℤ} {zs' : List ℤ} {ns' : List ℕ} →
       length zs ≡ 1156 → length ns ≡ 1029 → v ≡ count_figure which (refusal why) → zs' ≡ replicate (length zs) (pos 0) →
       ns' ≡ replicate (length ns) 0 → record { result = v; coordinates = zs'; naturals = ns' } ≡ trial_read job zs ns which
-  read_none why a zs ns which h k f g j =
-      read_is zs ns which h k (f ∙ sym (ap (λ (x : Std.Result Held.Job Refusal). count_figure which (read_answer x)) a))
-      (g ∙ ap (λ (n : ℕ). replicate n (pos 0)) h ∙ zero_coordinates ∙ sym (ap (λ (x : Std.Result Held.Job Refusal). coordinates_of (read_deck x)) a))
-      (j ∙ ap (λ (n : ℕ). replicate n 0) k ∙ zero_naturals ∙ sym (ap (λ (x : Std.Result Held.Job Refusal). naturals_of (read_deck x)) a))
+  read_none why a zs ns which h k f g j = read_is zs ns which h k (
+    (λ i. record { result = f i; coordinates = (g ∙ ap (λ (n : ℕ). replicate n (pos 0)) h) i; naturals = (j ∙ ap (λ (n : ℕ). replicate n 0) k) i })
+    ∙ sym (ap (λ (x : Std.Result Held.Job Refusal). read_into which (read_answer x)) a)
+  )
 
 -- ---- the call `write`, by the case of its answer
 module _ (zs : List ℤ) (ns : List ℕ) (rounds : ℕ) (out : List ℕ) (deck : Deck) (d : deck ≡ deck_from zs ns) (answer : Std.Result ℕ Refusal) (out' : List ℕ)

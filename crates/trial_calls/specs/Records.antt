@@ -1,11 +1,12 @@
 -- What the functions over the calls that read, write and change records answer: a deck's record as two lists of numbers, and a figure of
 -- the answer.
-use Rattle.std.specs.Prelude.{ℕ, Bool, cond, ◌&&◌, List, [], ◌∷◌, ◌++◌, eqb, ltb, ℤ, pos, length, get_or, take, drop}
+use Rattle.std.specs.Prelude.{ℕ, Bool, cond, ◌&&◌, List, [], ◌∷◌, ◌++◌, eqb, ltb, ℤ, pos, length, replicate, get_or, take, drop}
 use Rattle.query.specs.Place.{Place}
 use Rattle.deck.specs.declared.Deck.{Deck}
 use Rattle.change.specs.Change.{Change, add_post, remove_post, add_stop, remove_stop}
 use Rattle.calls.specs.Answers.{AnswerOf, gives, refuses}
-use Rattle.calls.specs.ReadCall.{Read, read_call}
+use Rattle.job.specs.declared.Job as Held
+use Rattle.calls.specs.ReadCall.{read_call}
 use Rattle.calls.specs.WriteCall.{Saved, write_call}
 use Rattle.calls.specs.ChangeCall.{AfterChange, change_call}
 use Rattle.trial.specs.Trial.{least}
@@ -50,15 +51,20 @@ count_numbers (refuses number line) = least ∷ pos number ∷ pos line ∷ []
 abbrev pub count_figure : ℕ → AnswerOf ℕ → ℤ
 count_figure which answer = get_or (count_numbers answer) which least
 
--- ---- the call `read`: a figure, and the record's numbers in lists that are as long; other lists are left as they are
+-- ---- the call `read`: a figure, and the record's numbers in lists that are as long, or zeros for a refusal; other lists are left as they are
 pub record ReadInto : Type 0 where
   pub result : ℤ
   pub coordinates : List ℤ
   pub naturals : List ℕ
 
-abbrev pub read_into : ℕ → Read → ReadInto
-read_into which r =
-    record { result = count_figure which r.answer; coordinates = coordinates_of r.deck; naturals = naturals_of r.deck }
+abbrev pub read_into : ℕ → AnswerOf Held.Job → ReadInto
+read_into which (gives job) =
+    record { result = count_figure which (gives job.rounds); coordinates = coordinates_of job.deck; naturals = naturals_of job.deck }
+read_into which (refuses number line) = record {
+  result = count_figure which (refuses number line);
+  coordinates = replicate 1156 (pos 0);
+  naturals = replicate 1029 0;
+}
 
 abbrev pub trial_read : List ℕ → List ℤ → List ℕ → ℕ → ReadInto
 trial_read job zs ns which =
