@@ -1,5 +1,5 @@
--- Which number of an answer's record in the code, and of an argument's, is which of documents 01 and 02. All of them differ, so that no two
--- can be exchanged.
+-- Rows of which number in the code's answers and arguments is which (RULES "Figures", "Calls"). All of them differ, so that no two can be
+-- exchanged.
 use Rattle.std.specs.Prelude.{◌≡◌, pos, Ok}
 use Rattle.query.specs.Figures.{done, stopped}
 use Rattle.query.specs.Marked.{at, report}

@@ -5,8 +5,9 @@ use Rattle.refusal.specs.declared.Refusal.{Refusal}
 use Rattle.job.specs.Format.{Job, accepted, read_job}
 use Rattle.job.specs.Meaning.{Condition}
 use Rattle.write.specs.Written.{overwritten}
+use Rattle.report.specs.Limits.{output_size}
 use Rattle.report.specs.Text.{report_text}
-use Rattle.calls.specs.Call.{job_figures, output_size}
+use Rattle.calls.specs.Call.{job_figures}
 use Rattle.calls.specs.Entry.{entry}
 
 -- 01 "The C entry has cell space of its own and never gives 7; its signed result is the bytes written, or minus the refusal number"

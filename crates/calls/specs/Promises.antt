@@ -11,9 +11,10 @@ use Rattle.job.specs.Format.{Job, refused, accepted, missing_axis, read_job}
 use Rattle.job.specs.Spelling.{spell, Spells, Allowed}
 use Rattle.job.specs.Meaning.{Condition}
 use Rattle.write.specs.Written.{overwritten}
+use Rattle.report.specs.Limits.{output_size}
 use Rattle.report.specs.Text.{report_text}
 use Rattle.calls.specs.Answers.{gives, refuses, refusal}
-use Rattle.calls.specs.Call.{job_figures, output_size, report_call}
+use Rattle.calls.specs.Call.{job_figures, report_call}
 use Rattle.query.specs.Range.{rounds_limit}
 
 -- 01 "A job is accepted if none of the refusals that its call can give applies to it and to what is lent": it is read as j, and enough is

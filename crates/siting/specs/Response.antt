@@ -11,6 +11,7 @@ use Rattle.refusal.specs.declared.Refusal.{Refusal}
 use Rattle.refusal.specs.declared.Refusal.TheVariants.{ShortOutput}
 use Rattle.job.specs.Format.{read_job}
 use Rattle.report.specs.Report.{report_figures}
+use Rattle.report.specs.Limits.{output_size}
 use Rattle.report.specs.Text.{report_text}
 use Rattle.write.specs.Written.{Overwrote}
 use Rattle.report.specs.declared.Report.{Report}
@@ -24,7 +25,7 @@ use Rattle.priced_place.specs.Prepared.{problem_of}
 use Rattle.estimate.specs.LineCounts.{estimate_by}
 use Rattle.siting.specs.declared.Response.{Response}
 use Rattle.calls.specs.Answers.{AnswerOf, answer_of}
-use Rattle.calls.specs.Call.{Left, output_size}
+use Rattle.calls.specs.Call.{Left}
 
 abbrev pub state_for : Bool → State
 state_for is_done = cond is_done Done Stopped
