@@ -9,6 +9,7 @@ use lib.Seq.{get_or-take}
 use Rattle.numbers.proofs.Joined.{map_at}
 use Rattle.numbers.proofs.Padded.{padded_at, padded_behind}
 use Rattle.query.specs.Travel.{near}
+use Rattle.query.specs.Range.{stops_limit}
 use Rattle.deck.specs.DeckOf.{deck_of, deck_record}
 use Rattle.deck.specs.Sound.{Sound}
 use Rattle.deck.specs.declared.Deck.{Deck}
@@ -51,7 +52,7 @@ module _ (deck : Deck) (sound : Sound deck) (i : ℕ) where
   unfolding deck_of
   near_at_lem h =
       rw (sound_near sound)
-      (padded_at 512 0 (map (near (deck_of deck)) (deck_of deck).stops) i
+      (padded_at stops_limit 0 (map (near (deck_of deck)) (deck_of deck).stops) i
       (omega (arith, length-map (deck_of deck).stops (near (deck_of deck)), sound_stops sound))
       ∙ each)
     where
@@ -63,7 +64,7 @@ module _ (deck : Deck) (sound : Sound deck) (i : ℕ) where
       each = map_at (near (deck_of deck)) (deck_of deck).stops i 0 (stop_in deck i) (omega (arith, sound_stops sound)) ∙ ap (near (deck_of deck)) stop_at_lem
 
   near_past : deck.stops ≤ i → get_or deck.near i 0 ≡ 0
-  near_past h = rw (sound_near sound) (padded_behind 512 0 (map (near (deck_of deck)) (deck_of deck).stops) i
+  near_past h = rw (sound_near sound) (padded_behind stops_limit 0 (map (near (deck_of deck)) (deck_of deck).stops) i
       (omega (arith, length-map (deck_of deck).stops (near (deck_of deck)), sound_stops sound)))
 
 pub record_law : (deck : Deck) → RecordLaw deck

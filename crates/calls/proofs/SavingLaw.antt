@@ -14,6 +14,7 @@ use Rattle.numbers.proofs.Truth.{test, cond-true, cond-false}
 use Rattle.numbers.proofs.Padded.{padded_length}
 use Rattle.query.specs.Deck as Query
 use Rattle.query.specs.Deck.{AxisCosts, plain}
+use Rattle.query.specs.Range.{posts_limit, stops_limit}
 use Rattle.deck.specs.DeckOf.{Sized, deck_of, deck_record, with_figures}
 use Rattle.deck.specs.declared.Deck.{Deck}
 use Rattle.deck.proofs.DeckLaws.{held_deck}
@@ -215,10 +216,10 @@ module _ (deck : Deck) (rounds : ℕ) (out : List ℕ) (sized : Sized deck) wher
         go (too_short s h p) = let q = same_number _ _ _ _ (sym e ∙ answer_of p) in omega arith
         go (writes s h p) = absurd (not_refused _ _ _ (sym (answer_of p) ∙ e))
 
-    few_lines : line ≤ 581
+    few_lines : line ≤ posts_limit + stops_limit + 5
     few_lines = go ends
       where
-        go : Ends → line ≤ 581
+        go : Ends → line ≤ posts_limit + stops_limit + 5
         go (refuses_file w r p) = let q = same_line _ _ _ _ (sym e ∙ answer_of p) in omega (arith, file_line deck rounds sized w r)
         go (too_short s h p) = let q = same_line _ _ _ _ (sym e ∙ answer_of p) in omega arith
         go (writes s h p) = absurd (not_refused _ _ _ (sym (answer_of p) ∙ e))
@@ -333,11 +334,11 @@ module _ (j : Job) (a : Allowed j) where
       let p = most_posts a.writable in
       let s = most_stops a.writable in
       record {
-        post_x = column_sized _ _ 64 j.deck.posts p;
-        post_y = column_sized _ _ 64 j.deck.posts p;
-        stop_x = column_sized _ _ 512 j.deck.stops s;
-        stop_y = column_sized _ _ 512 j.deck.stops s;
-        visits = column_sized _ _ 512 j.deck.stops s;
+        post_x = column_sized _ _ posts_limit j.deck.posts p;
+        post_y = column_sized _ _ posts_limit j.deck.posts p;
+        stop_x = column_sized _ _ stops_limit j.deck.stops s;
+        stop_y = column_sized _ _ stops_limit j.deck.stops s;
+        visits = column_sized _ _ stops_limit j.deck.stops s;
       }
 
   record_saveable : Saveable (deck_record j.deck) j.rounds

@@ -1,5 +1,5 @@
--- Document 02, card 6: rows of the changes of a deck's record, from a job's bytes, or a record's numbers, and some changes to the answers,
--- to all numbers of the record, or to near and before. All were worked out by hand.
+-- Rows of changes of a deck's record (RULES "Change 6"), worked out by hand: from a job's bytes or a record's numbers, and some changes, to
+-- the answers, to all numbers of the record, or to near and before.
 use Rattle.std.specs.Prelude.{ℕ, ◌≡◌, List, [], ◌∷◌, ◌++◌, map, ℤ, pos, negsuc, replicate, set}
 use Prim.Native.String.{String}
 use Rattle.numbers.specs.Padded.{padded}
@@ -27,18 +27,21 @@ abbrev pub answers : Deck → List Change → List (ℕ × ℕ)
 answers deck [] = []
 answers deck (change ∷ changes) = let r = change_call deck change in number_and_line r.answer ∷ answers r.deck changes
 
--- the same of a job that was read; a refusal of reading stands alone
-abbrev pub answers_read : AnswerOf Held.Job → List Change → List (ℕ × ℕ)
-answers_read (gives job) changes = answers job.deck changes
-answers_read (refuses number line) changes = (number, line) ∷ []
+-- the same of the record that a job is read as; where it is refused, the refusal alone
+abbrev pub answers_from : AnswerOf Held.Job → List Change → List (ℕ × ℕ)
+answers_from (gives job) changes = answers job.deck changes
+answers_from (refuses number line) changes = (number, line) ∷ []
+
+abbrev pub answers_read : List ℕ → List Change → List (ℕ × ℕ)
+answers_read job changes = answers_from (read_call job) changes
 
 -- a record with the area 1,2,3,4 and the axis costs 2,1, by its other numbers: the count of posts and each post's x, y; the count of stops
 -- and each stop's x, y, visits and near; before. Behind the lists are zeros
 abbrev pub listing : ℕ → List (ℕ × ℕ) → ℕ → List (ℕ × ℕ × ℕ × ℕ) → ℕ → Deck
-listing p posts s stops before = with_figures
-    (record_of (2, 1) (pos 1 ∷ pos 2 ∷ pos 3 ∷ pos 4 ∷ []) p (map (λ q. (pos q.0, pos q.1)) posts) s
-    (map (λ q. (pos q.0, pos q.1, q.2)) stops))
-    (padded 512 0 (map (λ q. q.3) stops)) before
+listing post_count posts stop_count stops before = with_figures
+    (record_of (2, 1) (pos 1 ∷ pos 2 ∷ pos 3 ∷ pos 4 ∷ []) post_count (map (λ p. (pos p.0, pos p.1)) posts) stop_count
+    (map (λ s. (pos s.0, pos s.1, s.2)) stops))
+    (padded 512 0 (map (λ s. s.3) stops)) before
 
 -- two posts and four stops, of which the first and the third have equal values, and the last differs from them in its visits; and the lines
 -- that are read as this record
@@ -99,17 +102,17 @@ pub record ChangeTable : Type 0 where
   pub not_held : answers plates
       (remove_post (place (pos 0) (pos 1)) ∷ remove_stop (stop (pos 29) (pos 1) 2) ∷ remove_stop (stop (pos 1) (pos 29) 3) ∷ [])
       ≡ (9, 0) ∷ (9, 0) ∷ (9, 0) ∷ []
-  pub only_post : answers_read (read_call (ended case_a))
+  pub only_post : answers_read (ended case_a)
       (remove_post (place (pos 1) (pos 0)) ∷ remove_post (place (pos 0) (pos 0)) ∷ add_post (place (pos 0) (pos 0))
       ∷ remove_post (place (pos 0) (pos 0)) ∷ remove_post (place (pos 0) (pos 0)) ∷ [])
       ≡ (9, 0) ∷ (5, 0) ∷ (0, 0) ∷ (0, 0) ∷ (5, 0) ∷ []
-  pub only_stop : answers_read (read_call (ended case_a))
+  pub only_stop : answers_read (ended case_a)
       (remove_stop (stop (pos 8) (pos 12) 1) ∷ remove_stop (stop (pos 8) (pos 12) 1) ∷ remove_stop (stop (pos 4) (pos 3) 2) ∷ [])
       ≡ (0, 0) ∷ (9, 0) ∷ (6, 0) ∷ []
-  -- 10 when 64 posts or 512 stops are held now; "A freed place can be taken by a later item"
-  pub posts_full : answers_read (read_call (many_posts "posts=64" 64)) (add_post (place (pos 1) (pos 1)) ∷ remove_post (place (pos 0) (pos 0))
+  -- 10 where the list is full, and made again once one is removed
+  pub posts_full : answers_read (many_posts "posts=64" 64) (add_post (place (pos 1) (pos 1)) ∷ remove_post (place (pos 0) (pos 0))
       ∷ add_post (place (pos 1) (pos 1)) ∷ add_post (place (pos 1) (pos 1)) ∷ []) ≡ (10, 0) ∷ (0, 0) ∷ (0, 0) ∷ (10, 0) ∷ []
-  pub stops_full : answers_read (read_call (many_stops "stops=512" 512)) (add_stop (stop (pos 1) (pos 1) 1) ∷ remove_stop (stop (pos 4) (pos 3) 2)
+  pub stops_full : answers_read (many_stops "stops=512" 512) (add_stop (stop (pos 1) (pos 1) 1) ∷ remove_stop (stop (pos 4) (pos 3) 2)
       ∷ add_stop (stop (pos 1) (pos 1) 1) ∷ add_stop (stop (pos 1) (pos 1) 1) ∷ []) ≡ (10, 0) ∷ (0, 0) ∷ (0, 0) ∷ (10, 0) ∷ []
   -- 3: both sides of the end of every range, in each of the four changes. It comes before 9
   pub range_ends : answers plates
@@ -119,11 +122,11 @@ pub record ChangeTable : Type 0 where
       (map add_post places_outside ++ map remove_post places_outside ++ map add_stop stops_outside ++ map remove_stop stops_outside)
       ≡ replicate 22 (3, 0)
   -- and before 10, and also where there is only one post and one stop
-  pub range_first : answers_read (read_call (many_posts "posts=64" 64)) (add_post (place (pos 20001) (pos 0)) ∷ [])
-      ++ answers_read (read_call (many_stops "stops=512" 512)) (add_stop (stop (pos 0) (pos 0) 0) ∷ [])
-      ++ answers_read (read_call (many_posts "posts=1" 1)) (remove_post (place (pos 20001) (pos 0)) ∷ remove_stop (stop (pos 4) (pos 3) 0) ∷ [])
+  pub range_first : answers_read (many_posts "posts=64" 64) (add_post (place (pos 20001) (pos 0)) ∷ [])
+      ++ answers_read (many_stops "stops=512" 512) (add_stop (stop (pos 0) (pos 0) 0) ∷ [])
+      ++ answers_read (many_posts "posts=1" 1) (remove_post (place (pos 20001) (pos 0)) ∷ remove_stop (stop (pos 4) (pos 3) 0) ∷ [])
       ≡ replicate 4 (3, 0)
-  -- records that no operation makes get 3 where the reader would not accept their file: all numbers 0; an empty area and one
+  -- records that no call makes get 3 where reading would not accept their file: all numbers 0; an empty area and one
   -- out of range, axis costs, no posts and no stops, too many, a post, a stop, visits, and a number of ten digits
   pub not_saveable : map (λ d. answers d (add_post (place (pos 0) (pos 0)) ∷ []))
       (record_of (0, 0) [] 0 [] 0 []

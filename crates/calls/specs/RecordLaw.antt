@@ -1,4 +1,4 @@
--- Document 02, cards 5 and 6: the law of records.
+-- Which records the calls make, and their near and before (RULES "Change 5", "Change 6").
 use Rattle.std.specs.Prelude.{ℕ, ◌≤◌, ◌<◌, ◌≡◌, ◌↔◌, List, pos, get_or}
 use Rattle.query.specs.Deck.{Stop}
 use Rattle.query.specs.Travel.{near}
@@ -12,8 +12,7 @@ use Rattle.change.specs.Change.{Change}
 use Rattle.calls.specs.ReadCall.{read_call}
 use Rattle.calls.specs.ChangeCall.{change_call}
 
--- "records that reading or such operations made", with a constructor for each operation that makes or alters a deck: reading, and card 6's
--- changes, whatever they answer
+-- a record that calls made: by reading a job, or from such a record by a change, whatever it answers
 pub data Made : Deck → Type 0 where
   by_reading : (job : List ℕ) (held : Held.Job) → read_call job ≡ gives held → {deck : Deck} → deck ≡ held.deck → Made deck
   by_change : (held : Deck) (change : Change) → Made held → {deck : Deck} → deck ≡ (change_call held change).deck → Made deck
@@ -26,10 +25,9 @@ stop_in deck i = record {
 }
 
 pub record RecordLaw (deck : Deck) : Type 0 where
-  -- "Every operation that makes or alters a deck leaves them equal to their definitions": a record that was made is sound; and every sound
-  -- record can be made
+  -- these records are the sound ones, whose near and before are those of the deck that they hold
   pub sound_exactly : Made deck ↔ Sound deck
-  -- and each is one that a job is read as: changes make no others
+  -- and each is read from some job, so that changes make no others
   pub as_read : Sound deck → (job : List ℕ) × (held : Held.Job) × (read_call job ≡ gives held) × (deck ≡ held.deck)
   -- near and before of a sound record, number by number
   pub near_is : Sound deck → (i : ℕ) → i < deck.stops → get_or deck.near i 0 ≡ near (deck_of deck) (stop_in deck i)

@@ -1,4 +1,4 @@
--- Document 02, card 5: rows of the figures that a record keeps, from a job's bytes to the near of each stop and to before.
+-- Rows of the figures that a record keeps (RULES "Change 5"), from a job's bytes to the near of each stop and to before.
 use Rattle.std.specs.Prelude.{ℕ, ◌≡◌, List, [], ◌∷◌, ◌++◌, map, replicate}
 use Prim.Native.String.{String}
 use Rattle.numbers.specs.Padded.{padded}

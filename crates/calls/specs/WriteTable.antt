@@ -1,5 +1,5 @@
--- Document 02, cards 1 and 2: rows of the calls `write` and `read`, from a record's numbers and an output to all that the call answers
--- and leaves.
+-- Rows of the calls `write` and `read` (RULES "Change 1", "Change 2"), from a record's numbers and an output, or a job's bytes, to all that
+-- the call answers and leaves.
 use Rattle.std.specs.Prelude.{ℕ, ◌≡◌, List, [], ◌∷◌, ◌++◌, map, ℤ, pos, negsuc, neg_ℤ, length, replicate, get_or, set}
 use Prim.Native.String.{String}
 use Rattle.numbers.specs.Padded.{padded}
@@ -18,16 +18,16 @@ use Rattle.calls.specs.RefusalTable.{case_a, behind, ended, number_and_line}
 -- a record by its numbers: the axis costs; those of the area; the count of posts and each post's x, y; the count of stops and each stop's
 -- x, y, visits. Its near and before are 0
 abbrev pub record_of : ℕ × ℕ → List ℤ → ℕ → List (ℤ × ℤ) → ℕ → List (ℤ × ℤ × ℕ) → Deck
-record_of axis area p posts s stops = record {
+record_of axis area post_count posts stop_count stops = record {
   axis = record { a = axis.0; b = axis.1 };
   xlo = get_or area 0 (pos 0);
   ylo = get_or area 1 (pos 0);
   xhi = get_or area 2 (pos 0);
   yhi = get_or area 3 (pos 0);
-  posts = p;
+  posts = post_count;
   post_x = padded posts_limit (pos 0) (map (λ p. p.0) posts);
   post_y = padded posts_limit (pos 0) (map (λ p. p.1) posts);
-  stops = s;
+  stops = stop_count;
   stop_x = padded stops_limit (pos 0) (map (λ s. s.0) stops);
   stop_y = padded stops_limit (pos 0) (map (λ s. s.1) stops);
   visits = padded stops_limit 0 (map (λ s. s.2) stops);
@@ -53,7 +53,8 @@ abbrev pub with_area : List ℤ → Deck
 with_area area = record_of (1, 1) area 1 ((pos 0, pos 0) ∷ []) 2 ((pos 4, pos 3, 2) ∷ (pos 8, pos 12, 1) ∷ [])
 
 abbrev pub counting : ℕ → (ℤ × ℤ) → ℕ → (ℤ × ℤ × ℕ) → Deck
-counting p post s stop = record_of (1, 1) square p (replicate posts_limit post) s (replicate stops_limit stop)
+counting post_count post stop_count stop =
+    record_of (1, 1) square post_count (replicate posts_limit post) stop_count (replicate stops_limit stop)
 
 abbrev pub with_stop : (ℤ × ℤ × ℕ) → Deck
 with_stop stop = record_of (1, 1) square 1 ((pos 0, pos 0) ∷ []) 2 ((pos 4, pos 3, 2) ∷ stop ∷ [])
@@ -160,7 +161,7 @@ pub record WriteTable : Type 0 where
   pub longest_job_law : longest_job ≡ 14089
   pub longest : length (file_text (record_of (9, 9) (replicate 4 (negsuc 19999)) 64 (replicate 64 (negsuc 19999, negsuc 19999)) 512
       (replicate 512 (negsuc 19999, negsuc 19999, 65535))) 1000) ≡ 14089
-  -- card 2: the line is left out for 1,1 and for no other costs; spelled out, it is not saved
+  -- the axis line is left out for 1,1 and for no other costs; spelled out, it is not written again
   pub axis_written : map (λ axis. file_text (with_axis axis) 10) ((1, 1) ∷ (1, 2) ∷ (2, 1) ∷ (9, 9) ∷ []) ≡ map ended
       (case_a ∷ carrying "axis=1,2" ∷ carrying "axis=2,1" ∷ carrying "axis=9,9" ∷ [])
   pub spelled_out : written_again (read_call (ended (carrying "axis=1,1"))) (replicate 73 7)

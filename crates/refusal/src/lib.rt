@@ -9,9 +9,9 @@ ghost use Rattle.refusal.specs.Refusal.{number_of, line_of};
 pub enum Refusal {
     /// The job has more bytes than a job may have.
     TooLong,
-    /// This line does not have its form, is missing, or is too much.
+    /// This line is without its form, is missing, or is one too many.
     Malformed(u64),
-    /// This line has its form, and a value out of range. A change has no lines, and gives 0.
+    /// This line has its form, and a value out of range. A change, which has no lines, gives 0.
     OutOfRange(u64),
     /// The area's low edge lies beyond its high edge, in x or in y.
     EmptyArea,
