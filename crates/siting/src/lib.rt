@@ -151,8 +151,8 @@ pub fn siting_report(job: &[u8], out: &mut [u8]) -> i64
     }
 }
 
-/// The cheapest crossing of lines, the earliest of equals (RULES "Exhaustive search"), or the job's refusal, 1 to 6. It does not use the
-/// job's rounds.
+/// The cheapest crossing of lines, the earliest of equals (RULES "Exhaustive search"), or the job's refusal, 1 to 6. The rounds of the job
+/// play no part.
 pub fn exhaustive(job: &[u8]) -> Result<PricedPlace, Refusal>
     ensures { cheapest_answer result ≡ exhaustive_call job.now }
 {

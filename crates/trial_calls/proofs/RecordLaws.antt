@@ -1,5 +1,5 @@
 -- The calls `read` and `write` as the tests see them: a record's numbers in two lists, and what the answers carry.
-use Prim.Native.Nat.{ℕ, ◌+◌, ◌-◌, ◌≤◌}
+use Prim.Native.Nat.{ℕ, ◌+◌, ◌-◌, ◌*◌, ◌≤◌}
 use mathlib.Core.Path.{◌≡◌, sym, ap, ◌∙◌}
 use mathlib.Core.Bool.{Bool, true, cond}
 use mathlib.Core.List.{List, [], ◌∷◌, ◌++◌, append-nil, append_assoc}
@@ -16,6 +16,8 @@ use Rattle.std.specs.Prelude.{Ok, Err}
 use Rattle.std.specs.Prelude as Std
 use Rattle.std.proofs.lemmas.List.{drop-drop}
 use borrow.Rule.Slice.PartMut.{put_mid}
+use Rattle.query.specs.Range.{posts_limit, stops_limit}
+use Rattle.job.specs.Format.{size_limit}
 use Rattle.job.specs.declared.Job as Held
 use Rattle.job.proofs.JobLaws.{most_rounds}
 use Rattle.job.proofs.RefusalLaws.{condition_line}
@@ -26,7 +28,7 @@ use Rattle.calls.specs.SavingLaw.{WriteLaw}
 use Rattle.calls.proofs.Promises.{read_exactly}
 use Rattle.calls.proofs.SavingLaw.{read_law, write_law}
 use Rattle.trial.specs.Trial.{least}
-use Rattle.trial_calls.specs.Records.{coordinates_of, naturals_of, is_record, deck_from, count_figure, ReadInto, read_into, trial_read}
+use Rattle.trial_calls.specs.Records.{coordinates_size, naturals_size, coordinates_of, naturals_of, is_record, deck_from, count_figure, read_into, trial_read}
 
 -- ---- the numbers of a record, put into lists one part after another
 -- a part behind those that are done
@@ -94,49 +96,43 @@ naturals_put deck l {h} {p} {q} e lp lq eh ep eq =
 part_long : {A : Type 0} (start n : ℕ) (l : List A) → start + n ≤ length l → length (take n (drop start l)) ≡ n
 part_long start n l h = length-take-le n (drop start l) (omega (arith, length-drop start l))
 
-pub deck_sized : (zs : List ℤ) (ns : List ℕ) → length zs ≡ 1156 → length ns ≡ 1029 → Sized (deck_from zs ns)
+pub deck_sized : (zs : List ℤ) (ns : List ℕ) → length zs ≡ coordinates_size → length ns ≡ naturals_size → Sized (deck_from zs ns)
 deck_sized zs ns h k = record {
-  post_x = part_long 4 64 zs (omega arith);
-  post_y = part_long 68 64 zs (omega arith);
-  stop_x = part_long 132 512 zs (omega arith);
-  stop_y = part_long 644 512 zs (omega arith);
-  visits = part_long 4 512 ns (omega arith);
+  post_x = part_long 4 posts_limit zs (omega arith);
+  post_y = part_long (4 + posts_limit) posts_limit zs (omega arith);
+  stop_x = part_long (4 + 2 * posts_limit) stops_limit zs (omega arith);
+  stop_y = part_long (4 + 2 * posts_limit + stops_limit) stops_limit zs (omega arith);
+  visits = part_long 4 stops_limit ns (omega arith);
 }
 
 -- ---- lists that are as long as a record's
 module _ (zs : List ℤ) (ns : List ℕ) where
-  pub as_long : length zs ≡ 1156 → length ns ≡ 1029 → is_record zs ns ≡ true
-  as_long h k = rw (eq-eqb (length zs) 1156 h, eq-eqb (length ns) 1029 k)
+  pub as_long : length zs ≡ coordinates_size → length ns ≡ naturals_size → is_record zs ns ≡ true
+  as_long h k = rw (eq-eqb (length zs) coordinates_size h, eq-eqb (length ns) naturals_size k)
 
 -- ---- the call `read`, by its case
 module _ (job : List ℕ) (r : Std.Result Held.Job Refusal) (e : read_answer r ≡ read_call job) where
-  pub read_is : (zs : List ℤ) (ns : List ℕ) (which : ℕ) {after : ReadInto} → length zs ≡ 1156 → length ns ≡ 1029 →
-      after ≡ read_into which (read_answer r) → after ≡ trial_read job zs ns which
-  read_is zs ns which h k f =
-      f ∙ ap (read_into which) e
-      ∙ ap (λ (b : Bool). cond b (read_into which (read_call job)) (record { result = least; coordinates = zs; naturals = ns })) (sym (as_long zs ns h k))
-
   -- the rounds of an accepted job are few, and so is the line of a refusal
-  pub rounds_few : (j : Held.Job) → r ≡ Ok j → j.rounds ≤ 20000
+  pub rounds_few : (j : Held.Job) → r ≡ Ok j → j.rounds ≤ size_limit
   rounds_few j a =
       let (k, g, same) = ((read_law job).given_exactly j).0 (sym e ∙ ap read_answer a) in
       omega (arith, ap (λ (h : Held.Job). h.rounds) same, most_rounds ((read_exactly job k).0 g).1.writable)
 
-  pub read_line : (why : Refusal) → r ≡ Err why → line_of why ≤ 16385
+  pub read_line : (why : Refusal) → r ≡ Err why → line_of why ≤ size_limit + 1
   read_line why a = condition_line job why (((read_law job).refused_exactly why).0 (sym e ∙ ap read_answer a))
 
   -- a refusal: zeros are put
   pub read_none : (why : Refusal) → r ≡ Err why → (zs : List ℤ) (ns : List ℕ) (which : ℕ) {v : ℤ} {zs' : List ℤ} {ns' : List ℕ} →
-      length zs ≡ 1156 → length ns ≡ 1029 → v ≡ count_figure which (refusal why) → zs' ≡ replicate (length zs) (pos 0) →
+      length zs ≡ coordinates_size → length ns ≡ naturals_size → v ≡ count_figure which (refusal why) → zs' ≡ replicate (length zs) (pos 0) →
       ns' ≡ replicate (length ns) 0 → record { result = v; coordinates = zs'; naturals = ns' } ≡ trial_read job zs ns which
-  read_none why a zs ns which h k f g j = read_is zs ns which h k (
-    (λ i. record { result = f i; coordinates = (g ∙ ap (λ (n : ℕ). replicate n (pos 0)) h) i; naturals = (j ∙ ap (λ (n : ℕ). replicate n 0) k) i })
-    ∙ sym (ap (λ (x : Std.Result Held.Job Refusal). read_into which (read_answer x)) a)
-  )
+  read_none why a zs ns which h k f g j =
+      (λ i. record { result = f i; coordinates = (g ∙ ap (λ (n : ℕ). replicate n (pos 0)) h) i; naturals = (j ∙ ap (λ (n : ℕ). replicate n 0) k) i })
+      ∙ sym (ap (λ (x : Std.Result Held.Job Refusal). read_into which (read_answer x)) a) ∙ ap (read_into which) e
+      ∙ ap (λ (b : Bool). cond b (read_into which (read_call job)) (record { result = least; coordinates = zs; naturals = ns })) (sym (as_long zs ns h k))
 
 -- ---- the call `write`, by the case of its answer
 module _ (zs : List ℤ) (ns : List ℕ) (rounds : ℕ) (out : List ℕ) (deck : Deck) (d : deck ≡ deck_from zs ns) (answer : Std.Result ℕ Refusal) (out' : List ℕ)
-    (e : record { answer = written_answer answer; out = out' } ≡ write_call deck rounds out) (h : length zs ≡ 1156) (k : length ns ≡ 1029) where
+    (e : record { answer = written_answer answer; out = out' } ≡ write_call deck rounds out) (h : length zs ≡ coordinates_size) (k : length ns ≡ naturals_size) where
   call_is : record { answer = written_answer answer; out = out' } ≡ write_call (deck_from zs ns) rounds out
   call_is = e ∙ ap (λ (r : Deck). write_call r rounds out) d
 
@@ -147,8 +143,8 @@ module _ (zs : List ℤ) (ns : List ℕ) (rounds : ℕ) (out : List ℕ) (deck :
   written_is = sym (ap (λ (s : Saved). s.answer) call_is)
 
   -- the bytes are few, and so is the line of a refusal
-  pub bytes_few : (n : ℕ) → answer ≡ Ok n → n ≤ 20000
+  pub bytes_few : (n : ℕ) → answer ≡ Ok n → n ≤ size_limit
   bytes_few n a = omega (arith, (law.written n (written_is ∙ ap written_answer a)).longest)
 
-  pub write_line : (why : Refusal) → answer ≡ Err why → line_of why ≤ 16385
+  pub write_line : (why : Refusal) → answer ≡ Err why → line_of why ≤ size_limit + 1
   write_line why a = omega (arith, law.few_lines (number_of why) (line_of why) (written_is ∙ ap written_answer a))
