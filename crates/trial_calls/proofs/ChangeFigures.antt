@@ -20,7 +20,8 @@ use Rattle.calls.specs.Answers.{AnswerOf, refusal}
 use Rattle.calls.specs.ChangeCall.{AfterChange, change_call}
 use Rattle.calls.proofs.ChangeLaw.{change_law}
 use Rattle.trial.specs.Trial.{least}
-use Rattle.trial_calls.specs.Records.{coordinates_size, naturals_size, coordinates_of, naturals_of, deck_from, change_figure, change_of, change_into, trial_change}
+use Rattle.trial_calls.specs.Records.{coordinates_size, naturals_size}
+use Rattle.trial_calls.specs.Records.{coordinates_of, naturals_of, deck_from, change_figure, change_of, change_into, trial_change}
 use Rattle.trial_calls.proofs.RecordLaws.{as_long}
 
 -- a refused change has line 0
@@ -34,7 +35,8 @@ module _ (zs : List ℤ) (ns : List ℕ) (kind : ℕ) {x y : ℤ} (visits which 
   abbrev change : ℤ → ℤ → Change
   change u v = change_of kind (record { x = u; y = v }) visits
 
-  pub change_is : length zs ≡ coordinates_size → length ns ≡ naturals_size → kind ≤ 3 → {deck after : Deck} {answer : AnswerOf (Unit {0})} → deck ≡ deck_from zs ns →
+  pub change_is : length zs ≡ coordinates_size → length ns ≡ naturals_size → kind ≤ 3 →
+      {deck after : Deck} {answer : AnswerOf (Unit {0})} → deck ≡ deck_from zs ns →
       record { answer = answer; deck = after } ≡ change_call deck (change (back x) (back y)) → {v : ℤ} {zs' : List ℤ} {ns' : List ℕ} →
       v ≡ change_figure which answer → zs' ≡ coordinates_of after → ns' ≡ naturals_of after →
       record { result = v; coordinates = zs'; naturals = ns' } ≡ trial_change zs ns kind x y visits which

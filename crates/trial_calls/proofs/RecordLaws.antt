@@ -132,7 +132,8 @@ module _ (job : List ℕ) (r : Std.Result Held.Job Refusal) (e : read_answer r �
 
 -- ---- the call `write`, by the case of its answer
 module _ (zs : List ℤ) (ns : List ℕ) (rounds : ℕ) (out : List ℕ) (deck : Deck) (d : deck ≡ deck_from zs ns) (answer : Std.Result ℕ Refusal) (out' : List ℕ)
-    (e : record { answer = written_answer answer; out = out' } ≡ write_call deck rounds out) (h : length zs ≡ coordinates_size) (k : length ns ≡ naturals_size) where
+    (e : record { answer = written_answer answer; out = out' } ≡ write_call deck rounds out) (h : length zs ≡ coordinates_size)
+    (k : length ns ≡ naturals_size) where
   call_is : record { answer = written_answer answer; out = out' } ≡ write_call (deck_from zs ns) rounds out
   call_is = e ∙ ap (λ (r : Deck). write_call r rounds out) d
 

@@ -62,8 +62,8 @@ fn figure(r: Report, which: u64) -> i64
     }
 }
 
-/// A number of the answer of `siting::report`: state (0 done, 1 stopped), x, y, high, low, before, rounds, and the refusal's number and line,
-/// 0 for a report. The least number where there is none. The cell space and the output are as `siting::report` leaves them.
+/// A number of the answer of `siting::report`: state (0 done, 1 stopped), x, y, high, low, before, rounds, and the number and the line of
+/// the refusal, 0 for a report. The least number where there is none. The cell space and the output are as `siting::report` leaves them.
 pub fn trial_report(job: &[u8], cells: &mut [i64], out: &mut [u8], which: u64) -> i64
     ensures { record { result = result; cells = cells.new; out = out.new }
         ≡ called (figure_for which) (report_call job.now cells.old out.old) }

@@ -1,12 +1,13 @@
 // The calls that read, write and change records, for the tests and benchmarks from Rust. A deck's record is two lists of numbers: the
-// coordinates, of the area, the posts' x and y, the stops' x and y; and the others, the axis costs, the counts of posts and stops, the visits,
-// near and before.
+// coordinates, of the area, the posts' x and y, the stops' x and y; and the others, the axis costs, the counts of posts and stops, the
+// visits, near and before.
 ghost use Rattle.std.specs.Prelude.{◌≡◌, ◌≤◌, length, get_or};
 ghost use Rattle.deck.specs.Rectangle.{place_of};
 ghost use Rattle.calls.specs.Answers.{gives, change_answer};
 ghost use Rattle.calls.specs.ChangeCall.{change_call};
 ghost use Rattle.job.specs.Format.{size_limit};
-ghost use Rattle.trial_calls.specs.Records.{coordinates_size, naturals_size, coordinates_of, naturals_of, deck_from, count_figure, change_figure, change_of};
+ghost use Rattle.trial_calls.specs.Records.{coordinates_size, naturals_size};
+ghost use Rattle.trial_calls.specs.Records.{coordinates_of, naturals_of, deck_from, count_figure, change_figure, change_of};
 ghost use Rattle.trial_calls.specs.Records.{trial_read, trial_write, trial_change};
 
 use crate::refused_figure;
@@ -107,9 +108,9 @@ fn count_figure(n: u64, which: u64) -> i64
     }
 }
 
-/// A number of the answer of `siting::read`: the rounds, and the refusal's number and line, 0 for none. The least number where there is none.
-/// The record's numbers are put into the two lists, and zeros for a refusal. The least number, and nothing put, where the lists are not as
-/// long as a record's.
+/// A number of the answer of `siting::read`: the rounds, and the refusal's number and line, 0 for none. The least number where there is
+/// none. The record's numbers are put into the two lists, and zeros for a refusal. The least number, and nothing put, where the lists are
+/// not as long as a record's.
 pub fn trial_read(job: &[u8], coordinates: &mut [i64], naturals: &mut [u64], which: u64) -> i64
     ensures { record { result = result; coordinates = coordinates.new; naturals = naturals.new }
         ≡ trial_read job.now coordinates.old naturals.old which }
@@ -135,8 +136,8 @@ pub fn trial_read(job: &[u8], coordinates: &mut [i64], naturals: &mut [u64], whi
 }
 
 /// A number of the answer of `siting::write` for the record that has these numbers: the bytes written, and the refusal's number and line, 0
-/// for none. The least number where there is none, or where the lists are not as long as a record's. The output is as `siting::write` leaves
-/// it.
+/// for none. The least number where there is none, or where the lists are not as long as a record's. The output is as `siting::write`
+/// leaves it.
 pub fn trial_write(
     coordinates: &[i64],
     naturals: &[u64],
@@ -183,8 +184,8 @@ fn change_figure(which: u64) -> i64
 }
 
 /// A number of the answer to a change of the record that has these numbers, where kind 0 adds a post, 1 removes one, 2 adds a stop and 3
-/// removes one: the refusal's number and line, 0 for none. The least number where there is none. The numbers of the record as it is then are
-/// put into the two lists. The least number, and nothing put, where they are not as long as a record's, or there is no such kind.
+/// removes one: the refusal's number and line, 0 for none. The least number where there is none. The numbers of the record as it is then
+/// are put into the two lists. The least number, and nothing put, where they are not as long as a record's, or there is no such kind.
 pub fn trial_change(
     coordinates: &mut [i64],
     naturals: &mut [u64],

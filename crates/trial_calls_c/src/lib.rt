@@ -50,7 +50,7 @@ pub extern "C" fn trial_read(
     records::trial_read(job, coordinates, naturals, which)
 }
 
-/// `trial_calls::records::trial_write`: a number of the answer of `siting::write` for a record that is two lists of numbers, and the output.
+/// `trial_calls::records::trial_write`: a number of the answer of `siting::write` for a record as two lists of numbers, and the output.
 #[unsafe(no_mangle)]
 pub extern "C" fn trial_write(
     coordinates: &[i64],
@@ -65,7 +65,7 @@ pub extern "C" fn trial_write(
     records::trial_write(coordinates, naturals, rounds, out, which)
 }
 
-/// `trial_calls::records::trial_change`: a number of the answer of a change of a record that is two lists of numbers, and the record then.
+/// `trial_calls::records::trial_change`: a number of the answer of a change of a record as two lists of numbers, and the record then.
 #[unsafe(no_mangle)]
 pub extern "C" fn trial_change(
     coordinates: &mut [i64],
