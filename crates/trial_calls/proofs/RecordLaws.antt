@@ -1,5 +1,5 @@
 -- The calls `read` and `write` as the tests see them: a record's numbers in two lists, and what the answers carry.
-use Prim.Native.Nat.{ℕ, ◌+◌, ◌-◌, ◌*◌, ◌≤◌}
+use Prim.Native.Nat.{ℕ, ◌+◌, ◌-◌, ◌≤◌}
 use mathlib.Core.Path.{◌≡◌, sym, ap, ◌∙◌}
 use mathlib.Core.Bool.{Bool, true, cond}
 use mathlib.Core.List.{List, [], ◌∷◌, ◌++◌, append-nil, append_assoc}
@@ -28,7 +28,8 @@ use Rattle.calls.specs.SavingLaw.{WriteLaw}
 use Rattle.calls.proofs.Promises.{read_exactly}
 use Rattle.calls.proofs.SavingLaw.{read_law, write_law}
 use Rattle.trial.specs.Trial.{least}
-use Rattle.trial_calls.specs.Records.{coordinates_size, naturals_size, coordinates_of, naturals_of, is_record, deck_from, count_figure, read_into, trial_read}
+use Rattle.trial_calls.specs.Records.{post_y_place, stop_x_place, stop_y_place, near_place, before_place, coordinates_size, naturals_size}
+use Rattle.trial_calls.specs.Records.{coordinates_of, naturals_of, is_record, deck_from, count_figure, read_into, trial_read}
 
 -- ---- the numbers of a record, put into lists one part after another
 -- a part behind those that are done
@@ -37,59 +38,61 @@ next a k l done part e = rw (take_at done (drop a l) a e, drop_at done (drop a l
 
 module _ {A : Type 0} (l h p q : List A) (eh : length h ≡ 4) where
   -- four numbers in front, then four parts, the last to the end of the list
-  module _ (s t : List A) (e : length l ≡ 1156) (ep : length p ≡ 64) (eq : length q ≡ 64) (es : length s ≡ 512) where
+  module _ (s t : List A) (e : length l ≡ coordinates_size) (ep : length p ≡ posts_limit) (eq : length q ≡ posts_limit) (es : length s ≡ stops_limit) where
     abbrev three : List A
     three = ((h ++ p) ++ q) ++ s
 
-    three_long : length three ≡ 644
+    three_long : length three ≡ stop_y_place
     three_long = omega (arith, length-append ((h ++ p) ++ q) s, length-append (h ++ p) q, length-append h p)
 
     abbrev parts : List A
-    parts = put_mid 132 512 (put_mid 68 64 (put_mid 4 64 (h ++ drop 4 l) p) q) s
+    parts = put_mid stop_x_place stops_limit (put_mid post_y_place posts_limit (put_mid 4 posts_limit (h ++ drop 4 l) p) q) s
 
-    parts_are : parts ≡ three ++ drop 644 l
+    parts_are : parts ≡ three ++ drop stop_y_place l
     parts_are =
-        ap (λ (m : List A). put_mid 132 512 (put_mid 68 64 m q) s) (next 4 64 l h p eh)
-        ∙ ap (λ (m : List A). put_mid 132 512 m s) (next 68 64 l (h ++ p) q (omega (arith, length-append h p)))
-        ∙ next 132 512 l ((h ++ p) ++ q) s (omega (arith, length-append (h ++ p) q, length-append h p))
+        ap (λ (m : List A). put_mid stop_x_place stops_limit (put_mid post_y_place posts_limit m q) s) (next 4 posts_limit l h p eh)
+        ∙ ap (λ (m : List A). put_mid stop_x_place stops_limit m s) (next post_y_place posts_limit l (h ++ p) q (omega (arith, length-append h p)))
+        ∙ next stop_x_place stops_limit l ((h ++ p) ++ q) s (omega (arith, length-append (h ++ p) q, length-append h p))
 
-    pub four_parts : put_mid 644 (length parts - 644) parts t ≡ h ++ (p ++ (q ++ (s ++ t)))
+    pub four_parts : put_mid stop_y_place (length parts - stop_y_place) parts t ≡ h ++ (p ++ (q ++ (s ++ t)))
     four_parts =
-        let k = length parts - 644 in
-        let long : 644 + k ≡ 1156 = omega (arith, ap length parts_are, length-append three (drop 644 l), three_long, length-drop 644 l) in
-        ap (λ (m : List A). put_mid 644 k m t) parts_are ∙ next 644 k l three t three_long
+        let k = length parts - stop_y_place in
+        let long : stop_y_place + k ≡ coordinates_size =
+        omega (arith, ap length parts_are, length-append three (drop stop_y_place l), three_long, length-drop stop_y_place l) in
+        ap (λ (m : List A). put_mid stop_y_place k m t) parts_are ∙ next stop_y_place k l three t three_long
         ∙ ap (λ (r : List A). (three ++ t) ++ r) (drop_of_length-le l (omega (arith, long, e)))
         ∙ simp (append-nil, append_assoc)
 
   -- four numbers in front, then two parts and a number
-  module _ (z : A) (e : length l ≡ 1029) (ep : length p ≡ 512) (eq : length q ≡ 512) where
+  module _ (z : A) (e : length l ≡ naturals_size) (ep : length p ≡ stops_limit) (eq : length q ≡ stops_limit) where
     abbrev two : List A
     two = (h ++ p) ++ q
 
-    two_long : length two ≡ 1028
+    two_long : length two ≡ before_place
     two_long = omega (arith, length-append (h ++ p) q, length-append h p)
 
-    pub two_parts : set (put_mid 516 512 (put_mid 4 512 (h ++ drop 4 l) p) q) 1028 z ≡ h ++ (p ++ (q ++ (z ∷ [])))
+    pub two_parts : set (put_mid near_place stops_limit (put_mid 4 stops_limit (h ++ drop 4 l) p) q) before_place z ≡ h ++ (p ++ (q ++ (z ∷ [])))
     two_parts =
-        let m = two ++ drop 1028 l in
-        let long : length m ≡ 1029 = omega (arith, length-append two (drop 1028 l), two_long, length-drop 1028 l) in
-        ap (λ (m : List A). set (put_mid 516 512 m q) 1028 z) (next 4 512 l h p eh)
-        ∙ ap (λ (m : List A). set m 1028 z) (next 516 512 l (h ++ p) q (omega (arith, length-append h p)))
-        ∙ sym (take_all 1029 (set m 1028 z) (omega (arith, length-set m 1028 z, long)))
-        ∙ take-suc-set m 1028 z (omega (arith, long))
-        ∙ ap (λ (r : List A). r ++ (z ∷ [])) (take_at two (drop 1028 l) 1028 two_long)
+        let m = two ++ drop before_place l in
+        let long : length m ≡ naturals_size = omega (arith, length-append two (drop before_place l), two_long, length-drop before_place l) in
+        ap (λ (m : List A). set (put_mid near_place stops_limit m q) before_place z) (next 4 stops_limit l h p eh)
+        ∙ ap (λ (m : List A). set m before_place z) (next near_place stops_limit l (h ++ p) q (omega (arith, length-append h p)))
+        ∙ sym (take_all naturals_size (set m before_place z) (omega (arith, length-set m before_place z, long)))
+        ∙ take-suc-set m before_place z (omega (arith, long))
+        ∙ ap (λ (r : List A). r ++ (z ∷ [])) (take_at two (drop before_place l) before_place two_long)
         ∙ simp append_assoc
 
-pub coordinates_put : (deck : Deck) (l : List ℤ) {h p q s t : List ℤ} → length l ≡ 1156 → length p ≡ 64 → length q ≡ 64 → length s ≡ 512 →
+pub coordinates_put : (deck : Deck) (l : List ℤ) {h p q s t : List ℤ} → length l ≡ coordinates_size →
+    length p ≡ posts_limit → length q ≡ posts_limit → length s ≡ stops_limit →
     h ≡ deck.xlo ∷ deck.ylo ∷ deck.xhi ∷ deck.yhi ∷ [] → p ≡ deck.post_x → q ≡ deck.post_y → s ≡ deck.stop_x → t ≡ deck.stop_y →
-    let m = put_mid 132 512 (put_mid 68 64 (put_mid 4 64 (h ++ drop 4 l) p) q) s in
-    put_mid 644 (length m - 644) m t ≡ coordinates_of deck
+    let m = put_mid stop_x_place stops_limit (put_mid post_y_place posts_limit (put_mid 4 posts_limit (h ++ drop 4 l) p) q) s in
+    put_mid stop_y_place (length m - stop_y_place) m t ≡ coordinates_of deck
 coordinates_put deck l {h} {p} {q} {s} {t} e lp lq ls eh ep eq es et =
     four_parts l h p q (ap length eh) s t e lp lq ls ∙ (λ i. eh i ++ (ep i ++ (eq i ++ (es i ++ et i))))
 
-pub naturals_put : (deck : Deck) (l : List ℕ) {h p q : List ℕ} → length l ≡ 1029 → length p ≡ 512 → length q ≡ 512 →
+pub naturals_put : (deck : Deck) (l : List ℕ) {h p q : List ℕ} → length l ≡ naturals_size → length p ≡ stops_limit → length q ≡ stops_limit →
     h ≡ deck.axis.a ∷ deck.axis.b ∷ deck.posts ∷ deck.stops ∷ [] → p ≡ deck.visits → q ≡ deck.near →
-    set (put_mid 516 512 (put_mid 4 512 (h ++ drop 4 l) p) q) 1028 deck.before ≡ naturals_of deck
+    set (put_mid near_place stops_limit (put_mid 4 stops_limit (h ++ drop 4 l) p) q) before_place deck.before ≡ naturals_of deck
 naturals_put deck l {h} {p} {q} e lp lq eh ep eq =
     two_parts l h p q (ap length eh) deck.before e lp lq ∙ (λ i. eh i ++ (ep i ++ (eq i ++ (deck.before ∷ []))))
 
@@ -99,9 +102,9 @@ part_long start n l h = length-take-le n (drop start l) (omega (arith, length-dr
 pub deck_sized : (zs : List ℤ) (ns : List ℕ) → length zs ≡ coordinates_size → length ns ≡ naturals_size → Sized (deck_from zs ns)
 deck_sized zs ns h k = record {
   post_x = part_long 4 posts_limit zs (omega arith);
-  post_y = part_long (4 + posts_limit) posts_limit zs (omega arith);
-  stop_x = part_long (4 + 2 * posts_limit) stops_limit zs (omega arith);
-  stop_y = part_long (4 + 2 * posts_limit + stops_limit) stops_limit zs (omega arith);
+  post_y = part_long post_y_place posts_limit zs (omega arith);
+  stop_x = part_long stop_x_place stops_limit zs (omega arith);
+  stop_y = part_long stop_y_place stops_limit zs (omega arith);
   visits = part_long 4 stops_limit ns (omega arith);
 }
 

@@ -21,12 +21,27 @@ coordinates_of deck =
 abbrev pub naturals_of : Deck → List ℕ
 naturals_of deck = deck.axis.a ∷ deck.axis.b ∷ deck.posts ∷ deck.stops ∷ (deck.visits ++ (deck.near ++ (deck.before ∷ [])))
 
--- how long these lists are
+-- where their parts start: behind four numbers the posts' x, or the visits, and then these; and how long they are
+abbrev pub post_y_place : ℕ
+post_y_place = 4 + posts_limit
+
+abbrev pub stop_x_place : ℕ
+stop_x_place = 4 + 2 * posts_limit
+
+abbrev pub stop_y_place : ℕ
+stop_y_place = stop_x_place + stops_limit
+
 abbrev pub coordinates_size : ℕ
-coordinates_size = 4 + 2 * posts_limit + 2 * stops_limit
+coordinates_size = stop_y_place + stops_limit
+
+abbrev pub near_place : ℕ
+near_place = 4 + stops_limit
+
+abbrev pub before_place : ℕ
+before_place = 4 + 2 * stops_limit
 
 abbrev pub naturals_size : ℕ
-naturals_size = 5 + 2 * stops_limit
+naturals_size = before_place + 1
 
 -- whether lists are as long as those of a record, and the record that has these numbers
 abbrev pub is_record : List ℤ → List ℕ → Bool
@@ -41,13 +56,13 @@ deck_from coordinates naturals = record {
   yhi = get_or coordinates 3 (pos 0);
   posts = get_or naturals 2 0;
   post_x = take posts_limit (drop 4 coordinates);
-  post_y = take posts_limit (drop (4 + posts_limit) coordinates);
+  post_y = take posts_limit (drop post_y_place coordinates);
   stops = get_or naturals 3 0;
-  stop_x = take stops_limit (drop (4 + 2 * posts_limit) coordinates);
-  stop_y = take stops_limit (drop (4 + 2 * posts_limit + stops_limit) coordinates);
+  stop_x = take stops_limit (drop stop_x_place coordinates);
+  stop_y = take stops_limit (drop stop_y_place coordinates);
   visits = take stops_limit (drop 4 naturals);
-  near = take stops_limit (drop (4 + stops_limit) naturals);
-  before = get_or naturals (4 + 2 * stops_limit) 0;
+  near = take stops_limit (drop near_place naturals);
+  before = get_or naturals before_place 0;
 }
 
 -- the number that is given, and 0 for the number and the line of a refusal; a refusal has only the last two

@@ -16,20 +16,20 @@ use limits::{POSTS, STOPS};
 use refusal::Refusal;
 use trial::NO_FIGURE;
 
-// How long the two lists are, and where the parts behind their first four numbers end.
-const COORDINATES: usize = 4 + 2 * POSTS + 2 * STOPS;
+// How long the two lists are, and where their parts start: behind four numbers the posts' x, or the visits, and then these.
+const COORDINATES: usize = STOP_Y + STOPS;
 
-const NATURALS: usize = 5 + 2 * STOPS;
+const POST_Y: usize = 4 + POSTS;
 
-const POST_X_END: usize = 4 + POSTS;
+const STOP_X: usize = 4 + 2 * POSTS;
 
-const POST_Y_END: usize = 4 + 2 * POSTS;
+const STOP_Y: usize = STOP_X + STOPS;
 
-const STOP_X_END: usize = 4 + 2 * POSTS + STOPS;
+const NATURALS: usize = BEFORE + 1;
 
-const VISITS_END: usize = 4 + STOPS;
+const NEAR: usize = 4 + STOPS;
 
-const NEAR_END: usize = 4 + 2 * STOPS;
+const BEFORE: usize = 4 + 2 * STOPS;
 
 // The record that has these numbers.
 fn deck_from(coordinates: &[i64], naturals: &[u64]) -> Deck
@@ -42,12 +42,12 @@ fn deck_from(coordinates: &[i64], naturals: &[u64]) -> Deck
     let mut stop_y = [0i64; STOPS];
     let mut visits = [0u64; STOPS];
     let mut near = [0u64; STOPS];
-    post_x.copy_from_slice(&coordinates[4..POST_X_END]);
-    post_y.copy_from_slice(&coordinates[POST_X_END..POST_Y_END]);
-    stop_x.copy_from_slice(&coordinates[POST_Y_END..STOP_X_END]);
-    stop_y.copy_from_slice(&coordinates[STOP_X_END..COORDINATES]);
-    visits.copy_from_slice(&naturals[4..VISITS_END]);
-    near.copy_from_slice(&naturals[VISITS_END..NEAR_END]);
+    post_x.copy_from_slice(&coordinates[4..POST_Y]);
+    post_y.copy_from_slice(&coordinates[POST_Y..STOP_X]);
+    stop_x.copy_from_slice(&coordinates[STOP_X..STOP_Y]);
+    stop_y.copy_from_slice(&coordinates[STOP_Y..COORDINATES]);
+    visits.copy_from_slice(&naturals[4..NEAR]);
+    near.copy_from_slice(&naturals[NEAR..BEFORE]);
     Deck {
         axis: AxisCosts {
             a: naturals[0],
@@ -65,7 +65,7 @@ fn deck_from(coordinates: &[i64], naturals: &[u64]) -> Deck
         stop_y,
         visits,
         near,
-        before: naturals[NEAR_END],
+        before: naturals[BEFORE],
     }
 }
 
@@ -75,10 +75,10 @@ fn put_coordinates(deck: &Deck, coordinates: &mut [i64])
     ensures { coordinates.new ≡ coordinates_of deck.now }
 {
     coordinates[..4].copy_from_slice(&[deck.xlo, deck.ylo, deck.xhi, deck.yhi]);
-    coordinates[4..POST_X_END].copy_from_slice(&deck.post_x);
-    coordinates[POST_X_END..POST_Y_END].copy_from_slice(&deck.post_y);
-    coordinates[POST_Y_END..STOP_X_END].copy_from_slice(&deck.stop_x);
-    coordinates[STOP_X_END..].copy_from_slice(&deck.stop_y);
+    coordinates[4..POST_Y].copy_from_slice(&deck.post_x);
+    coordinates[POST_Y..STOP_X].copy_from_slice(&deck.post_y);
+    coordinates[STOP_X..STOP_Y].copy_from_slice(&deck.stop_x);
+    coordinates[STOP_Y..].copy_from_slice(&deck.stop_y);
 }
 
 fn put_naturals(deck: &Deck, naturals: &mut [u64])
@@ -91,9 +91,9 @@ fn put_naturals(deck: &Deck, naturals: &mut [u64])
         deck.posts as u64,
         deck.stops as u64,
     ]);
-    naturals[4..VISITS_END].copy_from_slice(&deck.visits);
-    naturals[VISITS_END..NEAR_END].copy_from_slice(&deck.near);
-    naturals[NEAR_END] = deck.before;
+    naturals[4..NEAR].copy_from_slice(&deck.visits);
+    naturals[NEAR..BEFORE].copy_from_slice(&deck.near);
+    naturals[BEFORE] = deck.before;
 }
 
 // A number that goes with a count: the count itself; then 0 twice, for no refusal. The least number behind them.
