@@ -1,4 +1,4 @@
--- What a call answers, as RULES "Calls" has it: what is asked for, or a refusal by its number and line. And that of what the code gives.
+-- What a call answers (RULES "Calls"): what is asked for, or a refusal by its number and line; and how the code's answers say that.
 use Rattle.std.specs.Prelude.{ℕ, Ok, Err}
 use Rattle.std.specs.Prelude as Std
 use Rattle.query.specs.Figures.{Figures}

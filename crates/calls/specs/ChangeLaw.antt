@@ -22,7 +22,7 @@ pub record ChangeLaw (deck : Deck) (change : Change) : Type 0 where
   pub area_kept : (deck_of (change_call deck change).deck).area ≡ (deck_of deck).area
   pub axis_kept : (deck_of (change_call deck change).deck).axis ≡ (deck_of deck).axis
   -- a record can be changed if reading would accept its file, with 0 rounds, and no stop's near is more than a travel can be. Every record
-  -- that the calls make is such a one; any other gets 3
+  -- that the calls make can; one that cannot gets 3
   pub usable_exactly : Sized deck → T (usable deck)
       ↔ (Saveable deck 0 × ((i : ℕ) → i < deck.stops → get_or deck.near i 0 ≤ travel_limit))
   pub sound_usable : Sound deck → T (usable deck)

@@ -55,7 +55,7 @@ pub record Reported (job : List ℕ) (cells : List ℤ) (out : List ℕ) (j : Jo
   pub cell_space : (report_call job cells out).cells ≡ space j.deck j.rounds (length cells)
 
 pub record Promise2 (job : List ℕ) (cells : List ℤ) (out : List ℕ) : Type 0 where
-  -- bytes are read as a job exactly where they spell it, or else refused as the first fault has it
+  -- bytes are read as a job exactly where they spell it and it is allowed; each refusal of reading is given exactly under its condition
   pub read_exactly : (j : Job) → (read_job job ≡ accepted j) ↔ (Spells missing_axis job j × Allowed j)
   pub fault_exactly : (why : Refusal) → (read_job job ≡ refused why) ↔ Condition job why
   -- an accepted job gets the figures of the rules

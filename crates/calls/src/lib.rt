@@ -30,9 +30,10 @@ pub struct Estimate {
 }
 
 /// The text that the program prints, of at most `limits::REPORT_BYTES` bytes. A contract sees these bytes alone.
-// The first `length` of `bytes`; the others are 0. An array and no `ArrayVec` of the kit, so that nobody need believe that crate.
 #[derive(Drop)]
 pub struct Text {
+    // The text is the first `length` of `bytes`; the others are 0. An array and no `ArrayVec` of the kit, so that nobody need believe that
+    // crate.
     length: usize,
     bytes: [u8; REPORT_BYTES],
 }
