@@ -65,7 +65,11 @@ impl<'a> Crossings<'a> {
     ) -> Crossings<'a>
         requires { ObjectLines objects.now lines.at.now rows.now
             × Figure (before_of (pricing_of_objects objects.now)) cost_limit before }
-        ensures { (result.objects.now ≡ objects.now) × (result.lines.at.now ≡ lines.entry.at.now) }
+        ensures objects { result.objects.now ≡ objects.now }
+        ensures lines { result.lines.at.now ≡ lines.entry.at.now }
+        ensures table { result.lines.table.now ≡ lines.entry.table.now }
+        ensures rows { result.rows.now ≡ rows.now }
+        ensures before { result.before ≡ before }
     {
         Crossings {
             objects,
