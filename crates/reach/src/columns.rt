@@ -32,14 +32,6 @@ pub struct Objects {
 impl Objects {
     ghost use Rattle.reach.specs.Held.{object_of_row, columns_of_objects, count_of_objects, AxisOf};
 
-    // The objects in columns that can be priced.
-    pub fn new(columns: [i32; COLUMNS], count: usize) -> Objects
-        requires { Priceable columns count }
-        ensures { (columns_of_objects result ≡ columns) × (count_of_objects result ≡ count) }
-    {
-        Objects { count, columns }
-    }
-
     // The objects of stops. Not inlined, so that a caller's frame has no second array of columns.
     #[inline(never)]
     pub fn of_stops(axis: AxisCosts, stops: Stops<'_>) -> Objects
@@ -55,13 +47,6 @@ impl Objects {
             count: stops.at.x.len(),
             columns,
         }
-    }
-
-    // The columns, and the axis costs behind them.
-    pub fn columns(&self) -> &[i32; COLUMNS]
-        ensures { result.now ≡ columns_of_objects self.now }
-    {
-        &self.columns
     }
 
     // How many objects there are.
