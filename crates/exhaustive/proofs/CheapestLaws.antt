@@ -1,4 +1,4 @@
--- The cheapest of a spot and some places, the first among equals: taken list by list.
+-- The cheapest of one place and some others, the first among equals: taken list by list.
 use mathlib.Core.Path.{◌≡◌, refl}
 use mathlib.Core.Bool.{not}
 use mathlib.Core.List.{List, [], ◌∷◌, ◌++◌, foldl-append}
@@ -23,7 +23,7 @@ module _ (a b : PricedPlace) where
   unfolding cheaper_of
   leaves t = rw (fails (ltb b.cost a.cost) t)
 
--- a spot made of the fields of one
+-- a priced place made of the fields of one
 pub spot_same : (s : PricedPlace) → mag s.at.x < 2 ^ 63 → mag s.at.y < 2 ^ 63 → record { at = record { x = back s.at.x; y = back s.at.y }; cost = s.cost } ≡ s
 spot_same s h k = rw (fitting s.at.x h, fitting s.at.y k)
 
@@ -33,7 +33,8 @@ module _ (P : Pricing) where
   unfolding first_cheapest
   cheapest_none first = refl
 
-  pub cheapest_more : (first : PricedPlace) (p : Place) (ps : List Place) → first_cheapest P first (p ∷ ps) ≡ first_cheapest P (cheaper_of first (priced_place_of P p)) ps
+  pub cheapest_more : (first : PricedPlace) (p : Place) (ps : List Place)
+      → first_cheapest P first (p ∷ ps) ≡ first_cheapest P (cheaper_of first (priced_place_of P p)) ps
   unfolding first_cheapest
   cheapest_more first p ps = refl
 

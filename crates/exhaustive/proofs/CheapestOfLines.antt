@@ -58,9 +58,6 @@ pub record Compared (P : Pricing) (hs vs : List ℤ) (first found : PricedPlace)
   pub left : first_cheapest P first (flat_map (along hs) vs) ≡ first_cheapest P found (flat_map (along hs) (drop i vs))
 
 module _ (P : Pricing) (hs vs : List ℤ) (first : PricedPlace) where
-  pub compared_none : Compared P hs vs first first 0
-  compared_none = record { left = refl }
-
   pub compared_all : {found : PricedPlace} {i : ℕ} → Compared P hs vs first found i → length vs ≤ i → found ≡ first_cheapest P first (flat_map (along hs) vs)
   unfolding flat_map
   compared_all {found} {i} w h = sym (w.left ∙ rw (drop_of_length-le vs {i = i} h) (cheapest_none P found))

@@ -1,5 +1,5 @@
 -- The choice along a vertical line: after j lines what is left to compare are the lines from j on.
-use mathlib.Core.Path.{◌≡◌, refl, sym, ap, ◌∙◌}
+use mathlib.Core.Path.{◌≡◌, sym, ap, ◌∙◌}
 use mathlib.Core.List.{List, ◌∷◌}
 use Prim.Native.Nat.{ℕ, ◌+◌, ◌≤◌, ◌<◌}
 use native.Mathlib.Numerals.{add-one}
@@ -25,9 +25,6 @@ pub record Choosing (ls : List ℤ) (v : ℤ) (costs : List ℕ) (first found : 
   pub left : (P : Pricing) (old : List ℕ) → costs ≡ costs_along P ls v old → first_cheapest P first (along ls v) ≡ first_cheapest P found (along (drop j ls) v)
 
 module _ (ls : List ℤ) (v : ℤ) (costs : List ℕ) (first : PricedPlace) where
-  pub choose_none : Choosing ls v costs first first 0
-  choose_none = record { left = λ P old e. refl }
-
   pub choose_all : {found : PricedPlace} {j : ℕ} → Choosing ls v costs first found j → length ls ≤ j → Chosen ls v costs first found
   choose_all {found} {j} s h = record {
     is = λ P old e. sym (s.left P old e ∙ rw (drop_of_length-le ls {i = j} h) (cheapest_none P found));
@@ -41,7 +38,8 @@ module _ (ls : List ℤ) (v : ℤ) (costs : List ℕ) (first : PricedPlace) wher
         → p ≡ priced_place_of P (record { x = v; y = y })
     spot_is p f P old e = f ∙ rw (small_back y (omega (arith, lines.range j h)), e, costs_at_lem P ls v old j h)
 
-    pub choose_more : (p found' : PricedPlace) → p ≡ priced_place_at v (back y) (get_or costs j 0) → found' ≡ cheaper_of found p → Choosing ls v costs first found' (j + 1)
+    pub choose_more : (p found' : PricedPlace) → p ≡ priced_place_at v (back y) (get_or costs j 0) → found' ≡ cheaper_of found p
+        → Choosing ls v costs first found' (j + 1)
     choose_more p found' f g = record {
       left =
           λ P old e. s.left P old e ∙ rw (next_line ls j h) (cheapest_more P found (record { x = v; y = y }) (along (drop (j + 1) ls) v))

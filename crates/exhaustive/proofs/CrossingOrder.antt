@@ -1,4 +1,4 @@
--- The crossings, line after line, come in the order "earlier", so that the first of the cheapest is the best of document 01.
+-- The crossings, line after line, come in the order "earlier", so that the first of the cheapest is the best of the definitions.
 use mathlib.Core.Path.{◌≡◌, refl, sym, ap, ◌∙◌}
 use mathlib.Core.Bool.{Bool, true, false, not, cond, ◌&&◌, ◌||◌}
 use mathlib.Core.Logic.{⊎_elim}

@@ -1,7 +1,7 @@
 -- Division by an axis cost as a multiplication, and numbers divided upwards.
 use mathlib.Core.Path.{◌≡◌, ap, ◌∙◌}
 use Prim.Native.Nat.{ℕ, ◌+◌, ◌*◌, ◌-◌, ◌/◌, ◌≤◌, ◌<◌}
-use native.Mathlib.Nat.{mul-le-mul, mul-le-mul_left, div-le_self, div-mul-le_self, lt-div-mul-add, lt_of_mul-lt-mul_right, div-eq_of_lt-le}
+use native.Mathlib.Nat.{mul-le-mul, mul-le-mul_left, div-mul-le_self, lt-div-mul-add, lt_of_mul-lt-mul_right, div-eq_of_lt-le}
 use native.Mathlib.Omega.{arith}
 
 -- n / b is n × m / P, where P = 2 ^ 32, m = P / b + 1, and n and b are small
@@ -30,10 +30,6 @@ divided_is n b m some most e small =
 
     r_lt : 4294967296 < 4294967296 / b * b + b
     r_lt = lt-div-mul-add some
-
--- the reciprocal, and its products with small numbers, fit the word
-pub reciprocal_most : (b m : ℕ) → m ≡ 4294967296 / b + 1 → m ≤ 4294967297
-reciprocal_most b m e = omega (arith, e, div-le_self 4294967296 b)
 
 -- the least multiple of b that is not below n
 pub record Upwards (n b s : ℕ) : Type 0 where

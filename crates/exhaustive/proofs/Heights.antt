@@ -2,15 +2,13 @@
 use mathlib.Core.Path.{◌≡◌}
 use Prim.Native.Nat.{ℕ, ◌+◌, ◌-◌, ◌^◌, ◌≤◌, ◌<◌}
 use native.Mathlib.Omega.{arith}
-use lib.Dec.{T}
 use lib.IntN.{ℤ, pos, negsuc, nat_abs, ◌+ℤ◌}
-use lib.Signed.{non_neg, ◌≤ℤ◌, ◌<ℤ◌}
+use lib.Signed.{◌≤ℤ◌, ◌<ℤ◌}
 use mir.Syntax.{w64}
-use mir.Val.{SFits, Fits}
 use mir.ValLaws.{to_z-of_z}
 use Rattle.numbers.specs.Integer.{dist}
 use Rattle.numbers.proofs.Integer.{pp, nn, order, add_nat, dist_nat, abs_range}
-use Rattle.numbers.proofs.Words.{word_fits, natural_fits, natural_is, natural_cast}
+use Rattle.numbers.proofs.Words.{word_fits, natural_is}
 use Rattle.numbers.proofs.WordTests.{back}
 use Rattle.exhaustive.specs.Ramps.{height_of}
 
@@ -45,12 +43,6 @@ module _ (y : ℤ) (h : nat_abs y ≤ 900000) where
 
   small : height_of y < 2 ^ 63
   small = omega (arith, height_most y 900000 h (omega arith))
-
-  pub height_fits : SFits w64 (back y +ℤ pos 1000000)
-  height_fits = natural_fits w64 (back y +ℤ pos 1000000) (height_of y) raised small
-
-  pub height_cast : T (non_neg (back (back y +ℤ pos 1000000))) × Fits w64 (nat_abs (back (back y +ℤ pos 1000000)))
-  height_cast = natural_cast w64 (back y +ℤ pos 1000000) (height_of y) raised small
 
   pub height_is : nat_abs (back (back y +ℤ pos 1000000)) ≡ height_of y
   height_is = natural_is w64 (back y +ℤ pos 1000000) (height_of y) raised small

@@ -6,7 +6,7 @@ use native.Mathlib.Omega.{arith}
 use lib.IntN.{ℤ, pos, nat_abs, ◌+ℤ◌, ◌-ℤ◌}
 use lib.ListN.{get_or}
 use mir.Syntax.{w64}
-use mir.Val.{SFits, to_z}
+use mir.Val.{to_z}
 use mir.ValLaws.{to_z-of_z, to_z_pos}
 use Rattle.numbers.specs.Integer.{dist}
 use Rattle.numbers.proofs.Integer.{add_nat, sub_nat, sum_abs, sub_abs}
@@ -64,20 +64,11 @@ module _ (v sx sy : ℤ) (visits near d : ℕ) (g : nat_abs v ≤ 180000) (objec
   high_abs : nat_abs (sy +ℤ pos r) ≤ 900000
   high_abs = omega (arith, sum_abs sy (pos r) 180000 720000 object.place.y_range (omega (arith, object.near_range)))
 
-  pub low_fits : SFits w64 (back sy -ℤ to_z w64 r)
-  low_fits = rw low_is (word_fits w64 (sy -ℤ pos r) (omega (arith, low_abs)))
-
-  pub high_fits : SFits w64 (back sy +ℤ to_z w64 r)
-  high_fits = rw high_is (word_fits w64 (sy +ℤ pos r) (omega (arith, high_abs)))
-
   low_start : back (back sy -ℤ to_z w64 r) ≡ sy -ℤ pos r
   low_start = rw low_is (small_back (sy -ℤ pos r) low_abs)
 
   high_start : back (back sy +ℤ to_z w64 r) ≡ sy +ℤ pos r
   high_start = rw high_is (small_back (sy +ℤ pos r) high_abs)
-
-  pub low_range : RampInRange (back (back sy -ℤ to_z w64 r)) visits
-  low_range = rw low_start (record { start_range = low_abs; weight_range = omega (arith, object.visits_range) })
 
   pub high_range : RampInRange (back (back sy +ℤ to_z w64 r)) visits
   high_range = rw high_start (record { start_range = high_abs; weight_range = omega (arith, object.visits_range) })

@@ -76,15 +76,6 @@ module _ (ls : List ℤ) (lines : LinesInRange ls) where
       });
     }
 
-    pub numbering_all : length ls ≤ j → (table' : List ℕ) → SlotsFilled table from 40001 (length ls) table' → LineTable ls table'
-    numbering_all h table' f = record {
-      long = f.long ∙ s.long;
-      parted =
-          let all : (t : ℕ) → from ≤ t → t < 40001 → Parted ls (t + 980000) (length ls) = λ t g l.
-          record { within = omega arith; before = λ k q. omega (arith, s.passed k (omega arith)); after = λ k q p. absurd (omega arith) } in
-          λ t g. parted_from (length ls) 40001 table' f all t (omega arith);
-    }
-
   -- as the code computes it
   module _ (j : ℕ) (h : j < length ls) where
     line_back : back (get_or ls j (pos 0)) ≡ get_or ls j (pos 0)
@@ -144,9 +135,6 @@ module _ (b : ℕ) (some : 1 ≤ b) (ls : List ℤ) (lines : LinesInRange ls) (s
 
       pub from_table : (table : List ℕ) → LineTable ls table → s ≤ 40000 → FirstAtLeast (scaled_lines b ls) start (get_or table s 0)
       from_table table numbered h = from_slot (numbered.parted s h)
-
-pub table_small : (ls : List ℤ) → LinesInRange ls → (table : List ℕ) → LineTable ls table → (s : ℕ) → s ≤ 40000 → get_or table s 0 ≤ 514
-table_small ls lines table numbered s h = omega (arith, (numbered.parted s h).within, lines.in_order.few)
 
 -- ---- two tables of the same lines are the same
 parted_one : {ls : List ℤ} {t r r' : ℕ} → Parted ls t r → Parted ls t r' → r ≤ r'

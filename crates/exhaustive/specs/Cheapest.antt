@@ -1,5 +1,4 @@
--- The exhaustive search as the code runs it: the crossings in their order, one vertical line after another, the costs of a line in an
--- array, and of equal costs the first.
+-- The cheapest crossing (RULES "Exhaustive search") as the code finds it: one vertical line after another, and of equal costs the first.
 use Rattle.std.specs.Prelude.{ℕ, ◌≡◌, cond, ltb, ℤ, length, drop}
 use mathlib.Core.List.{List, map, foldl, ◌++◌}
 use Rattle.query.specs.Place.{Place}
@@ -10,11 +9,11 @@ use Rattle.priced_place.specs.ObjectProblem.{priced_place_of}
 use Rattle.exhaustive.specs.declared.ramp_sums.ObjectRamps.{ObjectRamps}
 use Rattle.exhaustive.specs.Ramps.{ObjectsAdded}
 
--- the cheaper of two spots, the first of them where they cost the same
+-- the cheaper of two places, the first of them where they cost the same
 unfoldable pub cheaper_of : PricedPlace → PricedPlace → PricedPlace
 cheaper_of best p = cond (ltb p.cost best.cost) p best
 
--- the cheapest of a spot and some places, the first among equals
+-- the cheapest of one place with its cost and some others, the first among equals
 unfoldable pub first_cheapest : Pricing → PricedPlace → List Place → PricedPlace
 unfolding cheaper_of cost_of
 first_cheapest P first places = foldl (λ best p. cheaper_of best (priced_place_of P p)) first places
@@ -33,6 +32,6 @@ costs_along P ls v old = map (λ h. cost_of P (record { x = v; y = h })) ls ++ d
 pub record Swept (ls : List ℤ) (b : ℕ) (r : ObjectRamps) (before : ℕ) (old costs : List ℕ) : Type 0 where
   pub is : (P : Pricing) (m : ℕ) (v : ℤ) → P.axis.b ≡ b → ObjectsAdded P m ls v r → before ≡ before_of P → costs ≡ costs_along P ls v old
 
--- the cheapest of a spot and the crossings of the vertical line at v, whatever the objects whose costs the array holds
+-- the cheapest of one place and the crossings of the vertical line at v, whatever the objects whose costs the array holds
 pub record Chosen (ls : List ℤ) (v : ℤ) (costs : List ℕ) (first r : PricedPlace) : Type 0 where
   pub is : (P : Pricing) (old : List ℕ) → costs ≡ costs_along P ls v old → r ≡ first_cheapest P first (along ls v)

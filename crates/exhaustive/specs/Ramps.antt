@@ -1,6 +1,7 @@
--- The cost of the places of a vertical line as a sum of ramps. A ramp of weight w from a start s on is w × (t − s) at a height t above s,
--- and 0 below. Along the line at v an object with d = |sx − v| pays for each visit near where near ≤ d; else, with r = near − d, it pays
--- near, less a ramp from sy − r on, plus two from sy on, less one from sy + r on. All of these are scaled coordinates.
+-- The cost of the places of a vertical line (RULES "Cost", "Exhaustive search") as a sum of ramps.
+-- A ramp of weight w from a start s on is w × (t − s) at a height t above s, and 0 below. Along the line at v an object with d = |sx − v|
+-- pays near for each visit where near ≤ d. Else, with r = near − d, it pays near, less a ramp from sy − r on, plus two from sy on, less
+-- one from sy + r on. All of these are scaled coordinates.
 use Rattle.std.specs.Prelude.{ℕ, zero, suc, ◌+◌, ◌*◌, ◌-◌, ◌/◌, ◌≤◌, ◌<◌, min, ◌^◌, ◌≡◌, List, map, ℤ, pos, nat_abs, ◌+ℤ◌, length, get_or}
 use Rattle.std.specs.Prelude.{set}
 use Rattle.numbers.specs.Integer.{dist, times}

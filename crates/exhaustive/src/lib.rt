@@ -1,6 +1,6 @@
-// The exhaustive search: the cheapest crossing of a deck's lines. Along one vertical line the cost is a sum of ramps (specs/Ramps.antt),
-// so that the costs of all its crossings follow from prefix sums, with no pass over the objects for each. Line by line these costs are
-// written into an array (`costs_along`), and then the cheapest is chosen (`choose`). Objects and ramps are at scaled places, lines are not.
+// The cheapest crossing of a deck's lines (RULES "Exhaustive search"). Along one vertical line the cost is a sum of ramps
+// (specs/Ramps.antt), so the costs of all its crossings follow from prefix sums, with no pass over the objects for each. Line by line
+// `costs_along` writes these costs into an array, and `choose` takes the cheapest. Objects and ramps are at scaled places, lines are not.
 #![tactic(auto)]
 
 ghost use Rattle.std.specs.Prelude.{◌≡◌, ◌≤◌, nat_abs, length};
@@ -26,7 +26,8 @@ use priced_place::PricedPlace;
 use ramp_sums::{ObjectRamps, Ramps};
 use reach::Objects;
 
-// For each object the number of the first line that, scaled, is not below it. The entries behind them stay as they are.
+/// For each object, in its row, the number of the first of the horizontal lines that, multiplied by the axis cost of y, is not below it, or
+/// the number of lines where all are. The entries of `rows` behind the objects stay as they are.
 pub fn number_objects<'a>(objects: &'a Objects, lines: NumberedLines<'a>, rows: &mut [u16; STOPS])
     requires { length rows.old ≡ 512 }
     ensures { LinesFound objects.now lines.entry.at.now rows.old rows.new }
@@ -43,20 +44,22 @@ pub fn number_objects<'a>(objects: &'a Objects, lines: NumberedLines<'a>, rows: 
     }
 }
 
-// What the costs of crossings follow from: the objects, horizontal lines, the first of them that is not below each object as
-// `number_objects` finds it, and what the objects pay with the posts that there are.
+/// What the costs of crossings follow from.
 #[derive(Clone, Copy)]
 pub struct Crossings<'a> {
     pub objects: &'a Objects,
+    /// The horizontal lines.
     pub lines: NumberedLines<'a>,
+    /// For each object the first of these lines that is not below it, as `number_objects` finds it.
     pub rows: &'a [u16; STOPS],
+    /// What the objects pay without a new post (RULES "Cost").
     pub before: u64,
     pub ghost found: { ObjectLines objects.now lines.at.now rows.now },
     pub ghost paid: { Figure (before_of (pricing_of_objects objects.now)) cost_limit before },
 }
 
 impl<'a> Crossings<'a> {
-    // Of parts that may be lent for different times.
+    /// The crossings of these parts, which may be lent for different times.
     pub fn new(
         objects: &'a Objects,
         lines: NumberedLines<'a>,
@@ -65,7 +68,11 @@ impl<'a> Crossings<'a> {
     ) -> Crossings<'a>
         requires { ObjectLines objects.now lines.at.now rows.now
             × Figure (before_of (pricing_of_objects objects.now)) cost_limit before }
-        ensures { (result.objects.now ≡ objects.now) × (result.lines.at.now ≡ lines.entry.at.now) }
+        ensures objects { result.objects.now ≡ objects.now }
+        ensures lines { result.lines.at.now ≡ lines.entry.at.now }
+        ensures table { result.lines.table.now ≡ lines.entry.table.now }
+        ensures rows { result.rows.now ≡ rows.now }
+        ensures before { result.before ≡ before }
     {
         Crossings {
             objects,
@@ -93,8 +100,8 @@ impl<'a> Crossings<'a> {
         }
     }
 
-    // Writes the cost of each crossing of the vertical line at `v` with the horizontal lines into `costs`, in their order.
-    // The entries behind them stay as they are.
+    /// Writes the cost of each crossing of the vertical line at `v` with the horizontal lines to the front of `costs`, in the order of the
+    /// lines. The entries behind them stay as they are.
     pub fn costs_along(&self, v: i64, costs: &mut [u64; LINES])
         requires { (nat_abs v ≤ 20000) × (length costs.old ≡ 514) }
         ensures { costs.new
@@ -115,7 +122,7 @@ impl<'a> Crossings<'a> {
         ramps.sweep(&self.lines, axis.b, self.before, costs);
     }
 
-    // The cheapest of a spot and the crossings of the vertical line at `v`, the first among equals. `costs` holds their costs then.
+    // The cheapest of `first` and the crossings of the vertical line at `v`, the first among equals. `costs` holds their costs then.
     fn cheapest_on(&self, v: i64, costs: &mut [u64; LINES], first: PricedPlace) -> PricedPlace
         requires { (nat_abs v ≤ 20000) × (length costs.old ≡ 514) }
         ensures chosen { result
@@ -128,7 +135,7 @@ impl<'a> Crossings<'a> {
         choose(&self.lines, v, costs, first)
     }
 
-    // The cheapest of a spot and the crossings of all lines, the first among equals.
+    // The cheapest of `first` and the crossings of all lines, the first among equals.
     fn cheapest_of(&self, vertical: &[i64], first: PricedPlace) -> PricedPlace
         requires { LinesInRange vertical.now }
         ensures { result
@@ -144,8 +151,8 @@ impl<'a> Crossings<'a> {
     }
 }
 
-// The cheaper of two spots, the first of them where they cost the same.
-// kept: field by field, since of a whole spot the compiler picks the address and copies what is there, at each crossing.
+// The cheaper of two places, `best` where they cost the same. Field by field: of a whole `PricedPlace` the compiler picks the address and
+// copies what is there, at each crossing.
 fn cheaper(best: PricedPlace, p: PricedPlace) -> PricedPlace
     ensures { result ≡ cheaper_of best p }
 {
@@ -167,8 +174,8 @@ fn cheaper(best: PricedPlace, p: PricedPlace) -> PricedPlace
     }
 }
 
-// The cheapest of a spot and the crossings of the vertical line at `v`, the first among equals, from their costs.
-// Not inlined, as `cheapest`.
+// The cheapest of `first` and the crossings of the vertical line at `v`, the first among equals, from their costs. Not inlined, as
+// `cheapest`.
 #[inline(never)]
 fn choose(lines: &NumberedLines, v: i64, costs: &[u64; LINES], first: PricedPlace) -> PricedPlace
     ensures { Chosen lines.now.at.now v costs.now first result }
@@ -181,8 +188,9 @@ fn choose(lines: &NumberedLines, v: i64, costs: &[u64; LINES], first: PricedPlac
     found
 }
 
-// The cheapest crossing of the lines of a deck's problem, the earliest among equals, with its cost. `before` is what the objects pay with
-// the posts that there are. Not inlined: within a caller, its loops lay where they took up to 1.14 times as long.
+/// The cheapest crossing of the lines of a deck's problem, the earliest among equals, with its cost (RULES "Exhaustive search"). `before`
+/// is what the objects pay without a new post (RULES "Cost").
+// Not inlined: within a caller its loops can lie where they take up to 1.14 times as long.
 #[inline(never)]
 pub fn cheapest(problem: &Problem, before: u64) -> PricedPlace
     requires { Prepared problem.now

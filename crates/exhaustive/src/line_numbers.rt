@@ -26,7 +26,7 @@ impl Divisor {
         }
     }
 
-    // n / by. A multiplication is several times faster than a division, and there are two for each object and vertical line.
+    // n / by. A multiplication is several times faster than a division, of which each object would need two at each vertical line.
     fn divide(self, n: u64) -> u64
         requires { n ≤ 2000000 }
         ensures { result ≡ n / self.by }
@@ -51,7 +51,8 @@ fn fill(table: &mut [u16; 40001], from: usize, to: usize, j: u16)
     table[from..to].fill(j);
 }
 
-// For each coordinate from −20,000 to 20,000, which is where lines are, the number of the first line that is not below it.
+/// Makes the table of the horizontal lines `h`: for each coordinate where lines can be, from the least on, the number of the first line
+/// that is not below it, or the number of lines where all are.
 pub fn number_lines(h: &[i64], table: &mut [u16; 40001])
     requires { LinesInRange h.now × (length table.old ≡ 40001) }
     ensures { LineTable h.now table.new }
@@ -65,16 +66,17 @@ pub fn number_lines(h: &[i64], table: &mut [u16; 40001])
     fill(table, from, 40001, h.len() as u16);
 }
 
-// Horizontal lines, with the table of `number_lines`.
+/// Horizontal lines, with the table that `number_lines` makes of them.
 #[derive(Clone, Copy)]
 pub struct NumberedLines<'a> {
+    /// Their coordinates, in increasing order.
     pub at: &'a [i64],
     pub table: &'a [u16; 40001],
     pub ghost in_range: { LinesInRange at.now } by { Prim.hlevel (Pairwise-prop {R = ◌<ℤ◌} (λ a b. Prim.hlevel props), props) },
     pub ghost numbered: { LineTable at.now table.now },
 }
 
-// Such lines as the objects meet them: multiplied by the axis cost of y.
+// Such lines as the objects meet them: multiplied by the axis cost of y, which is `divisor.by`.
 #[derive(Clone, Copy)]
 pub(crate) struct ScaledLines<'a> {
     pub(crate) plain: NumberedLines<'a>,

@@ -24,7 +24,6 @@ use numbers::abs_diff;
 use reach::Row;
 
 // Ramps by line: the sum of their weights, and that of their weights times the heights at which they start.
-// kept: two arrays, since the definitions take sums of lists of numbers; one of pairs would need a list of each part first.
 #[derive(Clone, Copy)]
 pub(crate) struct Ramps {
     pub(crate) weights: [u64; 515],
@@ -58,7 +57,6 @@ pub(crate) struct ObjectRamps {
     pub(crate) down: Ramps,
 }
 
-// kept: `ObjectSums` is asked of them, since it is of how many objects they are of, which is another number at each call.
 impl ObjectRamps {
     // Adds the ramps of an object along the vertical line that is at `v` when it is scaled. An object that is not nearer to the line than
     // to its closest post has none. `line` is the first line that, scaled, is not below the object.

@@ -1,4 +1,4 @@
--- The problem of a job's deck as the code prepares it, once for each call.
+-- The problem of a job's deck (RULES "Deck", "Lines") as the code prepares it, once for each call.
 use Rattle.std.specs.Prelude.{ℕ, List, ℤ, length, Ok, Err}
 use Rattle.std.specs.Prelude as Std
 use Rattle.query.specs.Place.{x_axis, y_axis}

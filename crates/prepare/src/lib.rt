@@ -1,4 +1,4 @@
-// The problem of a job's deck as both searches and the estimate take it, prepared once for each call: its area, its objects and its lines.
+// The problem of a job's deck, prepared once for each call that searches or estimates: its area, its objects and its lines.
 #![tactic(auto)]
 
 ghost use Rattle.std.specs.Prelude.{◌≡◌};
@@ -12,7 +12,7 @@ use lines::Lines;
 use reach::Objects;
 use refusal::Refusal;
 
-// The problem of a deck: its area, its objects, and its vertical and horizontal lines.
+/// What a search needs of a deck: its area, its objects with the axis costs, and the lines of both axes (RULES "Lines").
 #[derive(Drop)]
 pub struct Problem {
     pub area: Rect,
@@ -21,7 +21,7 @@ pub struct Problem {
     pub horizontal: Lines,
 }
 
-// What an accepted job gives: its rounds, what is paid before, and the problem of its deck.
+/// What an accepted job gives: its number of rounds, before (RULES "Cost"), and the problem of its deck.
 #[derive(Drop)]
 pub struct PreparedJob {
     pub rounds: u64,
@@ -50,7 +50,9 @@ fn of_deck(deck: &Deck) -> Problem
     }
 }
 
-// What a job gives, or its refusal. Not inlined, so that the job's record is gone from the stack when a search runs.
+/// Reads a job and prepares its problem, or gives the refusal of reading, 1 to 6 (RULES "Refusals"). near and before are those of the
+/// record that was read.
+// Not inlined, so that the job's record is gone from the stack when a search runs.
 #[inline(never)]
 pub fn of_job(bytes: &[u8]) -> Result<PreparedJob, Refusal>
     ensures { given_by result ≡ given_for (read_job bytes.now) }

@@ -21,8 +21,7 @@ use Rattle.reach.specs.Held.{columns_of_objects, count_of_objects, pricing_of_ob
 use Rattle.reach.proofs.RecordLaws.{made_pricing}
 use Rattle.pricing.specs.ObjectFigures.{cost_of, load_of}
 use Rattle.pricing.proofs.ObjectLaws.{cost_law, load_law}
-use Rattle.lines.specs.LineRecord.{LinesInOrder, Lined, grid_of}
-use Rattle.lines.proofs.DeckLines.{deck_lined}
+use Rattle.lines.specs.LineRecord.{grid_of}
 use Rattle.prepare.specs.declared.Problem.{Problem}
 use Rattle.prepare.specs.ProblemRecord.{Parts, parts_in, problem_record}
 use Rattle.priced_place.specs.ObjectProblem.{bound_of, object_problem}
@@ -57,14 +56,6 @@ module _ {p : Problem} (prepared : Prepared p) where
 
   pub prepared_ranged : Ranged (rect_of p.area)
   prepared_ranged = subst Ranged (sym prepared.area_is) (record { range = prepared.range.area; full = prepared.full })
-
-  pub prepared_lined : Lined p.vertical p.horizontal
-  prepared_lined =
-      let lined = deck_lined deck prepared.range.most_stops in
-      record {
-        across = subst LinesInOrder (sym prepared.vertical_are) lined.across;
-        deep = subst LinesInOrder (sym prepared.horizontal_are) lined.deep;
-      }
 
   -- what pricing needs, the lines and the whole problem are the deck's
   pub prepared_pricing : pricing_of_objects p.objects ≡ pricing_of deck

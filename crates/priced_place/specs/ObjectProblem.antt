@@ -1,4 +1,4 @@
--- The problem of document 01 over axis costs, objects and lines, and places with their costs as the code holds them.
+-- What a search works on, over axis costs, objects and lines (RULES "Cost", "Bound"), and places with their costs as the code has them.
 use Rattle.std.specs.Prelude.{ℕ, ◌+◌, ◌*◌, max, ℤ, pos, ◌-ℤ◌}
 use Rattle.numbers.specs.Integer.{half_up}
 use Rattle.query.specs.Place.{Place, Rect}
@@ -12,7 +12,7 @@ use Rattle.pricing.specs.ObjectFigures.{cost_of, load_of}
 use Rattle.slots.specs.declared.Cell.{Cell}
 use Rattle.priced_place.specs.declared.PricedPlace.{PricedPlace}
 
--- the bound of a cell
+-- the bound of a cell, after the paper's Theorem 4
 unfoldable pub bound_of : Pricing → Rect → ℤ
 unfolding cost_of load_of span half_up
 bound_of P r = half_up (pos

@@ -1,4 +1,4 @@
--- The problem of a deck as the code holds it.
+-- The problem of a deck (RULES "Deck", "Lines") as the code holds it.
 use Rattle.std.specs.Prelude.{◌≡◌, length}
 use Rattle.query.specs.Place.{NonEmpty, x_axis, y_axis}
 use Rattle.query.specs.Deck as Query

@@ -1,4 +1,4 @@
-// Places with their costs. And, in specs/, the problem that both searches take.
+// Places with their costs (RULES "Cost"). And, in specs/, the problem that both searches take.
 #![tactic(auto)]
 
 ghost use Rattle.std.specs.Prelude.{◌≡◌};
@@ -10,14 +10,14 @@ ghost use Rattle.priced_place.specs.ObjectProblem.{priced_place_of, priced_place
 use deck::Place;
 use reach::Objects;
 
-// A place with its cost.
+/// A place with its cost.
 #[derive(Clone, Copy)]
 pub struct PricedPlace {
     pub at: Place,
     pub cost: u64,
 }
 
-// A place, priced.
+/// The place `at` with its cost (RULES "Cost").
 pub fn priced(objects: &Objects, at: Place) -> PricedPlace
     requires { PlaceInRange (place_of at) }
     ensures { result ≡ priced_place_of (pricing_of_objects objects.now) (place_of at) }
@@ -26,7 +26,7 @@ pub fn priced(objects: &Objects, at: Place) -> PricedPlace
     place(at, cost)
 }
 
-// A place with a cost that is known.
+/// A place with a cost that is known: it is not priced again.
 pub fn place(at: Place, cost: u64) -> PricedPlace
     ensures { result ≡ priced_place_at at.x at.y cost }
 {

@@ -6,7 +6,7 @@ use lib.Dec.{T}
 use lib.IntN.{ℤ, pos, nat_abs, ◌-ℤ◌}
 use lib.Signed.{non_neg, ◌≤ℤ◌}
 use mir.Syntax.{w32}
-use mir.Val.{Fits, to_z}
+use mir.Val.{Fits}
 use Rattle.std.specs.Int.{int_min}
 use Rattle.std.proofs.lemmas.Int.{ints, clamps}
 use Rattle.numbers.specs.Integer.{dist}
@@ -14,17 +14,14 @@ use Rattle.numbers.proofs.Integer.{order, sub_nat, dist_nat}
 use Rattle.numbers.proofs.Distance.{dist_most}
 use Rattle.numbers.proofs.Scaling.{dist_scale}
 use Rattle.numbers.proofs.Words.{natural_is, natural_cast}
-use Rattle.numbers.proofs.WordTests.{back}
-use Rattle.query.specs.Place.{Place, Rect}
+use Rattle.query.specs.Place.{Rect}
 use Rattle.query.specs.Deck.{AxisCosts}
 use Rattle.query.specs.Bound.{span}
-use Rattle.query.specs.Range.{PlaceInRange, travel_limit}
-use Rattle.deck.specs.Ranges.{Near180000, CostsInRange, Scaled}
-use Rattle.deck.specs.Objects.{scaled_place}
+use Rattle.query.specs.Range.{travel_limit}
 use Rattle.reach.specs.Columns.{ObjectInRange}
 use Rattle.reach.specs.Held.{EdgesOf}
 use Rattle.reach.specs.declared.rectangle.Edges.{Edges}
-use Rattle.reach.proofs.NarrowLaws.{word, natural, number_word, scaled_by, place_scaled}
+use Rattle.reach.proofs.NarrowLaws.{word, natural, number_word}
 use Rattle.pricing.specs.ObjectFigures.{Figure}
 
 -- ---- a row: casts to an unsigned word

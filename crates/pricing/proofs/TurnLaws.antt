@@ -12,8 +12,8 @@ use lib.ListN.{get_or}
 use Rattle.numbers.specs.Integer.{dist}
 use Rattle.numbers.proofs.Truth.{cond_ind}
 use Rattle.query.specs.Place.{Place, Rect}
-use Rattle.query.specs.Range.{cost_limit, load_limit}
-use Rattle.deck.specs.Objects.{Object, scaled_place, scaled_rect}
+use Rattle.query.specs.Range.{cost_limit}
+use Rattle.deck.specs.Objects.{Object, scaled_place}
 use Rattle.deck.specs.ObjectColumns.{object_at, axis_in, pricing_in}
 use Rattle.deck.proofs.TravelLaws.{travel_plain}
 use Rattle.reach.specs.Columns.{ObjectInRange, Priceable}
@@ -22,8 +22,8 @@ use Rattle.reach.specs.declared.columns.Row.{Row}
 use Rattle.reach.proofs.ExcessLaws.{away}
 use Rattle.reach.proofs.ReachLaws.{reaches_to}
 use Rattle.reach.proofs.RowLaws.{reaches_away}
-use Rattle.pricing.specs.ObjectFigures.{cost_of, before_of, load_of}
-use Rattle.pricing.proofs.ObjectLaws.{paid_by, paid_now, borne_by, cost_of_sum, before_of_sum, load_of_sum}
+use Rattle.pricing.specs.ObjectFigures.{cost_of, before_of}
+use Rattle.pricing.proofs.ObjectLaws.{paid_by, paid_now, borne_by, cost_of_sum, before_of_sum}
 use Rattle.pricing.proofs.ColumnLaws.{Passed, passed_more, sum_most}
 
 -- the most that an object's parts of the figures can be
@@ -75,8 +75,3 @@ module _ {columns : List ℤ} {n : ℕ} (priceable : Priceable columns n) where
 
   pub before_most : before_of (pricing_in columns n) ≤ cost_limit
   before_most = rw before_of_sum (omega (arith, priceable.count, sum_most paid_now 47185200000 columns n (λ i h. paid_now_most (row_at h))))
-
-  pub load_most : (r : Rect) → load_of (pricing_in columns n) r ≤ load_limit
-  load_most r =
-      let q = scaled_rect (axis_in columns) r in
-      rw load_of_sum (omega (arith, priceable.count, sum_most (borne_by q) 65535 columns n (λ i h. borne_most (row_at h) q)))

@@ -1,5 +1,4 @@
--- The figures of document 01 over axis costs and objects, which are at scaled places: travel is plain travel between scaled places. And
--- what the code's figures stay within.
+-- Cost, before and load (RULES "Cost", "Reach") of objects at scaled places, between which travel is plain; and what figures stay within.
 use Rattle.std.specs.Prelude.{ℕ, ◌*◌, ◌≤◌, min, ◌≡◌}
 use Rattle.numbers.specs.Lists.{sum_of, keep}
 use Rattle.query.specs.Place.{Place, Rect}

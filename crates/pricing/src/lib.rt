@@ -1,5 +1,5 @@
-// The price of a place or a rectangle, over the objects of a deck at scaled places: one pass each, in 32-bit columns, so that the passes
-// can be vectorised. What is priced is scaled once, before the pass.
+// The figures of a place and of a rectangle (RULES "Cost", "Reach", "Bound"): one pass each over the 32-bit columns of objects at scaled
+// places, which the compiler can vectorise. What is priced is scaled once, before the pass.
 #![tactic(auto)]
 
 ghost use Rattle.std.specs.Prelude.{◌≡◌, cond, ◌+◌, ◌*◌, min, max, ltb, pos, nat_abs, ◌-ℤ◌};
@@ -25,11 +25,11 @@ fn paid(row: Row, post: ScaledPlace) -> u64
     let at = ScaledPlace { x: row.x, y: row.y };
     let t = at.travel_to(post);
     let m = t.min(row.near);
-    // kept: casts, since `unsigned_abs` would test the sign of each number in a pass
+    // Casts: `unsigned_abs` would test the sign of each number of the pass.
     ((row.visits as u32) as u64) * ((m as u32) as u64)
 }
 
-// The cost of a place.
+/// The cost of the place `at` (RULES "Cost").
 pub fn cost(objects: &Objects, at: Place) -> u64
     requires { PlaceInRange (place_of at) }
     ensures { Figure (cost_of (pricing_of_objects objects.now) (place_of at)) cost_limit result }
@@ -56,7 +56,7 @@ fn borne(row: Row, edges: Edges) -> u32
     }
 }
 
-// The load of a rectangle.
+/// The load of the rectangle `r`: the visits of all objects within reach of it (RULES "Reach").
 pub fn load(objects: &Objects, r: Rect) -> u64
     requires { Ranged (rect_of r) }
     ensures { Figure (load_of (pricing_of_objects objects.now) (rect_of r)) load_limit result }
@@ -69,7 +69,7 @@ pub fn load(objects: &Objects, r: Rect) -> u64
     sum as u64
 }
 
-// The width and the height of a rectangle, each multiplied by its axis cost, added.
+/// The span of the rectangle `r`, by the axis costs (RULES "Bound").
 pub fn span(axis: AxisCosts, r: Rect) -> u64
     requires { CostsInRange (held_axis axis) × Ranged (rect_of r) }
     ensures { Figure (Bound.span (held_axis axis) (rect_of r)) travel_limit result }
@@ -78,7 +78,7 @@ pub fn span(axis: AxisCosts, r: Rect) -> u64
     (e.xhi - e.xlo) as u64 + (e.yhi - e.ylo) as u64
 }
 
-// The bound of a cell, from the costs of its corners.
+/// The bound of a cell from the costs of its corners, its span and its load, halved upwards (RULES "Bound"). It can be negative.
 pub fn bound(corners: Costs, span: u64, load: u64) -> i64
     requires { BoundInRange corners.c00 corners.c01 corners.c10 corners.c11 span load }
     ensures { result

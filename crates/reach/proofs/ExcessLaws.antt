@@ -83,9 +83,6 @@ module _ (sx sy xlo ylo xhi yhi : ℤ) (at : Near180000 sx sy) (edges : EdgesInR
   pub away_small : away sx sy xlo ylo xhi yhi < 2 ^ 31
   away_small = omega (arith, outside_most sx xlo xhi at.x_range x_edges edges.across, outside_most sy ylo yhi at.y_range y_edges edges.deep)
 
-  pub away_word : away (word sx) (word sy) (word xlo) (word ylo) (word xhi) (word yhi) ≡ away sx sy xlo ylo xhi yhi
-  away_word = rw (outside_word sx xlo xhi at.x_range x_edges edges.across, outside_word sy ylo yhi at.y_range y_edges edges.deep)
-
   pub away_sum : (a b : ℤ) → a ≡ pos (dist (word sx) (clamp (word xlo) (word xhi) (word sx)))
       → b ≡ pos (dist (word sy) (clamp (word ylo) (word yhi) (word sy))) → word a +ℤ word b ≡ pos (away sx sy xlo ylo xhi yhi)
   away_sum a b p q =

@@ -13,7 +13,6 @@ use Rattle.numbers.proofs.Scaling.{scale_most}
 use Rattle.numbers.proofs.Padded.{padded_each}
 use Rattle.query.specs.Deck.{AxisCosts, Stop, Deck}
 use Rattle.query.specs.Range.{InRange}
-use Rattle.query.proofs.Ranges.{figure_limits}
 use Rattle.deck.specs.Objects.{Object, objects_of, Pricing, pricing_of, stored_objects, stored_pricing}
 use Rattle.deck.specs.Ranges.{CostsInRange, PlacesInRange, VisitsInRange, NearsInRange}
 use Rattle.deck.proofs.ClosestLaws.{zip_at}
@@ -109,34 +108,11 @@ module _ (axis : AxisCosts) {xs ys : List ℤ} {vs ns : List ℕ} {n : ℕ} (cos
 
 -- ---- the deck's
 module _ (deck : Deck) (range : InRange deck) where
-  object_range : (s : Object) → Memᴰ s (objects_of deck) → ObjectInRange s.at.x s.at.y (pos s.visits) (pos s.near)
-  object_range s m =
-      let r = Memᴰ.of_map (object_of deck) deck.stops (subst (Memᴰ s) (objects_of_map deck) m) in
-      subst (λ (t : Object). ObjectInRange t.at.x t.at.y (pos t.visits) (pos t.near)) r.2 (of_stop r.0 r.1)
-    where
-      of_stop : (stop : Stop) → Memᴰ stop deck.stops →
-          ObjectInRange (object_of deck stop).at.x (object_of deck stop).at.y (pos stop.visits) (pos (object_of deck stop).near)
-      of_stop stop n =
-          let g = range.stops stop n in
-          record {
-            place = record {
-              x_range = scale_most deck.axis.a 9 20000 stop.at.x range.axis_most.0 g.place.x_range;
-              y_range = scale_most deck.axis.b 9 20000 stop.at.y range.axis_most.1 g.place.y_range;
-            };
-            visits_some = omega (arith, order);
-            visits_range = g.most_visits;
-            near_some = omega (arith, order);
-            near_range = (figure_limits deck range).near_limit stop n;
-          }
-
   objects_count : length (objects_of deck) ≡ length deck.stops
   objects_count = rw objects_of_map (length-map deck.stops (object_of deck))
 
   few : length (objects_of deck) ≤ 512
   few = omega (arith, objects_count, range.most_stops)
-
-  pub made_priceable : Priceable (columns_of (pricing_of deck)) (length deck.stops)
-  made_priceable = rw (← objects_count) (priceable (pricing_of deck) few range.axis_some range.axis_most object_range)
 
   pub made_objects : objects_in (columns_of (pricing_of deck)) (length deck.stops) ≡ objects_of deck
   made_objects = rw (← objects_count) (columns_objects (pricing_of deck) few)

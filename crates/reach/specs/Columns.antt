@@ -1,4 +1,4 @@
--- The range of the columns of objects, of what is priced, and of the scaled edges of a rectangle.
+-- The ranges of objects in columns, of a rectangle and of its scaled edges (RULES "Deck", "Travel").
 use Rattle.std.specs.Prelude.{ℕ, ◌+◌, ◌≤◌, ◌<◌, cond, ◌≡◌, List, ℤ, pos, nat_abs, ◌≤ℤ◌, length, get_or}
 use Rattle.std.specs.Int.Signed.{lt_z}
 use Rattle.numbers.specs.Integer.{dist}

@@ -1,4 +1,4 @@
--- What the code holds: objects in columns, one of them, and the scaled edges of a rectangle.
+-- What the code holds (RULES "Travel"): objects in columns, one of them, and the scaled edges of a rectangle.
 use Rattle.std.specs.Prelude.{ℕ, ◌≡◌, List, ℤ, nat_abs}
 use Rattle.query.specs.Place.{Rect}
 use Rattle.query.specs.Deck.{AxisCosts}

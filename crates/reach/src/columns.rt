@@ -1,4 +1,4 @@
-// The objects of a deck in columns, with the axis costs behind them.
+// The objects of a deck in columns, with the axis costs behind them (RULES "Deck", "Travel").
 
 ghost use Rattle.std.specs.Prelude.{◌≡◌, ◌<◌, length};
 ghost use Rattle.deck.specs.DeckOf.{held_axis};
@@ -10,7 +10,7 @@ ghost use Rattle.reach.specs.Columns.{ObjectInRange, Priceable};
 use deck::{AxisCosts, Stops, put_columns};
 use limits::{COLUMNS, NEAR_COLUMN, VISITS_COLUMN, X_COST, Y_COLUMN, Y_COST};
 
-// One object: its scaled place, its visits and its near.
+/// One object, a stop at its scaled place: each coordinate is multiplied by the cost of its axis, so that travel and near are distances.
 #[derive(Clone, Copy)]
 pub struct Row {
     pub x: i32,
@@ -20,10 +20,10 @@ pub struct Row {
     pub ghost in_range: { ObjectInRange x y visits near },
 }
 
-// The objects of a deck at scaled places, and its axis costs. The first `count` rows of the columns count.
-// kept: one array of columns and the count of its rows, as `deck::put_columns` promises it.
+/// The objects of a deck at scaled places, and its axis costs: what pricing reads.
 #[derive(Drop)]
 pub struct Objects {
+    // the rows of the columns that count
     count: usize,
     columns: [i32; COLUMNS],
     pub ghost priceable: { Priceable columns count },
@@ -32,15 +32,8 @@ pub struct Objects {
 impl Objects {
     ghost use Rattle.reach.specs.Held.{object_of_row, columns_of_objects, count_of_objects, AxisOf};
 
-    // The objects in columns that can be priced.
-    pub fn new(columns: [i32; COLUMNS], count: usize) -> Objects
-        requires { Priceable columns count }
-        ensures { (columns_of_objects result ≡ columns) × (count_of_objects result ≡ count) }
-    {
-        Objects { count, columns }
-    }
-
-    // The objects of stops. Not inlined, so that a caller's frame has no second array of columns.
+    /// The objects of stops, under these axis costs.
+    // Not inlined, so that a caller's frame has no second array of columns.
     #[inline(never)]
     pub fn of_stops(axis: AxisCosts, stops: Stops<'_>) -> Objects
         requires { CostsInRange (held_axis axis) × PlacesInRange 512 stops.at.x.now stops.at.y.now (length stops.at.x.now)
@@ -57,21 +50,14 @@ impl Objects {
         }
     }
 
-    // The columns, and the axis costs behind them.
-    pub fn columns(&self) -> &[i32; COLUMNS]
-        ensures { result.now ≡ columns_of_objects self.now }
-    {
-        &self.columns
-    }
-
-    // How many objects there are.
+    /// How many objects there are.
     pub fn count(&self) -> usize
         ensures { result ≡ count_of_objects self.now }
     {
         self.count
     }
 
-    // The axis costs.
+    /// The axis costs of the deck.
     pub fn axis(&self) -> AxisCosts
         ensures { AxisOf (axis_in (columns_of_objects self.now)) result }
     {
@@ -81,8 +67,7 @@ impl Objects {
         }
     }
 
-    // The object in row i.
-    // kept: rows by their index, since an iterator over columns would be a struct with a proof of its own.
+    /// The object in row `i`, counted from 0.
     pub fn row(&self, i: usize) -> Row
         requires { i < count_of_objects self.now }
         ensures { object_of_row result ≡ object_at (columns_of_objects self.now) i }

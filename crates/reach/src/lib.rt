@@ -1,5 +1,5 @@
-// Which objects reach a rectangle, over the objects of a deck at scaled places: one pass in 32-bit columns, so that it can be vectorised.
-// The rectangle is scaled once, before the pass.
+// Which objects are within reach of a rectangle (RULES "Reach"): one pass over the 32-bit columns of objects at scaled places, which the
+// compiler can vectorise. The rectangle is scaled once, before the pass.
 #![tactic(auto)]
 
 ghost use Rattle.std.specs.Prelude.{◌≡◌};
@@ -16,7 +16,7 @@ use deck::Rect;
 use limits::STOPS;
 pub use rectangle::Edges;
 
-// Which objects reach a rectangle.
+/// For each row of the objects whether it is within reach of the rectangle `r` (RULES "Reach"); `false` behind the last object.
 pub fn reach_flags(objects: &Objects, r: Rect) -> [bool; STOPS]
     requires { Ranged (rect_of r) }
     ensures { result ≡ flags_of (pricing_of_objects objects.now) (rect_of r) }

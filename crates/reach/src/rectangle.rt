@@ -9,7 +9,7 @@ ghost use Rattle.reach.specs.Columns.{Ranged, EdgesInRange, excess_of};
 
 use deck::{AxisCosts, Rect, scaled};
 
-// The edges of a rectangle, scaled.
+/// The edges of a rectangle, each multiplied by the cost of its axis, as passes over objects at scaled places compare with them.
 #[derive(Clone, Copy)]
 pub struct Edges {
     pub xlo: i32,
@@ -19,8 +19,7 @@ pub struct Edges {
     pub ghost in_range: { EdgesInRange xlo ylo xhi yhi },
 }
 
-// How far a lies above b.
-// kept: `Near180000`, here and below, is of numbers of a call, which no type holds together.
+// How far a lies above b; 0 where it does not.
 fn excess(a: i32, b: i32) -> i32
     requires { Near180000 a b }
     ensures { result ≡ pos (excess_of a b) }
@@ -39,7 +38,7 @@ fn outside(v: i32, lo: i32, hi: i32) -> i32
 impl Edges {
     ghost use Rattle.reach.specs.Held.{EdgesOf};
 
-    // The edges of a rectangle as the passes take them.
+    /// The edges of the rectangle `r` under these axis costs.
     pub fn of(axis: AxisCosts, r: Rect) -> Edges
         requires { CostsInRange (held_axis axis) × Ranged (rect_of r) }
         ensures { EdgesOf (held_axis axis) (rect_of r) result }
@@ -54,7 +53,8 @@ impl Edges {
         }
     }
 
-    // Whether the travel from a scaled place to the closest point of the rectangle is less than the place's near.
+    /// Whether an object at the scaled place `x`, `y` is within reach of the rectangle (RULES "Reach"): its travel to the closest point is
+    /// less than its near.
     pub fn reached_from(self, x: i32, y: i32, near: i32) -> bool
         requires { Near180000 x y × (pos 0 ≤ℤ near) }
         ensures { result ≡ ltb (dist x (clamp self.xlo self.xhi x) + dist y (clamp self.ylo self.yhi y)) (nat_abs near) }

@@ -1,4 +1,4 @@
--- A cut cell as the code makes its parts: the rectangles, new corners and corner costs are those of document 01, and stay in range.
+-- A cut cell as the code makes its parts: the rectangles, new corners and corner costs are those of the definitions, and stay in range.
 use mathlib.Core.Path.{◌≡◌, refl, sym, ap, subst, ◌∙◌}
 use Prim.Native.Nat.{◌≤◌}
 use native.Mathlib.Omega.{arith}
@@ -134,7 +134,8 @@ module _ (P : Pricing) (G : Grid) (r : Rect) (k : Costs) (h : Cutting P G r k) w
     pub part_is : (part : Part) (p : Deck.Rect) → p ≡ rect_record (cut_part part (axis_of cut.axis) cut.at r) → IsPart part p
     part_is part p e = ap rect_of e ∙ (λ i. cut_part part (axis_is i) (cut_is i).at r)
 
-    pub costs_are : (low high : PricedPlace) → low ≡ priced_place_of P (low_corner line.axis line.at r) → high ≡ priced_place_of P (high_corner line.axis line.at r)
+    pub costs_are : (low high : PricedPlace) → low ≡ priced_place_of P (low_corner line.axis line.at r)
+        → high ≡ priced_place_of P (high_corner line.axis line.at r)
         → (part : Part) (l : Costs) → l ≡ part_costs part (axis_of cut.axis) k low.cost high.cost
         → (p : Deck.Rect) → IsPart part p → l ≡ corner_costs P (rect_of p)
     costs_are low high f g part l e p is_part =
@@ -166,7 +167,8 @@ module _ (P : Pricing) (G : Grid) (r : Rect) (k : Costs) (h : Cutting P G r k) w
         ∙ ap (λ (s : Rect). priced_place_of P (record { x = s.xhi; y = s.yhi })) e
         ∙ ap (priced_place_of P) (high_is_corner line.axis line.at r)
 
-  pub halves_are : (low high : PricedPlace) → low ≡ priced_place_of P (low_corner line.axis line.at r) → high ≡ priced_place_of P (high_corner line.axis line.at r)
+  pub halves_are : (low high : PricedPlace) → low ≡ priced_place_of P (low_corner line.axis line.at r)
+      → high ≡ priced_place_of P (high_corner line.axis line.at r)
       → (before behind : Deck.Rect) → IsPart Before before → IsPart Behind behind → (first second : Entry) → first ≡ entry_for P (rect_of before)
       → second ≡ entry_for P (rect_of behind)
       → ◌≡◌ {A = Halves} (record { low = low; high = high; first = first; second = second }) (halves_of P line r)

@@ -1,21 +1,14 @@
 -- A deck's search as the code prepares it: what its runs keep in range, and its answer.
 use mathlib.Core.Path.{◌≡◌, sym, ap, subst, ◌∙◌}
-use mathlib.Core.List.{List, map}
-use Prim.Native.Nat.{ℕ, ◌*◌, ◌≤◌}
-use native.Mathlib.Omega.{arith}
-use lib.IntN.{ℤ, pos}
-use lib.ListN.{length, length-map}
-use Rattle.numbers.specs.Padded.{padded}
+use Prim.Native.Nat.{ℕ}
 use Rattle.query.specs.Place.{NonEmpty}
 use Rattle.query.specs.Deck.{Deck}
 use Rattle.query.specs.Problem as QueryProblem
 use Rattle.query.specs.Problem.{problem}
 use Rattle.query.specs.Search.{run}
-use Rattle.query.specs.Space.{all_numbers}
 use Rattle.query.specs.Figures.{figures, figures_of}
 use Rattle.query.specs.Range.{InRange}
 use Rattle.query.proofs.CutLaws.{cut_law}
-use Rattle.query.proofs.SpaceLaws.{all_numbers_length}
 use Rattle.query.proofs.Invariant.{run_ok}
 use Rattle.query.proofs.Promise3.{lawful}
 use Rattle.query.proofs.FigureRanges.{run_in_range}
@@ -23,7 +16,6 @@ use Rattle.deck.specs.Objects.{Pricing}
 use Rattle.prepare.specs.declared.Problem.{Problem}
 use Rattle.priced_place.specs.Prepared.{problem_of, Prepared}
 use Rattle.priced_place.proofs.DeckProblem.{prepared_problem}
-use Rattle.slots.specs.Slot.{entry_cell}
 use Rattle.cells.specs.Live.{Live}
 use Rattle.search.specs.declared.run.Running.{Running}
 use Rattle.search.specs.declared.run.Found.{Found}
@@ -49,15 +41,3 @@ steady p = subst Steady (sym (prepared_problem p)) (deck_steady p.deck p.range p
 pub searched : (P : Pricing) (Q : QueryProblem.Problem) (rounds : ℕ) (l : Live) (st : Running) → Holds P (run Q rounds) 0 l st
     → (r : Found) → r ≡ found_of (search_of l.entries st) → Searched Q rounds l r
 searched P Q rounds l st holds r found = record { found = found ∙ ap found_of holds.is; cells = cells_are Q P rounds 0 l st holds }
-
--- what the cell space asks for and then holds, where the live cells are written out
-module _ {Q : QueryProblem.Problem} {rounds : ℕ} {l : Live} {r : Found} (after : Searched Q rounds l r) where
-  numbers_are : all_numbers (map entry_cell l.entries) ≡ all_numbers (run Q rounds).live
-  numbers_are = ap all_numbers after.cells
-
-  pub cells_fit : (lent : ℕ) → length (all_numbers (run Q rounds).live) ≤ lent → 5 * length l.entries ≤ lent
-  cells_fit lent h = omega (arith, h, all_numbers_length (run Q rounds).live, ap length after.cells, length-map l.entries entry_cell)
-
-  pub cells_written : (lent : ℕ) (out : List ℤ) → out ≡ padded lent (pos 0) (all_numbers (map entry_cell l.entries))
-      → out ≡ padded lent (pos 0) (all_numbers (run Q rounds).live)
-  cells_written lent out e = e ∙ ap (padded lent (pos 0)) numbers_are

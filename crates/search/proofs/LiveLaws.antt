@@ -1,4 +1,4 @@
--- Live cells and the best place as the code keeps them are those of document 01.
+-- Live cells and the best place as the code keeps them are those of the definitions.
 use mathlib.Core.Path.{◌≡◌, refl, sym, ap, ◌∙◌}
 use mathlib.Core.Bool.{Bool, true, false, cond, not, ◌&&◌}
 use mathlib.Core.Logic.{◌⊎◌, inr, ⊎_elim}

@@ -1,4 +1,4 @@
--- A start and a round as the code makes them are those of document 01.
+-- A start and a round as the code makes them are those of the definitions.
 use mathlib.Core.Path.{◌≡◌, refl, sym, ap, subst, ◌∙◌}
 use mathlib.Core.Bool.{Bool}
 use mathlib.Core.Logic.{⊎_elim}

@@ -1,4 +1,4 @@
--- What a search answers at its end.
+-- What a search answers at its end (RULES "Figures").
 use Rattle.std.specs.Prelude.{ℕ, ◌≤◌, ◌≡◌, Bool, true, false, List, [], ◌∷◌, map}
 use Rattle.query.specs.Problem.{Problem}
 use Rattle.query.specs.Order as Query

@@ -1,4 +1,4 @@
--- Cells with the costs of their corners, and the better of two places, as the code has them.
+-- Cells with the costs of their corners, and the better of two places (RULES "Bound", "Live cells"), as the code has them.
 use Rattle.std.specs.Prelude.{◌≤◌, cond}
 use Rattle.query.specs.Place.{Rect, corner}
 use Rattle.query.specs.Order.{better}

@@ -1,4 +1,4 @@
--- What a cut makes of a cell, as the code has it.
+-- What a cut makes of a cell (RULES "Cuts"), as the code has it.
 use Rattle.std.specs.Prelude.{ℕ, ◌≡◌, T, ℤ}
 use Rattle.query.specs.Place.{Rect, Axis, x_axis, y_axis}
 use Rattle.query.specs.Grid.{Grid}

@@ -1,4 +1,4 @@
--- The entries of a search, each a cell with the costs of its corners: one more among them.
+-- The live entries of a search: one more among them (RULES "Live cells"), and their corners' costs.
 use Rattle.std.specs.Prelude.{◌+◌, ◌≤◌, ◌≡◌, cond}
 use mathlib.Core.List.{List, Memᴰ}
 use Rattle.numbers.specs.Lists.{insert_by}

@@ -1,4 +1,4 @@
--- A search while the code runs it: the search of document 01 that its live entries and its state hold, and what a round asks.
+-- A search while the code runs it (RULES "Rounds"): what its live entries and its state stand for, and what a round asks.
 use Rattle.std.specs.Prelude.{ℕ, ◌≤◌, ◌<◌, ◌≡◌, T}
 use mathlib.Core.List.{List, ◌∷◌, map, Memᴰ}
 use Rattle.query.specs.Grid.{Grid}

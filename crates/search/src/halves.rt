@@ -1,4 +1,4 @@
-// The better of two places, entries with their bounds, and the two halves that a cut makes of a cell.
+// The better of two places, entries with their bounds, and what a cut makes of a cell (RULES "Bound", "Cuts", "Live cells").
 ghost use Rattle.std.specs.Prelude.{◌≡◌, ◌≤◌};
 ghost use Rattle.query.specs.Cut.{cut_line};
 ghost use Rattle.query.specs.Order.{priced_key};
@@ -21,7 +21,8 @@ use priced_place::PricedPlace;
 use reach::Objects;
 use slots::{Cell, Costs, Entry};
 
-// What a cut makes of a cell: its two new corners, and its two parts with the costs of their corners.
+/// What a cut makes of a cell: the two new corners with their costs, `low` at the smaller coordinate of the cut line and `high` at the
+/// larger, and the two parts, `first` up to the line and `second` from it on.
 #[derive(Clone, Copy)]
 pub struct Halves {
     pub low: PricedPlace,
@@ -37,7 +38,7 @@ enum Part {
     Behind,
 }
 
-// The key of a place: its cost, and the place by which equal costs are told apart.
+// The key of a place: its cost, and between equal costs the place.
 pub(crate) fn spot_key(spot: PricedPlace) -> Key
     requires { spot.cost ≤ cost_limit }
     ensures { query_key result ≡ priced_key (priced_of spot) }
@@ -72,7 +73,6 @@ pub(crate) fn bounded(objects: &Objects, rect: Rect, k: Costs) -> Entry
 }
 
 // Where a cell is cut, if it can be.
-// kept: beside `trial::opened::Opened::cut_of`, since each is one call.
 pub(crate) fn cut_of(problem: &Problem, rect: Rect) -> Option<Cut>
     requires { RectInRange (rect_of rect) }
     ensures { result ≡ cut_record (problem_of problem.now).rules.grid (rect_of rect) }

@@ -1,4 +1,4 @@
-// The search by cells: its start, its rounds and what it answers.
+// The search by cells: its start, its rounds and what it answers (RULES "Rounds", "Figures").
 ghost use Rattle.std.specs.Prelude.{◌≡◌, ◌∷◌, ◌-◌, ◌≤◌};
 ghost use Rattle.query.specs.Search as Search;
 ghost use Rattle.query.specs.Range.{cost_limit, rounds_limit, RectInRange};
@@ -22,25 +22,27 @@ use priced_place::PricedPlace;
 use reach::Objects;
 use slots::{Cell, Costs, Entry};
 
-// What a search holds while it runs, beside its live cells: the best place so far and the cuts made.
+/// What a search holds beside its live cells while it runs: the best place so far, and the cuts made.
 #[derive(Clone, Copy)]
 pub struct Running {
     pub best: PricedPlace,
     pub cuts: u64,
 }
 
-// What a search has found when it ends: whether no cell is live, the best place, the low figure and the cuts made.
-// kept: a flag, since best, low and cuts are there either way; `siting` makes the report's state of it.
+/// What a search has found when it ends (RULES "Figures").
 #[derive(Clone, Copy)]
 pub struct Found {
+    /// No cell is live: the report's state is `done`, and else `stopped`.
     pub done: bool,
+    /// The best place; its cost is the figure `high`.
     pub best: PricedPlace,
+    /// The figure `low`. It can be negative.
     pub low: i64,
+    /// The cuts made, which are the rounds of the report.
     pub cuts: u64,
 }
 
-// The corners of a rectangle, priced: c00 at (xlo, ylo), c01 at (xlo, yhi), c10 at (xhi, ylo), c11 at (xhi, yhi).
-// kept: beside `slots::Costs`: a type over what stands at a corner would be named for each of the two all the same.
+// The corners of a rectangle, priced, named as in `slots::Costs`.
 #[derive(Clone, Copy)]
 struct Corners {
     c00: PricedPlace,
@@ -104,7 +106,7 @@ fn add(problem: &Problem, live: &mut LiveCells, entry: Entry, best: PricedPlace)
     }
 }
 
-// A round: an entry is cut that was the first of the live ones. The best place and the live cells are brought up to date.
+// A round: the entry that was the first of the live ones is cut, the best place may change, and dead cells are dropped.
 fn round(problem: &Problem, live: &mut LiveCells, entry: Entry, st: Running) -> Running
     requires { Takeable (pricing_of_objects problem.now.objects) (problem_of problem.now).rules.grid entry live.old st }
     ensures { Holds (pricing_of_objects problem.now.objects)
@@ -177,9 +179,8 @@ fn answer(live: &LiveCells, st: Running) -> Found
     }
 }
 
-// The search of a deck's problem, for at most so many rounds: its answer. It begins with no live cell, and leaves those that are live.
-// kept: `Prepared` is a clause and no ghost field of `Problem`, since it gives the deck, and a ghost field only that there is one.
-// kept: the live cells are lent empty: a search that made them of lent arrays would give back a pair.
+/// Searches the problem of a deck for at most `rounds` rounds (RULES "Rounds"), and gives what it found. `live` is lent with no live cell,
+/// and holds those that are live at the end.
 pub fn search(problem: &Problem, rounds: u64, live: &mut LiveCells) -> Found
     requires { Prepared problem.now × (rounds ≤ rounds_limit) × (live.old ≡ none_live) }
     ensures { Searched (problem_of problem.now) rounds live.new result }

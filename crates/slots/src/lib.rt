@@ -1,5 +1,6 @@
 // The slots in which a search keeps its cells while it runs. A cell stands in a slot: five numbers in one array, the costs of its four
-// corners in another. A third array holds the numbers of the slots, each once: it is the order in which the slots are read and written.
+// corners in another. A third array has the number of each slot once: the order in which slots are read and written, so that no entry
+// moves.
 #![tactic(auto)]
 
 ghost use Rattle.std.specs.Prelude.{◌≡◌, ◌+◌, ◌*◌, ◌≤◌, ◌<◌, pos, length, get_or, replicate};
@@ -11,13 +12,14 @@ use deck::Rect;
 use limits::{CELLS, CORNER_COSTS, SPACE};
 use std::array;
 
+/// A cell with its bound (RULES "Bound"). A bound can be negative.
 #[derive(Clone, Copy)]
 pub struct Cell {
     pub rect: Rect,
     pub bound: i64,
 }
 
-// The costs of a cell's corners: c00 at (xlo, ylo), c01 at (xlo, yhi), c10 at (xhi, ylo), c11 at (xhi, yhi).
+/// The costs of a cell's corners: `c00` of (xlo, ylo), `c01` of (xlo, yhi), `c10` of (xhi, ylo), `c11` of (xhi, yhi).
 #[derive(Clone, Copy)]
 pub struct Costs {
     pub c00: u64,
@@ -26,20 +28,22 @@ pub struct Costs {
     pub c11: u64,
 }
 
-// A cell with the costs of its corners.
+/// A cell with the costs of its corners.
 #[derive(Clone, Copy)]
 pub struct Entry {
     pub cell: Cell,
     pub costs: Costs,
 }
 
-// The arrays of the slots. They are made by the caller and lent, so that their 74 KB are written once.
-// kept: no invariant of the order, since a caller may lend arrays that are numbered only then (`number`).
-// kept: a cell is five numbers, as in the cell space of the call `report`, which `put_cell` writes too, and as callers held these arrays.
+/// The arrays of the slots. Whoever makes them lends them, so that their 74 KB are written once. They may hold anything until `number`
+/// makes the order.
 #[derive(Drop)]
 pub struct Arrays {
+    /// Five numbers of each slot: xlo, ylo, xhi, yhi and the bound of its cell, as in the cell space (RULES "Cell space").
     pub cells: [i64; SPACE],
+    /// Four numbers of each slot: the costs of its cell's corners, `c00`, `c01`, `c10`, `c11`.
     pub costs: [u64; CORNER_COSTS],
+    /// The numbers of the slots, each once, counted from 0.
     pub order: [u16; CELLS],
 }
 
@@ -75,7 +79,7 @@ fn get_costs(costs: &[u64; CORNER_COSTS], slot: usize) -> Costs
     }
 }
 
-// A cell stored in a slot.
+/// Stores a cell in a slot of `numbers`, its edges and its bound as five numbers. All other numbers stay as they are.
 pub fn put_cell(numbers: &mut [i64], slot: usize, c: Cell)
     requires { (slot < 1001) × (slot * 5 + 4 < length numbers.old) }
     ensures { CellPut numbers.old slot c numbers.new }
@@ -94,7 +98,7 @@ pub fn put_cell(numbers: &mut [i64], slot: usize, c: Cell)
     numbers[at + 4] = bound;
 }
 
-// The costs of a cell's corners stored in a slot. The numbers are written through a slice, which tells how many they are.
+// Stores the costs of a cell's corners in a slot. The numbers are written through a slice, which tells how many they are.
 fn put_costs(costs: &mut [u64; CORNER_COSTS], slot: usize, k: Costs)
     requires { slot < 1001 }
     ensures { CostsPut costs.old slot k costs.new }
@@ -107,7 +111,7 @@ fn put_costs(costs: &mut [u64; CORNER_COSTS], slot: usize, k: Costs)
     numbers[at + 3] = k.c11;
 }
 
-// A cell and the costs of its corners stored in a slot.
+/// Stores a cell and the costs of its corners in a slot. Every other slot stays as it is.
 pub fn put_entry(
     cells: &mut [i64; SPACE],
     costs: &mut [u64; CORNER_COSTS],
@@ -122,7 +126,7 @@ pub fn put_entry(
     put_costs(costs, slot, entry.costs);
 }
 
-// The number of each slot at its own place.
+/// The order in which the number of each slot stands at its own place.
 pub fn numbers() -> [u16; CELLS]
     ensures { result ≡ slot_numbers }
 {
@@ -130,7 +134,7 @@ pub fn numbers() -> [u16; CELLS]
 }
 
 impl Arrays {
-    // All zeros, the order too, which `number` makes: so the compiler clears the arrays where the caller keeps them.
+    /// Arrays of zeros. The order is made by `number`: so the compiler clears the arrays where the caller keeps them.
     pub fn new() -> Self
         ensures { result ≡ record { cells = replicate 5005 (pos 0); costs = replicate 4004 0; order = replicate 1001 0 } }
     {
@@ -141,7 +145,7 @@ impl Arrays {
         }
     }
 
-    // The slots in the order of their numbers.
+    /// Puts the slots in the order of their numbers. Cells and costs stay.
     pub fn number(&mut self)
         ensures { self.new ≡ record { cells = self.old.cells; costs = self.old.costs; order = slot_numbers } }
     {
@@ -156,7 +160,7 @@ impl Arrays {
         self.order[place] as usize
     }
 
-    // The cell at a place of the order.
+    /// The cell at a place of the order, counted from 0.
     pub fn cell_at(&self, place: usize) -> Cell
         requires { Numbered self.now.order × (place < 1001) }
         ensures { result ≡ (at_place (entries_in self.now.cells self.now.costs self.now.order) place).cell }
@@ -164,7 +168,7 @@ impl Arrays {
         get_cell(&self.cells, self.slot_at(place))
     }
 
-    // The costs of its corners.
+    /// The costs of the corners of the cell at a place of the order.
     pub fn costs_at(&self, place: usize) -> Costs
         requires { Numbered self.now.order × (place < 1001) }
         ensures { result ≡ (at_place (entries_in self.now.cells self.now.costs self.now.order) place).costs }
@@ -172,7 +176,7 @@ impl Arrays {
         get_costs(&self.costs, self.slot_at(place))
     }
 
-    // The entry at a place of the order.
+    /// The cell at a place of the order, with the costs of its corners.
     pub fn get(&self, place: usize) -> Entry
         requires { Numbered self.now.order × (place < 1001) }
         ensures { result ≡ at_place (entries_in self.now.cells self.now.costs self.now.order) place }
@@ -183,7 +187,7 @@ impl Arrays {
         }
     }
 
-    // An entry stored in the slot at a place of the order.
+    /// Stores an entry in the slot at a place of the order. The order, and every other slot, stay as they are.
     pub fn store(&mut self, place: usize, entry: Entry)
         requires { Numbered self.old.order × (place < 1001) }
         ensures put { EntryPut self.old.cells self.old.costs (get_or self.old.order place 0) entry self.new.cells self.new.costs }
@@ -193,7 +197,8 @@ impl Arrays {
         put_entry(&mut self.cells, &mut self.costs, slot, entry);
     }
 
-    // The slots from head up to a place, each one place to the left, and the one that was before head behind them.
+    /// Moves the slots from the place `head` up to `to` each one place to the left in the order, and the one before `head` behind them.
+    /// Cells and costs stay where they are.
     pub fn rotate(&mut self, head: usize, to: usize)
         requires { (1 ≤ head) × (head ≤ to) × (to ≤ 1001) }
         ensures order { self.new.order ≡ rotated 0 self.old.order head to }

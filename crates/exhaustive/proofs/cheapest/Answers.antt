@@ -28,5 +28,5 @@ cheapest_of-requires c = subst LinesInRange (sym c.as_slice-v.ensures.lines) (ve
 pub returns : goal.returns
 returns c =
     let made = c.new-crossings.ensures in
-    let best = rw (made.0, made.1, c.as_slice-h.ensures.lines, c.as_slice-v.ensures.lines) at c.cheapest_of.ensures in
+    let best = rw (made.objects, made.lines, c.as_slice-h.ensures.lines, c.as_slice-v.ensures.lines) at c.cheapest_of.ensures in
     answers c.requires.0 _ _ c.priced-first.ensures best

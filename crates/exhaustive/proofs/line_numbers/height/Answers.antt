@@ -1,4 +1,4 @@
--- What `exhaustive::height` owes.
+-- What `exhaustive::line_numbers::height` owes.
 use Rattle.exhaustive.proofs.Heights.{height_is}
 use Rattle.exhaustive.proofs.line_numbers.height.Goals as goal
 
