@@ -116,6 +116,7 @@ module _ (axis : AxisCosts) {xs ys : List ℤ} {vs ns : List ℕ} {n : ℕ} (pla
 
   module _ {b us ws : List ℤ} (eb : b ≡ paste (paste (replicate columns_size (pos 0)) 0 (map (times axis.a) xs) n) y_column (map (times axis.b) ys) n)
       (eu : us ≡ map pos (take n vs)) (ew : ws ≡ map pos (take n ns)) where
+    -- the columns with visits in them, and those with near too
     abbrev c : List ℤ
     c = put_mid visits_column (visits_column + n - visits_column) b us
 
@@ -132,7 +133,8 @@ module _ (axis : AxisCosts) {xs ys : List ℤ} {vs ns : List ℕ} {n : ℕ} (pla
     objects =
         naturals_put near_column c ns nears.count ew
         ∙ ap (λ (l : List ℤ). paste l near_column (map pos ns) n)
-        (naturals_put visits_column b vs visits.count eu ∙ ap (λ (l : List ℤ). paste l visits_column (map pos vs) n) (places_put n places.few _ _ scaled_x scaled_y refl eb)
+        (naturals_put visits_column b vs visits.count eu
+        ∙ ap (λ (l : List ℤ). paste l visits_column (map pos vs) n) (places_put n places.few _ _ scaled_x scaled_y refl eb)
         ∙ put_column (x ++ y) visits_column (stops_limit + 2) n (map pos vs) two places.few (naturals vs visits.count))
         ∙ put_column (x ++ y ++ v) near_column 2 n (map pos ns) three places.few (naturals ns nears.count)
 

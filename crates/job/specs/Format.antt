@@ -70,7 +70,7 @@ pub data Result : Type 0 where
   refused : Refusal → Result
   accepted : Job → Result
 
--- refusal 4
+-- whether an area has no point: refusal 4
 unfoldable pub empty_area : Rect → Bool
 empty_area r = lt_z r.xhi r.xlo || lt_z r.yhi r.ylo
 
@@ -89,7 +89,7 @@ abbrev pub reading_result : Reading Job → Result
 reading_result (fault why) = refused why
 reading_result (got job n bs) = checked job
 
--- refusal 1
+-- the most bytes of a job: more are refusal 1
 abbrev pub size_limit : ℕ
 size_limit = 16384
 

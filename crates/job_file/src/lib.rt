@@ -96,7 +96,7 @@ fn put_number<T: Decimal>(w: &mut Writer, n: T, end: u8)
     w.put_byte(end);
 }
 
-// Two numbers, with a comma behind the first. Not inlined, it makes writing take longer.
+// Two numbers, with a comma behind the first. Always inlined, without which writing takes longer.
 #[inline(always)]
 fn put_place(w: &mut Writer, p: Place, end: u8)
     requires { HasRoom w.old (length (place_text p.x p.y end)) }

@@ -66,7 +66,7 @@ form_of row = do
   key row.key
   numbers row.ranges
 
--- refusal 3 is of a number that is not
+-- whether a number is in its range; refusal 3 is of one that is not
 unfoldable pub in_range : Range → ℤ → Bool
 unfolding between
 in_range range n = between range.low range.high n
