@@ -79,7 +79,7 @@ pub fn of(bytes: &[u8], random: &mut Random) -> Record {
     record
 }
 
-/// Near such that a record can be changed, if all else is in range: the travel to the closest post or to any, small ones, or others. One of
+/// Near such that a record can be changed, if all else is in range: the right one, the travel to any post, small numbers, or others. One of
 /// them is sometimes the longest travel, or one more.
 pub fn tame(random: &mut Random, record: &mut Record) {
     let kind = random.below(4);

@@ -1,5 +1,5 @@
 /*
- * Siting: where one more wash post saves the most travel. The entry for C.
+ * Siting: finds the place where one more wash post lowers the travel of a deck the most. The entry for C; docs/RULES.md has the rules.
  *
  * Link target/staticlib/libsiting.a, which `scripts/libraries siting` makes, on Linux on x86-64.
  */
@@ -26,9 +26,9 @@ extern "C" {
  *     stop=x,y,visits         a line for each stop, with 1 to 65535 visits
  *     rounds=n                how many rounds the search may take, 0 to 1000
  *
- * Coordinates are whole tenths of a millimetre from the deck's centre, -20000 to 20000. A number has 1 to 9 digits and a leading '-'
- * if it is negative: no '+', no leading zero save in 0 itself, no -0. There are no spaces. Travel between two places is a times the
- * difference in x plus b times that in y.
+ * Coordinates count tenths of a millimetre from the centre of the deck, -20000 to 20000. A number is one to nine digits, with a '-' before
+ * them if it is below 0: '+5', '05' and '-0' are not accepted, and spaces are not either. The travel from one place to another is a times
+ * the difference in x plus b times that in y.
  *
  * The report is six lines, each ended by byte 10, with no byte 0 behind them:
  *
@@ -42,19 +42,20 @@ extern "C" {
  * Result: the number of bytes written, 1 to 128, or a negative number where the job is refused:
  *
  *     -1  the job has more than 16384 bytes: shorten it
- *     -2  a line does not have its form, is missing, or is too much: mend the job's lines
+ *     -2  a line is not spelled as above, or there are too few lines or too many: mend the job's lines
  *     -3  a number is out of its range: mend it
  *     -4  the area is empty, xlo > xhi or ylo > yhi: give the smaller first
  *     -5  the job has no post: give one
  *     -6  the job has no stop: give one
  *     -8  out_length is less than 128: lend a larger output
  *
- * Where several apply: -1 comes first, then -2 and -3 line by line from the top, -2 before -3 in a line, then -4, -5, -6, -8.
+ * Where several apply, -1 is given before all others; then that of the first line at fault, which is -2 if it is not spelled as above and
+ * -3 otherwise; then the first of -4, -5, -6 and -8.
  * The program siting_cli tells the line of a -2 or a -3. -7, too small a cell space, is a refusal of the library's call in Rattle, to
  * which the caller lends that space; this entry asks for none, whatever the rounds, and never gives it.
  *
- * A report fills the first bytes of out, and the bytes behind it keep their values. A refusal changes no byte of out. The job's bytes
- * are only read.
+ * The report stands at the front of out, and no other byte of out changes; where the job is refused, none does. The job's bytes are only
+ * read.
  *
  * What the caller owes:
  *   - job and out are not null, also where their length is 0, and are valid for job_length bytes to read and out_length bytes to read

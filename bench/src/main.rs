@@ -1,4 +1,4 @@
-//! The time of the proved kernels beside that of hand-written Rust twins: the same figures of the same deck, on the same machine in the same run.
+//! The time of the proved code beside that of hand-written Rust twins: the same answers from the same input, on the same machine in the same run.
 //!
 //! A proved kernel is repeated inside the exported function of crate `kernels`, which first reads the job. The time of reading is
 //! taken with 0 turns and subtracted. The twin starts from the columns, repeats the same turns, and must give the same sum.

@@ -97,7 +97,7 @@ impl Grid {
         Grid { vertical: deck.lines(objects, true), horizontal: deck.lines(objects, false) }
     }
 
-    /// Gaps across, gaps deep, the cut limit, the cells that suffice.
+    /// Across, deep, the cut limit, the cells.
     fn estimate(&self, rounds: usize) -> [usize; 4] {
         let (across, deep) = ((self.vertical.len() - 1).max(1), (self.horizontal.len() - 1).max(1));
         [across, deep, across * deep - 1, (rounds + 1).min(across * deep)]

@@ -156,7 +156,7 @@ static const struct {
     int number;
     const char *job;
 } refused_jobs[] = {
-    // a line that doesn't have its form, is missing, or is too much
+    // a line that is not as it has to be, too few lines or too many
     {2, ""},
     {2, "\n"},
     {2, "area=2,2,8,8"},
@@ -195,7 +195,7 @@ static const struct {
     {2, CASE_A "axis=2,1\n"},
     {2, AREA "axis=2,1"},
     {2, AREA "axis=2,1\n"},
-    // a value out of range
+    // a number outside its range
     {3, "area=2,2,8,20001\n" POSTS STOPS "rounds=10\n"},
     {3, "area=-20001,2,8,8\n" POSTS STOPS "rounds=10\n"},
     {3, "area=2,2,8,999999999\n" POSTS STOPS "rounds=10\n"},
@@ -217,7 +217,7 @@ static const struct {
     {4, "area=2,8,8,2\n" POSTS STOPS "rounds=10\n"},
     {5, AREA "posts=0\n" STOPS "rounds=10\n"},
     {6, AREA POSTS "stops=0\nrounds=10\n"},
-    // the order: line by line, 2 before 3 in a line, then 4, 5, 6
+    // several at once: the first by the order of RULES "Refusals"
     {3, "area=2,2,8,20001\nposts=a\n"},
     {2, "area=2,2,8,20001,\n" POSTS STOPS "rounds=10\n"},
     {2, "area=2,2,8,20001"},

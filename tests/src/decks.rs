@@ -56,7 +56,7 @@ fn ties() -> Job {
     }
 }
 
-/// Case A of document 01.
+/// Case A of RULES "Worked cases".
 pub const CASE_A: &str = "area=2,2,8,8\nposts=1\npost=0,0\nstops=2\nstop=4,3,2\nstop=8,12,1\nrounds=10\n";
 
 /// The folder examples/.

@@ -1,4 +1,4 @@
-//! Tests of the proved library from Rust. `reference` is written from documents 01 and 02 alone and shares nothing with the proved code.
+//! Tests of the proved code from Rust, most of them against `reference`, an implementation of docs/RULES.md of its own.
 
 pub mod decks;
 pub mod entry;

@@ -1,7 +1,7 @@
-//! Document 01 as a plain program: reading, pricing, the search by cells over the whole partition, the full walk, the report text; and
-//! of document 02 the writing of jobs (card 1), axis costs (card 2), the estimate (card 3), near and before in a record (card 5) and the
-//! changes of a deck (card 6).
-//! It is written to be read beside these and is slow on purpose: cells are never dropped, and nothing is kept in order.
+//! An independent implementation of docs/RULES.md, which shares nothing with the proved code: reading jobs, pricing places, the search by
+//! cells, the exhaustive search, the texts of reports and refusals, the estimate, writing and changing records. Beside these stands a
+//! brute-force search, which prices every point of an area. It is written to be read beside that page and is slow on purpose: cells are
+//! never dropped, and nothing is kept in order.
 
 use std::cmp::Ordering;
 
@@ -23,7 +23,7 @@ pub struct Axis {
 }
 
 impl Axis {
-    /// Those of a job without an axis line.
+    /// Those where the axis line is left out.
     pub const PLAIN: Axis = Axis { a: 1, b: 1 };
 }
 
@@ -55,7 +55,7 @@ fn refuse(number: i64, line: usize) -> Refusal {
     }
 }
 
-// ---- reading
+// ---- reading: RULES "Numbers", "Job", "Refusals"
 
 /// A number in its form: 1 to 9 digits, `-` if negative, no leading zero, no `-0`.
 fn number(text: &[u8]) -> Option<i64> {
@@ -164,7 +164,7 @@ fn spell_with(job: &Job, axis_line: &str) -> Vec<u8> {
     text.into_bytes()
 }
 
-// ---- writing
+// ---- writing: RULES "Change 1"
 
 /// A deck's record and the rounds, as they are lent: any number may stand anywhere. The first `posts` and `stops` elements count. Writing
 /// looks at neither `near` nor `before`.
@@ -204,7 +204,7 @@ impl Record {
     /// The same with axis costs that a file can have.
     pub const PLAIN: Record = Record { axis: [1; 2], ..Record::ZEROS };
 
-    /// That of a job that was read: each stop's near and the deck's before, and zeros behind its lists.
+    /// That of a job that was read: near and before as they are (RULES "Change 5"), and zeros behind its lists.
     pub fn of(job: &Job) -> Record {
         let deck = Deck::new(job);
         let (a, axis) = (job.area, [job.axis.a as u64, job.axis.b as u64]);
@@ -272,7 +272,7 @@ pub fn saved(bytes: &[u8]) -> Vec<u8> {
     [&bytes[..second], behind.strip_prefix(b"axis=1,1\n").unwrap_or(behind)].concat()
 }
 
-// ---- changing
+// ---- changing: RULES "Change 6"
 
 /// The changes of a deck, by their numbers from 0.
 #[derive(Clone, Copy, Debug, PartialEq, Eq)]
@@ -341,7 +341,7 @@ fn remove<T: PartialEq>(items: &mut Vec<T>, item: T, only: i64) -> Result<(), Re
     Ok(())
 }
 
-/// The job with the changed lists and all else as it is. A value out of range is 3, before all other refusals.
+/// The job with the changed lists and all else as it is. Refusal 3, for values out of range, comes before the others.
 pub fn changed(job: &Job, change: &Change) -> Result<Job, Refusal> {
     if !change.in_range() {
         return Err(refuse(3, 0));
@@ -443,7 +443,7 @@ impl Record {
     }
 }
 
-// ---- pricing
+// ---- pricing: RULES "Travel", "Near", "Cost", "Reach", "Lines", "Bound", "Cuts"
 
 pub fn travel(axis: Axis, p: Place, q: Place) -> i64 {
     axis.a * (p.0 - q.0).abs() + axis.b * (p.1 - q.1).abs()
@@ -547,9 +547,9 @@ pub fn cut(vertical: &[i64], horizontal: &[i64], r: Rect) -> Option<(bool, i64)>
     }
 }
 
-// ---- the estimate
+// ---- the estimate: RULES "Change 3"
 
-/// What a job will need. No place is priced for it.
+/// What a search of a job needs, found from its lines alone.
 #[derive(Clone, Copy, Debug, PartialEq, Eq)]
 pub struct Estimate {
     pub across: i64,
@@ -589,7 +589,7 @@ pub fn lent_enough(estimate: &Estimate, cells: usize, out: usize) -> Result<(), 
     Ok(())
 }
 
-// ---- the search by cells
+// ---- the search by cells: RULES "Live cells", "Rounds", "Figures", "Cell space"
 
 #[derive(Clone, Debug, PartialEq, Eq)]
 pub struct Found {
@@ -672,7 +672,7 @@ pub fn search(job: &Job) -> Found {
     }
 }
 
-/// The full walk: the cheapest crossing, the earliest among equals, as cost and place.
+/// The cheapest crossing, the earliest among equals, as cost and place (RULES "Exhaustive search").
 pub fn exhaustive(job: &Job) -> (i64, Place) {
     let deck = Deck::new(job);
     let horizontal = deck.horizontal();
@@ -684,7 +684,7 @@ pub fn exhaustive(job: &Job) -> (i64, Place) {
         .unwrap()
 }
 
-/// The cheapest whole-number point of the area, the earliest among equals: every point is priced.
+/// Brute force: of all points of the area, each of which is priced, the cheapest, the earliest among equals.
 pub fn brute_force(job: &Job) -> (i64, Place) {
     let deck = Deck::new(job);
     let a = job.area;
@@ -695,7 +695,7 @@ pub fn brute_force(job: &Job) -> (i64, Place) {
         .unwrap()
 }
 
-// ---- text
+// ---- text: RULES "Report"
 
 pub fn report_text(f: &Found) -> String {
     let state = if f.done { "done" } else { "stopped" };
@@ -724,7 +724,7 @@ mod tests {
     const A: &str = "area=2,2,8,8\nposts=1\npost=0,0\nstops=2\nstop=4,3,2\nstop=8,12,1\nrounds=10\n";
 
     #[test]
-    fn case_a_is_that_of_document_01() {
+    fn case_a_has_its_figures() {
         let job = read(A.as_bytes()).unwrap();
         assert_eq!(report_text(&search(&job)), "state=done\nat=4,3\nhigh=13\nlow=13\nbefore=34\nrounds=3\n");
         for (rounds, at, high, low) in [(0, (8, 8), 18, 4), (1, (4, 2), 16, 4), (2, (4, 3), 13, 8)] {

@@ -142,8 +142,8 @@ pub fn exhaustive_line(job: &[u8]) -> u64 {
     exhaustive_figure(job, 4) as u64
 }
 
-/// A number of the estimate call's answer, from 0: gaps across, gaps deep, the cut limit, the cells that suffice, the number of the
-/// refusal, its line (0 and 0 for none). The least number where there is none.
+/// A number of the estimate call's answer, from 0: across, deep, cut limit and cells of an `Estimate`, the number of the refusal, its line
+/// (0 and 0 for none). The least number where there is none.
 pub fn estimate(job: &[u8], which: u64) -> i64 {
     unsafe { trial_estimate(job.as_ptr(), job.len(), which) }
 }

@@ -1,5 +1,5 @@
-//! The marked decks of document 01. And jobs with an axis line, and some without, each with the report or the refusal that documents 01 and
-//! 02 give it. And changes of decks, each with what card 6 of document 02 makes of it.
+//! The decks of RULES "Worked cases". Jobs with an axis line and without one, each with its report or its refusal (RULES "Change 2"). Changes
+//! of decks, each with its refusal or with what it makes of the deck (RULES "Change 6").
 
 use crate::decks::CASE_A;
 use crate::reference::{read, Change, Job, Kind, Place, Stop};

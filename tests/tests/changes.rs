@@ -1,5 +1,5 @@
-//! The calls that change a deck's record, against the reference: the answer and every number of the record after each change of a run, beside
-//! the record that the edited job is read as. And changes of records that reading did not make.
+//! The calls that change a deck's record (RULES "Change 6"), against the reference: the answer and every number of the record after each change
+//! of a run, beside the record that the edited job is read as. And changes of records that reading did not make.
 
 use siting_tests::decks::{folder, CASE_A};
 use siting_tests::entry;

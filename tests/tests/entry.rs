@@ -1,4 +1,4 @@
-//! The C entry against the reference: result, text, and the bytes that must keep their values.
+//! The C entry (RULES "Calls") against the reference: result, text, and the bytes that must keep their values.
 
 use siting_tests::decks::examples;
 use siting_tests::entry;

@@ -1,4 +1,5 @@
-//! The proved estimate call against the reference, and against what the report call takes; the reference's estimate against its search.
+//! The proved estimate call (RULES "Change 3") against the reference, and against what the report call takes; the reference's estimate against
+//! its search.
 
 use siting_tests::generate::{axis, crowded, damaged, each_job, job, job_of, largest, noise, seed, special, spelled, Random};
 use siting_tests::reference::{estimate, read, search, spell, Axis, Deck, Estimate, Job, Rect, Refusal, Stop};

@@ -1,4 +1,5 @@
-//! The proved exhaustive call against the reference: the full exhaustive, every point of a small area, the done reports of the same job.
+//! The proved exhaustive call (RULES "Exhaustive search") against the reference's search of all crossings and of all points of a small area,
+//! and against done reports of the same job.
 
 use siting_tests::generate::{axis, crowded, damaged, each_job, job, job_of, largest, noise, seed, special, spelled, Random};
 use siting_tests::reference::{brute_force, exhaustive, read, search, spell, Axis, Job, Place, Rect, Refusal, Stop};
@@ -136,7 +137,7 @@ fn crossings_of_crowded_decks_are_those_of_the_reference() {
         let mut j = crowded(random, width, depth, 65_535);
         j.axis = axis(random);
         match random.range(1, 3) {
-            // one post in a corner: nearly every stop is within reach of every line
+            // one post in a corner: nearly every line reaches nearly every stop
             1 => j.posts = vec![(-20_000, -20_000)],
             2 => j.posts.truncate(random.range(1, 8) as usize),
             _ => {}
@@ -177,7 +178,7 @@ fn damaged_jobs_are_refused_as_the_reference_refuses_them() {
     assert!(seen.refusals[7..] == [0, 0] && seen.found > 700 && seen.axis_costs > 200, "{seen:?}");
 }
 
-// ---- the decks of document 01
+// ---- RULES "Worked cases"
 
 fn finds(bytes: &str, cost: i64, at: Place) {
     let mut random = Random::new(1);
@@ -189,7 +190,7 @@ fn finds(bytes: &str, cost: i64, at: Place) {
 }
 
 #[test]
-fn the_marked_decks_have_the_places_of_document_01() {
+fn the_marked_decks_have_their_places() {
     for rounds in [0, 1, 2, 3, 10, 1_000] {
         finds(&case_a(rounds), 13, (4, 3));
         finds(&case_b(rounds), 10, (0, 0));

@@ -1,4 +1,5 @@
-//! The proved reader and the proved pricing against the reference, on random bytes and decks.
+//! The proved reader (RULES "Job", "Refusals") and the proved pricing (RULES "Near", "Cost", "Reach", "Lines", "Bound", "Cuts") against the
+//! reference, on random bytes and decks.
 
 use siting_tests::generate::{damaged, job, job_of, largest, noise, rect, seed, spelled, spelling, Random};
 use siting_tests::reference::{cut, read, spell, spell_out, travel, Axis, Deck, Job, Place, Rect, Refusal, Stop};
@@ -174,8 +175,8 @@ fn nears(job: &Job) -> Vec<i64> {
     (0..job.stops.len()).map(|i| trial::near(&bytes, i)).collect()
 }
 
-/// Card 4 as it is seen from outside, by jobs with the first posts of a deck: each further post improves the near of the stops that are
-/// closer to it, and leaves the others. In the opposite order the posts give the same.
+/// RULES "Change 4" as it is seen from outside, by jobs with the first posts of a deck: each further post improves the near of the stops that
+/// are closer to it, and leaves the others. In the opposite order the posts give the same.
 #[test]
 fn near_with_each_further_post() {
     let mut random = Random::new(seed());

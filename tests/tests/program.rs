@@ -1,4 +1,4 @@
-//! The program by pipes, against the reference.
+//! The program (RULES "Calls") by pipes, against the reference.
 
 use siting_tests::decks::CASE_A;
 use siting_tests::generate::{damaged, job, largest, noise, seed, spelled, Random};

@@ -1,4 +1,5 @@
-//! The proved report call against the reference: answer, text, cell space and all that stays as it was, on random jobs and lent memory.
+//! The proved report call (RULES "Calls", "Figures", "Cell space") against the reference: answer, text, cell space and all that stays as it
+//! was, on random jobs and lent memory.
 
 use siting_tests::generate::{damaged, each_job, job, job_of, largest, noise, seed, special, spelled, Random};
 use siting_tests::reference::{brute_force, estimate, exhaustive, lent_enough, read, refusal_text, report_text, search, spell};
@@ -277,7 +278,7 @@ fn every_point_of_a_small_area_costs_what_the_report_says() {
     assert!(done > 5_000 && stopped > 2_000 && axis_costs > 500);
 }
 
-// ---- the decks of document 01
+// ---- RULES "Worked cases"
 
 /// The result with `cells` numbers and `out` bytes of garbage, the line, and the memory.
 fn call(bytes: &[u8], cells: usize, out: usize) -> (i64, u64, Lent) {
@@ -303,7 +304,7 @@ fn prints(bytes: &str, want: &str) {
 }
 
 #[test]
-fn the_marked_decks_print_what_document_01_says() {
+fn the_marked_decks_print_their_reports() {
     prints(&case_a(10), "state=done\nat=4,3\nhigh=13\nlow=13\nbefore=34\nrounds=3\n");
     prints(&case_a(0), "state=stopped\nat=8,8\nhigh=18\nlow=4\nbefore=34\nrounds=0\n");
     prints(&case_a(1), "state=stopped\nat=4,2\nhigh=16\nlow=4\nbefore=34\nrounds=1\n");
@@ -401,7 +402,7 @@ fn the_vectors_get_what_they_say() {
 }
 
 #[test]
-fn the_other_decks_of_document_01() {
+fn the_byte_cases() {
     refused(&[b'a'; 16_384], 2, 1);
     refused(&[b'a'; 16_385], 1, 0);
     refused(b"", 2, 1);

@@ -1,4 +1,5 @@
-//! The reference against itself, on random decks: what documents 01 and 02 promise of their rules. And against the vectors.
+//! The reference against itself, on random decks: what RULES "Promise 3", "Exhaustive search" and the changes say of the rules. And against
+//! the vectors.
 
 use siting_tests::generate::{each_job, job, job_of, rect, seed, spelled, turns, Random};
 use siting_tests::reference::{answer_text, brute_force, changed, exhaustive, read, saved, search, spell, travel, write};

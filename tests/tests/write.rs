@@ -1,5 +1,5 @@
-//! The calls that read a job into a record and write a record as a job, against the reference: the answer, every number of the record,
-//! near and before among them, and every byte of the output.
+//! The calls that read a job into a record and write a record as a job (RULES "Change 1", "Change 5"), against the reference: the answer, every
+//! number of the record, near and before among them, and every byte of the output.
 
 use siting_tests::decks::{folder, CASE_A};
 use siting_tests::generate::{damaged, each_job, job, job_of, largest, noise, seed, special, spelled, Random};
@@ -57,7 +57,7 @@ fn check_read(random: &mut Random, bytes: &[u8]) -> Result<Record, Refusal> {
     want
 }
 
-/// An accepted job is read, and written into outputs of just its length, one byte less, more and none. It comes out in its own bytes, but
+/// An accepted job is read, and written into outputs of just its length, one byte less, more and none. What is written is the job itself, but
 /// for a line `axis=1,1`.
 fn check_saved(random: &mut Random, bytes: &[u8]) {
     let record = check_read(random, bytes).unwrap();

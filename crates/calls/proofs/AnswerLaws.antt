@@ -1,4 +1,4 @@
--- Answers in the documents' terms: a refusal's number and line tell which it is, and what is given is no refusal.
+-- Answers: a refusal's number and line tell which it is, and what is given is no refusal.
 use Prim.Native.Nat.{ℕ}
 use mathlib.Core.Path.{◌≡◌, ap}
 use native.Mathlib.Omega.{arith}

@@ -9,6 +9,7 @@ use lib.Dec.{T}
 use lib.ListN.{get_or}
 use Rattle.numbers.proofs.Truth.{test, fails}
 use Rattle.query.specs.Deck as Query
+use Rattle.query.specs.Range.{travel_limit}
 use Rattle.deck.specs.DeckOf.{Sized, deck_of, deck_record}
 use Rattle.deck.specs.Sound.{Sound}
 use Rattle.deck.specs.declared.Deck.{Deck}
@@ -46,7 +47,7 @@ module _ (deck : Deck) (change : Change) where
   unfolding change_call changed_record
   answer_is = by_refusal (record_refusal change deck)
 
-  -- a refusal in the documents' terms is one of the code's
+  -- a refusal by number and line is one of the code's
   refused_why : (number line : ℕ) → (change_call deck change).answer ≡ refuses number line →
       (why : Refusal) × (record_refusal change deck ≡ some why) × (number ≡ number_of why) × (line ≡ line_of why)
   refused_why number line e = go (record_refusal change deck) refl
@@ -176,7 +177,7 @@ module _ (deck : Deck) (change : Change) where
   made_as : Sound deck → (change_call deck change).answer ≡ gives tt → (change_call deck change).deck ≡ deck_record (altered change (deck_of deck))
   made_as sound e = deck_is deck change ∙ ap (λ r. r.deck) (made_answer deck change sound (none_of (sound_usable deck sound) e))
 
-  can_change : Sized deck → T (usable deck) ↔ (Saveable deck 0 × ((i : ℕ) → i < deck.stops → get_or deck.near i 0 ≤ 720000))
+  can_change : Sized deck → T (usable deck) ↔ (Saveable deck 0 × ((i : ℕ) → i < deck.stops → get_or deck.near i 0 ≤ travel_limit))
   can_change sized = let both = usable_exactly deck sized in (
     λ t. let c = both.0 t in (record { allowed = c.0; few_posts = c.1; few_stops = c.2 }, c.3),
     λ s. both.1 (s.0.allowed, s.0.few_posts, s.0.few_stops, s.1),

@@ -25,7 +25,6 @@ change_table = record {
   range_ends = refl;
   beyond_ranges = refl;
   range_first = refl;
-  not_read = refl;
   not_saveable = refl;
   near_beyond = refl;
   near_stored = refl;

@@ -18,6 +18,7 @@ use Rattle.job.specs.Meaning.{Condition}
 use Rattle.job.proofs.Meaning.{refused_job}
 use Rattle.job.proofs.RefusalLaws.{condition_number}
 use Rattle.write.specs.Written.{overwritten}
+use Rattle.report.specs.Limits.{output_size}
 use Rattle.report.specs.Text.{report_text}
 use Rattle.calls.specs.Answers.{gives, refusal}
 use Rattle.calls.specs.Call.{turned_down, job_figures, report_call, own_space}
@@ -52,7 +53,7 @@ module _ (job out : List ℕ) where
   unfolding entry
   entry_of = refl
 
-  entry_reports : (j : Job) → read_job job ≡ accepted j → 128 ≤ length out →
+  entry_reports : (j : Job) → read_job job ≡ accepted j → output_size ≤ length out →
       entry job out ≡ record { result = pos (length (report_text (job_figures j))); out = overwritten (report_text (job_figures j)) out }
   entry_reports j e h =
       let r = reports job own_space out j (own_accepted job out j e h) in
@@ -68,7 +69,7 @@ module _ (job out : List ℕ) where
   entry_refuses : (why : Refusal) → Condition job why → entry job out ≡ record { result = neg_ℤ (pos (number_of why)); out = out }
   entry_refuses why c = turned_down_lem why (refuses_so job own_space out why (in_reading c))
 
-  entry_short : (j : Job) → read_job job ≡ accepted j → length out < 128 → entry job out ≡ record { result = neg_ℤ (pos 8); out = out }
+  entry_short : (j : Job) → read_job job ≡ accepted j → length out < output_size → entry job out ≡ record { result = neg_ℤ (pos 8); out = out }
   entry_short j e h = turned_down_lem ShortOutput (refuses_so job own_space out ShortOutput (short_output j e (own_enough job out j e) h))
 
   -- the numbers n with minus n as the result: those of reading, and 8
@@ -83,7 +84,7 @@ module _ (job out : List ℕ) where
           inl (omega (arith, minus_same (number_of why) n (same (entry_refuses why c)), condition_number job why c))
       go (accepted j) e = ⊎_elim (λ t. inr (sym (minus_same 8 n (same (entry_short j e (ltb→lt _ _ t))))))
           (λ t. inl (omega (arith, minus_zero _ n (same (entry_reports j e (nltb→le _ _ t))))))
-          (test (ltb (length out) 128))
+          (test (ltb (length out) output_size))
 
   pub entry_law : EntryLaw job out
   entry_law = record {

@@ -12,6 +12,7 @@ use Rattle.job.specs.Format.{Job, Result, refused, accepted, read_job}
 use Rattle.job.specs.Meaning.{Condition}
 use Rattle.job.proofs.Meaning.{refused_job}
 use Rattle.job.proofs.RefusalLaws.{condition_number}
+use Rattle.report.specs.Limits.{output_size}
 use Rattle.report.specs.Text.{report_text, refusal_text}
 use Rattle.report.proofs.TextLaws.{report_no_refusal, refusal_number}
 use Rattle.calls.specs.Answers.{gives, refuses}
@@ -32,7 +33,7 @@ refused_text number line = refl
 
 module _ (job : List ℕ) where
   abbrev output : List ℕ
-  output = replicate 128 0
+  output = replicate output_size 0
 
   text_of_lem : answer_text job ≡ text_of (report_call job own_space output).answer
   unfolding answer_text
@@ -40,7 +41,7 @@ module _ (job : List ℕ) where
 
   reported_text : (j : Job) → read_job job ≡ accepted j → answer_text job ≡ report_text (job_figures j)
   reported_text j e = text_of_lem
-      ∙ ap text_of (reports job own_space output j (own_accepted job output j e (omega (arith, length-replicate {A = ℕ} 128 0)))).answer
+      ∙ ap text_of (reports job own_space output j (own_accepted job output j e (omega (arith, length-replicate {A = ℕ} output_size 0)))).answer
       ∙ given_text (job_figures j)
 
   refusal_text_lem : (why : Refusal) → Condition job why → answer_text job ≡ refusal_text (number_of why) (line_of why)

@@ -1,4 +1,4 @@
--- The demands of the call `report`.
+-- The three promises of the call `report`.
 use Prim.Native.Nat.{ℕ, suc, ◌≤◌, ◌<◌}
 use mathlib.Core.Path.{◌≡◌, refl, sym, ap, subst, subst₂, ◌∙◌}
 use mathlib.Core.Bool.{Bool, true, false}
@@ -15,9 +15,9 @@ use Rattle.query.specs.Figures.{Figures}
 use Rattle.query.specs.Space.{space_needed}
 use Rattle.query.specs.Promise3.{Promise3}
 use Rattle.query.proofs.Promise3 as Query
-use Rattle.query.specs.Range.{FiguresInRange}
+use Rattle.query.specs.Range.{rounds_limit, FiguresInRange}
 use Rattle.query.proofs.FigureRanges.{run_in_range}
-use Rattle.job.specs.Format.{Job, Result, refused, accepted, missing_axis, read_job}
+use Rattle.job.specs.Format.{Job, Result, refused, accepted, missing_axis, size_limit, read_job}
 use Rattle.query.specs.Deck.{AxisCosts}
 use Rattle.job.specs.Spelling.{spell, Spells, with_line, without_line, Allowed}
 use Rattle.job.proofs.JobLaws.{most_rounds, other_rounds}
@@ -26,6 +26,7 @@ use Rattle.job.proofs.RefusalLaws.{condition_number}
 use Rattle.refusal.specs.Refusal.{number_of, line_of}
 use Rattle.refusal.specs.declared.Refusal.{Refusal}
 use Rattle.refusal.specs.declared.Refusal.TheVariants.{SmallSpace, ShortOutput}
+use Rattle.report.specs.Limits.{output_size}
 use Rattle.report.specs.Text.{report_text}
 use Rattle.report.proofs.Fits.{report_fits}
 use Rattle.calls.specs.Answers.{gives, refuses, refusal}
@@ -33,8 +34,8 @@ use Rattle.calls.specs.Call.{Left, turned_down, job_figures, reported, answered,
 use Rattle.calls.specs.Promises.{Accepted, Applies, in_reading, small_space, short_output, Promise1, Reported, Promise2, one_more, Promise3Report, Promises}
 use Rattle.calls.proofs.AnswerLaws.{same_number, same_line, same_refusal, same_given, not_refused}
 
--- the figures of an allowed job are in range, so that its report fits 128 bytes
-pub more_rounds : {n : ℕ} {f : Figures} → FiguresInRange n f → n ≤ 1000 → FiguresInRange 1000 f
+-- the figures of an allowed job are in range, so that its report fits the output
+pub more_rounds : {n : ℕ} {f : Figures} → FiguresInRange n f → n ≤ rounds_limit → FiguresInRange rounds_limit f
 more_rounds range h = record {
   place = range.place;
   high_limit = range.high_limit;
@@ -43,15 +44,15 @@ more_rounds range h = record {
   rounds_limit_lem = omega (arith, range.rounds_limit_lem);
 }
 
-pub job_limits : (job : Job) → Allowed job → FiguresInRange 1000 (job_figures job)
+pub job_limits : (job : Job) → Allowed job → FiguresInRange rounds_limit (job_figures job)
 job_limits job a =
     more_rounds (run_in_range job.deck (allowed_in_range job a) a.area_full job.rounds).figures_range (most_rounds a.writable)
 
-text_fits : (job : Job) → Allowed job → length (report_text (job_figures job)) ≤ 128
+text_fits : (job : Job) → Allowed job → length (report_text (job_figures job)) ≤ output_size
 text_fits job a = report_fits.report_fits (job_figures job) (job_limits job a)
 
 -- one more round leaves a job allowed
-allowed_more : (j : Job) → j.rounds < 1000 → Allowed j → Allowed (one_more j)
+allowed_more : (j : Job) → j.rounds < rounds_limit → Allowed j → Allowed (one_more j)
 allowed_more j h a = record {
   writable = other_rounds j (suc j.rounds) a.writable h;
   area_full = a.area_full;
@@ -60,7 +61,7 @@ allowed_more j h a = record {
 }
 
 -- bytes that spell an allowed job are few enough
-spells_fits : (missing : AxisCosts) (job : List ℕ) (j : Job) → Spells missing job j → Allowed j → length job ≤ 16384
+spells_fits : (missing : AxisCosts) (job : List ℕ) (j : Job) → Spells missing job j → Allowed j → length job ≤ size_limit
 spells_fits missing job j (with_line e) a = rw e ((spelling_law j).fits a true)
 spells_fits missing job j (without_line e c) a = rw e ((spelling_law j).fits a false)
 
@@ -82,15 +83,15 @@ module _ (j : Job) (cells : List ℤ) (out : List ℕ) where
   small_answer h = cond-true (ltb (length cells) (space_needed j.deck j.rounds)) _ _ (lt→ltb _ _ h)
 
   module _ (h : space_needed j.deck j.rounds ≤ length cells) where
-    pub short_answer : length out < 128 → answered (accepted j) cells out ≡ turned_down ShortOutput cells out
+    pub short_answer : length out < output_size → answered (accepted j) cells out ≡ turned_down ShortOutput cells out
     unfolding answered
     short_answer k = cond-false (ltb (length cells) (space_needed j.deck j.rounds)) _ _ (le→nltb _ _ h)
-        ∙ cond-true (ltb (length out) 128) _ _ (lt→ltb _ _ k)
+        ∙ cond-true (ltb (length out) output_size) _ _ (lt→ltb _ _ k)
 
-    pub report_answer_lem : 128 ≤ length out → answered (accepted j) cells out ≡ reported j cells out
+    pub report_answer_lem : output_size ≤ length out → answered (accepted j) cells out ≡ reported j cells out
     unfolding answered
     report_answer_lem k = cond-false (ltb (length cells) (space_needed j.deck j.rounds)) _ _ (le→nltb _ _ h)
-        ∙ cond-false (ltb (length out) 128) _ _ (le→nltb _ _ k)
+        ∙ cond-false (ltb (length out) output_size) _ _ (le→nltb _ _ k)
 
 module _ (job : List ℕ) (cells : List ℤ) (out : List ℕ) where
   -- ---- how the call ends
@@ -106,7 +107,7 @@ module _ (job : List ℕ) (cells : List ℤ) (out : List ℕ) where
       report_call job cells out ≡ turned_down SmallSpace cells out
   space_call j e h = call_of (accepted j) e ∙ small_answer j cells out h
 
-  output_call : (j : Job) → read_job job ≡ accepted j → space_needed j.deck j.rounds ≤ length cells → length out < 128 →
+  output_call : (j : Job) → read_job job ≡ accepted j → space_needed j.deck j.rounds ≤ length cells → length out < output_size →
       report_call job cells out ≡ turned_down ShortOutput cells out
   output_call j e h k = call_of (accepted j) e ∙ short_answer j cells out h k
 
@@ -127,13 +128,13 @@ module _ (job : List ℕ) (cells : List ℤ) (out : List ℕ) where
           ⊎_elim (λ t. let h = ltb→lt _ _ t in refusing SmallSpace (small_space j e h) (space_call j e h))
           (λ t. let h = nltb→le _ _ t in ⊎_elim (λ u. let k = ltb→lt _ _ u in
           refusing ShortOutput (short_output j e h k) (output_call j e h k)) (λ u. reporting j (record { read = e; space = h; output = nltb→le _ _ u }))
-          (test (ltb (length out) 128)))
+          (test (ltb (length out) output_size)))
           (test (ltb (length cells) (space_needed j.deck j.rounds)))
 
   answer_of : (left : Left) → report_call job cells out ≡ left → (report_call job cells out).answer ≡ left.answer
   answer_of left e = ap (λ (l : Left). l.answer) e
 
-  -- ---- demand 2
+  -- ---- promise 2
   pub reports : (j : Job) → Accepted job cells out j → Reported job cells out j
   unfolding reported
   reports j a = let e = call_accepted j a in record {
@@ -150,7 +151,7 @@ module _ (job : List ℕ) (cells : List ℤ) (out : List ℕ) where
   pub figures_are : (j : Job) (f : Figures) → Accepted job cells out j → (report_call job cells out).answer ≡ gives f → job_figures j ≡ f
   figures_are j f a e = same_given (job_figures j) f (sym (reports j a).answer ∙ e)
 
-  -- ---- demand 1
+  -- ---- promise 1
   pub refuses_so : (why : Refusal) → Applies job cells out why → report_call job cells out ≡ turned_down why cells out
   refuses_so why (in_reading c) = refused_call why ((refused_job job why).1 c)
   refuses_so _ (small_space j e h) = space_call j e h
@@ -195,7 +196,7 @@ module _ (job : List ℕ) (cells : List ℤ) (out : List ℕ) where
     refused_out = λ number line e. ap (λ (l : Left). l.out) (refused_one number line e).2;
   }
 
--- ---- demand 3
+-- ---- promise 3
 promise_3 : (job : List ℕ) (cells : List ℤ) (out : List ℕ) (j : Job) (f : Figures) → Accepted job cells out j → (report_call job cells out).answer ≡ gives f →
     Promise3Report j f
 promise_3 job cells out j f a e =

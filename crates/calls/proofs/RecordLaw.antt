@@ -9,43 +9,42 @@ use lib.Seq.{get_or-take}
 use Rattle.numbers.proofs.Joined.{map_at}
 use Rattle.numbers.proofs.Padded.{padded_at, padded_behind}
 use Rattle.query.specs.Travel.{near}
-use Rattle.query.specs.Range.{InRange}
-use Rattle.deck.specs.DeckOf.{deck_of, deck_record, empty_deck}
+use Rattle.query.specs.Range.{stops_limit}
+use Rattle.deck.specs.DeckOf.{deck_of, deck_record}
 use Rattle.deck.specs.Sound.{Sound}
 use Rattle.deck.specs.declared.Deck.{Deck}
-use Rattle.deck.proofs.DeckLaws.{all_stops, stops_at, held_deck}
+use Rattle.deck.proofs.DeckLaws.{all_stops, stops_at}
 use Rattle.deck.proofs.SoundLaws.{record_sound, sound_columns, sound_near, sound_stops, sound_before}
+use Rattle.job.specs.declared.Job as Held
 use Rattle.job.specs.File.{held_job, saved_spelling}
 use Rattle.job.proofs.Meaning.{allowed_in_range}
 use Rattle.job.proofs.AllowedLaws.{in_range_allowed}
 use Rattle.job_check.proofs.AxisLaws.{saved_spells}
 use Rattle.calls.specs.Answers.{gives}
-use Rattle.calls.specs.ReadCall.{Read, read_call}
-use Rattle.calls.specs.RecordLaw.{Made, by_reading, by_change, stop_in, RecordLaw, RefusedRecordLaw}
+use Rattle.calls.specs.ReadCall.{job_record, read_call}
+use Rattle.calls.specs.RecordLaw.{Made, by_reading, by_change, stop_in, RecordLaw}
 use Rattle.calls.proofs.ChangeLaw.{change_law}
 use Rattle.calls.proofs.Promises.{read_exactly}
-use Rattle.calls.proofs.SavingLaw.{read_given, read_accepted, refused_zeros}
+use Rattle.calls.proofs.SavingLaw.{read_given, read_accepted}
 
 -- ---- reading makes sound records, and changes keep them so
 pub made_sound : (deck : Deck) → Made deck → Sound deck
 made_sound deck (by_change held change made same) = subst Sound (sym same) ((change_law held change).sound (made_sound held made))
-made_sound deck (by_reading job rounds e same) =
-    let (j, read, n) = read_accepted job rounds e in
+made_sound deck (by_reading job held e same) =
+    let (j, read, is) = read_accepted job held e in
     let allowed = ((read_exactly job j).0 read).1 in
-    subst Sound (sym (same ∙ ap (λ (r : Read). r.deck) (read_given job j read)))
-    (record_sound j.deck (allowed_in_range j allowed) allowed.area_full)
+    subst Sound (sym (same ∙ ap (λ (h : Held.Job). h.deck) is)) (record_sound j.deck (allowed_in_range j allowed) allowed.area_full)
 
 -- ---- and all of them
-sound_read : (deck : Deck) → Sound deck → (job : List ℕ) × (rounds : ℕ) × ((read_call job).answer ≡ gives rounds) × (deck ≡ (read_call job).deck)
+sound_read : (deck : Deck) → Sound deck → (job : List ℕ) × (held : Held.Job) × (read_call job ≡ gives held) × (deck ≡ held.deck)
 sound_read deck sound =
     let job = held_job deck 0 in
     let allowed = in_range_allowed job sound.range sound.full (omega arith) in
     let read = (read_exactly (saved_spelling job) job).1 (saved_spells job, allowed) in
-    let given = read_given (saved_spelling job) job read in
-    (saved_spelling job, 0, ap (λ (r : Read). r.answer) given, sound.whole ∙ sym (ap (λ (r : Read). r.deck) given))
+    (saved_spelling job, job_record job, read_given (saved_spelling job) job read, sound.whole)
 
 sound_made : (deck : Deck) → Sound deck → Made deck
-sound_made deck sound = let (job, rounds, given, same) = sound_read deck sound in by_reading job rounds given same
+sound_made deck sound = let (job, held, given, same) = sound_read deck sound in by_reading job held given same
 
 -- ---- near, number by number
 module _ (deck : Deck) (sound : Sound deck) (i : ℕ) where
@@ -53,7 +52,7 @@ module _ (deck : Deck) (sound : Sound deck) (i : ℕ) where
   unfolding deck_of
   near_at_lem h =
       rw (sound_near sound)
-      (padded_at 512 0 (map (near (deck_of deck)) (deck_of deck).stops) i
+      (padded_at stops_limit 0 (map (near (deck_of deck)) (deck_of deck).stops) i
       (omega (arith, length-map (deck_of deck).stops (near (deck_of deck)), sound_stops sound))
       ∙ each)
     where
@@ -65,7 +64,7 @@ module _ (deck : Deck) (sound : Sound deck) (i : ℕ) where
       each = map_at (near (deck_of deck)) (deck_of deck).stops i 0 (stop_in deck i) (omega (arith, sound_stops sound)) ∙ ap (near (deck_of deck)) stop_at_lem
 
   near_past : deck.stops ≤ i → get_or deck.near i 0 ≡ 0
-  near_past h = rw (sound_near sound) (padded_behind 512 0 (map (near (deck_of deck)) (deck_of deck).stops) i
+  near_past h = rw (sound_near sound) (padded_behind stops_limit 0 (map (near (deck_of deck)) (deck_of deck).stops) i
       (omega (arith, length-map (deck_of deck).stops (near (deck_of deck)), sound_stops sound)))
 
 pub record_law : (deck : Deck) → RecordLaw deck
@@ -76,11 +75,4 @@ record_law deck = record {
   near_behind = near_past deck;
   before_is = sound_before;
   one_record = λ other s t e. s.whole ∙ ap deck_record e ∙ sym t.whole;
-}
-
--- ---- the record of zeros holds no post
-pub refused_record_law : (job : List ℕ) → RefusedRecordLaw job
-refused_record_law job = record {
-  not_sound = λ number line e sound.
-      let none = (subst InRange (ap deck_of (refused_zeros job number line e) ∙ held_deck empty_deck) sound.range).some_posts in absurd (omega arith);
 }

@@ -6,4 +6,4 @@ use Rattle.calls.specs.RecordTable.{RecordTable}
 
 pub record_table : RecordTable
 unfolding write_call read_call
-record_table = record { case_a_law = refl; plain_costs = refl; heavy_costs = refl; longest = refl; refused = refl; written = refl }
+record_table = record { case_a_law = refl; plain_costs = refl; heavy_costs = refl; longest = refl; written = refl }

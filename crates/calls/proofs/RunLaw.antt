@@ -8,7 +8,7 @@ use Rattle.query.specs.Place.{NonEmpty}
 use Rattle.query.specs.Deck as Query
 use Rattle.query.specs.Deck.{plain}
 use Rattle.query.specs.Range.{InRange}
-use Rattle.deck.specs.DeckOf.{deck_of, deck_record}
+use Rattle.deck.specs.DeckOf.{deck_record}
 use Rattle.deck.specs.Sound.{Sound}
 use Rattle.deck.specs.declared.Deck.{Deck}
 use Rattle.deck.proofs.DeckLaws.{held_deck}
@@ -17,6 +17,7 @@ use Rattle.change.specs.Change.{Change, changed_by}
 use Rattle.change.specs.ChangedRecord.{record_after}
 use Rattle.change.proofs.AlteredLaws.{run_range, run_area, run_axis}
 use Rattle.change.proofs.ChangedLaws as Changed
+use Rattle.job.specs.declared.Job as Held
 use Rattle.job.specs.Format.{Job, accepted, missing_axis, read_job}
 use Rattle.job.specs.Spelling.{spell, Spells, with_line, without_line, Allowed}
 use Rattle.job.specs.File.{writes_axis, saved_spelling}
@@ -25,8 +26,8 @@ use Rattle.job.proofs.Meaning.{allowed_in_range, spelling_law}
 use Rattle.job.proofs.AllowedLaws.{in_range_allowed}
 use Rattle.job_check.proofs.AxisLaws.{saved_spells}
 use Rattle.write.specs.Written.{overwritten}
-use Rattle.calls.specs.Answers.{gives}
-use Rattle.calls.specs.ReadCall.{Read, read_call}
+use Rattle.calls.specs.Answers.{AnswerOf, gives}
+use Rattle.calls.specs.ReadCall.{job_record, read_call}
 use Rattle.calls.specs.WriteCall.{write_call}
 use Rattle.calls.specs.SavingLaw.{SpellsOut}
 use Rattle.calls.specs.RunLaw.{changed_job, RunLaw}
@@ -38,7 +39,7 @@ module _ (changes : List Change) (job : List ℕ) (j : Job) (read : read_job job
   after = changed_job changes j
 
   abbrev record_now : Deck
-  record_now = record_after changes (read_call job).deck
+  record_now = record_after changes (job_record j).deck
 
   spells : Spells missing_axis job j
   spells = ((read_exactly job j).0 read).0
@@ -49,19 +50,16 @@ module _ (changes : List Change) (job : List ℕ) (j : Job) (read : read_job job
   was_in_range : InRange j.deck
   was_in_range = allowed_in_range j allowed
 
-  was_read : (read_call job).deck ≡ deck_record j.deck
-  was_read = ap (λ (r : Read). r.deck) (read_given job j read)
-
-  was_sound : Sound (read_call job).deck
-  was_sound = subst Sound (sym was_read) (record_sound j.deck was_in_range allowed.area_full)
+  was_sound : Sound (deck_record j.deck)
+  was_sound = record_sound j.deck was_in_range allowed.area_full
 
   -- ---- the record
   now_is : record_now ≡ deck_record (changed_by changes j.deck)
-  now_is = Changed.run_is changes (read_call job).deck was_sound
-      ∙ ap (λ (d : Query.Deck). deck_record (changed_by changes d)) (ap deck_of was_read ∙ held_deck j.deck)
+  now_is = Changed.run_is changes (deck_record j.deck) was_sound
+      ∙ ap (λ (d : Query.Deck). deck_record (changed_by changes d)) (held_deck j.deck)
 
   now_sound : Sound record_now
-  now_sound = Changed.run_sound changes (read_call job).deck was_sound
+  now_sound = Changed.run_sound changes (deck_record j.deck) was_sound
 
   -- ---- the job
   after_allowed : Allowed after
@@ -71,8 +69,11 @@ module _ (changes : List Change) (job : List ℕ) (j : Job) (read : read_job job
   after_read : (bytes : List ℕ) → Spells missing_axis bytes after → read_job bytes ≡ accepted after
   after_read bytes s = (read_exactly bytes after).1 (s, after_allowed)
 
-  reads_so : (bytes : List ℕ) → Spells missing_axis bytes after → read_call bytes ≡ record { answer = gives j.rounds; deck = record_now }
-  reads_so bytes s = read_given bytes after (after_read bytes s) ∙ ap (λ (d : Deck). record { answer = gives j.rounds; deck = d }) (sym now_is)
+  reads_so : (bytes : List ℕ) → Spells missing_axis bytes after → read_call bytes ≡ gives (record { rounds = j.rounds; deck = record_now })
+  reads_so bytes s = read_given bytes after (after_read bytes s) ∙ ap given_with (sym now_is)
+    where
+      given_with : Deck → AnswerOf Held.Job
+      given_with d = gives (record { rounds = j.rounds; deck = d })
 
   -- ---- its spellings
   stays_plain : j.deck.axis ≡ plain → after.deck.axis ≡ plain

@@ -1,7 +1,7 @@
 -- What the calls `read` and `write` are held to.
 use mathlib.Core.Path.{◌≡◌, refl, sym, ap, ap₂, subst, ◌∙◌}
 use mathlib.Core.Bool.{Bool, true, false}
-use mathlib.Core.Logic.{◌≢◌, ⊎_elim}
+use mathlib.Core.Logic.{◌↔◌, ◌≢◌, ⊎_elim}
 use mathlib.Core.List.{List, ◌++◌, map, flat_map}
 use Prim.Native.Nat.{ℕ, ◌+◌, ◌≤◌, ◌<◌}
 use native.Mathlib.Omega.{arith}
@@ -14,7 +14,8 @@ use Rattle.numbers.proofs.Truth.{test, cond-true, cond-false}
 use Rattle.numbers.proofs.Padded.{padded_length}
 use Rattle.query.specs.Deck as Query
 use Rattle.query.specs.Deck.{AxisCosts, plain}
-use Rattle.deck.specs.DeckOf.{Sized, deck_of, deck_record, empty_deck, with_figures}
+use Rattle.query.specs.Range.{posts_limit, stops_limit}
+use Rattle.deck.specs.DeckOf.{Sized, deck_of, deck_record, with_figures}
 use Rattle.deck.specs.declared.Deck.{Deck}
 use Rattle.deck.proofs.DeckLaws.{held_deck}
 use Rattle.refusal.specs.Refusal.{number_of, line_of}
@@ -23,18 +24,20 @@ use Rattle.refusal.specs.declared.Refusal.TheVariants.{ShortOutput}
 use Rattle.job.specs.Format.{Job, Result, refused, accepted, missing_axis, read_text, read_job}
 use Rattle.job.specs.Spelling.{area_line, axis_line, later_lines, lines_counting, spell_line, spell, Spells, with_line, without_line, Allowed}
 use Rattle.job.specs.Meaning.{TextCondition, Condition, too_long, in_text}
+use Rattle.job.specs.declared.Job as Held
 use Rattle.job.specs.File.{held_job, writes_axis, saved_spelling, file_text}
 use Rattle.job.proofs.JobLaws.{most_posts, most_stops}
 use Rattle.job.proofs.Meaning.{refused_law, refused_job, spelling_law, allowed_text}
-use Rattle.job.proofs.RefusalLaws.{text_number, condition_number}
+use Rattle.job.proofs.RefusalLaws.{text_number}
 use Rattle.job_check.specs.LineFaults.{refusal_in}
 use Rattle.job_check.proofs.AxisLaws.{left_out, saved_spells}
 use Rattle.job_check.proofs.FileFaults.{file_is, file_spelled, file_line}
 use Rattle.write.specs.Written.{overwritten}
 use Rattle.calls.specs.Answers.{gives, refuses, refusal}
-use Rattle.calls.specs.ReadCall.{Read, read_as, read_call}
+use Rattle.calls.specs.ReadCall.{job_record, read_call}
 use Rattle.calls.specs.WriteCall.{Saved, not_saved, saved_as, write_call}
 use Rattle.calls.specs.SavingLaw.{SpellsOut, ReadLaw, Saveable, WriteApplies, in_file, short_output, WrittenLaw, WriteLaw}
+use Rattle.calls.proofs.AcceptedCall as Call
 use Rattle.calls.proofs.AnswerLaws.{same_number, same_line, same_refusal, same_given, not_refused}
 use Rattle.calls.proofs.Promises.{read_exactly}
 
@@ -85,13 +88,36 @@ module _ (text out : List ℕ) where
 
 -- ---- the call `read`
 module _ (job : List ℕ) where
-  pub read_given : (j : Job) → read_job job ≡ accepted j → read_call job ≡ record { answer = gives j.rounds; deck = deck_record j.deck }
-  unfolding read_call read_as
-  read_given j e = ap read_as e
+  pub read_given : (j : Job) → read_job job ≡ accepted j → read_call job ≡ gives (job_record j)
+  unfolding read_call
+  read_given = Call.for_accepted_lem job_record job
 
-  pub read_refused : (why : Refusal) → read_job job ≡ refused why → read_call job ≡ record { answer = refusal why; deck = deck_record empty_deck }
-  unfolding read_call read_as
-  read_refused why e = ap read_as e
+  pub read_refused : (why : Refusal) → read_job job ≡ refused why → read_call job ≡ refusal why
+  unfolding read_call
+  read_refused = Call.for_refused job_record job
+
+  read_refuses : (why : Refusal) → (read_call job ≡ refusal why) ↔ Condition job why
+  unfolding read_call
+  read_refuses = Call.refused_exactly job_record job
+
+  read_few : (number line : ℕ) → read_call job ≡ refuses number line → number ≤ 6
+  unfolding read_call
+  read_few = Call.at_most_six job_record job
+
+  -- an answer that refuses
+  refused_one : (number line : ℕ) → read_call job ≡ refuses number line →
+      (why : Refusal) × (read_job job ≡ refused why) × (number ≡ number_of why) × (line ≡ line_of why)
+  unfolding read_call
+  refused_one number line e =
+      let (why, g, h) = Call.refused_one job_record job number line e in
+      let same = h ∙ read_refused why g in
+      (why, g, same_number {A = Held.Job} _ _ _ _ same, same_line {A = Held.Job} _ _ _ _ same)
+
+  -- and one that gives something
+  pub read_accepted : (held : Held.Job) → read_call job ≡ gives held → (j : Job) × (read_job job ≡ accepted j) × (held ≡ job_record j)
+  unfolding read_call
+  read_accepted held e =
+      let (j, g) = Call.accepted_one job_record job held e in (j, g, same_given _ _ (sym e ∙ read_given j g))
 
 -- ---- the call `write`, by what reading the file gives
 module _ (deck : Deck) (rounds : ℕ) (out : List ℕ) where
@@ -190,10 +216,10 @@ module _ (deck : Deck) (rounds : ℕ) (out : List ℕ) (sized : Sized deck) wher
         go (too_short s h p) = let q = same_number _ _ _ _ (sym e ∙ answer_of p) in omega arith
         go (writes s h p) = absurd (not_refused _ _ _ (sym (answer_of p) ∙ e))
 
-    few_lines : line ≤ 581
+    few_lines : line ≤ posts_limit + stops_limit + 5
     few_lines = go ends
       where
-        go : Ends → line ≤ 581
+        go : Ends → line ≤ posts_limit + stops_limit + 5
         go (refuses_file w r p) = let q = same_line _ _ _ _ (sym e ∙ answer_of p) in omega (arith, file_line deck rounds sized w r)
         go (too_short s h p) = let q = same_line _ _ _ _ (sym e ∙ answer_of p) in omega arith
         go (writes s h p) = absurd (not_refused _ _ _ (sym (answer_of p) ∙ e))
@@ -207,19 +233,16 @@ module _ (deck : Deck) (rounds : ℕ) (out : List ℕ) (sized : Sized deck) wher
         go (writes s h p) = absurd (not_refused _ _ _ (sym (answer_of p) ∙ e))
 
   -- what reading the file answers, unless that is 1
-  as_file : (number line : ℕ) → (read_call (file_text deck rounds)).answer ≡ refuses number line → number ≢ 1 →
+  as_file : (number line : ℕ) → read_call (file_text deck rounds) ≡ refuses number line → number ≢ 1 →
       (write_call deck rounds out).answer ≡ refuses number line
-  as_file number line e apart = go (read_job (file_text deck rounds)) refl
+  as_file number line e apart =
+      let (why, g, n, l) = refused_one (file_text deck rounds) number line e in
+      found why n l ((refused_job (file_text deck rounds) why).0 g)
     where
-      found : (why : Refusal) → refusal {A = ℕ} why ≡ refuses number line → Condition (file_text deck rounds) why →
+      found : (why : Refusal) → number ≡ number_of why → line ≡ line_of why → Condition (file_text deck rounds) why →
           (write_call deck rounds out).answer ≡ refuses number line
-      found _ q (too_long h) = absurd (apart (sym (same_number {A = ℕ} _ _ _ _ q)))
-      found why q (in_text short c) = applied why (in_file c) ∙ q
-
-      go : (r : Result) → read_job (file_text deck rounds) ≡ r → (write_call deck rounds out).answer ≡ refuses number line
-      go (refused why) p = found why (sym (ap (λ (r : Read). r.answer) (read_refused (file_text deck rounds) why p)) ∙ e)
-          ((refused_job (file_text deck rounds) why).0 p)
-      go (accepted j) p = absurd (not_refused _ _ _ (sym (ap (λ (r : Read). r.answer) (read_given (file_text deck rounds) j p)) ∙ e))
+      found _ n l (too_long h) = absurd (apart n)
+      found why n l (in_text short c) = applied why (in_file c) ∙ ap₂ refuses (sym n) (sym l)
 
   -- ---- what is written
   saveable : (n : ℕ) → (write_call deck rounds out).answer ≡ gives n → Saveable deck rounds × (length (saved_spelling (held_job deck rounds)) ≤ length out)
@@ -311,11 +334,11 @@ module _ (j : Job) (a : Allowed j) where
       let p = most_posts a.writable in
       let s = most_stops a.writable in
       record {
-        post_x = column_sized _ _ 64 j.deck.posts p;
-        post_y = column_sized _ _ 64 j.deck.posts p;
-        stop_x = column_sized _ _ 512 j.deck.stops s;
-        stop_y = column_sized _ _ 512 j.deck.stops s;
-        visits = column_sized _ _ 512 j.deck.stops s;
+        post_x = column_sized _ _ posts_limit j.deck.posts p;
+        post_y = column_sized _ _ posts_limit j.deck.posts p;
+        stop_x = column_sized _ _ stops_limit j.deck.stops s;
+        stop_y = column_sized _ _ stops_limit j.deck.stops s;
+        visits = column_sized _ _ stops_limit j.deck.stops s;
       }
 
   record_saveable : Saveable (deck_record j.deck) j.rounds
@@ -328,60 +351,22 @@ module _ (j : Job) (a : Allowed j) where
       ≡ record { answer = gives (length (saved_spelling k)); out = overwritten (saved_spelling k) out }) record_held
       (written_ends (deck_record j.deck) j.rounds out record_sized record_saveable) h
 
-empty_sized : Sized (deck_record empty_deck)
-unfolding deck_record
-empty_sized = record { post_x = refl; post_y = refl; stop_x = refl; stop_y = refl; visits = refl }
-
 module _ (job : List ℕ) where
-  refused_read : (why : Refusal) → (read_call job).answer ≡ refusal why → read_job job ≡ refused why
-  refused_read why f = go (read_job job) refl
-    where
-      go : (r : Result) → read_job job ≡ r → read_job job ≡ refused why
-      go (refused w) e = e ∙ ap refused (same_refusal w why (sym (ap (λ (r : Read). r.answer) (read_refused job w e)) ∙ f))
-      go (accepted j) e = absurd (not_refused j.rounds (number_of why) (line_of why) (sym (ap (λ (r : Read). r.answer) (read_given job j e)) ∙ f))
+  read_held : (held : Held.Job) → read_call job ≡ gives held → read_job job ≡ accepted (held_job held.deck held.rounds)
+  read_held held e =
+      let (j, g, same) = read_accepted job held e in
+      g ∙ ap accepted (sym (ap (λ (h : Held.Job). held_job h.deck h.rounds) same ∙ record_held j ((read_exactly job j).0 g).1))
 
-  read_answer_lem : {r : Read} → read_call job ≡ r → (read_call job).answer ≡ r.answer
-  read_answer_lem e = ap (λ (r : Read). r.answer) e
-
-  -- an answer that refuses
-  refused_one : (number line : ℕ) → (read_call job).answer ≡ refuses number line →
-      (why : Refusal) × (read_job job ≡ refused why) × (number ≡ number_of why) × (line ≡ line_of why)
-  refused_one number line f = go (read_job job) refl
-    where
-      go : (r : Result) → read_job job ≡ r → (why : Refusal) × (read_job job ≡ refused why) × (number ≡ number_of why) × (line ≡ line_of why)
-      go (refused w) e = let q = sym f ∙ read_answer_lem (read_refused job w e) in (w, e, same_number _ _ _ _ q, same_line _ _ _ _ q)
-      go (accepted j) e = absurd (not_refused j.rounds number line (sym (read_answer_lem (read_given job j e)) ∙ f))
-
-  pub read_accepted : (rounds : ℕ) → (read_call job).answer ≡ gives rounds → (j : Job) × (read_job job ≡ accepted j) × (rounds ≡ j.rounds)
-  read_accepted rounds f = go (read_job job) refl
-    where
-      go : (r : Result) → read_job job ≡ r → (j : Job) × (read_job job ≡ accepted j) × (rounds ≡ j.rounds)
-      go (refused w) e = absurd (not_refused rounds (number_of w) (line_of w) (sym f ∙ read_answer_lem (read_refused job w e)))
-      go (accepted j) e = (j, e, same_given _ _ (sym f ∙ read_answer_lem (read_given job j e)))
-
-  read_sized : Sized (read_call job).deck
-  read_sized = go (read_job job) refl
-    where
-      go : (r : Result) → read_job job ≡ r → Sized (read_call job).deck
-      go (refused w) e = subst Sized (sym (ap (λ (r : Read). r.deck) (read_refused job w e))) empty_sized
-      go (accepted j) e = subst Sized (sym (ap (λ (r : Read). r.deck) (read_given job j e))) (record_sized j ((read_exactly job j).0 e).1)
-
-  pub refused_zeros : (number line : ℕ) → (read_call job).answer ≡ refuses number line → (read_call job).deck ≡ deck_record empty_deck
-  refused_zeros number line f = go (read_job job) refl
-    where
-      go : (r : Result) → read_job job ≡ r → (read_call job).deck ≡ deck_record empty_deck
-      go (refused w) e = ap (λ (r : Read). r.deck) (read_refused job w e)
-      go (accepted j) e = absurd (not_refused j.rounds number line (sym (ap (λ (r : Read). r.answer) (read_given job j e)) ∙ f))
-
-  read_held : (j : Job) → read_job job ≡ accepted j → deck_of (read_call job).deck ≡ j.deck
-  read_held j e = ap (λ (r : Read). deck_of r.deck) (read_given job j e) ∙ held_deck j.deck
+  read_sized : (held : Held.Job) → read_call job ≡ gives held → Sized held.deck
+  read_sized held e =
+      let (j, g, same) = read_accepted job held e in
+      subst (λ (h : Held.Job). Sized h.deck) (sym same) (record_sized j ((read_exactly job j).0 g).1)
 
   -- an accepted job, saved as a text that is its saved spelling
   saved_as_lem : (j : Job) (out text : List ℕ) → read_job job ≡ accepted j → text ≡ saved_spelling j → length text ≤ length out →
-      write_call (read_call job).deck j.rounds out ≡ record { answer = gives (length text); out = overwritten text out }
+      write_call (job_record j).deck j.rounds out ≡ record { answer = gives (length text); out = overwritten text out }
   saved_as_lem j out text e same h =
-      ap (λ (r : Read). write_call r.deck j.rounds out) (read_given job j e)
-      ∙ record_written j ((read_exactly job j).0 e).1 out (subst (λ (l : List ℕ). length l ≤ length out) same h)
+      record_written j ((read_exactly job j).0 e).1 out (subst (λ (l : List ℕ). length l ≤ length out) same h)
       ∙ ap (λ (l : List ℕ). record { answer = gives (length l); out = overwritten l out }) (sym same)
 
   -- what is saved of a job that does not spell out `axis=1,1`, and of one that does
@@ -391,26 +376,21 @@ module _ (job : List ℕ) where
       (sym (other_written j.deck.axis (λ c. apart (record { spelled = e; costs = c }))))
 
   own_bytes : (j : Job) (out : List ℕ) → read_job job ≡ accepted j → (SpellsOut job j → ⊥) → length job ≤ length out →
-      write_call (read_call job).deck j.rounds out ≡ record { answer = gives (length job); out = overwritten job out }
+      write_call (job_record j).deck j.rounds out ≡ record { answer = gives (length job); out = overwritten job out }
   own_bytes j out e apart = saved_as_lem j out job e (own j ((read_exactly job j).0 e).0 apart)
 
   line_left_out : (j : Job) (out : List ℕ) → read_job job ≡ accepted j → SpellsOut job j → length (spell false j) ≤ length out →
-      write_call (read_call job).deck j.rounds out ≡ record { answer = gives (length (spell false j)); out = overwritten (spell false j) out }
+      write_call (job_record j).deck j.rounds out ≡ record { answer = gives (length (spell false j)); out = overwritten (spell false j) out }
   line_left_out j out e s = saved_as_lem j out (spell false j) e (ap (λ (b : Bool). spell b j) (sym (plain_unwritten j.deck.axis s.costs)))
 
   pub read_law : ReadLaw job
   read_law = record {
-    refused_exactly = λ why. (
-      λ f. (refused_job job why).0 (refused_read why f),
-      λ c. read_answer_lem (read_refused job why ((refused_job job why).1 c)),
-    );
-    refused_listed = λ number line f. let (why, e, n, l) = refused_one number line f in (why, n, l);
-    at_most_six = λ number line f. let (why, e, n, l) = refused_one number line f in
-        omega (arith, n, condition_number job why ((refused_job job why).0 e));
-    refused_deck = refused_zeros;
-    given_exactly = λ rounds. (
-      read_accepted rounds,
-      λ w. let (j, e, same) = w in read_answer_lem (read_given job j e) ∙ ap (λ (n : ℕ). gives n) (sym same),
+    refused_exactly = read_refuses job;
+    refused_listed = λ number line f. let (why, e, n, l) = refused_one job number line f in (why, n, l);
+    at_most_six = read_few job;
+    given_exactly = λ held. (
+      read_accepted job held,
+      λ w. let (j, e, same) = w in read_given job j e ∙ ap (λ (h : Held.Job). gives h) (sym same),
     );
     given = read_given job;
     held = read_held;

@@ -11,7 +11,7 @@ use Rattle.calls.proofs.ProgramLaw.{program_law}
 use Rattle.calls.proofs.ExhaustiveCall.{exhaustive_call_law}
 use Rattle.calls.proofs.EstimateCall.{estimate_call_law}
 use Rattle.calls.proofs.SavingLaw.{read_law, write_law}
-use Rattle.calls.proofs.RecordLaw.{record_law, refused_record_law}
+use Rattle.calls.proofs.RecordLaw.{record_law}
 use Rattle.calls.proofs.ChangeLaw.{change_law}
 use Rattle.calls.proofs.RunLaw.{run_law}
 use Rattle.calls.proofs.RefusalTable.{refusal_table}
@@ -32,7 +32,6 @@ theorems = record {
   read = read_law;
   write = write_law;
   records = record_law;
-  refused_records = refused_record_law;
   changes = change_law;
   runs = run_law;
   reading = accepted_law;

@@ -1,18 +1,19 @@
--- Which number of an answer's record in the code, and of an argument's, is which of documents 01 and 02. All of them differ, so that no two
--- can be exchanged.
+-- Rows of which number in the code's answers and arguments is which (RULES "Figures", "Calls"). All of them differ, so that no two can be
+-- exchanged.
 use Rattle.std.specs.Prelude.{◌≡◌, pos, Ok}
 use Rattle.query.specs.Figures.{done, stopped}
 use Rattle.query.specs.Marked.{at, report}
 use Rattle.query.specs.Rows.{needs}
 use Rattle.deck.specs.Rectangle.{place_of, stop_of}
 use Rattle.report.specs.declared.State.TheVariants.{Done, Stopped}
+use Rattle.calls.specs.declared.Answer.TheVariants.{Report}
 use Rattle.calls.specs.Answers.{gives, report_answer, cheapest_answer, estimated_answer}
 
 pub record AnswerRows : Type 0 where
-  pub report_done : report_answer (Ok
+  pub report_done : report_answer (Report
       (record { state = Done; x = pos 1; y = pos 2; high = 3; low = pos 4; before = 5; rounds = 6 }))
       ≡ gives (report done (at 1 2) 3 (pos 4) 5 6)
-  pub report_stopped : report_answer (Ok
+  pub report_stopped : report_answer (Report
       (record { state = Stopped; x = pos 1; y = pos 2; high = 3; low = pos 4; before = 5; rounds = 6 }))
       ≡ gives (report stopped (at 1 2) 3 (pos 4) 5 6)
   pub exhaustive : cheapest_answer (Ok (record { at = record { x = pos 1; y = pos 2 }; cost = 3 }))

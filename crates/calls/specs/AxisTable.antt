@@ -1,5 +1,5 @@
--- Document 02, card 2: rows of the axis line, from a job's bytes to the number and the line that it gets, and a deck with axis costs
--- through each call that searches. 0 and 0 stand for a report. The rows of reading and writing records are in WriteTable.
+-- Rows of the axis line (RULES "Change 2"), from a job's bytes to the number and the line that it gets, 0 and 0 for a report; and a deck
+-- with axis costs through each call that searches. Those of reading and writing records are in WriteTable.
 use Rattle.std.specs.Prelude.{ℕ, ◌≡◌, List, [], ◌∷◌, ◌++◌, map, pos, replicate, set, take}
 use Prim.Native.String.{String}
 use Rattle.query.specs.Figures.{done, stopped}
@@ -29,7 +29,7 @@ abbrev pub printed : List ℕ
 printed = bytes "state=done\nat=2,4\nhigh=9\nlow=9\nbefore=15\nrounds=3\n"
 
 pub record AxisTable : Type 0 where
-  -- "each 1 to 9"
+  -- the ends of the range, and beyond it
   pub ends : second ("axis=1,1" ∷ "axis=1,9" ∷ "axis=9,1" ∷ "axis=9,9" ∷ []) ≡ replicate 4 (0, 0)
   pub beyond : second ("axis=0,1" ∷ "axis=1,0" ∷ "axis=10,1" ∷ "axis=1,10" ∷ "axis=-1,1" ∷ "axis=1,-1" ∷ "axis=999999999,1" ∷ [])
       ≡ replicate 7 (3, 2)

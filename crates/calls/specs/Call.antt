@@ -1,4 +1,4 @@
--- Document 01, "Job and report" and "Turned down": what the call `report` answers, and what it leaves in the memory that it is lent.
+-- What the call `report` answers, and what it leaves in the cell space and the output that it is lent (RULES "Calls").
 use Rattle.std.specs.Prelude.{ℕ, ◌+◌, ◌*◌, cond, List, ltb, ℤ, pos, length, replicate}
 use Rattle.query.specs.Figures.{Figures, figures}
 use Rattle.query.specs.Estimate.{cells_needed}
@@ -8,6 +8,7 @@ use Rattle.job.specs.Format.{Job, Result, refused, accepted, read_job}
 use Rattle.refusal.specs.declared.Refusal.{Refusal}
 use Rattle.refusal.specs.declared.Refusal.TheVariants.{SmallSpace, ShortOutput}
 use Rattle.write.specs.Written.{overwritten}
+use Rattle.report.specs.Limits.{output_size}
 use Rattle.report.specs.Text.{report_text}
 use Rattle.calls.specs.Answers.{AnswerOf, gives, refusal}
 
@@ -17,7 +18,7 @@ pub record Left : Type 0 where
   pub cells : List ℤ
   pub out : List ℕ
 
--- 01 "Every row changes nothing lent"
+-- a refusal leaves both as they were
 abbrev pub turned_down : Refusal → List ℤ → List ℕ → Left
 turned_down why cells out = record { answer = refusal why; cells = cells; out = out }
 
@@ -25,6 +26,7 @@ turned_down why cells out = record { answer = refusal why; cells = cells; out = 
 abbrev pub job_figures : Job → Figures
 job_figures job = figures job.deck job.rounds
 
+-- the text at the start of the output, and the live cells in the cell space
 unfoldable pub reported : Job → List ℤ → List ℕ → Left
 unfolding figures space report_text overwritten
 reported job cells out = record {
@@ -33,22 +35,18 @@ reported job cells out = record {
   out = overwritten (report_text (job_figures job)) out;
 }
 
--- 01 refusal 8, "128 bytes, which hold every report"
-abbrev pub output_size : ℕ
-output_size = 128
-
--- 01 refusals 7, as 02, card 3 has it, and 8, "all before any place is priced"
+-- of a job as it was read: its own refusal, then 7, then 8 (RULES "Refusals"), or a report. The search has no part in what is refused
 unfoldable pub answered : Result → List ℤ → List ℕ → Left
 unfolding cells_needed reported
 answered (refused why) cells out = turned_down why cells out
 answered (accepted job) cells out = cond (ltb (length cells) (space_needed job.deck job.rounds)) (turned_down SmallSpace cells out)
     (cond (ltb (length out) output_size) (turned_down ShortOutput cells out) (reported job cells out))
 
--- the call: of a job's bytes and what is lent
+-- of a job's bytes and what is lent
 unfoldable pub report_call : List ℕ → List ℤ → List ℕ → Left
 unfolding read_job answered
 report_call job cells out = answered (read_job job) cells out
 
--- the C entry and the program have no cell space: they answer as the call that is lent this one, 5,005 numbers, enough for every job
+-- the C entry and the program are lent no cell space: they answer as the call that is lent this one, which is enough for every job
 abbrev pub own_space : List ℤ
 own_space = replicate (5 * (rounds_limit + 1)) (pos 0)

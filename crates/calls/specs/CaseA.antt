@@ -1,4 +1,4 @@
--- Document 01, "Job and report": case A, whole, through each call of document 01, from the bytes to all that the call answers and leaves.
+-- Rows of case A (RULES "Worked cases") through each call that searches, from its bytes to all that the call answers and leaves.
 use Rattle.std.specs.Prelude.{ℕ, ◌≡◌, List, [], ◌∷◌, ◌++◌, map, pos, negsuc, replicate, set}
 use Rattle.query.specs.Figures.{done, stopped}
 use Rattle.query.specs.Marked.{at, report}

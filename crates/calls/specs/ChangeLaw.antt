@@ -1,4 +1,4 @@
--- Document 02, card 6: what the four changes of a deck's record are held to, of every record that the code can hold.
+-- What the four changes are held to (RULES "Change 6"), of every record that the code can hold.
 use Rattle.std.specs.Prelude.{ℕ, ◌≤◌, ◌<◌, ◌≡◌, not, ◌↔◌, T, get_or}
 use mathlib.Core.List.{[], ◌∷◌, Memᴰ}
 use Rattle.query.specs.Range.{travel_limit}
@@ -14,21 +14,21 @@ use Rattle.calls.specs.SavingLaw.{Saveable}
 use Rattle.calls.specs.ChangeCall.{change_call}
 
 pub record ChangeLaw (deck : Deck) (change : Change) : Type 0 where
-  -- of every record: "A refused change leaves the record unaltered", "All of these have line 0", and there are no other numbers
+  -- of any record: a refused change leaves it as it was, and has line 0 and one of five numbers
   pub refused_deck : (number line : ℕ) → (change_call deck change).answer ≡ refuses number line → (change_call deck change).deck ≡ deck
   pub line_0 : (number line : ℕ) → (change_call deck change).answer ≡ refuses number line → line ≡ 0
   pub numbers : (number line : ℕ) → (change_call deck change).answer ≡ refuses number line → Memᴰ number (3 ∷ 5 ∷ 6 ∷ 9 ∷ 10 ∷ [])
-  -- of every record too: "all else unaltered"
+  -- whatever the answer, the area and the axis costs stay
   pub area_kept : (deck_of (change_call deck change).deck).area ≡ (deck_of deck).area
   pub axis_kept : (deck_of (change_call deck change).deck).axis ≡ (deck_of deck).axis
-  -- the records that can be changed are those whose file, with 0 rounds, the reader accepts, and in which no stop's near is beyond any
-  -- travel; every sound record is one. Another one, which no operation makes, gets 3
+  -- a record can be changed if reading would accept its file, with 0 rounds, and no stop's near is more than a travel can be. Every record
+  -- that the calls make can; one that cannot gets 3
   pub usable_exactly : Sized deck → T (usable deck)
       ↔ (Saveable deck 0 × ((i : ℕ) → i < deck.stops → get_or deck.near i 0 ≤ travel_limit))
   pub sound_usable : Sound deck → T (usable deck)
   pub unusable : T (not (usable deck)) → change_call deck change ≡ record { answer = refuses 3 0; deck = deck }
-  -- of a record that can be changed: each refusal exactly under its condition; made exactly where none applies; then its lists are the
-  -- resulting ones; and it can be changed again
+  -- of one that can be changed: each refusal exactly under its condition; the change is made exactly where none applies; then the record
+  -- holds the deck with the changed list; and it can be changed again
   pub refused_exactly : T (usable deck) → (why : Refusal) →
       ((change_call deck change).answer ≡ refusal why) ↔ ChangeApplies (deck_of deck) change why
   pub made_exactly : T (usable deck) →
@@ -36,7 +36,7 @@ pub record ChangeLaw (deck : Deck) (change : Change) : Type 0 where
   pub leaves : Sized deck → T (usable deck) → (change_call deck change).answer ≡ gives tt →
       Leaves (deck_of deck) (deck_of (change_call deck change).deck) change
   pub usable_again : Sized deck → T (usable deck) → Sized (change_call deck change).deck × T (usable (change_call deck change).deck)
-  -- what is made of a sound record is the record of the deck with the resulting list, near and before included; so it is sound
+  -- a sound record becomes that of the deck with the changed list, near and before included, and stays sound
   pub made : Sound deck → (change_call deck change).answer ≡ gives tt →
       (change_call deck change).deck ≡ deck_record (altered change (deck_of deck))
   pub sound : Sound deck → Sound (change_call deck change).deck

@@ -1,6 +1,7 @@
--- Document 02, card 6: rows of the changes of a deck's record, from a job's bytes, or a record's numbers, and some changes to the answers,
--- to all numbers of the record, or to near and before. All were worked out by hand.
+-- Rows of changes of a deck's record (RULES "Change 6"), worked out by hand: from a job's bytes or a record's numbers, and some changes, to
+-- the answers, to all numbers of the record, or to near and before.
 use Rattle.std.specs.Prelude.{ℕ, ◌≡◌, List, [], ◌∷◌, ◌++◌, map, ℤ, pos, negsuc, replicate, set}
+use Prim.Native.String.{String}
 use Rattle.numbers.specs.Padded.{padded}
 use Rattle.query.specs.Place.{Place}
 use Rattle.query.specs.Deck.{Stop}
@@ -8,6 +9,8 @@ use Rattle.deck.specs.DeckOf.{with_figures}
 use Rattle.deck.specs.declared.Deck.{Deck}
 use Rattle.change.specs.Change.{Change, add_post, remove_post, add_stop, remove_stop}
 use Rattle.change.specs.ChangedRecord.{record_after}
+use Rattle.job.specs.declared.Job as Held
+use Rattle.calls.specs.Answers.{AnswerOf, gives, refuses}
 use Rattle.calls.specs.ReadCall.{read_call}
 use Rattle.calls.specs.ChangeCall.{change_call}
 use Rattle.calls.specs.RefusalTable.{case_a, ended, many_posts, many_stops, number_and_line}
@@ -19,27 +22,35 @@ place x y = record { x = x; y = y }
 abbrev pub stop : ℤ → ℤ → ℕ → Stop
 stop x y visits = record { at = place x y; visits = visits }
 
--- the record that a job is read as
-abbrev pub reading : List ℕ → Deck
-reading job = (read_call job).deck
-
 -- the numbers and lines of the answers to some changes, one after another; 0 and 0 stand for a change that is made
 abbrev pub answers : Deck → List Change → List (ℕ × ℕ)
 answers deck [] = []
 answers deck (change ∷ changes) = let r = change_call deck change in number_and_line r.answer ∷ answers r.deck changes
 
--- two posts and four stops, of which the first and the third have equal values, and the last differs from them in its visits
-abbrev pub plates : Deck
-plates = reading (ended ("area=1,2,3,4" ∷ "axis=2,1" ∷ "posts=2" ∷ "post=0,0" ∷ "post=30,1" ∷ "stops=4"
-    ∷ "stop=10,4,2" ∷ "stop=29,1,3" ∷ "stop=10,4,2" ∷ "stop=10,4,5" ∷ "rounds=7" ∷ []))
+-- the same of the record that a job is read as; where it is refused, the refusal alone
+abbrev pub answers_from : AnswerOf Held.Job → List Change → List (ℕ × ℕ)
+answers_from (gives job) changes = answers job.deck changes
+answers_from (refuses number line) changes = (number, line) ∷ []
 
--- a record with the area and the axis costs of plates, by its other numbers: the count of posts and each post's x, y; the count of stops
+abbrev pub answers_read : List ℕ → List Change → List (ℕ × ℕ)
+answers_read job changes = answers_from (read_call job) changes
+
+-- a record with the area 1,2,3,4 and the axis costs 2,1, by its other numbers: the count of posts and each post's x, y; the count of stops
 -- and each stop's x, y, visits and near; before. Behind the lists are zeros
 abbrev pub listing : ℕ → List (ℕ × ℕ) → ℕ → List (ℕ × ℕ × ℕ × ℕ) → ℕ → Deck
-listing p posts s stops before = with_figures
-    (record_of (2, 1) (pos 1 ∷ pos 2 ∷ pos 3 ∷ pos 4 ∷ []) p (map (λ q. (pos q.0, pos q.1)) posts) s
-    (map (λ q. (pos q.0, pos q.1, q.2)) stops))
-    (padded 512 0 (map (λ q. q.3) stops)) before
+listing post_count posts stop_count stops before = with_figures
+    (record_of (2, 1) (pos 1 ∷ pos 2 ∷ pos 3 ∷ pos 4 ∷ []) post_count (map (λ p. (pos p.0, pos p.1)) posts) stop_count
+    (map (λ s. (pos s.0, pos s.1, s.2)) stops))
+    (padded 512 0 (map (λ s. s.3) stops)) before
+
+-- two posts and four stops, of which the first and the third have equal values, and the last differs from them in its visits; and the lines
+-- that are read as this record
+abbrev pub plates : Deck
+plates = listing 2 ((0, 0) ∷ (30, 1) ∷ []) 4 ((10, 4, 2, 24) ∷ (29, 1, 3, 2) ∷ (10, 4, 2, 24) ∷ (10, 4, 5, 24) ∷ []) 222
+
+abbrev pub plate_lines : List String
+plate_lines = "area=1,2,3,4" ∷ "axis=2,1" ∷ "posts=2" ∷ "post=0,0" ∷ "post=30,1" ∷ "stops=4" ∷ "stop=10,4,2" ∷ "stop=29,1,3"
+    ∷ "stop=10,4,2" ∷ "stop=10,4,5" ∷ "rounds=7" ∷ []
 
 -- near and before of a record after some changes
 abbrev pub figures_after : List Change → Deck → List ℕ × ℕ
@@ -66,8 +77,7 @@ stops_outside = stop (pos 20001) (pos 0) 1 ∷ stop (negsuc 20000) (pos 0) 1 ∷
     ∷ stop (pos 0) (pos 0) 0 ∷ stop (pos 0) (pos 0) 65536 ∷ stop (pos 0) (pos 0) most_natural ∷ []
 
 pub record ChangeTable : Type 0 where
-  pub before_changes : plates ≡ listing 2 ((0, 0) ∷ (30, 1) ∷ []) 4
-      ((10, 4, 2, 24) ∷ (29, 1, 3, 2) ∷ (10, 4, 2, 24) ∷ (10, 4, 5, 24) ∷ []) 222
+  pub before_changes : read_call (ended plate_lines) ≡ gives (record { rounds = 7; deck = plates })
   -- an added item goes last; an added post improves near: 2 × 1 + 1 for the stops at 10,4
   pub post_added : record_after (add_post (place (pos 11) (pos 3)) ∷ []) plates ≡ listing 3 ((0, 0) ∷ (30, 1) ∷ (11, 3) ∷ []) 4
       ((10, 4, 2, 3) ∷ (29, 1, 3, 2) ∷ (10, 4, 2, 3) ∷ (10, 4, 5, 3) ∷ []) 33
@@ -92,17 +102,17 @@ pub record ChangeTable : Type 0 where
   pub not_held : answers plates
       (remove_post (place (pos 0) (pos 1)) ∷ remove_stop (stop (pos 29) (pos 1) 2) ∷ remove_stop (stop (pos 1) (pos 29) 3) ∷ [])
       ≡ (9, 0) ∷ (9, 0) ∷ (9, 0) ∷ []
-  pub only_post : answers (reading (ended case_a))
+  pub only_post : answers_read (ended case_a)
       (remove_post (place (pos 1) (pos 0)) ∷ remove_post (place (pos 0) (pos 0)) ∷ add_post (place (pos 0) (pos 0))
       ∷ remove_post (place (pos 0) (pos 0)) ∷ remove_post (place (pos 0) (pos 0)) ∷ [])
       ≡ (9, 0) ∷ (5, 0) ∷ (0, 0) ∷ (0, 0) ∷ (5, 0) ∷ []
-  pub only_stop : answers (reading (ended case_a))
+  pub only_stop : answers_read (ended case_a)
       (remove_stop (stop (pos 8) (pos 12) 1) ∷ remove_stop (stop (pos 8) (pos 12) 1) ∷ remove_stop (stop (pos 4) (pos 3) 2) ∷ [])
       ≡ (0, 0) ∷ (9, 0) ∷ (6, 0) ∷ []
-  -- 10 when 64 posts or 512 stops are held now; "A freed place can be taken by a later item"
-  pub posts_full : answers (reading (many_posts "posts=64" 64)) (add_post (place (pos 1) (pos 1)) ∷ remove_post (place (pos 0) (pos 0))
+  -- 10 where the list is full, and made again once one is removed
+  pub posts_full : answers_read (many_posts "posts=64" 64) (add_post (place (pos 1) (pos 1)) ∷ remove_post (place (pos 0) (pos 0))
       ∷ add_post (place (pos 1) (pos 1)) ∷ add_post (place (pos 1) (pos 1)) ∷ []) ≡ (10, 0) ∷ (0, 0) ∷ (0, 0) ∷ (10, 0) ∷ []
-  pub stops_full : answers (reading (many_stops "stops=512" 512)) (add_stop (stop (pos 1) (pos 1) 1) ∷ remove_stop (stop (pos 4) (pos 3) 2)
+  pub stops_full : answers_read (many_stops "stops=512" 512) (add_stop (stop (pos 1) (pos 1) 1) ∷ remove_stop (stop (pos 4) (pos 3) 2)
       ∷ add_stop (stop (pos 1) (pos 1) 1) ∷ add_stop (stop (pos 1) (pos 1) 1) ∷ []) ≡ (10, 0) ∷ (0, 0) ∷ (0, 0) ∷ (10, 0) ∷ []
   -- 3: both sides of the end of every range, in each of the four changes. It comes before 9
   pub range_ends : answers plates
@@ -112,21 +122,21 @@ pub record ChangeTable : Type 0 where
       (map add_post places_outside ++ map remove_post places_outside ++ map add_stop stops_outside ++ map remove_stop stops_outside)
       ≡ replicate 22 (3, 0)
   -- and before 10, and also where there is only one post and one stop
-  pub range_first : answers (reading (many_posts "posts=64" 64)) (add_post (place (pos 20001) (pos 0)) ∷ [])
-      ++ answers (reading (many_stops "stops=512" 512)) (add_stop (stop (pos 0) (pos 0) 0) ∷ [])
-      ++ answers (reading (many_posts "posts=1" 1)) (remove_post (place (pos 20001) (pos 0)) ∷ remove_stop (stop (pos 4) (pos 3) 0) ∷ [])
+  pub range_first : answers_read (many_posts "posts=64" 64) (add_post (place (pos 20001) (pos 0)) ∷ [])
+      ++ answers_read (many_stops "stops=512" 512) (add_stop (stop (pos 0) (pos 0) 0) ∷ [])
+      ++ answers_read (many_posts "posts=1" 1) (remove_post (place (pos 20001) (pos 0)) ∷ remove_stop (stop (pos 4) (pos 3) 0) ∷ [])
       ≡ replicate 4 (3, 0)
-  -- records that no operation makes get 3 where the reader would not accept their file: one that could not be read; an empty area and one
+  -- records that no call makes get 3 where reading would not accept their file: all numbers 0; an empty area and one
   -- out of range, axis costs, no posts and no stops, too many, a post, a stop, visits, and a number of ten digits
-  pub not_read : answers (reading (ended (set case_a 1 "posts=65"))) (add_post (place (pos 0) (pos 0)) ∷ []) ≡ (3, 0) ∷ []
   pub not_saveable : map (λ d. answers d (add_post (place (pos 0) (pos 0)) ∷ []))
-      (with_area (pos 8 ∷ pos 2 ∷ pos 2 ∷ pos 8 ∷ []) ∷ with_area (pos 2 ∷ pos 2 ∷ pos 8 ∷ pos 20001 ∷ [])
+      (record_of (0, 0) [] 0 [] 0 []
+      ∷ with_area (pos 8 ∷ pos 2 ∷ pos 2 ∷ pos 8 ∷ []) ∷ with_area (pos 2 ∷ pos 2 ∷ pos 8 ∷ pos 20001 ∷ [])
       ∷ with_axis (0, 1) ∷ with_axis (1, 10)
       ∷ counting 0 (pos 0, pos 0) 2 (pos 4, pos 3, 2) ∷ counting 1 (pos 0, pos 0) 0 (pos 4, pos 3, 2)
       ∷ counting 65 (pos 0, pos 0) 2 (pos 4, pos 3, 2) ∷ counting 1 (pos 0, pos 0) 513 (pos 4, pos 3, 2)
       ∷ counting 1 (pos 20001, pos 0) 2 (pos 4, pos 3, 2) ∷ with_stop (pos 8, negsuc 20000, 1)
       ∷ with_stop (pos 8, pos 12, 0) ∷ with_stop (pos 8, pos 12, 65536) ∷ with_stop (pos 8, pos 12, ten_digits) ∷ [])
-      ≡ replicate 13 ((3, 0) ∷ [])
+      ≡ replicate 14 ((3, 0) ∷ [])
   -- and where near is beyond any travel
   pub near_beyond : answers (with_figures apart (padded 512 0 (1 ∷ 720001 ∷ [])) 0) (add_post (place (pos 0) (pos 0)) ∷ []) ≡ (3, 0) ∷ []
   -- others are changed by the near that is stored; what stands behind the lists and the old before do not matter. A post added, at travels

@@ -1,4 +1,4 @@
--- Document 02, card 3: rows of the call `estimate`, from a job's bytes to the four numbers or the refusal, and of refusal 7 by its cells.
+-- Rows of the call `estimate` (RULES "Change 3"), from a job's bytes to the four numbers or the refusal, and of refusal 7 by its cells.
 use Rattle.std.specs.Prelude.{ℕ, zero, suc, ◌≡◌, false, List, [], ◌∷◌, pos, replicate, set}
 use Prim.Native.String.{String}
 use Rattle.query.specs.Deck.{Stop, plain}
@@ -43,7 +43,7 @@ many_gaps = spell false (record {
 })
 
 pub record EstimateTable : Type 0 where
-  -- the marked decks; A also with 10 and with the most rounds
+  -- the worked cases; A also with 10 and with the most rounds
   pub A : estimate_call (ended case_a) ≡ gives (needs 2 2 3 4)
   pub a_0 : estimate_call (with_rounds "rounds=0") ≡ gives (needs 2 2 3 1)
   pub a_1 : estimate_call (with_rounds "rounds=1") ≡ gives (needs 2 2 3 2)

@@ -1,4 +1,4 @@
--- Document 02, cards 5 and 6: the law of records.
+-- Which records the calls make, and their near and before (RULES "Change 5", "Change 6").
 use Rattle.std.specs.Prelude.{ℕ, ◌≤◌, ◌<◌, ◌≡◌, ◌↔◌, List, pos, get_or}
 use Rattle.query.specs.Deck.{Stop}
 use Rattle.query.specs.Travel.{near}
@@ -6,15 +6,15 @@ use Rattle.query.specs.Cost.{before}
 use Rattle.deck.specs.DeckOf.{deck_of}
 use Rattle.deck.specs.Sound.{Sound}
 use Rattle.deck.specs.declared.Deck.{Deck}
-use Rattle.calls.specs.Answers.{gives, refuses}
+use Rattle.job.specs.declared.Job as Held
+use Rattle.calls.specs.Answers.{gives}
 use Rattle.change.specs.Change.{Change}
 use Rattle.calls.specs.ReadCall.{read_call}
 use Rattle.calls.specs.ChangeCall.{change_call}
 
--- "records that reading or such operations made", with a constructor for each operation that makes or alters a deck: reading, and card 6's
--- changes, whatever they answer
+-- a record that calls made: by reading a job, or from such a record by a change, whatever it answers
 pub data Made : Deck → Type 0 where
-  by_reading : (job : List ℕ) (rounds : ℕ) → (read_call job).answer ≡ gives rounds → {deck : Deck} → deck ≡ (read_call job).deck → Made deck
+  by_reading : (job : List ℕ) (held : Held.Job) → read_call job ≡ gives held → {deck : Deck} → deck ≡ held.deck → Made deck
   by_change : (held : Deck) (change : Change) → Made held → {deck : Deck} → deck ≡ (change_call held change).deck → Made deck
 
 -- stop i of a record, counted from 0
@@ -25,18 +25,13 @@ stop_in deck i = record {
 }
 
 pub record RecordLaw (deck : Deck) : Type 0 where
-  -- "Every operation that makes or alters a deck leaves them equal to their definitions": a record that was made is sound; and every sound
-  -- record can be made
+  -- these records are the sound ones, whose near and before are those of the deck that they hold
   pub sound_exactly : Made deck ↔ Sound deck
-  -- and each is one that a job is read as: changes make no others
-  pub as_read : Sound deck → (job : List ℕ) × (rounds : ℕ) × ((read_call job).answer ≡ gives rounds) × (deck ≡ (read_call job).deck)
+  -- and each is read from some job, so that changes make no others
+  pub as_read : Sound deck → (job : List ℕ) × (held : Held.Job) × (read_call job ≡ gives held) × (deck ≡ held.deck)
   -- near and before of a sound record, number by number
   pub near_is : Sound deck → (i : ℕ) → i < deck.stops → get_or deck.near i 0 ≡ near (deck_of deck) (stop_in deck i)
   pub near_behind : Sound deck → (i : ℕ) → deck.stops ≤ i → get_or deck.near i 0 ≡ 0
   pub before_is : Sound deck → deck.before ≡ before (deck_of deck)
   -- no two sound records hold one deck
   pub one_record : (other : Deck) → Sound deck → Sound other → deck_of deck ≡ deck_of other → deck ≡ other
-
--- the record that a refused reading leaves is not sound
-pub record RefusedRecordLaw (job : List ℕ) : Type 0 where
-  pub not_sound : (number line : ℕ) → (read_call job).answer ≡ refuses number line → Sound (read_call job).deck → ⊥

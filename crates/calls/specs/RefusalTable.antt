@@ -1,5 +1,5 @@
--- Document 01, "Turned down" and "Decks to try": the table of refusals as rows of one theorem, from a job's bytes and what is lent to the
--- number and the line; and both sides of the end of every range. 0 and 0 stand for a report.
+-- Rows of the call `report` for each refusal (RULES "Refusals", "Worked cases"), from a job's bytes and what is lent to the number and the
+-- line, 0 and 0 for a report; and both sides of the end of every range.
 use Rattle.std.specs.Prelude.{ℕ, ◌-◌, ◌≡◌, pos, replicate, set, take, drop}
 use Prim.Native.String.{String}
 use mathlib.Core.List.{List, [], ◌∷◌, ◌++◌, map, flat_map}
@@ -47,7 +47,7 @@ pub record RefusalTable : Type 0 where
   -- 1: more than 16,384 bytes
   pub too_long : asked (replicate 16385 97) ≡ (1, 0)
   pub longest : asked (replicate 16384 97) ≡ (2, 1)
-  -- 2: a line that doesn't have its form, is missing, or is too much
+  -- 2: a line without its form, one missing, or one too many
   pub empty_file : asked [] ≡ (2, 1)
   pub byte_13 : changed 3 ("post=0,0\r" ∷ []) ≡ (2, 3) ∷ []
   pub no_form : changed 6 ("stop=8,12" ∷ "stop=8,12,1,1" ∷ "stop=8,12,01" ∷ "stop=8,-0,1" ∷ "stop=8,+1,1" ∷ "stop=8,1000000000,1"
@@ -57,7 +57,7 @@ pub record RefusalTable : Type 0 where
   pub too_much : asked (ended (case_a ++ ("rounds=10" ∷ []))) ≡ (2, 8)
   pub no_end : asked (ended (take 6 case_a) ++ bytes "rounds=10") ≡ (2, 7)
   pub no_end_beyond : asked (ended (take 6 case_a) ++ bytes "rounds=1001") ≡ (2, 7)
-  -- 3: well formed, a value out of range. The ends of each range, and the numbers beyond them
+  -- 3: a line with its form, and a value out of range. The ends of each range, and the numbers beyond them
   pub area_ends : changed 1 ("area=-20000,-20000,20000,20000" ∷ "area=-20000,-20000,-20000,-20000" ∷ "area=20000,20000,20000,20000" ∷ [])
       ≡ replicate 3 (0, 0)
   pub area_below : changed 1 ("area=-20001,2,8,8" ∷ "area=2,-20001,8,8" ∷ "area=2,2,-20001,8" ∷ "area=2,2,8,-20001" ∷ [])

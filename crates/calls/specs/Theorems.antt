@@ -1,5 +1,5 @@
--- All that is proved of the calls and of the rules, with its quantifiers and hypotheses: `theorems : Theorems` in proofs/Theorems.antt.
--- That the code computes the definitions is said by the contracts of crates/siting/src/lib.rt.
+-- All that is proved of the calls and of the rules in docs/RULES.md, with its quantifiers and hypotheses: `theorems : Theorems` in
+-- proofs/Theorems.antt. That the code computes what is defined is said by the contracts of crates/siting/src/lib.rt.
 use Rattle.std.specs.Prelude.{ℕ, ◌≡◌, List, ℤ}
 use Rattle.query.specs.Deck.{AxisCosts}
 use Rattle.query.specs.QueryTheorems.{QueryTheorems}
@@ -17,7 +17,7 @@ use Rattle.calls.specs.ProgramLaw.{ProgramLaw}
 use Rattle.calls.specs.ExhaustiveCallLaw.{ExhaustiveCallLaw}
 use Rattle.calls.specs.EstimateCallLaw.{EstimateCallLaw}
 use Rattle.calls.specs.SavingLaw.{ReadLaw, WriteLaw}
-use Rattle.calls.specs.RecordLaw.{RecordLaw, RefusedRecordLaw}
+use Rattle.calls.specs.RecordLaw.{RecordLaw}
 use Rattle.calls.specs.ChangeLaw.{ChangeLaw}
 use Rattle.calls.specs.RunLaw.{RunLaw}
 use Rattle.calls.specs.RefusalTable.{RefusalTable}
@@ -31,40 +31,39 @@ use Rattle.calls.specs.AnswerRows.{AnswerRows}
 use Rattle.refusal.specs.declared.Refusal.{Refusal}
 
 pub record Theorems : Type 0 where
-  -- for every file, however garbled, and all that is lent
+  -- the calls `report` and `exhaustive`, the C entry and the program, for any bytes and all that is lent
   pub promises : (job : List ℕ) (cells : List ℤ) (out : List ℕ) → Promises job cells out
   pub entry : (job out : List ℕ) → EntryLaw job out
   pub program : (job : List ℕ) → ProgramLaw job
   pub exhaustive : (job : List ℕ) → ExhaustiveCallLaw job
-  -- document 02, card 1: reading a job, and writing every record that the code can hold, with every output
+  -- reading a job, and writing every record that the code can hold (RULES "Change 1")
   pub read : (job : List ℕ) → ReadLaw job
   pub write : (deck : Deck) (rounds : ℕ) (out : List ℕ) → Sized deck → WriteLaw deck rounds out
-  -- document 02, card 2: what is read, where a missing axis line means any costs in range, and what is refused, whatever it means
+  -- what is read, where a missing axis line means any costs in range, and what is refused, whatever it means (RULES "Change 2")
   pub reading : (missing : AxisCosts) (job : List ℕ) (j : Job) → AcceptedLaw missing job j
   pub refusing : (missing : AxisCosts) (job : List ℕ) (why : Refusal) → RefusedLaw missing job why
-  -- document 02, cards 5 and 6: the records that reading and the changes make, and what reading leaves where it refuses
+  -- the records that reading and changes make (RULES "Change 5")
   pub records : (deck : Deck) → RecordLaw deck
-  pub refused_records : (job : List ℕ) → RefusedRecordLaw job
-  -- document 02, card 6: each change of every record, and every run of changes of a record that was read
+  -- each change of every record, and changes one after another of a record that was read (RULES "Change 6")
   pub changes : (deck : Deck) (change : Change) → ChangeLaw deck change
   pub runs : (changes : List Change) (job : List ℕ) (j : Job) → read_job job ≡ accepted j → RunLaw changes job j
-  -- document 02, card 3: what a job needs
+  -- what a job needs (RULES "Change 3")
   pub estimate : (job : List ℕ) → EstimateCallLaw job
-  -- no bytes spell two allowed jobs, and 128 bytes hold every report
+  -- no bytes spell two allowed jobs, and every report fits the output (RULES "Job", "Report")
   pub spelling : (job : Job) → SpellingLaw job
   pub report_fits : ReportFits
-  -- what document 01 works out
+  -- rows: refusals, and the worked cases that have whole bytes (RULES "Refusals", "Worked cases")
   pub refusal_table : RefusalTable
   pub case_a_law : CaseA
   pub job_vectors : JobVectors
   pub report_vectors : ReportVectors
-  -- rows of the calls of document 02
+  -- rows of writing, of records, of changes, of axis costs and of estimates
   pub write_table : WriteTable
   pub record_table : RecordTable
   pub change_table : ChangeTable
   pub axis_table : AxisTable
   pub estimate_table : EstimateTable
-  -- what the numbers of the code's records are called
+  -- rows of which number in the code's answers is which
   pub answer_rows : AnswerRows
-  -- the rules, for every deck and every number of rounds
+  -- the laws of the rules, for every deck and every number of rounds
   pub rules : QueryTheorems

@@ -1,5 +1,5 @@
--- Document 02, cards 1 and 2: rows of the calls `write` and `read`, from a record's numbers and an output to all that the call answers
--- and leaves.
+-- Rows of the calls `write` and `read` (RULES "Change 1", "Change 2"), from a record's numbers and an output, or a job's bytes, to all that
+-- the call answers and leaves.
 use Rattle.std.specs.Prelude.{ℕ, ◌≡◌, List, [], ◌∷◌, ◌++◌, map, ℤ, pos, negsuc, neg_ℤ, length, replicate, get_or, set}
 use Prim.Native.String.{String}
 use Rattle.numbers.specs.Padded.{padded}
@@ -9,24 +9,25 @@ use Rattle.deck.specs.DeckOf.{deck_record, with_figures}
 use Rattle.deck.specs.declared.Deck.{Deck}
 use Rattle.job.specs.File.{file_text}
 use Rattle.job.specs.Meaning.{longest_job}
-use Rattle.calls.specs.Answers.{gives, refuses}
+use Rattle.job.specs.declared.Job as Held
+use Rattle.calls.specs.Answers.{AnswerOf, gives, refuses}
 use Rattle.calls.specs.ReadCall.{read_call}
-use Rattle.calls.specs.WriteCall.{write_call}
+use Rattle.calls.specs.WriteCall.{Saved, write_call}
 use Rattle.calls.specs.RefusalTable.{case_a, behind, ended, number_and_line}
 
 -- a record by its numbers: the axis costs; those of the area; the count of posts and each post's x, y; the count of stops and each stop's
 -- x, y, visits. Its near and before are 0
 abbrev pub record_of : ℕ × ℕ → List ℤ → ℕ → List (ℤ × ℤ) → ℕ → List (ℤ × ℤ × ℕ) → Deck
-record_of axis area p posts s stops = record {
+record_of axis area post_count posts stop_count stops = record {
   axis = record { a = axis.0; b = axis.1 };
   xlo = get_or area 0 (pos 0);
   ylo = get_or area 1 (pos 0);
   xhi = get_or area 2 (pos 0);
   yhi = get_or area 3 (pos 0);
-  posts = p;
+  posts = post_count;
   post_x = padded posts_limit (pos 0) (map (λ p. p.0) posts);
   post_y = padded posts_limit (pos 0) (map (λ p. p.1) posts);
-  stops = s;
+  stops = stop_count;
   stop_x = padded stops_limit (pos 0) (map (λ s. s.0) stops);
   stop_y = padded stops_limit (pos 0) (map (λ s. s.1) stops);
   visits = padded stops_limit 0 (map (λ s. s.2) stops);
@@ -52,7 +53,8 @@ abbrev pub with_area : List ℤ → Deck
 with_area area = record_of (1, 1) area 1 ((pos 0, pos 0) ∷ []) 2 ((pos 4, pos 3, 2) ∷ (pos 8, pos 12, 1) ∷ [])
 
 abbrev pub counting : ℕ → (ℤ × ℤ) → ℕ → (ℤ × ℤ × ℕ) → Deck
-counting p post s stop = record_of (1, 1) square p (replicate posts_limit post) s (replicate stops_limit stop)
+counting post_count post stop_count stop =
+    record_of (1, 1) square post_count (replicate posts_limit post) stop_count (replicate stops_limit stop)
 
 abbrev pub with_stop : (ℤ × ℤ × ℕ) → Deck
 with_stop stop = record_of (1, 1) square 1 ((pos 0, pos 0) ∷ []) 2 ((pos 4, pos 3, 2) ∷ stop ∷ [])
@@ -92,17 +94,22 @@ gets_with rounds deck = number_and_line (write_call deck rounds (replicate 16384
 abbrev pub gets : Deck → ℕ × ℕ
 gets = gets_with 10
 
+-- a job that was read, written again; a refusal of reading leaves the output
+abbrev pub written_again : AnswerOf Held.Job → List ℕ → Saved
+written_again (gives job) out = write_call job.deck job.rounds out
+written_again (refuses number line) out = record { answer = refuses number line; out = out }
+
 pub record WriteTable : Type 0 where
   -- case A's record, with room for just its 71 bytes, with two bytes more, and with one less
   pub case_a_exact : write_call (deck_record deck_a) 10 (replicate 71 7) ≡ record { answer = gives 71; out = ended case_a }
   pub case_a_more : write_call (deck_record deck_a) 10 (replicate 73 7) ≡ record { answer = gives 71; out = ended case_a ++ (7 ∷ 7 ∷ []) }
   pub case_a_short : write_call (deck_record deck_a) 10 (replicate 70 7) ≡ record { answer = refuses 8 0; out = replicate 70 7 }
-  pub case_a_read : read_call (ended case_a) ≡ record { answer = gives 10; deck = deck_record deck_a }
-  pub refused_read : read_call (ended (set case_a 1 "posts=65")) ≡ record { answer = refuses 3 2; deck = record_of (0, 0) [] 0 [] 0 [] }
+  pub case_a_read : read_call (ended case_a) ≡ gives (record { rounds = 10; deck = deck_record deck_a })
+  pub refused_read : read_call (ended (set case_a 1 "posts=65")) ≡ refuses 3 2
   -- each number in its place
   pub each_place : write_call apart 0 (replicate 95 7) ≡ record { answer = gives 95; out = ended apart_lines }
   pub each_place_read : read_call (ended apart_lines)
-      ≡ record { answer = gives 0; deck = with_figures apart (padded stops_limit 0 (26 ∷ 65 ∷ [])) 1287 }
+      ≡ gives (record { rounds = 0; deck = with_figures apart (padded stops_limit 0 (26 ∷ 65 ∷ [])) 1287 })
   -- numbers behind the lists are not written
   pub behind_lists : write_call (counting 1 (pos 5, negsuc 6) 1 (negsuc 0, pos 20000, 65535)) 0 (replicate 80 7)
       ≡ record {
@@ -154,14 +161,14 @@ pub record WriteTable : Type 0 where
   pub longest_job_law : longest_job ≡ 14089
   pub longest : length (file_text (record_of (9, 9) (replicate 4 (negsuc 19999)) 64 (replicate 64 (negsuc 19999, negsuc 19999)) 512
       (replicate 512 (negsuc 19999, negsuc 19999, 65535))) 1000) ≡ 14089
-  -- card 2: the line is left out for 1,1 and for no other costs; spelled out, it is not saved
+  -- the axis line is left out for 1,1 and for no other costs; spelled out, it is not written again
   pub axis_written : map (λ axis. file_text (with_axis axis) 10) ((1, 1) ∷ (1, 2) ∷ (2, 1) ∷ (9, 9) ∷ []) ≡ map ended
       (case_a ∷ carrying "axis=1,2" ∷ carrying "axis=2,1" ∷ carrying "axis=9,9" ∷ [])
-  pub spelled_out : write_call (read_call (ended (carrying "axis=1,1"))).deck 10 (replicate 73 7)
+  pub spelled_out : written_again (read_call (ended (carrying "axis=1,1"))) (replicate 73 7)
       ≡ record { answer = gives 71; out = ended case_a ++ (7 ∷ 7 ∷ []) }
-  pub own_bytes : write_call (read_call (ended (carrying "axis=2,1"))).deck 10 (replicate 80 7)
+  pub own_bytes : written_again (read_call (ended (carrying "axis=2,1"))) (replicate 80 7)
       ≡ record { answer = gives 80; out = ended (carrying "axis=2,1") }
-  pub own_bytes_short : write_call (read_call (ended (carrying "axis=2,1"))).deck 10 (replicate 79 7)
+  pub own_bytes_short : written_again (read_call (ended (carrying "axis=2,1"))) (replicate 79 7)
       ≡ record { answer = refuses 8 0; out = replicate 79 7 }
   -- an axis cost out of range, and of ten digits; later lines' numbers move by one
   pub axis_beyond : map (λ axis. gets (with_axis axis)) ((0, 1) ∷ (1, 0) ∷ (0, 0) ∷ (10, 1) ∷ (1, 10) ∷ (nine_digits, 1) ∷ [])

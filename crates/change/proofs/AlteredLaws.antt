@@ -9,7 +9,7 @@ use lib.ListN.{length, length-append}
 use Rattle.numbers.proofs.Members.{each_cons, each_append}
 use Rattle.query.specs.Place.{Place}
 use Rattle.query.specs.Deck.{Stop, Deck}
-use Rattle.query.specs.Range.{PlaceInRange, StopInRange, InRange}
+use Rattle.query.specs.Range.{PlaceInRange, StopInRange, InRange, posts_limit, stops_limit}
 use Rattle.refusal.specs.declared.Refusal.{Refusal}
 use Rattle.change.specs.Change.{Change, add_post, remove_post, add_stop, remove_stop, with_posts, with_stops, altered}
 use Rattle.items.specs.Items.{is_same_place, is_same_stop, remove_first}
@@ -27,7 +27,8 @@ each_more P xs x each last = each_append P xs each (each_cons P last (λ a m. ab
 
 -- ---- a deck in range with other posts, and with other stops
 module _ (deck : Deck) (range : InRange deck) where
-  posts_in : (posts : List Place) → ((p : Place) → Memᴰ p posts → PlaceInRange p) → 1 ≤ length posts → length posts ≤ 64 → InRange (with_posts posts deck)
+  posts_in : (posts : List Place) → ((p : Place) → Memᴰ p posts → PlaceInRange p) → 1 ≤ length posts → length posts ≤ posts_limit →
+      InRange (with_posts posts deck)
   posts_in posts each least most = record {
     axis_some = range.axis_some;
     axis_most = range.axis_most;
@@ -40,7 +41,8 @@ module _ (deck : Deck) (range : InRange deck) where
     most_stops = range.most_stops;
   }
 
-  stops_in : (stops : List Stop) → ((s : Stop) → Memᴰ s stops → StopInRange s) → 1 ≤ length stops → length stops ≤ 512 → InRange (with_stops stops deck)
+  stops_in : (stops : List Stop) → ((s : Stop) → Memᴰ s stops → StopInRange s) → 1 ≤ length stops → length stops ≤ stops_limit →
+      InRange (with_stops stops deck)
   stops_in stops each least most = record {
     axis_some = range.axis_some;
     axis_most = range.axis_most;

@@ -16,7 +16,7 @@ use Rattle.query.specs.Deck as Query
 use Rattle.query.specs.Deck.{Stop}
 use Rattle.query.specs.Travel.{closest, near}
 use Rattle.query.specs.Cost.{before}
-use Rattle.query.specs.Range.{InRange}
+use Rattle.query.specs.Range.{InRange, posts_limit, stops_limit}
 use Rattle.deck.specs.DeckOf.{places, deck_of, deck_record, with_figures}
 use Rattle.deck.specs.Sound.{Sound}
 use Rattle.deck.specs.declared.Deck.{Deck}
@@ -54,45 +54,45 @@ module _ (f : Place → ℕ → ℕ) (g : Stop → ℕ) where
 
 -- ---- a record whose columns are those of a deck with other posts, and with other stops
 module _ (deck : Query.Deck) where
-  with_posts_lem : (posts : List Place) {n : ℕ} {xs ys : List ℤ} {nears : List ℕ} → n ≡ length posts → xs ≡ padded 64 (pos 0) (map (λ p. p.x) posts) →
-      ys ≡ padded 64 (pos 0) (map (λ p. p.y) posts) → nears ≡ padded 512 0 (map (near (with_posts posts deck)) deck.stops) →
+  with_posts_lem : (posts : List Place) {n : ℕ} {xs ys : List ℤ} {nears : List ℕ} → n ≡ length posts → xs ≡ padded posts_limit (pos 0) (map (λ p. p.x) posts) →
+      ys ≡ padded posts_limit (pos 0) (map (λ p. p.y) posts) → nears ≡ padded stops_limit 0 (map (near (with_posts posts deck)) deck.stops) →
       with_post_columns (deck_record deck) n xs ys nears ≡ deck_record (with_posts posts deck)
   unfolding deck_record before
   with_posts_lem posts e x y v =
       (λ i. with_post_columns (deck_record deck) (e i) (x i) (y i) (v i))
-      ∙ ap (with_figures (deck_record (with_posts posts deck)) (padded 512 0 (map (near (with_posts posts deck)) deck.stops)))
-      (paid_stops (near (with_posts posts deck)) 512 deck.stops)
+      ∙ ap (with_figures (deck_record (with_posts posts deck)) (padded stops_limit 0 (map (near (with_posts posts deck)) deck.stops)))
+      (paid_stops (near (with_posts posts deck)) stops_limit deck.stops)
 
   with_stops_lem : (stops : List Stop) {n : ℕ} {xs ys : List ℤ} {visits nears : List ℕ} → n ≡ length stops →
-      xs ≡ padded 512 (pos 0) (map (λ s. s.at.x) stops) → ys ≡ padded 512 (pos 0) (map (λ s. s.at.y) stops) →
-      visits ≡ padded 512 0 (map (λ s. s.visits) stops) → nears ≡ padded 512 0 (map (near deck) stops) →
+      xs ≡ padded stops_limit (pos 0) (map (λ s. s.at.x) stops) → ys ≡ padded stops_limit (pos 0) (map (λ s. s.at.y) stops) →
+      visits ≡ padded stops_limit 0 (map (λ s. s.visits) stops) → nears ≡ padded stops_limit 0 (map (near deck) stops) →
       with_stop_columns (deck_record deck) n xs ys visits nears ≡ deck_record (with_stops stops deck)
   unfolding deck_record before near
   with_stops_lem stops e x y w v =
       (λ i. with_stop_columns (deck_record deck) (e i) (x i) (y i) (w i) (v i))
-      ∙ ap (with_figures (deck_record (with_stops stops deck)) (padded 512 0 (map (near deck) stops))) (paid_stops (near deck) 512 stops)
+      ∙ ap (with_figures (deck_record (with_stops stops deck)) (padded stops_limit 0 (map (near deck) stops))) (paid_stops (near deck) stops_limit stops)
 
   -- ---- near with one more post, and with one less
   nears_more : (p : Place) → 1 ≤ length deck.posts →
-      renewed (deck_record deck) (near_with deck.axis p) ≡ padded 512 0 (map (near (with_posts (deck.posts ++ (p ∷ [])) deck)) deck.stops)
+      renewed (deck_record deck) (near_with deck.axis p) ≡ padded stops_limit 0 (map (near (with_posts (deck.posts ++ (p ∷ [])) deck)) deck.stops)
   unfolding renewed deck_record near
-  nears_more p h = nears_renewed (near_with deck.axis p) (near deck) 512 deck.stops
-      ∙ ap (padded 512 0) (map_each _ _ deck.stops (λ s m. near_added deck.axis s.at deck.posts p h))
+  nears_more p h = nears_renewed (near_with deck.axis p) (near deck) stops_limit deck.stops
+      ∙ ap (padded stops_limit 0) (map_each _ _ deck.stops (λ s m. near_added deck.axis s.at deck.posts p h))
 
   nears_less : (p : Place) → 2 ≤ length deck.posts →
       renewed (deck_record deck) (near_without deck.axis p (remove_first (is_same_place p) deck.posts))
-      ≡ padded 512 0 (map (near (with_posts (remove_first (is_same_place p) deck.posts) deck)) deck.stops)
+      ≡ padded stops_limit 0 (map (near (with_posts (remove_first (is_same_place p) deck.posts) deck)) deck.stops)
   unfolding renewed deck_record near
-  nears_less p h = nears_renewed (near_without deck.axis p (remove_first (is_same_place p) deck.posts)) (near deck) 512 deck.stops
-      ∙ ap (padded 512 0) (map_each _ _ deck.stops (λ s m. near_removed deck.axis s.at deck.posts p h))
+  nears_less p h = nears_renewed (near_without deck.axis p (remove_first (is_same_place p) deck.posts)) (near deck) stops_limit deck.stops
+      ∙ ap (padded stops_limit 0) (map_each _ _ deck.stops (λ s m. near_removed deck.axis s.at deck.posts p h))
 
   -- ---- each change of the deck's record; where the code finds posts or stops in the record, these are the deck's
   module _ (range : InRange deck) where
     post_added : (p : Place) → Allows (add_post p) deck → altered_record (add_post p) (deck_record deck) ≡ deck_record (altered (add_post p) deck)
     unfolding altered_record altered deck_record
     post_added p h = with_posts_lem (deck.posts ++ (p ∷ [])) (sym (length_more deck.posts p))
-        (padded_map 64 (pos 0) (λ p. p.x) deck.posts p refl h.1 refl)
-        (padded_map 64 (pos 0) (λ p. p.y) deck.posts p refl h.1 refl) (nears_more p range.some_posts)
+        (padded_map posts_limit (pos 0) (λ p. p.x) deck.posts p refl h.1 refl)
+        (padded_map posts_limit (pos 0) (λ p. p.y) deck.posts p refl h.1 refl) (nears_more p range.some_posts)
 
     abbrev without_post : Place → List Place → Deck
     without_post p posts = with_post_columns (deck_record deck) ((deck_record deck).posts - 1)
@@ -105,8 +105,8 @@ module _ (deck : Query.Deck) where
     post_removed p h =
         ap (λ (d : Query.Deck). without_post p d.posts) (held_deck deck)
         ∙ with_posts_lem (remove_first (is_same_place p) deck.posts) (omega (arith, long))
-        (column_removed 64 (pos 0) (λ p. p.x) (is_same_place p) deck.posts within range.most_posts)
-        (column_removed 64 (pos 0) (λ p. p.y) (is_same_place p) deck.posts within range.most_posts) (nears_less p h.2)
+        (column_removed posts_limit (pos 0) (λ p. p.x) (is_same_place p) deck.posts within range.most_posts)
+        (column_removed posts_limit (pos 0) (λ p. p.y) (is_same_place p) deck.posts within range.most_posts) (nears_less p h.2)
       where
         within : first_place (is_same_place p) deck.posts < length deck.posts
         within = held_within (is_same_place p) deck.posts ((post_held p deck.posts).1 h.1)
@@ -124,9 +124,9 @@ module _ (deck : Query.Deck) where
     stop_added s h =
         ap (λ (d : Query.Deck). with_stop s d.posts) (held_deck deck)
         ∙ with_stops_lem (deck.stops ++ (s ∷ [])) (sym (length_more deck.stops s))
-        (padded_map 512 (pos 0) (λ s. s.at.x) deck.stops s refl h.1 refl)
-        (padded_map 512 (pos 0) (λ s. s.at.y) deck.stops s refl h.1 refl) (padded_map 512 0 (λ s. s.visits) deck.stops s refl h.1 refl)
-        (padded_map 512 0 (near deck) deck.stops s refl h.1 refl)
+        (padded_map stops_limit (pos 0) (λ s. s.at.x) deck.stops s refl h.1 refl)
+        (padded_map stops_limit (pos 0) (λ s. s.at.y) deck.stops s refl h.1 refl) (padded_map stops_limit 0 (λ s. s.visits) deck.stops s refl h.1 refl)
+        (padded_map stops_limit 0 (near deck) deck.stops s refl h.1 refl)
 
     abbrev without_stop : Stop → List Stop → Deck
     without_stop s stops = with_stop_columns (deck_record deck) ((deck_record deck).stops - 1)
@@ -140,10 +140,10 @@ module _ (deck : Query.Deck) where
     stop_removed s h =
         ap (λ (d : Query.Deck). without_stop s d.stops) (held_deck deck)
         ∙ with_stops_lem (remove_first (is_same_stop s) deck.stops) (omega (arith, long))
-        (column_removed 512 (pos 0) (λ s. s.at.x) (is_same_stop s) deck.stops within range.most_stops)
-        (column_removed 512 (pos 0) (λ s. s.at.y) (is_same_stop s) deck.stops within range.most_stops)
-        (column_removed 512 0 (λ s. s.visits) (is_same_stop s) deck.stops within range.most_stops)
-        (column_removed 512 0 (near deck) (is_same_stop s) deck.stops within range.most_stops)
+        (column_removed stops_limit (pos 0) (λ s. s.at.x) (is_same_stop s) deck.stops within range.most_stops)
+        (column_removed stops_limit (pos 0) (λ s. s.at.y) (is_same_stop s) deck.stops within range.most_stops)
+        (column_removed stops_limit 0 (λ s. s.visits) (is_same_stop s) deck.stops within range.most_stops)
+        (column_removed stops_limit 0 (near deck) (is_same_stop s) deck.stops within range.most_stops)
       where
         within : first_place (is_same_stop s) deck.stops < length deck.stops
         within = held_within (is_same_stop s) deck.stops ((stop_held s deck.stops).1 h.1)

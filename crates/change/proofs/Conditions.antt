@@ -11,7 +11,7 @@ use lib.ListN.{length}
 use Rattle.numbers.proofs.Members.{some_non_empty, non_empty_length}
 use Rattle.query.specs.Place.{Place}
 use Rattle.query.specs.Deck.{Stop, Deck}
-use Rattle.query.specs.Range.{PlaceInRange, StopInRange}
+use Rattle.query.specs.Range.{PlaceInRange, StopInRange, posts_limit, stops_limit}
 use Rattle.job.specs.Spelling.{post_line, stop_line}
 use Rattle.job.proofs.RangeLaws.{post_range, stop_range}
 use Rattle.job.proofs.JobLaws.{InRanges}
@@ -70,16 +70,16 @@ three_none true true false first second third = (λ e. (tt, tt, tt), λ t. refl)
 
 -- ---- a change that is made
 abbrev pub Allows : Change → Deck → Type 0
-Allows (add_post p) deck = PlaceInRange p × (length deck.posts < 64)
+Allows (add_post p) deck = PlaceInRange p × (length deck.posts < posts_limit)
 Allows (remove_post p) deck = PlaceInRange p × Memᴰ p deck.posts × (2 ≤ length deck.posts)
-Allows (add_stop s) deck = StopInRange s × (length deck.stops < 512)
+Allows (add_stop s) deck = StopInRange s × (length deck.stops < stops_limit)
 Allows (remove_stop s) deck = StopInRange s × Memᴰ s deck.stops × (2 ≤ length deck.stops)
 
 pub refusal_none : (change : Change) (deck : Deck) → (change_refusal change deck ≡ none) ↔ Allows change deck
 unfolding change_refusal
 refusal_none (add_post p) deck =
-    let tests = two_none (line_in_range (post_line p)) (leb 64 (length deck.posts)) (OutOfRange 0) Full in
-    let few = not_full 64 (length deck.posts) in (
+    let tests = two_none (line_in_range (post_line p)) (leb posts_limit (length deck.posts)) (OutOfRange 0) Full in
+    let few = not_full posts_limit (length deck.posts) in (
       λ e. let t = tests.0 e in ((post_ranges p).0 t.0, few.0 t.1),
       λ h. tests.1 ((post_ranges p).1 h.0, few.1 h.1),
     )
@@ -91,8 +91,8 @@ refusal_none (remove_post p) deck =
       λ h. tests.1 ((post_ranges p).1 h.0, member.1 h.1, (not_one (length deck.posts) (omega (arith, h.2))).1 h.2),
     )
 refusal_none (add_stop s) deck =
-    let tests = two_none (line_in_range (stop_line s)) (leb 512 (length deck.stops)) (OutOfRange 0) Full in
-    let few = not_full 512 (length deck.stops) in (
+    let tests = two_none (line_in_range (stop_line s)) (leb stops_limit (length deck.stops)) (OutOfRange 0) Full in
+    let few = not_full stops_limit (length deck.stops) in (
       λ e. let t = tests.0 e in ((stop_ranges s).0 t.0, few.0 t.1),
       λ h. tests.1 ((stop_ranges s).1 h.0, few.1 h.1),
     )

@@ -10,7 +10,7 @@ use lib.ListN.{length, length-set}
 use Rattle.query.specs.Place.{Place, NonEmpty}
 use Rattle.query.specs.Deck as Query
 use Rattle.query.specs.Deck.{Stop}
-use Rattle.query.specs.Range.{InRange, travel_limit}
+use Rattle.query.specs.Range.{InRange, travel_limit, posts_limit, stops_limit}
 use Rattle.deck.specs.DeckOf.{Sized, held_axis, deck_of}
 use Rattle.deck.specs.declared.Deck.{Deck}
 use Rattle.deck.proofs.DeckLaws.{DeckColumns, counted, posts_counted, stops_counted, stops_range}
@@ -33,10 +33,10 @@ use Rattle.change.proofs.KeptNears.{renewed_up_to, closest_limit, with_limit, wi
 use Rattle.change.proofs.UsableExactly.{usable_exactly, usable_counts, usable_range, usable_area, usable_near}
 
 module _ (deck : Deck) (columns : DeckColumns deck) where
-  post_room : length (deck_of deck).posts < 64 → deck.posts < 64
+  post_room : length (deck_of deck).posts < posts_limit → deck.posts < posts_limit
   post_room h = omega (arith, posts_counted deck columns.sized)
 
-  stop_room : length (deck_of deck).stops < 512 → deck.stops < 512
+  stop_room : length (deck_of deck).stops < stops_limit → deck.stops < stops_limit
   stop_room h = omega (arith, stops_counted deck columns.sized)
 
   post_within : (p : Place) → Allows (remove_post p) (deck_of deck) → first_place (is_same_place p) (deck_of deck).posts < deck.posts

@@ -15,7 +15,7 @@ use Rattle.numbers.proofs.Truth.{test, cond_ind}
 use Rattle.query.specs.Place.{Place}
 use Rattle.query.specs.Deck.{AxisCosts}
 use Rattle.query.specs.Travel.{travel, closest}
-use Rattle.query.specs.Range.{PlaceInRange, axis_cost_limit, travel_limit}
+use Rattle.query.specs.Range.{PlaceInRange, axis_cost_limit, travel_limit, posts_limit, stops_limit}
 use Rattle.query.proofs.NearLaws.{closest_some}
 use Rattle.query.proofs.Ranges.{costs_limit}
 use Rattle.deck.specs.DeckOf.{places}
@@ -58,7 +58,7 @@ module _ {A : Type 0} (f : A → ℕ → ℕ) where
       ∙ ap (λ (m : List ℕ). get_or m i 0) (ap (take n) (anew_is n ps xs) ∙ anew_front n ps xs h) ∙ get_or-take n (zip_with f ps xs) i 0 l
 
 -- near of stops in range, by each place and what was there
-module _ (f : Place → ℕ → ℕ) {sx sy : List ℤ} {n : ℕ} (stops : PlacesInRange 512 sx sy n) (near : List ℕ) where
+module _ (f : Place → ℕ → ℕ) {sx sy : List ℤ} {n : ℕ} (stops : PlacesInRange stops_limit sx sy n) (near : List ℕ) where
   many : n ≤ length (places sx sy)
   many = omega (arith, places_length sx sy, stops.x.count, stops.y.count)
 
@@ -98,7 +98,7 @@ closest_limit {axis} {posts} most some each p h =
     let (post, i, e) = closest_some axis p posts (length_non_empty posts some) in
     omega (arith, e, costs_limit axis most p post h (each post i))
 
-pub closest_of_columns : {axis : AxisCosts} {px py : List ℤ} → CostsInRange axis → PlacesInRange 64 px py (length px) → 1 ≤ length px →
+pub closest_of_columns : {axis : AxisCosts} {px py : List ℤ} → CostsInRange axis → PlacesInRange posts_limit px py (length px) → 1 ≤ length px →
     (p : Place) → PlaceInRange p → closest axis p (places px py) ≤ travel_limit
 closest_of_columns costs posts some = closest_limit costs.most (omega (arith, some, places_count posts)) (rw (places_whole posts) at (places_each posts))
 

@@ -11,7 +11,7 @@ use Rattle.numbers.proofs.WordTests.{back}
 use Rattle.query.specs.Place.{Place}
 use Rattle.query.specs.Deck.{Stop}
 use Rattle.query.specs.Travel.{closest}
-use Rattle.query.specs.Range.{PlaceInRange}
+use Rattle.query.specs.Range.{PlaceInRange, posts_limit, stops_limit}
 use Rattle.deck.specs.declared.Deck.{Deck}
 use Rattle.deck.specs.DeckOf.{Sized, held_axis, places, deck_of}
 use Rattle.deck.specs.Ranges.{CostsInRange, PlacesInRange, VisitsInRange}
@@ -33,10 +33,10 @@ module _ {deck : Deck} (sized : Sized deck) (u : Usable deck) where
   pub held_costs : CostsInRange (held_axis deck.axis)
   held_costs = costs_range deck (usable_columns sized u) u.range
 
-  pub held_posts : PlacesInRange 64 deck.post_x deck.post_y deck.posts
+  pub held_posts : PlacesInRange posts_limit deck.post_x deck.post_y deck.posts
   held_posts = posts_range deck (usable_columns sized u) u.range
 
-  pub held_stops : PlacesInRange 512 deck.stop_x deck.stop_y deck.stops
+  pub held_stops : PlacesInRange stops_limit deck.stop_x deck.stop_y deck.stops
   held_stops = stops_range deck (usable_columns sized u) u.range
 
   pub held_visits : VisitsInRange deck.visits deck.stops
@@ -44,7 +44,7 @@ module _ {deck : Deck} (sized : Sized deck) (u : Usable deck) where
 
   -- the columns of its posts
   module _ {px py : List ℤ} (ex : px ≡ take deck.posts deck.post_x) (ey : py ≡ take deck.posts deck.post_y) where
-    pub given_posts : PlacesInRange 64 px py (length px)
+    pub given_posts : PlacesInRange posts_limit px py (length px)
     given_posts = given_range ex ey held_posts
 
     pub given_some : 1 ≤ length px
@@ -79,7 +79,7 @@ module _ (deck : Deck) (s : Stop) (range : PlaceInRange s.at) where
 -- a post taken out
 module _ {deck : Deck} (sized : Sized deck) (u : Usable deck) {i : ℕ} (h : i < deck.posts) {xs ys : List ℤ}
     (ex : FrontWithout deck.posts i (pos 0) deck.post_x xs) (ey : FrontWithout deck.posts i (pos 0) deck.post_y ys) where
-  abbrev posts : PlacesInRange 64 deck.post_x deck.post_y deck.posts
+  abbrev posts : PlacesInRange posts_limit deck.post_x deck.post_y deck.posts
   posts = held_posts sized u
 
   -- the columns, of which the first deck.posts - 1 elements count
@@ -95,7 +95,7 @@ module _ {deck : Deck} (sized : Sized deck) (u : Usable deck) {i : ℕ} (h : i <
   y_taken : left_y ≡ taken_out_at deck.posts i (pos 0) deck.post_y
   y_taken = taken_here deck.post_y deck.posts i (pos 0) h posts.y.count ey
 
-  pub left_range : PlacesInRange 64 (take (deck.posts - 1) left_x) (take (deck.posts - 1) left_y) (length (take (deck.posts - 1) left_x))
+  pub left_range : PlacesInRange posts_limit (take (deck.posts - 1) left_x) (take (deck.posts - 1) left_y) (length (take (deck.posts - 1) left_x))
   left_range = rw (x_taken, y_taken) (places_in_front (places_left h posts))
 
   pub left_some : 2 ≤ deck.posts → 1 ≤ length (take (deck.posts - 1) left_x)

@@ -11,6 +11,7 @@ use lib.ListN.{length}
 use Rattle.numbers.proofs.Members.{each_cons}
 use Rattle.numbers.proofs.Truth.{cond-true, cond-false}
 use Rattle.query.specs.Deck.{Deck}
+use Rattle.query.specs.Range.{posts_limit, stops_limit}
 use Rattle.refusal.specs.declared.Refusal.{Refusal}
 use Rattle.refusal.specs.declared.Refusal.TheVariants.{OutOfRange, NoPosts, NoStops, NotHeld, Full}
 use Rattle.items.specs.Items.{is_same_place, is_same_stop, held}
@@ -46,14 +47,14 @@ its_member {A} {x} e = subst (λ l. Memᴰ x l) (sym e) (Memᴰ.head refl)
 -- ---- a change that is refused: 3, then 10 or 9, then 5 or 6
 module _ (deck : Deck) where
   by_lists : (change : Change) {why : Refusal} → ItemInRange change → first_refusal (list_conditions change deck) ≡ some why → ChangeApplies deck change why
-  by_lists (add_post p) i = by_first (ChangeApplies deck (add_post p)) (leb 64 (length deck.posts)) Full
-      (λ t. posts_full i (leb→le 64 (length deck.posts) t)) (λ t. none_left)
+  by_lists (add_post p) i = by_first (ChangeApplies deck (add_post p)) (leb posts_limit (length deck.posts)) Full
+      (λ t. posts_full i (leb→le posts_limit (length deck.posts) t)) (λ t. none_left)
   by_lists (remove_post p) i = by_first (ChangeApplies deck (remove_post p)) (not (held (is_same_place p) deck.posts)) NotHeld
       (λ t. no_such_post i (λ m. T_not (held (is_same_place p) deck.posts) t ((post_held p deck.posts).1 m)))
       (λ t. by_first (ChangeApplies deck (remove_post p)) (eqb (length deck.posts) 1) NoPosts
       (λ u. only_post i (one_member p deck.posts ((post_held p deck.posts).0 ((both_not _).0 t)) ((same_natural (length deck.posts) 1).0 u))) (λ u. none_left))
-  by_lists (add_stop s) i = by_first (ChangeApplies deck (add_stop s)) (leb 512 (length deck.stops)) Full
-      (λ t. stops_full i (leb→le 512 (length deck.stops) t)) (λ t. none_left)
+  by_lists (add_stop s) i = by_first (ChangeApplies deck (add_stop s)) (leb stops_limit (length deck.stops)) Full
+      (λ t. stops_full i (leb→le stops_limit (length deck.stops) t)) (λ t. none_left)
   by_lists (remove_stop s) i = by_first (ChangeApplies deck (remove_stop s)) (not (held (is_same_stop s) deck.stops)) NotHeld
       (λ t. no_such_stop i (λ m. T_not (held (is_same_stop s) deck.stops) t ((stop_held s deck.stops).1 m)))
       (λ t. by_first (ChangeApplies deck (remove_stop s)) (eqb (length deck.stops) 1) NoStops
@@ -83,8 +84,8 @@ module _ (deck : Deck) where
   applied (only_stop {s} i e) = in_lists (remove_stop s) i
       ∙ cond-false (not (held (is_same_stop s) deck.stops)) _ _ ((both_not _).1 ((stop_held s deck.stops).1 (its_member e)))
       ∙ cond-true (eqb (length deck.stops) 1) _ _ ((same_natural (length deck.stops) 1).1 (ap length e))
-  applied (posts_full {p} i h) = in_lists (add_post p) i ∙ cond-true (leb 64 (length deck.posts)) _ _ (le→leb 64 (length deck.posts) h)
-  applied (stops_full {s} i h) = in_lists (add_stop s) i ∙ cond-true (leb 512 (length deck.stops)) _ _ (le→leb 512 (length deck.stops) h)
+  applied (posts_full {p} i h) = in_lists (add_post p) i ∙ cond-true (leb posts_limit (length deck.posts)) _ _ (le→leb posts_limit (length deck.posts) h)
+  applied (stops_full {s} i h) = in_lists (add_stop s) i ∙ cond-true (leb stops_limit (length deck.stops)) _ _ (le→leb stops_limit (length deck.stops) h)
 
 pub refusal_some : (change : Change) (deck : Deck) (why : Refusal) → (change_refusal change deck ≡ some why) ↔ ChangeApplies deck change why
 refusal_some change deck why = (applies deck change, applied deck)

@@ -42,10 +42,10 @@ tests deck =
 -- ---- what they say
 -- whatever the length of near, which is 0 past its end
 abbrev pub CanChange : Deck → Type 0
-CanChange deck = Allowed (held_job deck 0) × (deck.posts ≤ 64) × (deck.stops ≤ 512) × EachUpTo travel_limit deck.near deck.stops
+CanChange deck = Allowed (held_job deck 0) × (deck.posts ≤ posts_limit) × (deck.stops ≤ stops_limit) × EachUpTo travel_limit deck.near deck.stops
 
 module _ (deck : Deck) (sized : Sized deck) where
-  accepted_file : Allowed (held_job deck 0) → deck.posts ≤ 64 → deck.stops ≤ 512 → refusal_in (read_text (file_text deck 0)) ≡ none
+  accepted_file : Allowed (held_job deck 0) → deck.posts ≤ posts_limit → deck.stops ≤ stops_limit → refusal_in (read_text (file_text deck 0)) ≡ none
   accepted_file allowed posts stops = ap refusal_in (ap read_text (file_spelled deck 0 sized posts stops)
       ∙ allowed_text missing_axis _ (held_job deck 0) (saved_spells (held_job deck 0)) allowed)
 
@@ -78,7 +78,7 @@ pub record Usable (deck : Deck) : Type 0 where
   pub range : InRange (deck_of deck)
   pub nears : NearsInRange deck.near deck.stops
 
-pub usable_says : (deck : Deck) → Sized deck → length deck.near ≡ 512 → T (usable deck) → Usable deck
+pub usable_says : (deck : Deck) → Sized deck → length deck.near ≡ stops_limit → T (usable deck) → Usable deck
 usable_says deck sized long t =
     let counts = usable_counts deck sized t in
     record {

@@ -9,7 +9,7 @@ use Rattle.std.specs.Prelude as Std
 use Rattle.std.specs.Prelude.{Ok, Err}
 use Rattle.std.specs.Result.{is_ok}
 use Rattle.std.specs.List.{list_all}
-use Rattle.query.specs.Range.{travel_limit}
+use Rattle.query.specs.Range.{travel_limit, stops_limit}
 use Rattle.deck.specs.DeckOf.{Sized}
 use Rattle.deck.specs.declared.Deck.{Deck}
 use Rattle.job.specs.Format.{Result, refused, accepted, read_text}
@@ -46,7 +46,7 @@ module _ (deck : Deck) (r : Std.Result (Unit {0}) Refusal) (checked : checked_as
 
 -- its stops, by the test of the file
 pub few_stops : (deck : Deck) → Sized deck → (r : Std.Result (Unit {0}) Refusal) → checked_as r ≡ refusal_in (read_text (file_text deck 0)) →
-    {b : Bool} → b ≡ is_ok r → b ≡ true → deck.stops ≤ 512
+    {b : Bool} → b ≡ is_ok r → b ≡ true → deck.stops ≤ stops_limit
 few_stops deck sized r checked tested e =
     let t = subst T (sym e ∙ test_is deck r checked tested) tt in
     (file_is deck 0 sized ((accepts (read_text (file_text deck 0))).0 t)).few_stops

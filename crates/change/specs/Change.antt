@@ -1,4 +1,4 @@
--- Document 02, card 6: the changes of a deck, on its plain lists of posts and stops.
+-- The changes of a deck, on its lists of posts and stops (RULES "Change 6").
 use Rattle.std.specs.Prelude.{Bool, not, cond, leb, eqb, length}
 use mathlib.Core.List.{List, [], ◌∷◌, ◌++◌, foldl}
 use Rattle.std.proofs.Math.Option.{Option, none, some}
@@ -12,7 +12,7 @@ use Rattle.items.specs.Items.{is_same_place, is_same_stop, held, remove_first}
 use Rattle.refusal.specs.declared.Refusal.{Refusal}
 use Rattle.refusal.specs.declared.Refusal.TheVariants.{OutOfRange, NoPosts, NoStops, NotHeld, Full}
 
--- "four operations: add a post, take one away, add a stop, take one away", with the values of the item
+-- a change, with the values of the item that comes or goes
 pub data Change : Type 0 where
   add_post : Place → Change
   remove_post : Place → Change
@@ -27,7 +27,7 @@ with_posts posts deck = record { axis = deck.axis; area = deck.area; posts = pos
 abbrev pub with_stops : List Stop → Deck → Deck
 with_stops stops deck = record { axis = deck.axis; area = deck.area; posts = deck.posts; stops = stops }
 
--- the deck with a change made; "An added item goes last"
+-- the deck with a change made
 unfoldable pub altered : Change → Deck → Deck
 unfolding remove_first
 altered (add_post p) deck = with_posts (deck.posts ++ (p ∷ [])) deck
@@ -36,7 +36,7 @@ altered (add_stop s) deck = with_stops (deck.stops ++ (s ∷ [])) deck
 altered (remove_stop s) deck = with_stops (remove_first (is_same_stop s) deck.stops) deck
 
 -- ---- the answers
--- "a value out of range 3": by the ranges of the item's line in a job
+-- whether the numbers of an item's line in a job are in their ranges
 abbrev pub line_in_range : JobLine → Bool
 line_in_range l = in_ranges (row l.kind).ranges l.numbers
 
@@ -47,7 +47,7 @@ item_line (remove_post p) = post_line p
 item_line (add_stop s) = stop_line s
 item_line (remove_stop s) = stop_line s
 
--- the refusals that the lists of a deck give a change, each with its condition, in their order: "9 before 5 or 6"
+-- the refusals that the lists of a deck give a change, each with its condition, in their order
 abbrev pub list_conditions : Change → Deck → List (Bool × Refusal)
 list_conditions (add_post p) deck = (leb posts_limit (length deck.posts), Full) ∷ []
 list_conditions (remove_post p) deck =
@@ -56,7 +56,7 @@ list_conditions (add_stop s) deck = (leb stops_limit (length deck.stops), Full) 
 list_conditions (remove_stop s) deck =
     (not (held (is_same_stop s) deck.stops), NotHeld) ∷ (eqb (length deck.stops) 1, NoStops) ∷ []
 
--- all refusals of a change, in their order: "3 comes before both" 9 and 10. "All of these have line 0"
+-- all refusals of a change, in their order
 unfoldable pub conditions : Change → Deck → List (Bool × Refusal)
 unfolding in_ranges keep
 conditions change deck = (not (line_in_range (item_line change)), OutOfRange 0) ∷ list_conditions change deck
@@ -72,12 +72,12 @@ unfolding conditions
 change_refusal change deck = first_refusal (conditions change deck)
 
 -- ---- runs of changes
--- "A refused change leaves the record unaltered"
+-- what is there after a change: what was there, where it is refused
 abbrev pub unless_refused : {A : Type 0} → Option Refusal → A → A → A
 unless_refused none before after = after
 unless_refused (some why) before after = before
 
--- a deck after a change, and after a run of changes, of which those that are refused count as none
+-- a deck after a change, and after changes one after another, of which refused ones change nothing
 unfoldable pub changed : Deck → Change → Deck
 unfolding change_refusal altered
 changed deck change = unless_refused (change_refusal change deck) deck (altered change deck)

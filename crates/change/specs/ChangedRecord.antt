@@ -1,4 +1,4 @@
--- Document 02, card 6: the changes of a deck's record, of any numbers that it holds.
+-- The changes of a deck's record, whatever numbers it holds (RULES "Change 6").
 use Rattle.std.specs.Prelude.{ℕ, suc, ◌-◌, Bool, true, false, cond, ◌&&◌, leb, ℤ, pos, take, set, Ok, Err}
 use Rattle.std.specs.Prelude as Std
 use Rattle.std.specs.List.{list_all}
@@ -25,15 +25,14 @@ abbrev pub is_accepted : Result → Bool
 is_accepted (refused why) = false
 is_accepted (accepted job) = true
 
--- those whose file, with 0 rounds, the reader would accept, and in which near is no more than a travel can be. Every sound record is one.
--- That near and before are right is not looked at
+-- those whose file, with 0 rounds, the reader accepts, its size aside, and in which no near is above the longest travel. Every sound record
+-- is one. Whether near and before are right is not tested
 unfoldable pub usable : Deck → Bool
 unfolding job_lines checked file_text
 usable deck = is_accepted (read_text (file_text deck 0)) && list_all (λ n. leb n travel_limit) (take deck.stops deck.near)
 
 -- ---- the numbers that a change leaves
--- a record with other columns of posts and other near, and one with other columns of stops: "The stored near and `before` are brought up
--- to date", before as the sum of visits × near
+-- a record with other columns of posts and other near, and one with other columns of stops; each has the before of its visits and near
 abbrev pub with_post_columns : Deck → ℕ → List ℤ → List ℤ → List ℕ → Deck
 with_post_columns deck n xs ys nears = record {
   axis = deck.axis;
@@ -70,12 +69,12 @@ with_stop_columns deck n xs ys visits nears = record {
   before = paid visits nears n;
 }
 
--- the near of the first `deck.stops` stops, each by its place and by the near that was stored; what stands behind stays
+-- the near of the first `deck.stops` stops, each by its place and by the near that is held; what stands behind stays
 unfoldable pub renewed : Deck → (Place → ℕ → ℕ) → List ℕ
 unfolding places zip_with
 renewed deck f = paste deck.near 0 (zip_with f (places deck.stop_x deck.stop_y) deck.near) deck.stops
 
--- a record, whatever its numbers, with a change made
+-- a record with a change made
 unfoldable pub altered_record : Change → Deck → Deck
 unfolding deck_of remove_first first_place taken_out_at renewed near_with near_without closest paid
 altered_record (add_post p) deck =
@@ -97,7 +96,7 @@ altered_record (remove_stop s) deck =
     (taken_out_at deck.stops i 0 deck.near)
 
 -- ---- the change of any record
--- a record that cannot be changed gets 3, "a value out of range", whatever the change
+-- a record that cannot be changed gets 3, whatever the change
 unfoldable pub record_refusal : Change → Deck → Option Refusal
 unfolding usable deck_of change_refusal
 record_refusal change deck = cond (usable deck) (change_refusal change (deck_of deck)) (some (OutOfRange 0))

@@ -1,4 +1,4 @@
--- Document 02, card 6: what refuses a change of a deck, and what a change that is made leaves of its lists, in plain terms.
+-- What refuses a change of a deck, and which lists a change leaves where it is made, in plain terms (RULES "Change 6").
 use Rattle.std.specs.Prelude.{◌≤◌, ◌≡◌, length}
 use mathlib.Core.List.{List, [], ◌∷◌, ◌++◌, Memᴰ}
 use Rattle.query.specs.Place.{Place}
@@ -16,9 +16,8 @@ ItemInRange (remove_post p) = PlaceInRange p
 ItemInRange (add_stop s) = StopInRange s
 ItemInRange (remove_stop s) = StopInRange s
 
--- "Removing the only post gives 5, the only stop 6, a value out of range 3 .. 9, no post or stop with these values to take away; 10, a post
--- added when 64 are held now, or a stop when 512 are. 3 comes before both, and 9 before 5 or 6": each refusal of a change of a deck, with
--- its condition
+-- which refusal a change of a deck meets, by its condition: that of 3 is tested first, so all others ask for values in range, and 5 and 6
+-- for an item that the list holds
 pub data ChangeApplies (deck : Deck) : Change → Refusal → Type 0 where
   out_of_range : {change : Change} → (ItemInRange change → ⊥) → ChangeApplies deck change (OutOfRange 0)
   no_such_post : {p : Place} → PlaceInRange p → (Memᴰ p deck.posts → ⊥) → ChangeApplies deck (remove_post p) NotHeld
@@ -29,11 +28,11 @@ pub data ChangeApplies (deck : Deck) : Change → Refusal → Type 0 where
   stops_full : {s : Stop} → StopInRange s → stops_limit ≤ length deck.stops → ChangeApplies deck (add_stop s) Full
 
 -- ---- the lists
--- "removes the first that equals them; later ones move up": xs without its first x is ys
+-- xs without its first x is ys
 pub data FirstRemoved {A : Type 0} (x : A) : List A → List A → Type 0 where
   first : (front later : List A) → (Memᴰ x front → ⊥) → FirstRemoved x (front ++ (x ∷ later)) (front ++ later)
 
--- what a change that is made leaves of the lists of a deck: one is changed, and the other is not. "An added item goes last"
+-- what a change leaves of the lists of a deck: one is changed, and the other is not
 pub data Leaves (before after : Deck) : Change → Type 0 where
   post_added : {p : Place} → after.posts ≡ before.posts ++ (p ∷ []) → after.stops ≡ before.stops → Leaves before after (add_post p)
   post_removed : {p : Place} → FirstRemoved p before.posts after.posts → after.stops ≡ before.stops →

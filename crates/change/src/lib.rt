@@ -1,10 +1,10 @@
-// Changes of a deck's record: a post or a stop is added or removed, and near and before follow.
+// Changes of a deck's record (RULES "Change 6"): a post or a stop is added or removed, and near and before follow.
 #![tactic(auto)]
 
 ghost use Rattle.std.specs.Prelude.{◌≡◌, ◌-◌, ◌≤◌, ◌<◌, leb, pos, cond, ◌&&◌, T};
 ghost use Rattle.std.specs.List.{list_all};
 ghost use Rattle.std.proofs.Math.Option.{none, some};
-ghost use Rattle.query.specs.Range.{PlaceInRange, StopInRange, travel_limit};
+ghost use Rattle.query.specs.Range.{PlaceInRange, StopInRange, posts_limit, stops_limit, travel_limit};
 ghost use Rattle.deck.specs.DeckOf.{deck_of, with_figures};
 ghost use Rattle.deck.specs.StopFigures.{paid};
 ghost use Rattle.deck.specs.Ranges.{VisitsInRange, NearsInRange};
@@ -20,7 +20,7 @@ use deck::{Deck, Place, Places, Stop};
 use limits::{MOST_VISITS, POSTS, STOPS};
 use refusal::Refusal;
 
-// The longest travel.
+// The longest travel, as travel_limit of query/specs/Range.antt has it.
 const MOST_TRAVEL: u64 = 720000;
 
 // ---- which records and values are taken
@@ -31,21 +31,21 @@ fn all_travels(near: &[u64]) -> bool
     near.iter().all(|n| *n <= MOST_TRAVEL)
 }
 
-// Whether a record can be changed.
+// Whether a record can be changed: its file is one that the reader accepts, and its near are travels.
 fn usable(deck: &Deck) -> bool
     ensures { result ≡ usable deck.now }
 {
     job_check::check(deck, 0).is_ok() && all_travels(&deck.near[..deck.stops])
 }
 
-// Whether the values of a stop are in range: its visits as they are first, since large ones would be others as i64.
+// Whether the values of a stop are in range. Its visits are compared as u64 first, since as i64 large ones would be other numbers.
 fn stop_in_range(stop: Stop) -> bool
     ensures { result ≡ line_in_range (stop_line (stop_of stop)) }
 {
     stop.visits <= MOST_VISITS as u64 && job_line::stop_in_range(stop.at, stop.visits as i64)
 }
 
-// Refusal 3: of values that are not in range, or of a record that cannot be changed.
+// Refusal 3, for values that are out of range or a record that cannot be changed.
 fn check_range(deck: &Deck, in_range: bool) -> Result<(), Refusal>
     ensures { checked_as result ≡ cond (in_range && usable deck.now) none (some (OutOfRange 0)) }
 {
@@ -58,10 +58,10 @@ fn check_range(deck: &Deck, in_range: bool) -> Result<(), Refusal>
 
 // ---- the changes
 
-// Brings `before` up to date.
+// Makes `before` that of the visits and the near that are held.
 fn renew_before(deck: &mut Deck)
     requires { VisitsInRange deck.old.visits deck.old.stops × NearsInRange deck.old.near deck.old.stops
-        × (deck.old.stops ≤ 512) }
+        × (deck.old.stops ≤ stops_limit) }
     ensures { deck.new ≡ with_figures deck.old deck.old.near (paid deck.old.visits deck.old.near deck.old.stops) }
 {
     let n = deck.stops;
@@ -70,7 +70,7 @@ fn renew_before(deck: &mut Deck)
 
 // Puts a post behind the last.
 fn put_post(deck: &mut Deck, post: Place)
-    requires { T (usable deck.old) × (deck.old.posts < 64) × PlaceInRange (place_of post) }
+    requires { T (usable deck.old) × (deck.old.posts < posts_limit) × PlaceInRange (place_of post) }
     ensures { deck.new ≡ altered_record (add_post (place_of post)) deck.old }
 {
     let n = deck.stops;
@@ -85,7 +85,7 @@ fn put_post(deck: &mut Deck, post: Place)
     renew_before(deck);
 }
 
-// Takes out post i, which is the first at its place.
+// Takes out post i, counted from 0, which is the first at this place.
 fn take_post(deck: &mut Deck, post: Place, i: usize)
     requires { T (usable deck.old) × PlaceInRange (place_of post)
         × (i ≡ first_place (is_same_place (place_of post)) (deck_of deck.old).posts) × (i < deck.old.posts) × (2 ≤ deck.old.posts) }
@@ -110,7 +110,7 @@ fn take_post(deck: &mut Deck, post: Place, i: usize)
 
 // Puts a stop behind the last.
 fn put_stop(deck: &mut Deck, stop: Stop)
-    requires { T (usable deck.old) × (deck.old.stops < 512) × StopInRange (stop_of stop) }
+    requires { T (usable deck.old) × (deck.old.stops < stops_limit) × StopInRange (stop_of stop) }
     ensures { deck.new ≡ altered_record (add_stop (stop_of stop)) deck.old }
 {
     let n = deck.stops;
@@ -122,7 +122,7 @@ fn put_stop(deck: &mut Deck, stop: Stop)
     renew_before(deck);
 }
 
-// Takes out stop i.
+// Takes out stop i, counted from 0.
 fn take_stop(deck: &mut Deck, i: usize)
     requires { T (usable deck.old) × (i < deck.old.stops) × (2 ≤ deck.old.stops) }
     ensures { deck.new ≡ with_stop_columns deck.old (deck.old.stops - 1) (taken_out_at deck.old.stops i (pos 0) deck.old.stop_x)
@@ -138,7 +138,8 @@ fn take_stop(deck: &mut Deck, i: usize)
     renew_before(deck);
 }
 
-// A post is put behind the last, and near and before follow; or the refusal that applies first, with the record as it was.
+/// Adds a post behind the last, and brings near and before up to date. Refusal 3 where the place is out of range or the record cannot be
+/// changed, 10 where it has as many posts as a deck may have; each leaves the record as it was.
 pub fn add_post(deck: &mut Deck, post: Place) -> Result<(), Refusal>
     ensures { record { answer = result; deck = deck.new } ≡ changed_record (add_post (place_of post)) deck.old }
 {
@@ -150,7 +151,9 @@ pub fn add_post(deck: &mut Deck, post: Place) -> Result<(), Refusal>
     Ok(())
 }
 
-// The first post at this place is taken out, and near and before follow; or the refusal that applies first, with the record as it was.
+/// Removes the first post at this place: the later ones move up by one, 0 stands where the last was, and near and before follow. Refusal 3
+/// where the place is out of range or the record cannot be changed, 9 where no post is there, 5 where no other post is; each leaves the
+/// record as it was.
 pub fn remove_post(deck: &mut Deck, post: Place) -> Result<(), Refusal>
     ensures { record { answer = result; deck = deck.new } ≡ changed_record (remove_post (place_of post)) deck.old }
 {
@@ -164,7 +167,8 @@ pub fn remove_post(deck: &mut Deck, post: Place) -> Result<(), Refusal>
     Ok(())
 }
 
-// A stop is put behind the last, and near and before follow; or the refusal that applies first, with the record as it was.
+/// Adds a stop behind the last, with the near that the posts give it, and before follows. Refusal 3 where a value of it is out of range or
+/// the record cannot be changed, 10 where it has as many stops as a deck may have; each leaves the record as it was.
 pub fn add_stop(deck: &mut Deck, stop: Stop) -> Result<(), Refusal>
     ensures { record { answer = result; deck = deck.new } ≡ changed_record (add_stop (stop_of stop)) deck.old }
 {
@@ -176,7 +180,9 @@ pub fn add_stop(deck: &mut Deck, stop: Stop) -> Result<(), Refusal>
     Ok(())
 }
 
-// The first stop with these values is taken out, and near and before follow; or the refusal that applies first, with the record as it was.
+/// Removes the first stop with this place and these visits: the later ones move up by one with their near, 0 stands where the last was, and
+/// before follows. Refusal 3 where a value is out of range or the record cannot be changed, 9 where no stop has these values, 6 where there
+/// is no other stop; each leaves the record as it was.
 pub fn remove_stop(deck: &mut Deck, stop: Stop) -> Result<(), Refusal>
     ensures { record { answer = result; deck = deck.new } ≡ changed_record (remove_stop (stop_of stop)) deck.old }
 {

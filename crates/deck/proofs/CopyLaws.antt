@@ -1,4 +1,4 @@
--- A list copied into an array from a place on, one element after another; columns of 512 copied one behind another.
+-- A list copied into an array from a place on, one element after another; columns of `stops_limit` numbers copied one behind another.
 use mathlib.Core.Path.{◌≡◌, refl, sym, ap, subst, ◌∙◌}
 use mathlib.Core.List.{List, ◌++◌, append_assoc, append-nil}
 use Prim.Native.Nat.{ℕ, ◌+◌, ◌-◌, ◌≤◌, ◌<◌}
@@ -9,6 +9,7 @@ use lib.ListN.{length, get_or, take, drop, set, replicate, length-replicate, rep
 use lib.Seq.{take-length, drop-length, paste, paste-zero, paste-suc, length-paste}
 use lib.Seq.{drop-paste, length-take-le, get_or-take, get_or-drop, take_at, drop_at, drop-append-add}
 use Rattle.numbers.specs.Padded.{padded}
+use Rattle.query.specs.Range.{stops_limit}
 
 -- an array d into which the first n elements of s are copied from `at` on, i of them so far
 module _ {A : Type 0} (d : List A) (at : ℕ) (s : List A) (n : ℕ) where
@@ -74,16 +75,16 @@ copied_again d at s t n g h =
     rw (drop-paste d at s n g h, append_assoc (take at d) (take n s) (drop (at + n) d), take_at (take at d) _ at (length-take-le at d g))
 
 -- a column copied behind others, where all is 0 yet
-pub put_column : (before : List ℤ) (at m n : ℕ) (xs : List ℤ) → length before ≡ at → n ≤ 512 → n ≤ length xs →
-    paste (before ++ replicate (512 + m) (pos 0)) at xs n ≡ before ++ padded 512 (pos 0) (take n xs) ++ replicate m (pos 0)
+pub put_column : (before : List ℤ) (at m n : ℕ) (xs : List ℤ) → length before ≡ at → n ≤ stops_limit → n ≤ length xs →
+    paste (before ++ replicate (stops_limit + m) (pos 0)) at xs n ≡ before ++ padded stops_limit (pos 0) (take n xs) ++ replicate m (pos 0)
 unfolding padded
 put_column before at m n xs e h l =
-    ap (λ (r : List ℤ). r ++ take n xs ++ drop (at + n) (before ++ replicate (512 + m) (pos 0))) (take_at before _ at e)
-    ∙ rw (← e, drop-append-add before (replicate (512 + m) (pos 0)) n, length-take-le n xs l, split)
+    ap (λ (r : List ℤ). r ++ take n xs ++ drop (at + n) (before ++ replicate (stops_limit + m) (pos 0))) (take_at before _ at e)
+    ∙ rw (← e, drop-append-add before (replicate (stops_limit + m) (pos 0)) n, length-take-le n xs l, split)
     (sym (append_assoc (before ++ take n xs) _ _) ∙ ap (λ (r : List ℤ). r ++ replicate m (pos 0)) (append_assoc before (take n xs) _))
   where
-    split : drop n (replicate (512 + m) (pos 0)) ≡ replicate (512 - n) (pos 0) ++ replicate m (pos 0)
+    split : drop n (replicate (stops_limit + m) (pos 0)) ≡ replicate (stops_limit - n) (pos 0) ++ replicate m (pos 0)
     split =
-        let k : 512 + m ≡ n + (512 - n + m) = omega arith in
-        rw (k, ← replicate-append-replicate n (512 - n + m) (pos 0), drop_at (replicate n (pos 0)) _ n (length-replicate n (pos 0)))
-        (sym (replicate-append-replicate (512 - n) m (pos 0)))
+        let k : stops_limit + m ≡ n + (stops_limit - n + m) = omega arith in
+        rw (k, ← replicate-append-replicate n (stops_limit - n + m) (pos 0), drop_at (replicate n (pos 0)) _ n (length-replicate n (pos 0)))
+        (sym (replicate-append-replicate (stops_limit - n) m (pos 0)))

@@ -9,7 +9,7 @@ use lib.Seq.{take-nil, take-take}
 use Rattle.query.specs.Place.{Place}
 use Rattle.query.specs.Deck as Query
 use Rattle.query.specs.Deck.{AxisCosts, Stop}
-use Rattle.query.specs.Range.{InRange, StopInRange, PlaceInRange}
+use Rattle.query.specs.Range.{InRange, StopInRange, PlaceInRange, posts_limit, stops_limit}
 use Rattle.numbers.specs.Integer.{times}
 use Rattle.numbers.specs.Padded.{padded}
 use Rattle.deck.specs.declared.Deck.{Deck}
@@ -97,8 +97,8 @@ scaled_places c (x ∷ xs) (y ∷ ys) = ap (λ (l : List Place). scaled_place c 
 -- ---- the columns of a deck's record
 pub record DeckColumns (deck : Deck) : Type 0 where
   pub sized : Sized deck
-  pub posts : deck.posts ≤ 64
-  pub stops : deck.stops ≤ 512
+  pub posts : deck.posts ≤ posts_limit
+  pub stops : deck.stops ≤ stops_limit
 
 abbrev pub stop_in : List ℤ → List ℤ → List ℕ → ℕ → Stop
 stop_in xs ys vs i = record { at = place_at xs ys i; visits = get_or vs i 0 }
@@ -121,7 +121,7 @@ all_stops deck = stops_of (places deck.stop_x deck.stop_y) deck.visits
 
 -- how many posts and stops a record holds
 module _ (deck : Deck) (sized : Sized deck) where
-  pub posts_counted : length (deck_of deck).posts ≡ min deck.posts 64
+  pub posts_counted : length (deck_of deck).posts ≡ min deck.posts posts_limit
   unfolding deck_of
   posts_counted = omega (
     arith,
@@ -131,7 +131,7 @@ module _ (deck : Deck) (sized : Sized deck) where
     sized.post_y,
   )
 
-  pub stops_counted : length (deck_of deck).stops ≡ min deck.stops 512
+  pub stops_counted : length (deck_of deck).stops ≡ min deck.stops stops_limit
   unfolding deck_of
   stops_counted = omega (
     arith,
@@ -150,7 +150,7 @@ module _ (deck : Deck) (columns : DeckColumns deck) where
     visits = omega (arith, columns.stops, columns.sized.visits);
   }
 
-  stops_long : length (all_stops deck) ≡ 512
+  stops_long : length (all_stops deck) ≡ stops_limit
   stops_long = omega (
     arith,
     stops_length deck.stop_x deck.stop_y deck.visits,
@@ -159,7 +159,7 @@ module _ (deck : Deck) (columns : DeckColumns deck) where
     columns.sized.visits,
   )
 
-  pub stops_at : (i : ℕ) (d : Stop) → i < 512 → get_or (all_stops deck) i d ≡ stop_at deck i
+  pub stops_at : (i : ℕ) (d : Stop) → i < stops_limit → get_or (all_stops deck) i d ≡ stop_at deck i
   stops_at i d h = stops_in deck.stop_x deck.stop_y deck.visits i d (omega (arith, columns.sized.stop_x)) (omega (arith, columns.sized.stop_y))
       (omega (arith, columns.sized.visits))
 
@@ -181,7 +181,7 @@ module _ (deck : Deck) (columns : DeckColumns deck) where
     unfolding deck_of
     costs_range = record { some = range.axis_some; most = range.axis_most }
 
-    pub stops_range : PlacesInRange 512 deck.stop_x deck.stop_y deck.stops
+    pub stops_range : PlacesInRange stops_limit deck.stop_x deck.stop_y deck.stops
     stops_range = record {
       x = record { count = counted.x; range = λ i h. (stop_range i h).place.x_range };
       y = record { count = counted.y; range = λ i h. (stop_range i h).place.y_range };
@@ -191,7 +191,7 @@ module _ (deck : Deck) (columns : DeckColumns deck) where
     pub visits_range : VisitsInRange deck.visits deck.stops
     visits_range = record { count = counted.visits; range = λ i h. (stop_range i h).most_visits }
 
-    pub posts_range : PlacesInRange 64 deck.post_x deck.post_y deck.posts
+    pub posts_range : PlacesInRange posts_limit deck.post_x deck.post_y deck.posts
     posts_range = record {
       x = record { count = omega (arith, columns.posts, columns.sized.post_x); range = λ i h. (post_in_range i h).x_range };
       y = record { count = omega (arith, columns.posts, columns.sized.post_y); range = λ i h. (post_in_range i h).y_range };

@@ -1,7 +1,7 @@
 -- The columns of objects as they are made of columns of numbers, one behind another: x and y scaled, and behind them visits and near.
 use mathlib.Core.Path.{◌≡◌, refl, sym, ap, ◌∙◌}
 use mathlib.Core.List.{List, [], ◌∷◌, ◌++◌, map, append_assoc}
-use Prim.Native.Nat.{ℕ, ◌+◌, ◌-◌, ◌≤◌}
+use Prim.Native.Nat.{ℕ, ◌+◌, ◌-◌, ◌*◌, ◌≤◌}
 use native.Mathlib.Omega.{arith}
 use lib.IntN.{ℤ, pos}
 use lib.ListN.{length, take, drop, set, replicate, length-append, length-map, length-take}
@@ -12,44 +12,42 @@ use Rattle.numbers.specs.Integer.{times}
 use Rattle.numbers.specs.Padded.{padded}
 use Rattle.numbers.proofs.Padded.{padded_length, padded_front}
 use Rattle.query.specs.Deck.{AxisCosts}
+use Rattle.query.specs.Range.{stops_limit}
 use Rattle.deck.specs.Objects.{stored_pricing}
 use Rattle.deck.specs.ObjectColumns.{object_columns, columns_of}
-use Rattle.deck.specs.Ranges.{NaturalsUpTo, VisitsInRange, NearsInRange, PlacesInRange}
+use Rattle.deck.specs.Ranges.{VisitsInRange, NearsInRange, PlacesInRange}
+use Rattle.deck.specs.Columns.{y_column, visits_column, near_column, x_cost_place, y_cost_place, columns_size}
 use Rattle.deck.proofs.CopyLaws.{put_column}
 use Rattle.deck.proofs.ColumnLaws.{columns_length}
 use Rattle.deck.proofs.DeckLaws.{map_take}
 use Rattle.deck.proofs.StoredLaws.{stored, stored_count, stored_columns}
 
 -- two numbers put behind others, where 0 was
-costs_put : (xs : List ℤ) (u v : ℤ) → length xs ≡ 2048 → set (set (xs ++ replicate 2 (pos 0)) 2048 u) 2049 v ≡ xs ++ (u ∷ v ∷ [])
-costs_put xs u v e = rw (set_at xs (pos 0) (pos 0 ∷ []) u 2048 e) (
-    ap (λ (l : List ℤ). set l 2049 v) (sym (append_assoc xs (u ∷ []) (pos 0 ∷ [])))
-    ∙ set_at (xs ++ (u ∷ [])) (pos 0) [] v 2049 (omega (arith, length-append xs (u ∷ [])))
+costs_put : (xs : List ℤ) (u v : ℤ) → length xs ≡ x_cost_place → set (set (xs ++ replicate 2 (pos 0)) x_cost_place u) y_cost_place v ≡ xs ++ (u ∷ v ∷ [])
+costs_put xs u v e = rw (set_at xs (pos 0) (pos 0 ∷ []) u x_cost_place e) (
+    ap (λ (l : List ℤ). set l y_cost_place v) (sym (append_assoc xs (u ∷ []) (pos 0 ∷ [])))
+    ∙ set_at (xs ++ (u ∷ [])) (pos 0) [] v y_cost_place (omega (arith, length-append xs (u ∷ [])))
     ∙ append_assoc xs (u ∷ []) (v ∷ []))
 
--- numbers up to a limit are up to a larger one
-pub wider : {most more : ℕ} {vs : List ℕ} {n : ℕ} → most ≤ more → NaturalsUpTo most vs n → NaturalsUpTo more vs n
-wider h range = record { count = range.count; range = λ i l. omega (arith, range.range i l) }
-
 -- ---- columns of n numbers, one behind another
-module _ (n : ℕ) (few : n ≤ 512) where
+module _ (n : ℕ) (few : n ≤ stops_limit) where
   abbrev pub padded_column : List ℤ → List ℤ
-  padded_column xs = padded 512 (pos 0) (take n xs)
+  padded_column xs = padded stops_limit (pos 0) (take n xs)
 
-  pub column_long : (xs : List ℤ) → length (padded_column xs) ≡ 512
-  column_long xs = padded_length 512 (pos 0) (take n xs) (omega (arith, length-take n xs))
+  pub column_long : (xs : List ℤ) → length (padded_column xs) ≡ stops_limit
+  column_long xs = padded_length stops_limit (pos 0) (take n xs) (omega (arith, length-take n xs))
 
   column_front : (xs : List ℤ) → n ≤ length xs → take n (padded_column xs) ≡ take n xs
-  column_front xs h = ap (λ (m : ℕ). take m (padded_column xs)) (sym (length-take-le n xs h)) ∙ padded_front 512 (pos 0) (take n xs)
+  column_front xs h = ap (λ (m : ℕ). take m (padded_column xs)) (sym (length-take-le n xs h)) ∙ padded_front stops_limit (pos 0) (take n xs)
 
   -- those of x and y
-  module _ (us ws : List ℤ) {a b : List ℤ} (x : n ≤ length us) (y : n ≤ length ws) (ea : a ≡ paste (replicate 2050 (pos 0)) 0 us n)
-      (eb : b ≡ paste a 512 ws n) where
-    pub places_put : b ≡ padded_column us ++ padded_column ws ++ replicate 1026 (pos 0)
-    places_put = eb ∙ ap (λ (l : List ℤ). paste l 512 ws n) (ea ∙ put_column [] 0 1538 n us refl few x)
-        ∙ put_column (padded_column us) 512 1026 n ws (column_long us) few y
+  module _ (us ws : List ℤ) {a b : List ℤ} (x : n ≤ length us) (y : n ≤ length ws) (ea : a ≡ paste (replicate columns_size (pos 0)) 0 us n)
+      (eb : b ≡ paste a y_column ws n) where
+    pub places_put : b ≡ padded_column us ++ padded_column ws ++ replicate (2 * stops_limit + 2) (pos 0)
+    places_put = eb ∙ ap (λ (l : List ℤ). paste l y_column ws n) (ea ∙ put_column [] 0 (3 * stops_limit + 2) n us refl few x)
+        ∙ put_column (padded_column us) y_column (2 * stops_limit + 2) n ws (column_long us) few y
 
-    pub two_columns : length (padded_column us ++ padded_column ws) ≡ 1024
+    pub two_columns : length (padded_column us ++ padded_column ws) ≡ visits_column
     two_columns = omega (arith, length-append (padded_column us) (padded_column ws), column_long us, column_long ws)
 
     pub x_front : take n b ≡ take n us
@@ -57,12 +55,12 @@ module _ (n : ℕ) (few : n ≤ 512) where
         (take-append-le n (padded_column us ++ padded_column ws) _ (omega (arith, two_columns))
         ∙ take-append-le n (padded_column us) (padded_column ws) (omega (arith, column_long us)) ∙ column_front us x)
 
-    pub y_front : take n (drop 512 b) ≡ take n ws
+    pub y_front : take n (drop y_column b) ≡ take n ws
     y_front =
         rw (
           places_put,
-          append_assoc (padded_column us) (padded_column ws) (replicate 1026 (pos 0)),
-          drop_at (padded_column us) (padded_column ws ++ replicate 1026 (pos 0)) 512 (column_long us),
+          append_assoc (padded_column us) (padded_column ws) (replicate (2 * stops_limit + 2) (pos 0)),
+          drop_at (padded_column us) (padded_column ws ++ replicate (2 * stops_limit + 2) (pos 0)) y_column (column_long us),
         )
         (take-append-le n (padded_column ws) _ (omega (arith, column_long ws)) ∙ column_front ws y)
 
@@ -71,14 +69,14 @@ pub part_put : (at n : ℕ) (d xs : List ℤ) {part : List ℤ} → part ≡ tak
 part_put at n d xs {part} e h = put_mid-paste at (at + n - at) d part (take n xs) n e (omega arith) (omega (arith, length-take-le n xs h))
     ∙ ap (λ (l : List ℤ). take at d ++ l ++ drop (at + n) d) (take-take n n xs (omega arith))
 
-pub placed : (axis : AxisCosts) (d : List ℤ) {xs ys : List ℤ} → PlacesInRange 512 xs ys (length xs) → {u v : List ℤ} → u ≡ map (times axis.a) xs →
+pub placed : (axis : AxisCosts) (d : List ℤ) {xs ys : List ℤ} → PlacesInRange stops_limit xs ys (length xs) → {u v : List ℤ} → u ≡ map (times axis.a) xs →
     v ≡ map (times axis.b) (take (length xs) ys) →
-    put_mid 512 (512 + length xs - 512) (u ++ drop (length xs) d) v ≡ paste (paste d 0 (map (times axis.a) xs) (length xs)) 512
+    put_mid y_column (y_column + length xs - y_column) (u ++ drop (length xs) d) v ≡ paste (paste d 0 (map (times axis.a) xs) (length xs)) y_column
     (map (times axis.b) ys) (length xs)
 placed axis d {xs} {ys} range {u} {v} eu ev =
-    part_put 512 (length xs) (u ++ drop (length xs) d) (map (times axis.b) ys) (ev ∙ map_take (times axis.b) (length xs) ys)
+    part_put y_column (length xs) (u ++ drop (length xs) d) (map (times axis.b) ys) (ev ∙ map_take (times axis.b) (length xs) ys)
     (omega (arith, range.y.count, length-map ys (times axis.b)))
-    ∙ ap (λ (l : List ℤ). paste l 512 (map (times axis.b) ys) (length xs)) front
+    ∙ ap (λ (l : List ℤ). paste l y_column (map (times axis.b) ys) (length xs)) front
   where
     at : 0 + length xs ≡ length xs
     at = omega arith
@@ -91,7 +89,7 @@ placed axis d {xs} {ys} range {u} {v} eu ev =
         ∙ ap (λ (m : ℕ). take (length xs) (map (times axis.a) xs) ++ drop m d) (sym at)
 
 -- ---- all columns, of what a record holds
-module _ (axis : AxisCosts) {xs ys : List ℤ} {vs ns : List ℕ} {n : ℕ} (places : PlacesInRange 512 xs ys n) (visits : VisitsInRange vs n)
+module _ (axis : AxisCosts) {xs ys : List ℤ} {vs ns : List ℕ} {n : ℕ} (places : PlacesInRange stops_limit xs ys n) (visits : VisitsInRange vs n)
     (nears : NearsInRange ns n) where
   scaled_x : n ≤ length (map (times axis.a) xs)
   scaled_x = omega (arith, places.x.count, length-map xs (times axis.a))
@@ -111,28 +109,39 @@ module _ (axis : AxisCosts) {xs ys : List ℤ} {vs ns : List ℕ} {n : ℕ} (pla
   abbrev v : List ℤ
   v = padded_column n places.few (map pos vs)
 
-  module _ {b c d : List ℤ} (eb : b ≡ paste (paste (replicate 2050 (pos 0)) 0 (map (times axis.a) xs) n) 512 (map (times axis.b) ys) n)
-      (ec : c ≡ paste b 1024 (map pos vs) n) (ed : d ≡ paste c 1536 (map pos ns) n) where
-    two : length (x ++ y) ≡ 1024
+  -- a column of natural numbers put at its place
+  naturals_put : (at : ℕ) (d : List ℤ) (l : List ℕ) {part : List ℤ} → n ≤ length l → part ≡ map pos (take n l) →
+      put_mid at (at + n - at) d part ≡ paste d at (map pos l) n
+  naturals_put at d l h e = part_put at n d (map pos l) (e ∙ map_take pos n l) (naturals l h)
+
+  module _ {b us ws : List ℤ} (eb : b ≡ paste (paste (replicate columns_size (pos 0)) 0 (map (times axis.a) xs) n) y_column (map (times axis.b) ys) n)
+      (eu : us ≡ map pos (take n vs)) (ew : ws ≡ map pos (take n ns)) where
+    abbrev c : List ℤ
+    c = put_mid visits_column (visits_column + n - visits_column) b us
+
+    abbrev d : List ℤ
+    d = put_mid near_column (near_column + n - near_column) c ws
+
+    two : length (x ++ y) ≡ visits_column
     two = two_columns n places.few _ _ scaled_x scaled_y refl eb
 
-    three : length (x ++ y ++ v) ≡ 1536
+    three : length (x ++ y ++ v) ≡ near_column
     three = omega (arith, length-append (x ++ y) v, two, column_long n places.few (map pos vs))
 
     objects : d ≡ x ++ y ++ v ++ padded_column n places.few (map pos ns) ++ replicate 2 (pos 0)
     objects =
-        ed
-        ∙ ap (λ (l : List ℤ). paste l 1536 (map pos ns) n)
-        (ec ∙ ap (λ (l : List ℤ). paste l 1024 (map pos vs) n) (places_put n places.few _ _ scaled_x scaled_y refl eb)
-        ∙ put_column (x ++ y) 1024 514 n (map pos vs) two places.few (naturals vs visits.count))
-        ∙ put_column (x ++ y ++ v) 1536 2 n (map pos ns) three places.few (naturals ns nears.count)
+        naturals_put near_column c ns nears.count ew
+        ∙ ap (λ (l : List ℤ). paste l near_column (map pos ns) n)
+        (naturals_put visits_column b vs visits.count eu ∙ ap (λ (l : List ℤ). paste l visits_column (map pos vs) n) (places_put n places.few _ _ scaled_x scaled_y refl eb)
+        ∙ put_column (x ++ y) visits_column (stops_limit + 2) n (map pos vs) two places.few (naturals vs visits.count))
+        ∙ put_column (x ++ y ++ v) near_column 2 n (map pos ns) three places.few (naturals ns nears.count)
 
     -- and the costs behind them
-    pub made_columns : {t u : ℤ} → t ≡ pos axis.a → u ≡ pos axis.b → set (set d 2048 t) 2049 u ≡ columns_of (stored_pricing axis xs ys vs ns n)
+    pub made_columns : {t u : ℤ} → t ≡ pos axis.a → u ≡ pos axis.b → set (set d x_cost_place t) y_cost_place u ≡ columns_of (stored_pricing axis xs ys vs ns n)
     unfolding columns_of
-    made_columns et eu =
+    made_columns ex ey =
         let held = stored axis places visits nears in
         let count = stored_count axis places visits nears in
         let columns = stored_columns axis places visits nears in
-        (λ i. set (set ((objects ∙ ap (λ (l : List ℤ). l ++ replicate 2 (pos 0)) (sym columns)) i) 2048 (et i)) 2049 (eu i))
+        (λ i. set (set ((objects ∙ ap (λ (l : List ℤ). l ++ replicate 2 (pos 0)) (sym columns)) i) x_cost_place (ex i)) y_cost_place (ey i))
         ∙ costs_put (object_columns held) (pos axis.a) (pos axis.b) (columns_length held (omega (arith, count, places.few)))

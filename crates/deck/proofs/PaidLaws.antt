@@ -10,6 +10,7 @@ use lib.Seq.{take-suc}
 use Rattle.numbers.specs.Lists.{sum_of}
 use Rattle.numbers.specs.Padded.{padded}
 use Rattle.query.specs.Deck.{Stop}
+use Rattle.query.specs.Range.{stops_limit, visits_limit, travel_limit, cost_limit}
 use Rattle.deck.specs.Ranges.{VisitsInRange, NearsInRange}
 use Rattle.deck.specs.StopFigures.{paid}
 use Rattle.deck.proofs.ClosestLaws.{zip_length, zip_at}
@@ -19,18 +20,21 @@ unfolding sum_of
 sum_snoc [] x = omega arith
 sum_snoc (y ∷ ys) x = omega (arith, sum_snoc ys x)
 
--- ---- the first i terms
+-- ---- the first i terms, each at most this
+abbrev pub term_limit : ℕ
+term_limit = visits_limit * travel_limit
+
 pub record Paid (visits nears : List ℕ) (n sum i : ℕ) : Type 0 where
   pub count : i ≤ n
   pub is : sum ≡ paid visits nears i
-  pub most : sum ≤ i * 47185200000
+  pub most : sum ≤ i * term_limit
 
 pub paid_none : (visits nears : List ℕ) (n : ℕ) → Paid visits nears n 0 0
 unfolding paid sum_of
 paid_none visits nears n = record { count = omega arith; is = refl; most = omega arith }
 
 module _ {visits nears : List ℕ} {n : ℕ} (v : VisitsInRange visits n) (k : NearsInRange nears n) where
-  pub term_most : (i : ℕ) → i < n → get_or visits i 0 * get_or nears i 0 ≤ 47185200000
+  pub term_most : (i : ℕ) → i < n → get_or visits i 0 * get_or nears i 0 ≤ term_limit
   term_most i h = mul-le-mul (v.range i h) (k.range i h)
 
   pub paid_more : {sum i : ℕ} → Paid visits nears n sum i → i < n → Paid visits nears n (sum + get_or visits i 0 * get_or nears i 0) (i + 1)
@@ -48,10 +52,10 @@ module _ {visits nears : List ℕ} {n : ℕ} (v : VisitsInRange visits n) (k : N
 
   -- the next term, of numbers that are read from the columns
   module _ {sum i w m : ℕ} (so_far : Paid visits nears n sum i) (turn : i < n) (e : w ≡ get_or visits i 0) (f : m ≡ get_or nears i 0) where
-    pub term_fits : w * m ≤ 47185200000
+    pub term_fits : w * m ≤ term_limit
     term_fits = rw (e, f) (term_most i turn)
 
-    pub sum_fits : n ≤ 512 → sum + w * m ≤ 24158822400000
+    pub sum_fits : n ≤ stops_limit → sum + w * m ≤ cost_limit
     sum_fits few = omega (arith, term_fits, so_far.most, turn)
 
     pub paid_turn : Paid visits nears n (sum + w * m) (i + 1)

@@ -16,6 +16,7 @@ use Rattle.numbers.specs.Integer.{times}
 use Rattle.query.specs.Place.{Place}
 use Rattle.query.specs.Deck.{AxisCosts, plain}
 use Rattle.query.specs.Travel.{travel, closest}
+use Rattle.query.specs.Range.{posts_limit}
 use Rattle.deck.specs.DeckOf.{places}
 use Rattle.deck.specs.Objects.{scaled_place}
 use Rattle.deck.specs.Ranges.{CostsInRange, CoordinatesInRange, PlacesInRange}
@@ -26,7 +27,7 @@ use Rattle.deck.proofs.MadeNears.{front_range}
 use Rattle.deck.proofs.ScaleLaws.{scaled_range}
 
 -- ---- posts that were scaled in words: the front of two columns
-module _ {axis : AxisCosts} {px py : List ℤ} {k : ℕ} (costs : CostsInRange axis) (posts : PlacesInRange 64 px py k) where
+module _ {axis : AxisCosts} {px py : List ℤ} {k : ℕ} (costs : CostsInRange axis) (posts : PlacesInRange posts_limit px py k) where
   -- the column of x
   module _ {qx : List ℤ} (ex : qx ≡ map (times axis.a) px) (whole : length px ≡ k) (more : List ℤ) where
     x_long : length qx ≡ k

@@ -7,49 +7,40 @@ use lib.IntN.{ℤ, pos, negsuc, nat_abs, ◌*ℤ◌}
 use lib.ListN.{get_or, length-map}
 use lib.Signed.{◌≤ℤ◌}
 use mir.Syntax.{w32, w64}
-use mir.Val.{SFits, to_z, of_z}
+use mir.Val.{to_z, of_z}
 use mir.ValLaws.{to_z_pos}
 use Rattle.numbers.specs.Integer.{times}
 use Rattle.numbers.proofs.Integer.{order}
 use Rattle.numbers.proofs.Scaling.{scaled_at, scale_most}
-use Rattle.numbers.proofs.Words.{word_fits}
-use Rattle.deck.specs.Ranges.{AxisCostInRange, Scaled, CoordinatesUpTo, CoordinatesInRange}
+use Rattle.query.specs.Range.{coordinate_limit, axis_cost_limit}
+use Rattle.deck.specs.Ranges.{AxisCostInRange, Scaled, CoordinatesUpTo, CoordinatesInRange, scaled_limit}
 use Rattle.deck.proofs.WordLaws.{coordinate, wide, narrowed}
 
 natural : (k : ℤ) → pos 1 ≤ℤ k → k ≡ pos (nat_abs k)
 natural (pos k) h = omega (arith, order)
 natural (negsuc k) h = absurd (omega (arith, order))
 
-pub natural_word : (n : ℕ) → n ≤ 9 → to_z w32 n ≡ pos n
+pub natural_word : (n : ℕ) → n ≤ axis_cost_limit → to_z w32 n ≡ pos n
 natural_word n h = to_z_pos w32 n (omega arith)
 
-cost_of_lem : (n : ℕ) → 1 ≤ n → n ≤ 9 → AxisCostInRange (pos n)
-cost_of_lem n g h = record { some = omega (arith, order); most = h }
-
-module _ (k v : ℤ) (cost : AxisCostInRange k) (h : nat_abs v ≤ 20000) where
+module _ (k v : ℤ) (cost : AxisCostInRange k) (h : nat_abs v ≤ coordinate_limit) where
   product_is : to_z w32 (of_z w32 k) *ℤ to_z w32 (of_z w32 (to_z w64 (of_z w64 v))) ≡ times (nat_abs k) v
   unfolding times
   product_is = (λ i. coordinate k (omega (arith, cost.most)) i *ℤ narrowed v (omega arith) i) ∙ ap (λ (z : ℤ). z *ℤ v) (natural k cost.some)
 
-  small : nat_abs (times (nat_abs k) v) ≤ 180000
-  small = scale_most (nat_abs k) 9 20000 v cost.most h
-
-  pub product_fits : SFits w32 (to_z w32 (of_z w32 k) *ℤ to_z w32 (of_z w32 (to_z w64 (of_z w64 v))))
-  product_fits = rw product_is (word_fits w32 (times (nat_abs k) v) (omega (arith, small)))
+  small : nat_abs (times (nat_abs k) v) ≤ scaled_limit
+  small = scale_most (nat_abs k) axis_cost_limit coordinate_limit v cost.most h
 
   pub product_scaled : Scaled k v (to_z w32 (of_z w32 (to_z w32 (of_z w32 k) *ℤ to_z w32 (of_z w32 (to_z w64 (of_z w64 v))))))
   product_scaled = rw (product_is, coordinate (times (nat_abs k) v) small) (record { is = refl; small = small })
 
 -- what `scaled` gives of words
-pub scaled_word : {k r : ℤ} (v : ℤ) → nat_abs v ≤ 20000 → Scaled k (to_z w64 (of_z w64 v)) r → to_z w32 (of_z w32 r) ≡ times (nat_abs k) v
+pub scaled_word : {k r : ℤ} (v : ℤ) → nat_abs v ≤ coordinate_limit → Scaled k (to_z w64 (of_z w64 v)) r → to_z w32 (of_z w32 r) ≡ times (nat_abs k) v
 scaled_word {k} {r} v h e = coordinate r e.small ∙ e.is ∙ ap (times (nat_abs k)) (wide v (omega arith))
 
 -- the first n coordinates of a column, scaled
-pub scaled_range : (k : ℕ) (xs : List ℤ) (n : ℕ) → k ≤ 9 → CoordinatesUpTo 20000 xs n → CoordinatesInRange (map (times k) xs) n
+pub scaled_range : (k : ℕ) (xs : List ℤ) (n : ℕ) → k ≤ axis_cost_limit → CoordinatesUpTo coordinate_limit xs n → CoordinatesInRange (map (times k) xs) n
 scaled_range k xs n h range = record {
   count = omega (arith, range.count, length-map xs (times k));
-  range = λ i l. rw (scaled_at k xs i) (scale_most k 9 20000 (get_or xs i (pos 0)) h (range.range i l));
+  range = λ i l. rw (scaled_at k xs i) (scale_most k axis_cost_limit coordinate_limit (get_or xs i (pos 0)) h (range.range i l));
 }
-
-pub cost_natural : (n : ℕ) → (1 ≤ n) × (n ≤ 9) → AxisCostInRange (to_z w32 n)
-cost_natural n h = rw (natural_word n h.1) (cost_of_lem n h.0 h.1)

@@ -13,7 +13,7 @@ use Rattle.query.specs.Deck as Query
 use Rattle.query.specs.Deck.{Stop}
 use Rattle.query.specs.Travel.{closest, near}
 use Rattle.query.specs.Cost.{before}
-use Rattle.query.specs.Range.{InRange}
+use Rattle.query.specs.Range.{InRange, posts_limit, stops_limit, travel_limit}
 use Rattle.query.proofs.Ranges.{figure_limits}
 use Rattle.deck.specs.declared.Deck.{Deck}
 use Rattle.deck.specs.DeckOf.{Sized, held_axis, places, deck_of, deck_record}
@@ -28,11 +28,11 @@ module _ (deck : Query.Deck) (range : InRange deck) where
   pub record_sized : Sized (deck_record deck)
   unfolding deck_record
   record_sized = record {
-    post_x = padded_length 64 (pos 0) (map (λ p. p.x) deck.posts) (omega (arith, length-map deck.posts (λ p. p.x), range.most_posts));
-    post_y = padded_length 64 (pos 0) (map (λ p. p.y) deck.posts) (omega (arith, length-map deck.posts (λ p. p.y), range.most_posts));
-    stop_x = padded_length 512 (pos 0) (map (λ s. s.at.x) deck.stops) (omega (arith, length-map deck.stops (λ s. s.at.x), range.most_stops));
-    stop_y = padded_length 512 (pos 0) (map (λ s. s.at.y) deck.stops) (omega (arith, length-map deck.stops (λ s. s.at.y), range.most_stops));
-    visits = padded_length 512 0 (map (λ s. s.visits) deck.stops) (omega (arith, length-map deck.stops (λ s. s.visits), range.most_stops));
+    post_x = padded_length posts_limit (pos 0) (map (λ p. p.x) deck.posts) (omega (arith, length-map deck.posts (λ p. p.x), range.most_posts));
+    post_y = padded_length posts_limit (pos 0) (map (λ p. p.y) deck.posts) (omega (arith, length-map deck.posts (λ p. p.y), range.most_posts));
+    stop_x = padded_length stops_limit (pos 0) (map (λ s. s.at.x) deck.stops) (omega (arith, length-map deck.stops (λ s. s.at.x), range.most_stops));
+    stop_y = padded_length stops_limit (pos 0) (map (λ s. s.at.y) deck.stops) (omega (arith, length-map deck.stops (λ s. s.at.y), range.most_stops));
+    visits = padded_length stops_limit 0 (map (λ s. s.visits) deck.stops) (omega (arith, length-map deck.stops (λ s. s.visits), range.most_stops));
   }
 
   pub record_sound : NonEmpty deck.area → Sound (deck_record deck)
@@ -42,14 +42,14 @@ module _ (deck : Query.Deck) (range : InRange deck) where
     whole = ap deck_record (sym (held_deck deck));
   }
 
-  nears_limit : (i : ℕ) → get_or (padded 512 0 (map (near deck) deck.stops)) i 0 ≤ 720000
-  nears_limit = padded_each (λ (m : ℕ). m ≤ 720000) 0 (omega arith) 512 (map (near deck) deck.stops)
-      (each_map (λ (m : ℕ). m ≤ 720000) (near deck) deck.stops (figure_limits deck range).near_limit)
+  nears_limit : (i : ℕ) → get_or (padded stops_limit 0 (map (near deck) deck.stops)) i 0 ≤ travel_limit
+  nears_limit = padded_each (λ (m : ℕ). m ≤ travel_limit) 0 (omega arith) stops_limit (map (near deck) deck.stops)
+      (each_map (λ (m : ℕ). m ≤ travel_limit) (near deck) deck.stops (figure_limits deck range).near_limit)
 
   record_nears : NearsInRange (deck_record deck).near (deck_record deck).stops
   unfolding deck_record
   record_nears = record {
-    count = omega (arith, padded_length 512 0 (map (near deck) deck.stops) (omega (arith, few, range.most_stops)), range.most_stops);
+    count = omega (arith, padded_length stops_limit 0 (map (near deck) deck.stops) (omega (arith, few, range.most_stops)), range.most_stops);
     range = λ i h. nears_limit i;
   }
     where
@@ -59,10 +59,10 @@ module _ (deck : Query.Deck) (range : InRange deck) where
 -- ---- near found of a record's columns is that of its deck
 pub found_nears : (deck : Deck) → DeckColumns deck → {nears : List ℕ} → Nears (held_axis deck.axis)
     (take deck.posts (places deck.post_x deck.post_y)) (take deck.stops (places deck.stop_x deck.stop_y)) nears →
-    nears ≡ padded 512 0 (map (near (deck_of deck)) (deck_of deck).stops)
+    nears ≡ padded stops_limit 0 (map (near (deck_of deck)) (deck_of deck).stops)
 unfolding deck_of near
 found_nears deck columns found =
-    found.are ∙ ap (padded 512 0) (map_take (λ p. closest (held_axis deck.axis) p (deck_of deck).posts) deck.stops _
+    found.are ∙ ap (padded stops_limit 0) (map_take (λ p. closest (held_axis deck.axis) p (deck_of deck).posts) deck.stops _
     ∙ sym (by_place (counted deck columns) (near (deck_of deck)) (λ p. closest (held_axis deck.axis) p (deck_of deck).posts) (λ p v. refl)))
 
 -- ---- a sound record
@@ -78,10 +78,10 @@ module _ {deck : Deck} (sound : Sound deck) where
   pub sound_nears : NearsInRange deck.near deck.stops
   sound_nears = subst (λ (d : Deck). NearsInRange d.near d.stops) (sym sound.whole) (record_nears (deck_of deck) sound.range)
 
-  pub sound_limit : (i : ℕ) → get_or (padded 512 0 (map (near (deck_of deck)) (deck_of deck).stops)) i 0 ≤ 720000
+  pub sound_limit : (i : ℕ) → get_or (padded stops_limit 0 (map (near (deck_of deck)) (deck_of deck).stops)) i 0 ≤ travel_limit
   sound_limit = nears_limit (deck_of deck) sound.range
 
-  pub sound_near : deck.near ≡ padded 512 0 (map (near (deck_of deck)) (deck_of deck).stops)
+  pub sound_near : deck.near ≡ padded stops_limit 0 (map (near (deck_of deck)) (deck_of deck).stops)
   unfolding deck_record
   sound_near = ap (λ (d : Deck). d.near) sound.whole
 

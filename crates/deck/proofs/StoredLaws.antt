@@ -9,6 +9,7 @@ use lib.Seq.{take_all, length-take-le}
 use Rattle.numbers.specs.Integer.{times}
 use Rattle.numbers.specs.Padded.{padded}
 use Rattle.query.specs.Deck.{AxisCosts, Stop}
+use Rattle.query.specs.Range.{stops_limit}
 use Rattle.deck.specs.DeckOf.{places, stops_of}
 use Rattle.deck.specs.Objects.{scaled_place, Object, stored_objects}
 use Rattle.deck.specs.Ranges.{VisitsInRange, NearsInRange, PlacesInRange}
@@ -19,7 +20,7 @@ use Rattle.deck.proofs.DeckLaws.{zip_first, zip_second, by_x, by_y, by_visits, S
 abbrev pub object_of : AxisCosts → Stop → ℕ → Object
 object_of axis stop near = record { at = scaled_place axis stop.at; visits = stop.visits; near = near }
 
-module _ (axis : AxisCosts) {xs ys : List ℤ} {vs ns : List ℕ} {n : ℕ} (places-range : PlacesInRange 512 xs ys n) (visits : VisitsInRange vs n)
+module _ (axis : AxisCosts) {xs ys : List ℤ} {vs ns : List ℕ} {n : ℕ} (places-range : PlacesInRange stops_limit xs ys n) (visits : VisitsInRange vs n)
     (nears : NearsInRange ns n) where
   counted : StopColumns xs ys vs n
   counted = record { x = places-range.x.count; y = places-range.y.count; visits = visits.count }
@@ -42,24 +43,24 @@ module _ (axis : AxisCosts) {xs ys : List ℤ} {vs ns : List ℕ} {n : ℕ} (pla
   unfolding stored_objects
   by_stop g h e = zip_first (object_of axis) g h e stops ns ∙ take_all (length ns) (map h stops) (omega (arith, length-map stops h, stops_count, nears.count))
 
-  x_column : map (λ (s : Object). s.at.x) stored ≡ take n (map (times axis.a) xs)
-  x_column = by_stop (λ (s : Object). s.at.x) (λ (s : Stop). times axis.a s.at.x) (λ s m. refl)
+  stored_x : map (λ (s : Object). s.at.x) stored ≡ take n (map (times axis.a) xs)
+  stored_x = by_stop (λ (s : Object). s.at.x) (λ (s : Stop). times axis.a s.at.x) (λ s m. refl)
       ∙ by_x counted (λ (s : Stop). times axis.a s.at.x) (times axis.a) (λ a b w. refl)
 
-  y_column : map (λ (s : Object). s.at.y) stored ≡ take n (map (times axis.b) ys)
-  y_column = by_stop (λ (s : Object). s.at.y) (λ (s : Stop). times axis.b s.at.y) (λ s m. refl)
+  stored_y : map (λ (s : Object). s.at.y) stored ≡ take n (map (times axis.b) ys)
+  stored_y = by_stop (λ (s : Object). s.at.y) (λ (s : Stop). times axis.b s.at.y) (λ s m. refl)
       ∙ by_y counted (λ (s : Stop). times axis.b s.at.y) (times axis.b) (λ a b w. refl)
 
-  visits_column : map (λ (s : Object). pos s.visits) stored ≡ take n (map pos vs)
-  visits_column = by_stop (λ (s : Object). pos s.visits) (λ (s : Stop). pos s.visits) (λ s m. refl)
+  stored_visits : map (λ (s : Object). pos s.visits) stored ≡ take n (map pos vs)
+  stored_visits = by_stop (λ (s : Object). pos s.visits) (λ (s : Stop). pos s.visits) (λ s m. refl)
       ∙ by_visits counted (λ (s : Stop). pos s.visits) pos (λ p w. refl)
 
-  near_column : map (λ (s : Object). pos s.near) stored ≡ take n (map pos ns)
+  stored_near : map (λ (s : Object). pos s.near) stored ≡ take n (map pos ns)
   unfolding stored_objects
-  near_column = zip_second (object_of axis) (λ (s : Object). pos s.near) pos (λ s m. refl) stops ns ∙ ap (λ (m : ℕ). take m (map pos ns)) stops_count
+  stored_near = zip_second (object_of axis) (λ (s : Object). pos s.near) pos (λ s m. refl) stops ns ∙ ap (λ (m : ℕ). take m (map pos ns)) stops_count
 
   pub stored_columns : object_columns stored ≡
-      padded 512 (pos 0) (take n (map (times axis.a) xs)) ++ padded 512 (pos 0) (take n (map (times axis.b) ys))
-      ++ padded 512 (pos 0) (take n (map pos vs)) ++ padded 512 (pos 0) (take n (map pos ns))
+      padded stops_limit (pos 0) (take n (map (times axis.a) xs)) ++ padded stops_limit (pos 0) (take n (map (times axis.b) ys))
+      ++ padded stops_limit (pos 0) (take n (map pos vs)) ++ padded stops_limit (pos 0) (take n (map pos ns))
   unfolding object_columns column
-  stored_columns = rw (x_column, y_column, visits_column, near_column)
+  stored_columns = rw (stored_x, stored_y, stored_visits, stored_near)

@@ -12,7 +12,7 @@ use Rattle.query.specs.Place.{Place}
 use Rattle.query.specs.Deck.{AxisCosts, plain}
 use Rattle.query.specs.Travel.{travel}
 use Rattle.deck.specs.Objects.{scaled_place}
-use Rattle.deck.specs.Ranges.{Near180000}
+use Rattle.deck.specs.Ranges.{Near180000, scaled_limit}
 use Rattle.deck.proofs.WordLaws.{sum_is, coordinate}
 
 abbrev pub far : ℤ → ℤ → ℤ → ℤ → ℕ
@@ -31,10 +31,7 @@ place_word {x} {y} h = rw (coordinate x h.x_range, coordinate y h.y_range) h
 
 module _ (ux uy vx vy : ℤ) (u : Near180000 ux uy) (v : Near180000 vx vy) where
   pub far_small : far ux uy vx vy < 2 ^ 31
-  far_small = omega (arith, dist_most 180000 ux vx u.x_range v.x_range, dist_most 180000 uy vy u.y_range v.y_range)
-
-  pub far_word : far (to_z w32 (of_z w32 ux)) (to_z w32 (of_z w32 uy)) (to_z w32 (of_z w32 vx)) (to_z w32 (of_z w32 vy)) ≡ far ux uy vx vy
-  far_word = rw (coordinate ux u.x_range, coordinate uy u.y_range, coordinate vx v.x_range, coordinate vy v.y_range)
+  far_small = omega (arith, dist_most scaled_limit ux vx u.x_range v.x_range, dist_most scaled_limit uy vy u.y_range v.y_range)
 
   pub far_sum : (a b : ℤ) → a ≡ pos (dist (to_z w32 (of_z w32 ux)) (to_z w32 (of_z w32 vx)))
       → b ≡ pos (dist (to_z w32 (of_z w32 uy)) (to_z w32 (of_z w32 vy))) →
@@ -42,4 +39,4 @@ module _ (ux uy vx vy : ℤ) (u : Near180000 ux uy) (v : Near180000 vx vy) where
   far_sum a b p q =
       sum_is a b (dist ux vx) (dist uy vy)
       (p ∙ rw (coordinate ux u.x_range, coordinate vx v.x_range)) (q ∙ rw (coordinate uy u.y_range, coordinate vy v.y_range))
-      (omega (arith, dist_most 180000 ux vx u.x_range v.x_range)) (omega (arith, dist_most 180000 uy vy u.y_range v.y_range))
+      (omega (arith, dist_most scaled_limit ux vx u.x_range v.x_range)) (omega (arith, dist_most scaled_limit uy vy u.y_range v.y_range))

@@ -1,22 +1,23 @@
 -- Where the columns of all objects stand in their one array, each of `stops_limit` numbers, and the axis costs behind them. The column of
 -- x starts at 0.
-use Rattle.std.specs.Prelude.{ℕ}
+use Rattle.std.specs.Prelude.{ℕ, ◌+◌, ◌*◌}
+use Rattle.query.specs.Range.{stops_limit}
 
 abbrev pub y_column : ℕ
-y_column = 512
+y_column = stops_limit
 
 abbrev pub visits_column : ℕ
-visits_column = 1024
+visits_column = 2 * stops_limit
 
 abbrev pub near_column : ℕ
-near_column = 1536
+near_column = 3 * stops_limit
 
 abbrev pub x_cost_place : ℕ
-x_cost_place = 2048
+x_cost_place = 4 * stops_limit
 
 abbrev pub y_cost_place : ℕ
-y_cost_place = 2049
+y_cost_place = 4 * stops_limit + 1
 
 -- how many numbers the array has
 abbrev pub columns_size : ℕ
-columns_size = 2050
+columns_size = 4 * stops_limit + 2

@@ -1,6 +1,6 @@
--- The deck that a record of the code holds, and the record that holds a deck.
+-- The deck (RULES "Deck") that a record of the code holds, and the record that holds a deck.
 use Rattle.std.specs.Prelude.{ℕ, ◌≡◌, ℤ, pos, length, take}
-use mathlib.Core.List.{List, [], map, zip_with}
+use mathlib.Core.List.{List, map, zip_with}
 use Rattle.numbers.specs.Padded.{padded}
 use Rattle.query.specs.Place.{Place}
 use Rattle.query.specs.Deck as Query
@@ -11,7 +11,7 @@ use Rattle.deck.specs.declared.AxisCosts.{AxisCosts}
 use Rattle.deck.specs.declared.Deck.{Deck}
 use Rattle.query.specs.Range.{posts_limit, stops_limit}
 
--- axis costs of document 02 that a record of the code holds, and the record that holds axis costs
+-- the axis costs that a record of the code holds, and the record that holds axis costs
 abbrev pub held_axis : AxisCosts → Query.AxisCosts
 held_axis c = record { a = c.a; b = c.b }
 
@@ -44,7 +44,7 @@ deck_of deck = record {
   stops = take deck.stops (stops_of (places deck.stop_x deck.stop_y) deck.visits);
 }
 
--- the record of a deck: its lists at the front of the arrays, and 0 behind them. 02 card 5: the near of each stop, and before
+-- the record of a deck: its lists at the front of the arrays, and 0 behind them, with the near of each stop and before (RULES "Change 5")
 unfoldable pub deck_record : Query.Deck → Deck
 unfolding padded near before
 deck_record deck = record {
@@ -62,15 +62,6 @@ deck_record deck = record {
   visits = padded stops_limit 0 (map (λ s. s.visits) deck.stops);
   near = padded stops_limit 0 (map (near deck) deck.stops);
   before = before deck;
-}
-
--- the deck whose record is all zeros
-abbrev pub empty_deck : Query.Deck
-empty_deck = record {
-  axis = record { a = 0; b = 0 };
-  area = record { xlo = pos 0; ylo = pos 0; xhi = pos 0; yhi = pos 0 };
-  posts = [];
-  stops = [];
 }
 
 -- a record that differs at most in these two figures

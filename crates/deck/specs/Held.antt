@@ -1,4 +1,4 @@
--- What the code holds: posts at scaled places.
+-- What a `ScaledPosts` of the code holds: posts at scaled places.
 use Rattle.std.specs.Prelude.{List, take}
 use Rattle.query.specs.Place.{Place}
 use Rattle.deck.specs.DeckOf.{places}

@@ -5,6 +5,7 @@ use Rattle.numbers.specs.Padded.{padded}
 use Rattle.query.specs.Deck.{AxisCosts}
 use Rattle.query.specs.Range.{stops_limit}
 use Rattle.deck.specs.Objects.{Object, Pricing}
+use Rattle.deck.specs.Columns.{y_column, visits_column, near_column, x_cost_place, y_cost_place}
 
 -- the columns of some objects: each with 0 behind its last number, one after another
 unfoldable pub column : (Object → ℤ) → List Object → List ℤ
@@ -24,9 +25,9 @@ columns_of P = object_columns P.objects ++ (pos P.axis.a ∷ pos P.axis.b ∷ []
 -- the object in row i, and those in the first n rows
 abbrev pub object_at : List ℤ → ℕ → Object
 object_at columns i = record {
-  at = record { x = get_or columns i (pos 0); y = get_or columns (512 + i) (pos 0) };
-  visits = nat_abs (get_or columns (1024 + i) (pos 0));
-  near = nat_abs (get_or columns (1536 + i) (pos 0));
+  at = record { x = get_or columns i (pos 0); y = get_or columns (y_column + i) (pos 0) };
+  visits = nat_abs (get_or columns (visits_column + i) (pos 0));
+  near = nat_abs (get_or columns (near_column + i) (pos 0));
 }
 
 unfoldable pub objects_in : List ℤ → ℕ → List Object
@@ -35,7 +36,7 @@ objects_in columns (suc n) = objects_in columns n ++ object_at columns n ∷ []
 
 -- the axis costs
 abbrev pub axis_in : List ℤ → AxisCosts
-axis_in columns = record { a = nat_abs (get_or columns 2048 (pos 0)); b = nat_abs (get_or columns 2049 (pos 0)) }
+axis_in columns = record { a = nat_abs (get_or columns x_cost_place (pos 0)); b = nat_abs (get_or columns y_cost_place (pos 0)) }
 
 -- what pricing needs, with the objects of the first n rows
 abbrev pub pricing_in : List ℤ → ℕ → Pricing

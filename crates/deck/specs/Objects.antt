@@ -1,4 +1,4 @@
--- Objects: stops with their near, at scaled places; those of a deck, and those of what a record holds.
+-- Objects: stops with their near, at scaled places; those of a deck, and those of what a record holds (RULES "Travel", "Near").
 use Rattle.std.specs.Prelude.{ℕ, ℤ, take}
 use mathlib.Core.List.{List, map, zip_with}
 use Rattle.numbers.specs.Integer.{times}
@@ -19,7 +19,7 @@ scaled_rect c r = record {
   yhi = times c.b r.yhi;
 }
 
--- 000 an object of O: a stop, with its weight o.w (`visits`) and dNN(o, S) (`near`). The sites S of 000 are the posts
+-- an object of the paper's O: a stop, with the paper's weight o.w (`visits`) and dNN(o, S) (`near`). The paper's sites S are the posts
 pub record Object : Type 0 where
   pub at : Place
   pub visits : ℕ
@@ -38,7 +38,7 @@ pub record Pricing : Type 0 where
 abbrev pub pricing_of : Deck → Pricing
 pricing_of deck = record { axis = deck.axis; objects = objects_of deck }
 
--- ---- 02 card 5, "pricing reads them from the record"
+-- ---- of what a record holds
 -- the objects of stops, each with the near that is kept with it
 unfoldable pub stored_objects : AxisCosts → List Stop → List ℕ → List Object
 unfolding zip_with

@@ -1,22 +1,27 @@
--- The range of the numbers that objects are made of: coordinates up to 9 × 20,000, as axis costs up to 9 scale them.
-use Rattle.std.specs.Prelude.{ℕ, ◌+◌, ◌≤◌, ◌<◌, ◌≡◌, List, ℤ, pos, nat_abs, length, drop, get_or, ◌≤ℤ◌}
+-- The ranges (RULES "Deck", "Travel") of the numbers that objects are made of.
+use Rattle.std.specs.Prelude.{ℕ, ◌+◌, ◌*◌, ◌≤◌, ◌<◌, ◌≡◌, List, ℤ, pos, nat_abs, length, drop, get_or, ◌≤ℤ◌}
 use Rattle.numbers.specs.Integer.{times}
 use Rattle.query.specs.Deck.{AxisCosts}
-use Rattle.query.specs.Range.{coordinate_limit, visits_limit, axis_cost_limit, travel_limit}
+use Rattle.query.specs.Range.{coordinate_limit, visits_limit, axis_cost_limit, travel_limit, stops_limit}
+use Rattle.deck.specs.Columns.{y_column, near_column, columns_size}
+
+-- the most of a coordinate that is multiplied by an axis cost, and a place whose coordinates are so
+abbrev pub scaled_limit : ℕ
+scaled_limit = axis_cost_limit * coordinate_limit
 
 pub record Near180000 (x y : ℤ) : Type 0 where
-  pub x_range : nat_abs x ≤ 180000
-  pub y_range : nat_abs y ≤ 180000
+  pub x_range : nat_abs x ≤ scaled_limit
+  pub y_range : nat_abs y ≤ scaled_limit
 
--- an axis cost, from 1 to 9
-pub record AxisCostInRange (c : ℤ) : Type 0 where
-  pub some : pos 1 ≤ℤ c
-  pub most : nat_abs c ≤ axis_cost_limit
+-- an axis cost
+pub record AxisCostInRange (cost : ℤ) : Type 0 where
+  pub some : pos 1 ≤ℤ cost
+  pub most : nat_abs cost ≤ axis_cost_limit
 
--- a coordinate v multiplied by an axis cost k
-pub record Scaled (k v r : ℤ) : Type 0 where
-  pub is : r ≡ times (nat_abs k) v
-  pub small : nat_abs r ≤ 180000
+-- a coordinate multiplied by an axis cost
+pub record Scaled (cost coordinate product : ℤ) : Type 0 where
+  pub is : product ≡ times (nat_abs cost) coordinate
+  pub small : nat_abs product ≤ scaled_limit
 
 -- columns of coordinates up to a limit, and scaled ones, of which the first n count
 pub record CoordinatesUpTo (most : ℕ) (xs : List ℤ) (n : ℕ) : Type 0 where
@@ -24,7 +29,7 @@ pub record CoordinatesUpTo (most : ℕ) (xs : List ℤ) (n : ℕ) : Type 0 where
   pub range : (i : ℕ) → i < n → nat_abs (get_or xs i (pos 0)) ≤ most
 
 abbrev pub CoordinatesInRange : List ℤ → ℕ → Type 0
-CoordinatesInRange = CoordinatesUpTo 180000
+CoordinatesInRange = CoordinatesUpTo scaled_limit
 
 -- columns of natural numbers up to a limit: of visits, and of near
 pub record NaturalsUpTo (most : ℕ) (vs : List ℕ) (n : ℕ) : Type 0 where
@@ -39,21 +44,21 @@ NearsInRange = NaturalsUpTo travel_limit
 
 -- all columns, of which the first n rows have their scaled places in the first two
 pub record ColumnsFit (columns : List ℤ) (n : ℕ) : Type 0 where
-  pub few : n ≤ 512
-  pub long : length columns ≡ 2050
+  pub few : n ≤ stops_limit
+  pub long : length columns ≡ columns_size
 
 pub record StopsInRange (columns : List ℤ) (n : ℕ) : Type 0 where
   pub fit : ColumnsFit columns n
   pub x : CoordinatesInRange columns n
-  pub y : CoordinatesInRange (drop 512 columns) n
+  pub y : CoordinatesInRange (drop y_column columns) n
 
 -- the first n rows of the column of near in all columns
 pub record NearColumn (columns : List ℤ) (n : ℕ) : Type 0 where
-  pub long : length columns ≡ 2050
-  pub some : (i : ℕ) → i < n → pos 0 ≤ℤ get_or columns (1536 + i) (pos 0)
+  pub long : length columns ≡ columns_size
+  pub some : (i : ℕ) → i < n → pos 0 ≤ℤ get_or columns (near_column + i) (pos 0)
 
 -- ---- what a record holds
--- axis costs, each from 1 to 9
+-- axis costs
 pub record CostsInRange (axis : AxisCosts) : Type 0 where
   pub some : (1 ≤ axis.a) × (1 ≤ axis.b)
   pub most : (axis.a ≤ axis_cost_limit) × (axis.b ≤ axis_cost_limit)

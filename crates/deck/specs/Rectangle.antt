@@ -1,4 +1,4 @@
--- The place, the stop and the rectangle of document 01 that a record of the code holds, and the record that holds a rectangle.
+-- The place, the stop and the rectangle (RULES "Deck") that a record of the code holds, and the record that holds a rectangle.
 use Rattle.query.specs.Place as Query
 use Rattle.query.specs.Deck as QueryDeck
 use Rattle.deck.specs.declared.Place.{Place}

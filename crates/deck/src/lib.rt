@@ -7,8 +7,9 @@ ghost use Rattle.std.proofs.Math.Seq.{paste};
 ghost use Rattle.numbers.specs.Integer.{dist, times};
 ghost use Rattle.query.specs.Deck.{plain};
 ghost use Rattle.query.specs.Travel.{closest};
-ghost use Rattle.query.specs.Range.{travel_limit, PlaceInRange};
+ghost use Rattle.query.specs.Range.{coordinate_limit, posts_limit, stops_limit, travel_limit, PlaceInRange};
 ghost use Rattle.numbers.specs.Padded.{padded};
+ghost use Rattle.deck.specs.Columns.{y_column, near_column, columns_size};
 ghost use Rattle.deck.specs.DeckOf.{places, held_axis};
 ghost use Rattle.deck.specs.Rectangle.{place_of};
 ghost use Rattle.deck.specs.Objects.{scaled_place, stored_pricing};
@@ -21,23 +22,23 @@ ghost use Rattle.deck.specs.StopFigures.{Nears, paid};
 
 use limits::{COLUMNS, NEAR_COLUMN, POSTS, STOPS, VISITS_COLUMN, X_COST, Y_COLUMN, Y_COST};
 
-// A place.
-// kept: `PlaceInRange` is no invariant, since reading, checking and writing a job also hold places that are out of range.
+/// A place by its coordinates, in tenths of a millimetre (RULES "Deck"). It may be out of range: reading, checking and writing a job hold
+/// such places too.
 #[derive(Clone, Copy, PartialEq, Eq)]
 pub struct Place {
     pub x: i64,
     pub y: i64,
 }
 
-// A stop as a job lists it.
+/// A stop as a job lists it: where it is, and how often it is visited.
 #[derive(Clone, Copy, PartialEq, Eq)]
 pub struct Stop {
     pub at: Place,
     pub visits: u64,
 }
 
-// A rectangle, its edges included.
-// kept: `RectInRange` and `Ranged` are no invariants, since reading and checking a job also hold areas out of range or with no point.
+/// A rectangle by its edges, which belong to it, in tenths of a millimetre. It may be out of range, or have a high edge below its low one
+/// and so no point.
 #[derive(Clone, Copy, PartialEq, Eq)]
 pub struct Rect {
     pub xlo: i64,
@@ -47,7 +48,7 @@ pub struct Rect {
 }
 
 impl Rect {
-    // The corner of the low edges.
+    /// The corner of the low edges.
     pub fn low(self) -> Place
         ensures { result ≡ record { x = self.xlo; y = self.ylo } }
     {
@@ -57,7 +58,7 @@ impl Rect {
         }
     }
 
-    // The corner of the high edges.
+    /// The corner of the high edges.
     pub fn high(self) -> Place
         ensures { result ≡ record { x = self.xhi; y = self.yhi } }
     {
@@ -68,24 +69,23 @@ impl Rect {
     }
 }
 
-// What a tenth costs in x and in y.
-// kept: their range is no invariant, since a record that a caller hands over may hold any costs.
+/// What a tenth of a millimetre costs along x (`a`) and along y (`b`) (RULES "Travel"). A record that a caller hands over may hold any
+/// costs; those of an accepted job are 1 to 9.
 #[derive(Clone, Copy, PartialEq, Eq)]
 pub struct AxisCosts {
     pub a: u64,
     pub b: u64,
 }
 
-// The columns of some places: their x, and their y beside it.
-// kept: neither their range nor that both are as long is an invariant, since columns that a caller holds may be any.
+/// The columns of some places: their x, and beside them their y. Whoever lends them may hold numbers out of range, or columns of different
+/// lengths; what a function needs of them is in its `requires`.
 #[derive(Clone, Copy)]
 pub struct Places<'a> {
     pub x: &'a [i64],
     pub y: &'a [i64],
 }
 
-// The columns of some stops: where they are, their visits, and the near that is kept with each.
-// kept: no invariant, as of `Places`.
+/// The columns of some stops: where they are, their visits, and the near that is kept with each.
 #[derive(Clone, Copy)]
 pub struct Stops<'a> {
     pub at: Places<'a>,
@@ -93,9 +93,9 @@ pub struct Stops<'a> {
     pub near: &'a [u64],
 }
 
-// A deck, one array a field. The first `posts` and `stops` elements of the arrays count; in a record that reading made the others are 0.
-// `near` has each stop's near, and `before` is the deck's.
-// kept: counts beside arrays, since a caller's record may hold any counts, and one array a field, since each pass reads single columns.
+/// A deck's record: its axis costs, its area, and its posts and stops in columns, of which the first `posts` and the first `stops` numbers
+/// count. A caller's record may hold any numbers and counts; a sound one (deck/specs/Sound.antt), as reading and changes leave it, has 0
+/// behind what counts, the near of each stop in `near` and the deck's before in `before`.
 #[derive(Clone, Copy)]
 pub struct Deck {
     pub axis: AxisCosts,
@@ -115,7 +115,7 @@ pub struct Deck {
 }
 
 impl Deck {
-    // The area.
+    /// The area, as the record has it.
     pub fn area(&self) -> Rect
         ensures { result
             ≡ record { xlo = self.now.xlo; ylo = self.now.ylo; xhi = self.now.xhi; yhi = self.now.yhi } }
@@ -128,9 +128,9 @@ impl Deck {
         }
     }
 
-    // The columns of the posts.
+    /// The columns of the posts that count.
     pub fn post_places(&self) -> Places<'_>
-        requires { self.now.posts ≤ 64 }
+        requires { self.now.posts ≤ posts_limit }
         ensures x { result.x.now ≡ take self.now.posts self.now.post_x }
         ensures y { result.y.now ≡ take self.now.posts self.now.post_y }
     {
@@ -140,9 +140,9 @@ impl Deck {
         }
     }
 
-    // The columns of the stops.
+    /// The columns of the stops that count.
     pub fn stop_columns(&self) -> Stops<'_>
-        requires { self.now.stops ≤ 512 }
+        requires { self.now.stops ≤ stops_limit }
         ensures x { result.at.x.now ≡ take self.now.stops self.now.stop_x }
         ensures y { result.at.y.now ≡ take self.now.stops self.now.stop_y }
         ensures visits { result.visits.now ≡ take self.now.stops self.now.visits }
@@ -161,27 +161,26 @@ impl Deck {
     }
 }
 
-// A coordinate multiplied by an axis cost.
-pub fn scaled(k: i32, v: i64) -> i32
-    requires { AxisCostInRange k × (nat_abs v ≤ 20000) }
-    ensures { Scaled k v result }
+/// A coordinate multiplied by an axis cost. Travel with axis costs is plain travel between places that are scaled so.
+pub fn scaled(cost: i32, coordinate: i64) -> i32
+    requires { AxisCostInRange cost × (nat_abs coordinate ≤ coordinate_limit) }
+    ensures { Scaled cost coordinate result }
 {
-    let narrow = v as i32;
-    k * narrow
+    let narrow = coordinate as i32;
+    cost * narrow
 }
 
-// The coordinates of a column, multiplied by an axis cost, put into another.
-pub fn copy_coordinates(from: &[i64], k: i32, to: &mut [i32])
-    requires { CoordinatesUpTo 20000 from.now (length from.now) × AxisCostInRange k × (length to.old ≡ length from.now) }
-    ensures { to.new ≡ map (times (nat_abs k)) from.now }
+// Puts the coordinates of a column, each multiplied by an axis cost, into another column of its length.
+fn copy_coordinates(from: &[i64], cost: i32, to: &mut [i32])
+    requires { CoordinatesUpTo coordinate_limit from.now (length from.now) × AxisCostInRange cost × (length to.old ≡ length from.now) }
+    ensures { to.new ≡ map (times (nat_abs cost)) from.now }
 {
     for i in 0..from.len() {
-        to[i] = scaled(k, from[i]);
+        to[i] = scaled(cost, from[i]);
     }
 }
 
-// The same of a column of visits or of near.
-// kept: one function over both takes a closure and clauses on each of its calls, which is longer than the two loops.
+// The same of a column of visits or of near, whose numbers stay.
 fn copy_naturals(from: &[u64], to: &mut [i32])
     requires { NaturalsUpTo travel_limit from.now (length from.now) × (length to.old ≡ length from.now) }
     ensures { to.new ≡ map pos from.now }
@@ -192,7 +191,6 @@ fn copy_naturals(from: &[u64], to: &mut [i32])
 }
 
 // |u − v|
-// kept: `Near180000` is of two numbers of a call, which no type holds together.
 fn apart(u: i32, v: i32) -> i32
     requires { Near180000 u v }
     ensures { result ≡ pos (dist u v) }
@@ -200,7 +198,7 @@ fn apart(u: i32, v: i32) -> i32
     u.abs_diff(v) as i32
 }
 
-// A place with its coordinates multiplied by the axis costs.
+/// A place with its coordinates multiplied by the axis costs.
 #[derive(Clone, Copy)]
 pub struct ScaledPlace {
     pub x: i32,
@@ -209,26 +207,26 @@ pub struct ScaledPlace {
 }
 
 impl ScaledPlace {
-    // A place, scaled.
-    pub fn of(axis: AxisCosts, p: Place) -> ScaledPlace
-        requires { CostsInRange (held_axis axis) × PlaceInRange (place_of p) }
-        ensures { (result.x ≡ times axis.a p.x) × (result.y ≡ times axis.b p.y) }
+    /// A place, scaled by these costs.
+    pub fn of(axis: AxisCosts, place: Place) -> ScaledPlace
+        requires { CostsInRange (held_axis axis) × PlaceInRange (place_of place) }
+        ensures { (result.x ≡ times axis.a place.x) × (result.y ≡ times axis.b place.y) }
     {
         ScaledPlace {
-            x: scaled(axis.a as i32, p.x),
-            y: scaled(axis.b as i32, p.y),
+            x: scaled(axis.a as i32, place.x),
+            y: scaled(axis.b as i32, place.y),
         }
     }
 
-    // The travel to another place.
+    /// The travel to another place that is scaled by the same costs (RULES "Travel").
     pub fn travel_to(self, other: ScaledPlace) -> i32
         ensures { result ≡ pos (dist self.x other.x + dist self.y other.y) }
     {
         apart(self.x, other.x) + apart(self.y, other.y)
     }
 
-    // The smaller of a travel and of that to another place.
-    pub fn closer(self, least: i32, other: ScaledPlace) -> i32
+    // The smaller of a travel and the travel to another place.
+    fn closer(self, least: i32, other: ScaledPlace) -> i32
         ensures { result
             ≡ cond (lt_z (pos (dist self.x other.x + dist self.y other.y)) least)
             (pos (dist self.x other.x + dist self.y other.y)) least }
@@ -237,11 +235,11 @@ impl ScaledPlace {
     }
 }
 
-// Posts at scaled places, in columns of which the first `count` elements count. There is one at least.
-// kept: a count beside two columns: an `ArrayVec` of each would hold it twice, and one of places needs a place to fill it with.
+/// Posts at places that are scaled by some axis costs, one post at least.
 #[derive(Drop)]
 pub struct ScaledPosts {
     axis: AxisCosts,
+    // the first `count` numbers of each column count
     x: [i32; POSTS],
     y: [i32; POSTS],
     count: usize,
@@ -254,9 +252,9 @@ pub struct ScaledPosts {
 impl ScaledPosts {
     ghost use Rattle.deck.specs.Held.{axis_of_posts, places_of_posts};
 
-    // Posts, scaled.
+    /// Posts at these places, scaled by these costs.
     pub fn of(axis: AxisCosts, posts: Places<'_>) -> ScaledPosts
-        requires { CostsInRange (held_axis axis) × PlacesInRange 64 posts.x.now posts.y.now (length posts.x.now)
+        requires { CostsInRange (held_axis axis) × PlacesInRange posts_limit posts.x.now posts.y.now (length posts.x.now)
             × (1 ≤ length posts.x.now) }
         ensures axis { axis_of_posts result ≡ axis }
         ensures posts { places_of_posts result
@@ -270,14 +268,14 @@ impl ScaledPosts {
         ScaledPosts { axis, x, y, count }
     }
 
-    // The axis costs.
+    /// The axis costs that they are scaled by.
     pub fn axis(&self) -> AxisCosts
         ensures { result ≡ axis_of_posts self.now }
     {
         self.axis
     }
 
-    // Post j.
+    // Post j, counted from 0.
     fn post(&self, j: usize) -> ScaledPlace
         requires { j < self.now.count }
         ensures { (result.x ≡ get_or self.now.x j (pos 0)) × (result.y ≡ get_or self.now.y j (pos 0)) }
@@ -300,20 +298,20 @@ impl ScaledPosts {
         least
     }
 
-    // The travel from a place to the closest of the posts.
-    pub fn closest_to(&self, p: Place) -> u64
-        requires { PlaceInRange (place_of p) }
-        ensures { result ≡ closest plain (scaled_place (held_axis (axis_of_posts self.now)) (place_of p))
+    /// The travel from a place, not scaled yet, to the closest of the posts: its near (RULES "Near").
+    pub fn closest_to(&self, place: Place) -> u64
+        requires { PlaceInRange (place_of place) }
+        ensures { result ≡ closest plain (scaled_place (held_axis (axis_of_posts self.now)) (place_of place))
             (places_of_posts self.now) }
     {
-        let t = self.closest(ScaledPlace::of(self.axis, p));
-        (t as u32) as u64
+        let travel = self.closest(ScaledPlace::of(self.axis, place));
+        (travel as u32) as u64
     }
 }
 
-// kept: here and below the columns are one array with the count of their rows, as what is promised of near post by post has them.
-// kept: `StopsInRange` is asked of them, since they are a slice that `nears_of` lends, with figures in it that are not near yet.
-// The first post: the travel to it is the figure of each of the first n stops, in the last column.
+// ---- near, post by post (RULES "Change 4"): the columns of stops are one array, of which the first n rows count
+
+// The first post: the travel to it becomes the figure of each of the first n stops, in the column of near.
 fn start_nears(columns: &mut [i32], n: usize, post: ScaledPlace)
     requires { StopsInRange columns.old n }
     ensures { columns.new ≡ columns_so_far columns.old n (record { x = post.x; y = post.y } ∷ []) }
@@ -327,7 +325,7 @@ fn start_nears(columns: &mut [i32], n: usize, post: ScaledPlace)
     }
 }
 
-// One more post: the figures of the first n stops, in the last column, improved by it.
+// One more post: the figures of the first n stops become the travel to it where that is smaller.
 fn improve_nears(columns: &mut [i32], n: usize, post: ScaledPlace)
     requires { StopsInRange columns.old n }
     ensures { columns.new ≡ columns_improved columns.old n (record { x = post.x; y = post.y }) }
@@ -341,14 +339,13 @@ fn improve_nears(columns: &mut [i32], n: usize, post: ScaledPlace)
     }
 }
 
-// The near of the first n stops, put into the last column, post by post. Their places are in the first two. After each post every figure is
-// the travel to the closest post so far.
+// All posts, one after another. Between two of them each figure is that of the posts that were taken, and at the end it is near.
 fn put_nears(columns: &mut [i32], n: usize, posts: &ScaledPosts)
     requires { StopsInRange columns.old n }
     ensures { columns.new
-        ≡ paste columns.old 1536
+        ≡ paste columns.old near_column
         (map (λ p. pos (closest plain p (take posts.now.count (places posts.now.x posts.now.y))))
-        (places columns.old (drop 512 columns.old))) n }
+        (places columns.old (drop y_column columns.old))) n }
 {
     start_nears(columns, n, posts.post(0));
     for j in 1..posts.count {
@@ -356,10 +353,10 @@ fn put_nears(columns: &mut [i32], n: usize, posts: &ScaledPosts)
     }
 }
 
-// The near of the first n stops in the last column, with 0 behind the last.
+// The column of near as a record keeps it: of the first n stops, with 0 behind the last.
 fn nears_in(columns: &[i32], n: usize) -> [u64; STOPS]
-    requires { (n ≤ 512) × NearColumn columns.now n }
-    ensures { result ≡ padded 512 0 (take n (map nat_abs (drop 1536 columns.now))) }
+    requires { (n ≤ stops_limit) × NearColumn columns.now n }
+    ensures { result ≡ padded stops_limit 0 (take n (map nat_abs (drop near_column columns.now))) }
 {
     let mut near = [0u64; STOPS];
     for row in 0..n {
@@ -370,10 +367,10 @@ fn nears_in(columns: &[i32], n: usize) -> [u64; STOPS]
 
 // Puts the places of stops, scaled, into the columns of x and of y.
 fn put_places(axis: AxisCosts, stops: Places<'_>, columns: &mut [i32])
-    requires { CostsInRange (held_axis axis) × PlacesInRange 512 stops.x.now stops.y.now (length stops.x.now)
-        × (columns.old ≡ replicate 2050 (pos 0)) }
+    requires { CostsInRange (held_axis axis) × PlacesInRange stops_limit stops.x.now stops.y.now (length stops.x.now)
+        × (columns.old ≡ replicate columns_size (pos 0)) }
     ensures { columns.new
-        ≡ paste (paste columns.old 0 (map (times axis.a) stops.entry.x.now) (length stops.entry.x.now)) 512
+        ≡ paste (paste columns.old 0 (map (times axis.a) stops.entry.x.now) (length stops.entry.x.now)) y_column
         (map (times axis.b) stops.entry.y.now) (length stops.entry.x.now) }
 {
     let n = stops.x.len();
@@ -385,10 +382,11 @@ fn put_places(axis: AxisCosts, stops: Places<'_>, columns: &mut [i32])
     );
 }
 
-// The near of stops at some places by the posts at others, with 0 behind the last.
+/// The near of each stop, at these places, by the posts at those (RULES "Near"), with 0 behind the last: the column that a record keeps
+/// (RULES "Change 5").
 pub fn nears_of(axis: AxisCosts, posts: Places<'_>, stops: Places<'_>) -> [u64; STOPS]
-    requires { CostsInRange (held_axis axis) × PlacesInRange 64 posts.x.now posts.y.now (length posts.x.now)
-        × PlacesInRange 512 stops.x.now stops.y.now (length stops.x.now) × (1 ≤ length posts.x.now) }
+    requires { CostsInRange (held_axis axis) × PlacesInRange posts_limit posts.x.now posts.y.now (length posts.x.now)
+        × PlacesInRange stops_limit stops.x.now stops.y.now (length stops.x.now) × (1 ≤ length posts.x.now) }
     ensures { Nears (held_axis axis) (places posts.entry.x.now posts.entry.y.now) (places stops.entry.x.now stops.entry.y.now) result }
 {
     let posts = ScaledPosts::of(axis, posts);
@@ -398,10 +396,10 @@ pub fn nears_of(axis: AxisCosts, posts: Places<'_>, stops: Places<'_>) -> [u64; 
     nears_in(&columns, stops.x.len())
 }
 
-// What stops pay with the posts that there are: the sum of visits × near.
+/// What all stops cost by the posts alone: the sum of visits × near (RULES "Cost").
 pub fn before_of<'a>(visits: &'a [u64], near: &'a [u64]) -> u64
     requires { VisitsInRange visits.now (length visits.now) × NearsInRange near.now (length visits.now)
-        × (length visits.now ≤ 512) }
+        × (length visits.now ≤ stops_limit) }
     ensures { result ≡ paid visits.now near.now (length visits.now) }
 {
     let mut sum = 0;
@@ -411,12 +409,12 @@ pub fn before_of<'a>(visits: &'a [u64], near: &'a [u64]) -> u64
     sum
 }
 
-// Puts what pricing needs of axis costs and stops into an array of zeros: the columns of its objects, scaled x and y, visits and near as
-// the stops hold them, from 0, 512, 1,024 and 1,536 on, with 0 behind the last of each, and the axis costs behind them.
+/// Puts what pricing reads into an array of `COLUMNS` zeros: the columns of the stops' scaled x and y, their visits and the near that is
+/// kept with them, each with 0 behind its last number, and the axis costs behind all of them.
 pub fn put_columns(axis: AxisCosts, stops: Stops<'_>, columns: &mut [i32])
-    requires { CostsInRange (held_axis axis) × PlacesInRange 512 stops.at.x.now stops.at.y.now (length stops.at.x.now)
+    requires { CostsInRange (held_axis axis) × PlacesInRange stops_limit stops.at.x.now stops.at.y.now (length stops.at.x.now)
         × VisitsInRange stops.visits.now (length stops.at.x.now) × NearsInRange stops.near.now (length stops.at.x.now)
-        × (columns.old ≡ replicate 2050 (pos 0)) }
+        × (columns.old ≡ replicate columns_size (pos 0)) }
     ensures { columns.new
         ≡ columns_of (stored_pricing (held_axis axis) stops.entry.at.x.now stops.entry.at.y.now stops.entry.visits.now stops.entry.near.now
         (length stops.entry.at.x.now)) }

@@ -1,5 +1,5 @@
 -- The estimate of a deck's problem, and of a job that was prepared.
-use Prim.Native.Nat.{ℕ, ◌≤◌}
+use Prim.Native.Nat.{ℕ, ◌+◌, ◌≤◌, ◌<◌}
 use mathlib.Core.Path.{◌≡◌, sym, ap, ◌∙◌}
 use mathlib.Core.List.{List}
 use native.Mathlib.Omega.{arith}
@@ -8,6 +8,7 @@ use Rattle.std.specs.Prelude.{Ok, Err}
 use Rattle.query.specs.Deck.{Deck}
 use Rattle.query.specs.Place.{x_axis, y_axis}
 use Rattle.query.specs.Lines.{lines}
+use Rattle.query.specs.Range.{stops_limit, rounds_limit}
 use Rattle.query.specs.Estimate as Query
 use Rattle.query.specs.Estimate.{estimate}
 use Rattle.lines.proofs.DeckLines.{deck_lined}
@@ -24,7 +25,7 @@ use Rattle.calls.specs.EstimateCall.{estimate_call}
 use Rattle.calls.proofs.Promises.{read_exactly}
 use Rattle.calls.proofs.EstimateCall.{call_accepted, call_refused, given_one}
 use Rattle.estimate.specs.LineCounts.{LineCounts, estimate_by, GivenCounts, given_estimate}
-use Rattle.estimate.proofs.LineCounts.{deck_counted, deck_small}
+use Rattle.estimate.proofs.LineCounts.{most_product, deck_counted, deck_small}
 
 -- ---- a deck's problem that was made
 module _ (deck : Deck) (p : Parts) (e : p ≡ problem_record deck) where
@@ -36,7 +37,7 @@ module _ (deck : Deck) (p : Parts) (e : p ≡ problem_record deck) where
   unfolding problem_record
   horizontal_count = ap (λ (q : Parts). length q.horizontal) e
 
-  pub counts : length deck.stops ≤ 512 → (rounds : ℕ) → rounds ≤ 1000 → LineCounts (length p.vertical) (length p.horizontal) rounds
+  pub counts : length deck.stops ≤ stops_limit → (rounds : ℕ) → rounds ≤ rounds_limit → LineCounts (length p.vertical) (length p.horizontal) rounds
   counts few rounds r =
       let lined = deck_lined deck few in
       record {
@@ -65,7 +66,7 @@ module _ (job : List ℕ) where
 
 -- ---- an estimate that is given: its numbers are small
 pub given_small : (job : List ℕ) (e : Query.Estimate) → estimate_call job ≡ gives e →
-    (e.across ≤ 513) × (e.deep ≤ 513) × (e.limit ≤ 263168) × (e.cells ≤ 263169)
+    (e.across ≤ stops_limit + 1) × (e.deep ≤ stops_limit + 1) × (e.limit < most_product) × (e.cells ≤ most_product)
 given_small job e g =
     let (j, read, same) = given_one job e g in
     let range = allowed_in_range j ((read_exactly job j).0 read).1 in

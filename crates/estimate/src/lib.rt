@@ -1,4 +1,5 @@
-// What a job needs, from the lines of its deck and its rounds. No place is priced for it: crates.txt lets this crate use none that prices.
+// What a job needs (RULES "Change 3"), from the lines of its deck and its rounds. No place is priced for it: crates.txt lets this crate use
+// none that prices.
 #![tactic(auto)]
 
 ghost use Rattle.std.specs.Prelude.{◌≡◌};
@@ -10,13 +11,13 @@ use calls::Estimate;
 use prepare::PreparedJob;
 use refusal::Refusal;
 
-// The estimate by the number of vertical lines, that of horizontal ones, and the rounds.
-pub fn of_lines(nv: usize, nh: usize, rounds: u64) -> Estimate
-    requires { LineCounts nv nh rounds }
-    ensures { estimate_numbers result ≡ estimate_by nv nh rounds }
+/// The estimate by how many vertical and horizontal lines there are (RULES "Lines"), and by the rounds of the job.
+pub fn of_lines(vertical_lines: usize, horizontal_lines: usize, rounds: u64) -> Estimate
+    requires { LineCounts vertical_lines horizontal_lines rounds }
+    ensures { estimate_numbers result ≡ estimate_by vertical_lines horizontal_lines rounds }
 {
-    let across = lines::gaps(nv);
-    let deep = lines::gaps(nh);
+    let across = lines::gaps(vertical_lines);
+    let deep = lines::gaps(horizontal_lines);
     let product = across * deep;
     let most = rounds + 1;
     let cells = most.min(product);
@@ -28,7 +29,7 @@ pub fn of_lines(nv: usize, nh: usize, rounds: u64) -> Estimate
     }
 }
 
-// The estimate of what a job gives.
+/// The estimate of a job that is prepared for pricing.
 pub fn of_given(given: &PreparedJob) -> Estimate
     requires { GivenCounts given.now }
     ensures { estimate_numbers result ≡ given_estimate given.now }
@@ -41,7 +42,7 @@ pub fn of_given(given: &PreparedJob) -> Estimate
     )
 }
 
-// The estimate of a job, or the refusal of the job.
+/// The estimate of a job, or its refusal, which is one of 1 to 6.
 pub fn of_job(job: &[u8]) -> Result<Estimate, Refusal>
     ensures { estimated_answer result ≡ estimate_call job.now }
 {

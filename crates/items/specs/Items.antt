@@ -1,4 +1,4 @@
--- Posts and stops as items of a list: those with equal values, the first of them, and a list and an array without it.
+-- Posts and stops as items of a list (RULES "Change 6"): equal ones, the first of these, and a list and an array without it.
 use Rattle.std.specs.Prelude.{ℕ, suc, Bool, cond, ◌&&◌, List, [], ◌∷◌, ◌++◌, eqb, take, drop, Option, Some, None}
 use Rattle.numbers.specs.Integer.{eq_z}
 use Rattle.numbers.specs.Lists.{keep, non_empty}
@@ -12,7 +12,7 @@ is_same_place p q = eq_z p.x q.x && eq_z p.y q.y
 abbrev pub is_same_stop : Stop → Stop → Bool
 is_same_stop s t = is_same_place s.at t.at && eqb s.visits t.visits
 
--- "removes the first that equals them; later ones move up": a list without the first element that passes a test
+-- a list without the first element that passes a test
 unfoldable pub remove_first : {A : Type 0} → (A → Bool) → List A → List A
 remove_first same [] = []
 remove_first same (x ∷ xs) = let later = x ∷ remove_first same xs in cond (same x) xs later
@@ -30,6 +30,6 @@ first_place same (x ∷ xs) = let later = suc (first_place same xs) in cond (sam
 abbrev pub first_found : {A : Type 0} → (A → Bool) → List A → Option ℕ
 first_found same xs = cond (held same xs) (Some (first_place same xs)) None
 
--- an array without element i of its first n: "later ones move up", and z stands where the last of them was
+-- an array without element i of its first n: those behind it are one place further in front, and z is where the last of them was
 unfoldable pub taken_out_at : {A : Type 0} → ℕ → ℕ → A → List A → List A
 taken_out_at n i z xs = take i xs ++ (drop (suc i) (take n xs) ++ (z ∷ drop n xs))

@@ -1,4 +1,4 @@
-// Posts and stops found by their values, and an element taken out of an array.
+// Posts and stops found by their values, and an element taken out of an array (RULES "Change 6").
 #![tactic(auto)]
 
 ghost use Rattle.std.specs.Prelude.{◌≡◌, ◌<◌, length};
@@ -16,12 +16,13 @@ fn same_place(p: Place, q: Place) -> bool
     p == q
 }
 
-// The first of the posts in columns that is at a place, counted from 0.
-pub fn find_post(px: &[i64], py: &[i64], place: Place) -> Option<usize>
-    ensures { result ≡ first_found (is_same_place (place_of place)) (places px.now py.now) }
+/// Which of the posts in columns, counted from 0, is the first at this place. None where no post is.
+pub fn find_post(post_x: &[i64], post_y: &[i64], place: Place) -> Option<usize>
+    ensures { result ≡ first_found (is_same_place (place_of place)) (places post_x.now post_y.now) }
 {
-    px.iter()
-        .zip(py)
+    post_x
+        .iter()
+        .zip(post_y)
         .position(|(x, y)| same_place(place, Place { x: *x, y: *y }))
 }
 
@@ -31,11 +32,12 @@ fn same_stop(s: Stop, t: Stop) -> bool
     s == t
 }
 
-// The first of the stops in columns that has the values of a stop, counted from 0.
-pub fn find_stop(sx: &[i64], sy: &[i64], visits: &[u64], stop: Stop) -> Option<usize>
-    ensures { result ≡ first_found (is_same_stop (stop_of stop)) (stops_of (places sx.now sy.now) visits.now) }
+/// Which of the stops in columns, counted from 0, is the first with the values of this one: its place and its visits. None where no stop
+/// has them.
+pub fn find_stop(stop_x: &[i64], stop_y: &[i64], visits: &[u64], stop: Stop) -> Option<usize>
+    ensures { result ≡ first_found (is_same_stop (stop_of stop)) (stops_of (places stop_x.now stop_y.now) visits.now) }
 {
-    sx.iter().zip(sy).zip(visits).position(|((x, y), v)| same_stop(
+    stop_x.iter().zip(stop_y).zip(visits).position(|((x, y), v)| same_stop(
         stop,
         Stop {
             at: Place { x: *x, y: *y },
@@ -46,11 +48,11 @@ pub fn find_stop(sx: &[i64], sy: &[i64], visits: &[u64], stop: Stop) -> Option<u
 
 // ---- removing an element
 
-// Element i is taken out: later ones move up, and `zero` stands where the last was.
-pub fn take_out<T: Copy>(xs: &mut [T], i: usize, zero: T)
-    requires { i < length xs.old }
-    ensures { xs.new ≡ taken_out_at (length xs.old) i zero xs.old }
+/// Takes out one element, by its index from 0: the later ones move up by one, and `zero` stands where the last of them was.
+pub fn take_out<T: Copy>(elements: &mut [T], index: usize, zero: T)
+    requires { index < length elements.old }
+    ensures { elements.new ≡ taken_out_at (length elements.old) index zero elements.old }
 {
-    xs[i] = zero;
-    xs[i..].rotate_left(1);
+    elements[index] = zero;
+    elements[index..].rotate_left(1);
 }

@@ -12,6 +12,7 @@ use Rattle.numbers.proofs.Members.{each_cons, each_append, each_map}
 use Rattle.numbers.proofs.Ranges.{range_between}
 use Rattle.query.specs.Place.{Place, Rect, NonEmpty}
 use Rattle.query.specs.Deck.{AxisCosts, Stop}
+use Rattle.query.specs.Range.{coordinate_limit, posts_limit, stops_limit, visits_limit, rounds_limit, axis_cost_limit}
 use Rattle.query.specs.Range.{PlaceInRange, RectInRange, StopInRange, InRange}
 use Rattle.job_line.specs.Kinds.{area, axis, post, stop, coordinates, row, in_range}
 use Rattle.job.specs.Format.{Job, axis_numbers}
@@ -20,7 +21,7 @@ use Rattle.job.proofs.JobLaws.{InRanges}
 use Rattle.job.proofs.RangeLaws.{in_each, coordinate_range, count_range}
 
 -- ---- a number in its range
-coordinate_in : (v : ℤ) → nat_abs v ≤ 20000 → T (in_range coordinates v)
+coordinate_in : (v : ℤ) → nat_abs v ≤ coordinate_limit → T (in_range coordinates v)
 coordinate_in v h = (coordinate_range v).1 h
 
 natural_in_lem : (least most n : ℕ) → least ≤ n → n ≤ most → T (in_range (record { low = pos least; high = pos most }) (pos n))
@@ -41,9 +42,10 @@ area_in r h = in_each (row area).ranges (area_line r).numbers (
   ),
 )
 
-axis_in_lem : (c : AxisCosts) → (1 ≤ c.a) × (1 ≤ c.b) → (c.a ≤ 9) × (c.b ≤ 9) → InRanges (axis_line c)
+axis_in_lem : (c : AxisCosts) → (1 ≤ c.a) × (1 ≤ c.b) → (c.a ≤ axis_cost_limit) × (c.b ≤ axis_cost_limit) → InRanges (axis_line c)
 unfolding InRanges
-axis_in_lem c some most = in_each (row axis).ranges (axis_numbers c) (natural_in_lem 1 9 c.a some.0 most.0, (natural_in_lem 1 9 c.b some.1 most.1, tt))
+axis_in_lem c some most =
+    in_each (row axis).ranges (axis_numbers c) (natural_in_lem 1 axis_cost_limit c.a some.0 most.0, (natural_in_lem 1 axis_cost_limit c.b some.1 most.1, tt))
 
 pub post_in : (p : Place) → PlaceInRange p → InRanges (post_line p)
 unfolding InRanges
@@ -53,23 +55,23 @@ pub stop_in_lem : (s : Stop) → StopInRange s → InRanges (stop_line s)
 unfolding InRanges
 stop_in_lem s h = in_each (row stop).ranges (stop_line s).numbers (
   coordinate_in s.at.x h.place.x_range,
-  (coordinate_in s.at.y h.place.y_range, (natural_in_lem 1 65535 s.visits h.some_visits h.most_visits, tt)),
+  (coordinate_in s.at.y h.place.y_range, (natural_in_lem 1 visits_limit s.visits h.some_visits h.most_visits, tt)),
 )
 
 -- ---- all lines
-in_range_writable : (job : Job) → InRange job.deck → job.rounds ≤ 1000 → Writable true job
+in_range_writable : (job : Job) → InRange job.deck → job.rounds ≤ rounds_limit → Writable true job
 unfolding InRanges
 in_range_writable job range few = record {
   in_ranges_law =
       each_cons InRanges (area_in job.deck.area range.area) (each_cons InRanges (axis_in_lem job.deck.axis range.axis_some range.axis_most)
-      (each_cons InRanges ((count_range 64 (length job.deck.posts)).1 range.most_posts)
+      (each_cons InRanges ((count_range posts_limit (length job.deck.posts)).1 range.most_posts)
       (each_append InRanges (map post_line job.deck.posts) (each_map InRanges post_line job.deck.posts (λ p m. post_in p (range.posts p m)))
-      (each_cons InRanges ((count_range 512 (length job.deck.stops)).1 range.most_stops)
+      (each_cons InRanges ((count_range stops_limit (length job.deck.stops)).1 range.most_stops)
       (each_append InRanges (map stop_line job.deck.stops) (each_map InRanges stop_line job.deck.stops (λ s m. stop_in_lem s (range.stops s m)))
-      (each_cons InRanges ((count_range 1000 job.rounds).1 few) (λ l m. absurd (Memᴰ.not-nil m))))))));
+      (each_cons InRanges ((count_range rounds_limit job.rounds).1 few) (λ l m. absurd (Memᴰ.not-nil m))))))));
 }
 
-pub in_range_allowed : (job : Job) → InRange job.deck → NonEmpty job.deck.area → job.rounds ≤ 1000 → Allowed job
+pub in_range_allowed : (job : Job) → InRange job.deck → NonEmpty job.deck.area → job.rounds ≤ rounds_limit → Allowed job
 in_range_allowed job range full few = record {
   writable = in_range_writable job range few;
   area_full = full;

@@ -136,9 +136,9 @@ from_top : {lines : List (List ℕ)} {rest : List ℕ} {due : List Kind} → Goo
     Faults all_due 1 (flatten lines ++ rest) why
 unfolding flatten
 from_top top f = f
-from_top (one_more {lines} {rest} {k} {due} text ns good e t) {why} f =
+from_top (one_more {lines} {rest} {kind} {due} text ns good e t) {why} f =
     let count : suc (length (lines ++ (text ∷ []))) ≡ suc (length lines) + 1 = omega (arith, length-append lines (text ∷ [])) in
-    let here : Faults (k ∷ due) (suc (length lines)) (text ++ rest) why = further ns rest (form_local (row k) text ns rest e) t (rw count at f) in
+    let here : Faults (kind ∷ due) (suc (length lines)) (text ++ rest) why = further ns rest (form_local (row kind) text ns rest e) t (rw count at f) in
     rw (flatten_snoc lines text rest) (from_top good here)
 
 -- and back, the good lines being those that come before the fault
@@ -150,7 +150,7 @@ first_fault_lem {lines} bytes good number split (bad_value {k} {due} {n} {bs} ns
       lines = lines;
       rest = bs;
       after = rest;
-      k = k;
+      kind = k;
       due = due;
       before = good;
       split = split;

@@ -18,7 +18,7 @@ use Rattle.query.specs.Deck.{Stop}
 use Rattle.query.specs.Travel as Travel
 use Rattle.query.specs.Travel.{closest}
 use Rattle.query.specs.Cost.{before}
-use Rattle.query.specs.Range.{PlaceInRange, StopInRange}
+use Rattle.query.specs.Range.{PlaceInRange, StopInRange, coordinate_limit, posts_limit, stops_limit, visits_limit}
 use Rattle.deck.specs.DeckOf.{held_axis, places}
 use Rattle.deck.specs.Ranges.{NearsInRange, CostsInRange, PlacesInRange, VisitsInRange}
 use Rattle.deck.specs.StopFigures.{Nears, paid}
@@ -78,13 +78,13 @@ module _ (size : ℕ) (lines : List (List ℤ)) where
     places_ranged each = record {
       x = record {
         count = omega (arith, long (pos 0) (λ l. (post_of l).x));
-        range = λ i h. padded_each (λ (z : ℤ). nat_abs z ≤ 20000) (pos 0) (omega arith) size (map (λ l. (post_of l).x) lines)
-            (each_map (λ (z : ℤ). nat_abs z ≤ 20000) (λ l. (post_of l).x) lines (λ l m. (each l m).x_range)) i;
+        range = λ i h. padded_each (λ (z : ℤ). nat_abs z ≤ coordinate_limit) (pos 0) (omega arith) size (map (λ l. (post_of l).x) lines)
+            (each_map (λ (z : ℤ). nat_abs z ≤ coordinate_limit) (λ l. (post_of l).x) lines (λ l m. (each l m).x_range)) i;
       };
       y = record {
         count = omega (arith, long (pos 0) (λ l. (post_of l).y));
-        range = λ i h. padded_each (λ (z : ℤ). nat_abs z ≤ 20000) (pos 0) (omega arith) size (map (λ l. (post_of l).y) lines)
-            (each_map (λ (z : ℤ). nat_abs z ≤ 20000) (λ l. (post_of l).y) lines (λ l m. (each l m).y_range)) i;
+        range = λ i h. padded_each (λ (z : ℤ). nat_abs z ≤ coordinate_limit) (pos 0) (omega arith) size (map (λ l. (post_of l).y) lines)
+            (each_map (λ (z : ℤ). nat_abs z ≤ coordinate_limit) (λ l. (post_of l).y) lines (λ l m. (each l m).y_range)) i;
       };
       few = few;
     }
@@ -102,7 +102,7 @@ module _ (size : ℕ) (lines : List (List ℤ)) where
       y_same = ap (padded size (pos 0)) (sym (map-map (λ p. p.y) post_of lines))
 
 abbrev visits_held : List (List ℤ) → List ℕ
-visits_held lines = padded 512 0 (map (λ l. (stop_of l).visits) lines)
+visits_held lines = padded stops_limit 0 (map (λ l. (stop_of l).visits) lines)
 
 post_in : (ns : List ℤ) → Ranged post ns → PlaceInRange (post_of ns)
 post_in ns t = post_range (post_of ns) (subst (Ranged post) (sym (post_back_lem ns t)) t)
@@ -112,21 +112,21 @@ stop_in_lem ns t = stop_range (stop_of ns) (subst (Ranged stop) (sym (stop_back_
 
 -- all posts, and all stops, that were read
 pub posts_in : {unread left : Unread} {old new : Deck} (posts_at : PostsAt unread old new (Ok left)) →
-    PlacesInRange 64 (xs 64 posts_at.lines) (ys 64 posts_at.lines) (length posts_at.lines)
-posts_in posts_at = places_ranged 64 posts_at.lines posts_at.few (λ ns m. post_in ns (lines_ranged posts post posts_at ns m))
+    PlacesInRange posts_limit (xs posts_limit posts_at.lines) (ys posts_limit posts_at.lines) (length posts_at.lines)
+posts_in posts_at = places_ranged posts_limit posts_at.lines posts_at.few (λ ns m. post_in ns (lines_ranged posts post posts_at ns m))
 
 module _ {unread left : Unread} {old new : Deck} (stops_at : StopsAt unread old new (Ok left)) where
   each_stop : (ns : List ℤ) → Memᴰ ns stops_at.lines → StopInRange (stop_of ns)
   each_stop ns m = stop_in_lem ns (lines_ranged stops stop stops_at ns m)
 
-  pub stops_in : PlacesInRange 512 (xs 512 stops_at.lines) (ys 512 stops_at.lines) (length stops_at.lines)
-  stops_in = places_ranged 512 stops_at.lines stops_at.few (λ ns m. (each_stop ns m).place)
+  pub stops_in : PlacesInRange stops_limit (xs stops_limit stops_at.lines) (ys stops_limit stops_at.lines) (length stops_at.lines)
+  stops_in = places_ranged stops_limit stops_at.lines stops_at.few (λ ns m. (each_stop ns m).place)
 
   pub visits_in : VisitsInRange (visits_held stops_at.lines) (length stops_at.lines)
   visits_in = record {
-    count = omega (arith, long 512 stops_at.lines stops_at.few 0 (λ l. (stop_of l).visits), stops_at.few);
-    range = λ i h. padded_each (λ (v : ℕ). v ≤ 65535) 0 (omega arith) 512 (map (λ l. (stop_of l).visits) stops_at.lines)
-        (each_map (λ (v : ℕ). v ≤ 65535) (λ l. (stop_of l).visits) stops_at.lines (λ ns m. (each_stop ns m).most_visits)) i;
+    count = omega (arith, long stops_limit stops_at.lines stops_at.few 0 (λ l. (stop_of l).visits), stops_at.few);
+    range = λ i h. padded_each (λ (v : ℕ). v ≤ visits_limit) 0 (omega arith) stops_limit (map (λ l. (stop_of l).visits) stops_at.lines)
+        (each_map (λ (v : ℕ). v ≤ visits_limit) (λ l. (stop_of l).visits) stops_at.lines (λ ns m. (each_stop ns m).most_visits)) i;
   }
 
 -- ---- near and before
@@ -140,16 +140,16 @@ module _ (c : AxisCosts) (ps ss : List (List ℤ)) (a n : List ℤ) where
   abbrev deck : Query.Deck
   deck = (job_of a (cost_numbers c) ps ss n).deck
 
-  module _ {near : List ℕ} (found : Nears (held_axis c) (take (length ps) (places (xs 64 ps) (ys 64 ps)))
-      (take (length ss) (places (xs 512 ss) (ys 512 ss))) near) where
-    pub near_filled : near ≡ padded 512 0 (map (Travel.near deck) deck.stops)
+  module _ {near : List ℕ} (found : Nears (held_axis c) (take (length ps) (places (xs posts_limit ps) (ys posts_limit ps)))
+      (take (length ss) (places (xs stops_limit ss) (ys stops_limit ss))) near) where
+    pub near_filled : near ≡ padded stops_limit 0 (map (Travel.near deck) deck.stops)
     unfolding Travel.near
     near_filled =
-        found.are ∙ (λ i. padded 512 0 (map (λ q. closest (held_axis c) q (held_places 64 ps i)) (held_places 512 ss i)))
-        ∙ ap (padded 512 0) (map-map (λ q. closest (held_axis c) q (map post_of ps)) post_of ss ∙ sym (map-map (Travel.near deck) stop_of ss))
+        found.are ∙ (λ i. padded stops_limit 0 (map (λ q. closest (held_axis c) q (held_places posts_limit ps i)) (held_places stops_limit ss i)))
+        ∙ ap (padded stops_limit 0) (map-map (λ q. closest (held_axis c) q (map post_of ps)) post_of ss ∙ sym (map-map (Travel.near deck) stop_of ss))
 
     pub before_filled : {sum : ℕ} → sum ≡ paid (visits_held ss) near (length ss) → sum ≡ before deck
     unfolding before
     before_filled e =
-        e ∙ (λ i. paid (ap (padded 512 0) (sym (map-map (λ (t : Stop). t.visits) stop_of ss)) i) (near_filled i) (sym (length-map ss stop_of) i))
-        ∙ paid_stops (Travel.near deck) 512 deck.stops
+        e ∙ (λ i. paid (ap (padded stops_limit 0) (sym (map-map (λ (t : Stop). t.visits) stop_of ss)) i) (near_filled i) (sym (length-map ss stop_of) i))
+        ∙ paid_stops (Travel.near deck) stops_limit deck.stops

@@ -13,7 +13,7 @@ use Rattle.numbers.proofs.Joined.{flat_map_append, flat_map_map, flat_map_length
 use Rattle.numbers.proofs.Members.{each_cons, each_append, each_map}
 use Rattle.query.specs.Place.{Place}
 use Rattle.query.specs.Deck.{AxisCosts, Stop, Deck}
-use Rattle.query.specs.Range.{RectInRange, PlaceInRange, StopInRange}
+use Rattle.query.specs.Range.{RectInRange, PlaceInRange, StopInRange, posts_limit, stops_limit, rounds_limit, axis_cost_limit}
 use Rattle.text.specs.Ascii.{bytes}
 use Rattle.text.specs.TextReading.{starts_with}
 use Rattle.job_line.specs.Kinds.{Kind, area, axis, posts, post, stops, stop, rounds, row, in_ranges}
@@ -108,13 +108,13 @@ module _ (carried : Bool) (a c n : List ℤ) (ps : List (List ℤ)) (m : List �
       area_back_lem a i.area_in,
       axis_same carried c i.axis_in_lem,
       length-map ps post_of ∙ i.all_posts_lem,
-      count_back_lem 64 n i.posts_in,
+      count_back_lem posts_limit n i.posts_in,
       map-map post_line post_of ps ∙ map_each (λ ns. post_line (post_of ns)) (line_of post) ps (λ ns j. ap (line_of post) (post_back_lem ns (i.post_in ns j))),
       length-map ss stop_of ∙ i.all_stops_lem,
-      count_back_lem 512 m i.stops_in,
+      count_back_lem stops_limit m i.stops_in,
       map-map stop_line stop_of ss
           ∙ map_each (λ ns. stop_line (stop_of ns)) (line_of stop) ss (λ ns j. ap (line_of stop) (stop_back_lem ns (i.stop_in_lem ns j))),
-      count_back_lem 1000 k i.rounds_in_lem,
+      count_back_lem rounds_limit k i.rounds_in_lem,
     )
 
     each_line : (l : JobLine) → Memᴰ l read_lines → InRanges l
@@ -168,9 +168,9 @@ module _ (carried : Bool) (a c n : List ℤ) (ps : List (List ℤ)) (m : List �
       seven_length (text_of (row area) a) (axis_text carried c) (text_of (row posts) n) (flat_map (text_of (row post)) ps) (text_of (row stops) m)
           (flat_map (text_of (row stop)) ss) (text_of (row rounds) k),
       i.all_posts_lem,
-      count_limit 64 n i.posts_in,
+      count_limit posts_limit n i.posts_in,
       i.all_stops_lem,
-      count_limit 512 m i.stops_in,
+      count_limit stops_limit m i.stops_in,
       line_length area a i.area_in,
       axis_length carried c i.axis_in_lem,
       line_length posts n i.posts_in,
@@ -265,7 +265,7 @@ module _ {carried : Bool} {job : Job} (w : Writable carried job) where
   rounds_in_lem : Ranged rounds (pos job.rounds ∷ [])
   rounds_in_lem = behind (Memᴰ.tail (Memᴰ.append_right (map stop_line job.deck.stops) (Memᴰ.head refl)))
 
-  -- its values, by the ranges of document 01
+  -- its values, by the ranges of a deck
   pub ranged_area : RectInRange job.deck.area
   ranged_area = area_range job.deck.area area_in
 
@@ -275,18 +275,18 @@ module _ {carried : Bool} {job : Job} (w : Writable carried job) where
   pub ranged_stops : (s : Stop) → Memᴰ s job.deck.stops → StopInRange s
   ranged_stops s i = stop_range s (stop_in_lem s i)
 
-  pub most_posts : length job.deck.posts ≤ 64
-  most_posts = (count_range 64 (length job.deck.posts)).0 posts_in
+  pub most_posts : length job.deck.posts ≤ posts_limit
+  most_posts = (count_range posts_limit (length job.deck.posts)).0 posts_in
 
-  pub most_stops : length job.deck.stops ≤ 512
-  most_stops = (count_range 512 (length job.deck.stops)).0 stops_in
+  pub most_stops : length job.deck.stops ≤ stops_limit
+  most_stops = (count_range stops_limit (length job.deck.stops)).0 stops_in
 
-  pub most_rounds : job.rounds ≤ 1000
-  most_rounds = (count_range 1000 job.rounds).0 rounds_in_lem
+  pub most_rounds : job.rounds ≤ rounds_limit
+  most_rounds = (count_range rounds_limit job.rounds).0 rounds_in_lem
 
--- and of document 02, where its lines are those with the axis line
+-- and those of its axis costs, where its lines are those with the axis line
 pub ranged_axis : {job : Job} → Writable true job →
-    ((1 ≤ job.deck.axis.a) × (1 ≤ job.deck.axis.b)) × ((job.deck.axis.a ≤ 9) × (job.deck.axis.b ≤ 9))
+    ((1 ≤ job.deck.axis.a) × (1 ≤ job.deck.axis.b)) × ((job.deck.axis.a ≤ axis_cost_limit) × (job.deck.axis.b ≤ axis_cost_limit))
 ranged_axis {job} w = axis_range job.deck.axis (axis_numbers_in true w tt)
 
 -- its lines with the axis line have their ranges exactly if those without it and the axis costs have theirs
@@ -318,7 +318,7 @@ module _ (deck : Deck) where
   DeckLines carried n = LinesInRange carried (area_line deck.area).numbers (axis_numbers deck.axis) (pos (length deck.posts) ∷ []) posts_numbers
       (pos (length deck.stops) ∷ []) stops_numbers (pos n ∷ [])
 
-deck_lines : {carried : Bool} (job : Job) (n : ℕ) → Writable carried job → n ≤ 1000 → DeckLines job.deck carried n
+deck_lines : {carried : Bool} (job : Job) (n : ℕ) → Writable carried job → n ≤ rounds_limit → DeckLines job.deck carried n
 unfolding DeckLines
 deck_lines {carried} job n w h = record {
   area_in = area_in w;
@@ -327,7 +327,7 @@ deck_lines {carried} job n w h = record {
   post_in = each_map (Ranged post) (λ p. (post_line p).numbers) job.deck.posts (post_in w);
   stops_in = stops_in w;
   stop_in_lem = each_map (Ranged stop) (λ s. (stop_line s).numbers) job.deck.stops (stop_in_lem w);
-  rounds_in_lem = (count_range 1000 n).1 h;
+  rounds_in_lem = (count_range rounds_limit n).1 h;
   all_posts_lem = length-map job.deck.posts (λ p. (post_line p).numbers);
   all_stops_lem = length-map job.deck.stops (λ s. (stop_line s).numbers);
 }
@@ -398,7 +398,7 @@ line_tells job e =
     omega (arith, same, axis_key job.deck.axis, length-append area later, length-append area (line ++ later), length-append line later)
 
 -- another number of rounds
-pub other_rounds : {carried : Bool} (job : Job) (n : ℕ) → Writable carried job → n ≤ 1000 → Writable carried (record { deck = job.deck; rounds = n })
+pub other_rounds : {carried : Bool} (job : Job) (n : ℕ) → Writable carried job → n ≤ rounds_limit → Writable carried (record { deck = job.deck; rounds = n })
 unfolding DeckLines
 other_rounds {carried} job n w h = subst (Writable carried) (job_back job.deck.axis (record { deck = job.deck; rounds = n }))
     (lines_writable _ _ _ _ _ _ _ _ (deck_lines job n w h))

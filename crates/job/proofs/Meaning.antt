@@ -18,7 +18,7 @@ use Rattle.query.specs.Deck.{AxisCosts}
 use Rattle.query.specs.Range.{InRange}
 use Rattle.job_line.specs.Kinds.{axis, in_ranges}
 use Rattle.job_line.specs.OneLine.{Reading, fault, got}
-use Rattle.job.specs.Format.{Job, axis_numbers, job_lines, Result, refused, accepted, empty_area, checked, reading_result}
+use Rattle.job.specs.Format.{Job, axis_numbers, job_lines, Result, refused, accepted, empty_area, checked, reading_result, size_limit}
 use Rattle.job.specs.Format.{text_with, read_with, missing_axis, read_job}
 use Rattle.job.specs.Spelling.{spell, Spells, with_line, without_line, Writable, Allowed}
 use Rattle.job.specs.Meaning.{AcceptedLaw, SpellingLaw, top, Spelled, Condition, too_long, in_text, TextCondition, malformed, out_of_range}
@@ -37,7 +37,7 @@ Says missing (accepted job) bytes = Spells missing bytes job × (Ranged axis (ax
 
 abbrev SaysSized : AxisCosts → Result → List ℕ → Type 0
 SaysSized missing (refused why) bytes = Condition bytes why
-SaysSized missing (accepted job) bytes = (length bytes ≤ 16384) × Spells missing bytes job × (Ranged axis (axis_numbers missing) → Allowed job)
+SaysSized missing (accepted job) bytes = (length bytes ≤ size_limit) × Spells missing bytes job × (Ranged axis (axis_numbers missing) → Allowed job)
 
 -- ---- the result is so
 full_area : (r : Rect) → T (not (empty_area r)) ↔ NonEmpty r
@@ -79,17 +79,18 @@ text_says missing bytes = go (job_lines missing 1 bytes) refl
 
 read_says : (missing : AxisCosts) (bytes : List ℕ) → SaysSized missing (read_with missing bytes) bytes
 unfolding read_with
-read_says missing bytes = cond_ind (λ (r : Result). SaysSized missing r bytes) (ltb 16384 (length bytes)) (λ t. too_long (ltb→lt 16384 (length bytes) t))
-    (λ t. go (nltb→le 16384 (length bytes) t) (text_with missing bytes) (text_says missing bytes))
+read_says missing bytes = cond_ind (λ (r : Result). SaysSized missing r bytes) (ltb size_limit (length bytes))
+    (λ t. too_long (ltb→lt size_limit (length bytes) t))
+    (λ t. go (nltb→le size_limit (length bytes) t) (text_with missing bytes) (text_says missing bytes))
   where
-    go : length bytes ≤ 16384 → (r : Result) → Says missing r bytes → SaysSized missing r bytes
+    go : length bytes ≤ size_limit → (r : Result) → Says missing r bytes → SaysSized missing r bytes
     go short (refused why) c = in_text short c
     go short (accepted job) c = (short, c.0, c.1)
 
 -- ---- no other result is so
-pub read_short : (missing : AxisCosts) (bytes : List ℕ) → length bytes ≤ 16384 → read_with missing bytes ≡ text_with missing bytes
+pub read_short : (missing : AxisCosts) (bytes : List ℕ) → length bytes ≤ size_limit → read_with missing bytes ≡ text_with missing bytes
 unfolding read_with
-read_short missing bytes short = cond-false (ltb 16384 (length bytes)) _ _ (le→nltb 16384 (length bytes) short)
+read_short missing bytes short = cond-false (ltb size_limit (length bytes)) _ _ (le→nltb size_limit (length bytes) short)
 
 pub text_fault : (missing : AxisCosts) (bytes : List ℕ) (why : Refusal) → Faults all_due 1 bytes why → text_with missing bytes ≡ refused why
 text_fault missing bytes why f = ap reading_result ((job_faults missing 1 bytes why).1 f)
@@ -119,7 +120,7 @@ condition_text missing bytes _ (no_stops s t p q) = text_read missing bytes s.jo
 
 condition_read : (missing : AxisCosts) (bytes : List ℕ) (why : Refusal) → Condition bytes why → read_with missing bytes ≡ refused why
 unfolding read_with
-condition_read missing bytes _ (too_long h) = cond-true (ltb 16384 (length bytes)) _ _ (lt→ltb 16384 (length bytes) h)
+condition_read missing bytes _ (too_long h) = cond-true (ltb size_limit (length bytes)) _ _ (lt→ltb size_limit (length bytes) h)
 condition_read missing bytes why (in_text short c) = read_short missing bytes short ∙ condition_text missing bytes why c
 
 pub allowed_text : (missing : AxisCosts) (bytes : List ℕ) (job : Job) → Spells missing bytes job → Allowed job → text_with missing bytes ≡ accepted job
@@ -175,7 +176,7 @@ pub missing_ranged : Ranged axis (axis_numbers missing_axis)
 unfolding in_ranges
 missing_ranged = tt
 
-pub accepted_job : (bytes : List ℕ) (job : Job) → (read_job bytes ≡ accepted job) ↔ ((length bytes ≤ 16384) × Spells missing_axis bytes job × Allowed job)
+pub accepted_job : (bytes : List ℕ) (job : Job) → (read_job bytes ≡ accepted job) ↔ ((length bytes ≤ size_limit) × Spells missing_axis bytes job × Allowed job)
 accepted_job bytes job = rw (job_with bytes) ((accepted_law missing_axis bytes job).exactly missing_ranged)
 
 pub refused_job : (bytes : List ℕ) (why : Refusal) → (read_job bytes ≡ refused why) ↔ Condition bytes why

@@ -15,6 +15,7 @@ use mir.Val.{SFits}
 use Rattle.std.specs.Prelude.{Result, Ok, Err, IsErrAnd, IfOk}
 use Rattle.numbers.proofs.Padded.{padded_none, padded_map}
 use Rattle.numbers.proofs.WordTests.{back, back_is}
+use Rattle.query.specs.Range.{posts_limit, stops_limit}
 use Rattle.text.specs.TextReading.{starts_with}
 use Rattle.deck.specs.declared.AxisCosts.{AxisCosts}
 use Rattle.deck.specs.declared.Deck.{Deck}
@@ -106,34 +107,37 @@ module _ {kind : Kind} {put : Put} {old : Deck} {start : Unread} {count : ℕ} w
 
 -- ---- the record that holds them
 pub posts_none : {deck : Deck} → NoPostsYet deck → deck ≡ with_post_lines deck []
-posts_none {deck} none = λ i. record deck { post_x = (none.x_is ∙ sym (padded_none 64 (pos 0))) i; post_y = (none.y_is ∙ sym (padded_none 64 (pos 0))) i }
+posts_none {deck} none = λ i. record deck {
+  post_x = (none.x_is ∙ sym (padded_none posts_limit (pos 0))) i;
+  post_y = (none.y_is ∙ sym (padded_none posts_limit (pos 0))) i;
+}
 
 pub stops_none : {deck : Deck} → NoStopsYet deck → deck ≡ with_stop_lines deck []
 stops_none {deck} none = λ i. record deck {
-  stop_x = (none.x_is ∙ sym (padded_none 512 (pos 0))) i;
-  stop_y = (none.y_is ∙ sym (padded_none 512 (pos 0))) i;
-  visits = (none.visits_is ∙ sym (padded_none 512 0)) i;
+  stop_x = (none.x_is ∙ sym (padded_none stops_limit (pos 0))) i;
+  stop_y = (none.y_is ∙ sym (padded_none stops_limit (pos 0))) i;
+  visits = (none.visits_is ∙ sym (padded_none stops_limit 0)) i;
 }
 
 module _ (old now : Deck) {i : ℕ} (lines : List (List ℤ)) (count_is : i ≡ length lines) {px py : ℤ} (fx : SFits w64 px) (fy : SFits w64 py) where
-  pub posts_more : now ≡ with_post_lines old lines → i < 64 →
+  pub posts_more : now ≡ with_post_lines old lines → i < posts_limit →
       record now { post_x = set now.post_x i (back px); post_y = set now.post_y i (back py) } ≡ with_post_lines old (lines ++ ((px ∷ py ∷ []) ∷ []))
   posts_more e h =
       rw (back_is fx, back_is fy)
       (ap (λ (d : Deck). record d { post_x = set d.post_x i px; post_y = set d.post_y i py }) e ∙ (λ k. record old {
-        post_x = padded_map 64 (pos 0) (λ l. (post_of l).x) lines (px ∷ py ∷ []) count_is h refl k;
-        post_y = padded_map 64 (pos 0) (λ l. (post_of l).y) lines (px ∷ py ∷ []) count_is h refl k;
+        post_x = padded_map posts_limit (pos 0) (λ l. (post_of l).x) lines (px ∷ py ∷ []) count_is h refl k;
+        post_y = padded_map posts_limit (pos 0) (λ l. (post_of l).y) lines (px ∷ py ∷ []) count_is h refl k;
       }))
 
-  pub stops_more : (v : ℕ) → now ≡ with_stop_lines old lines → i < 512 →
+  pub stops_more : (v : ℕ) → now ≡ with_stop_lines old lines → i < stops_limit →
       record now { stop_x = set now.stop_x i (back px); stop_y = set now.stop_y i (back py); visits = set now.visits i v }
       ≡ with_stop_lines old (lines ++ ((px ∷ py ∷ pos v ∷ []) ∷ []))
   stops_more v e h =
       rw (back_is fx, back_is fy)
       (ap (λ (d : Deck). record d { stop_x = set d.stop_x i px; stop_y = set d.stop_y i py; visits = set d.visits i v }) e ∙ (λ k. record old {
-        stop_x = padded_map 512 (pos 0) (λ l. (post_of l).x) lines (px ∷ py ∷ pos v ∷ []) count_is h refl k;
-        stop_y = padded_map 512 (pos 0) (λ l. (post_of l).y) lines (px ∷ py ∷ pos v ∷ []) count_is h refl k;
-        visits = padded_map 512 0 (λ l. (stop_of l).visits) lines (px ∷ py ∷ pos v ∷ []) count_is h refl k;
+        stop_x = padded_map stops_limit (pos 0) (λ l. (post_of l).x) lines (px ∷ py ∷ pos v ∷ []) count_is h refl k;
+        stop_y = padded_map stops_limit (pos 0) (λ l. (post_of l).y) lines (px ∷ py ∷ pos v ∷ []) count_is h refl k;
+        visits = padded_map stops_limit 0 (λ l. (stop_of l).visits) lines (px ∷ py ∷ pos v ∷ []) count_is h refl k;
       }))
 
 -- all of them
@@ -177,7 +181,7 @@ module _ (k kind : Kind) {unread : Unread} (low : unread.line ≤ 900) where
 
     module _ {fill : Put} {first now : Deck} {left : Unread} {i : ℕ} (f : Filled kind fill first now start count left i) where
       -- the number of a line fits 64 bits
-      pub line_small : i ≤ 512 → left.line + 1 < 2 ^ 64
+      pub line_small : i ≤ stops_limit → left.line + 1 < 2 ^ 64
       line_small h = omega (arith, f.line_is, start_is)
 
       pub list_read : {put : Put} {most : ℕ} {old new : Deck} → count ≤ i → i ≤ count → count ≤ most → new ≡ put old f.lines → ListAt
@@ -190,7 +194,7 @@ module _ (k kind : Kind) {unread : Unread} (low : unread.line ≤ 900) where
         held = e;
       }
 
-      pub list_refused : {put : Put} {most : ℕ} {old new : Deck} {why : Refusal} → i < count → i ≤ 512 → LineAt (row kind) left (fault why) →
+      pub list_refused : {put : Put} {most : ℕ} {old new : Deck} {why : Refusal} → i < count → i ≤ stops_limit → LineAt (row kind) left (fault why) →
           ListAt (counted_lines k kind) put most unread old new (Err why)
       list_refused h few line_at = list_fault (sym (next f h (line_at_is line_at (line_small few))) ∙ counted_at count_at)
 

@@ -14,7 +14,7 @@ use Rattle.numbers.proofs.Integer.{order, abs_range}
 use Rattle.numbers.proofs.Ranges.{between_range, range_between}
 use Rattle.query.specs.Place.{Place, Rect}
 use Rattle.query.specs.Deck.{AxisCosts, Stop}
-use Rattle.query.specs.Range.{PlaceInRange, RectInRange, StopInRange}
+use Rattle.query.specs.Range.{PlaceInRange, RectInRange, StopInRange, coordinate_limit, visits_limit, axis_cost_limit}
 use Rattle.text.specs.Ascii.{bytes}
 use Rattle.text.specs.Decimal.{spell_int}
 use Rattle.text.proofs.DigitCounts.{length_spell_nat_grows}
@@ -145,11 +145,12 @@ line_length k ns t =
     omega (arith, longest_is k, length-append (row k).key (spell_numbers ns), numbers_widths (row k).ranges ns (each_in (row k).ranges ns t))
 
 -- ---- what a range says of a number
-pub coordinate_range : (v : ℤ) → T (in_range coordinates v) ↔ (nat_abs v ≤ 20000)
+pub coordinate_range : (v : ℤ) → T (in_range coordinates v) ↔ (nat_abs v ≤ coordinate_limit)
 unfolding in_range
 coordinate_range v = (
-  λ t. (abs_range v 20000).1 (omega (arith, order, between_range (negsuc 19999) (pos 20000) v t)),
-  λ h. range_between (negsuc 19999) (pos 20000) v (omega (arith, order, (abs_range v 20000).0 h)) (omega (arith, order, (abs_range v 20000).0 h)),
+  λ t. (abs_range v coordinate_limit).1 (omega (arith, order, between_range coordinates.low coordinates.high v t)),
+  λ h. range_between coordinates.low coordinates.high v (omega (arith, order, (abs_range v coordinate_limit).0 h))
+      (omega (arith, order, (abs_range v coordinate_limit).0 h)),
 )
 
 -- a number that is not negative
@@ -168,11 +169,12 @@ area_range r t =
       high_corner_law = record { x_range = (coordinate_range r.xhi).0 e.1.1.0; y_range = (coordinate_range r.yhi).0 e.1.1.1.0 };
     }
 
-pub axis_range : (c : AxisCosts) → T (in_ranges (row axis).ranges (axis_numbers c)) → ((1 ≤ c.a) × (1 ≤ c.b)) × ((c.a ≤ 9) × (c.b ≤ 9))
+pub axis_range : (c : AxisCosts) → T (in_ranges (row axis).ranges (axis_numbers c)) →
+    ((1 ≤ c.a) × (1 ≤ c.b)) × ((c.a ≤ axis_cost_limit) × (c.b ≤ axis_cost_limit))
 axis_range c t =
     let e = each_in (row axis).ranges (axis_numbers c) t in
-    let a = natural_range 1 9 (pos c.a) e.0 in
-    let b = natural_range 1 9 (pos c.b) e.1.0 in
+    let a = natural_range 1 axis_cost_limit (pos c.a) e.0 in
+    let b = natural_range 1 axis_cost_limit (pos c.b) e.1.0 in
     ((a.1, b.1), (a.2, b.2))
 
 pub count_range : (most n : ℕ) → T (in_ranges (up_to most ∷ []) (pos n ∷ [])) ↔ (n ≤ most)
@@ -190,7 +192,7 @@ post_range p t =
 pub stop_range : (s : Stop) → T (in_ranges (row stop).ranges (stop_line s).numbers) → StopInRange s
 stop_range s t =
     let e = each_in (row stop).ranges (stop_line s).numbers t in
-    let v = natural_range 1 65535 (pos s.visits) e.1.1.0 in
+    let v = natural_range 1 visits_limit (pos s.visits) e.1.1.0 in
     record {
       place = record { x_range = (coordinate_range s.at.x).0 e.0; y_range = (coordinate_range s.at.y).0 e.1.0 };
       some_visits = v.1;
@@ -214,7 +216,7 @@ axis_back_lem ns t = go ns (each_in (row axis).ranges ns t)
   where
     go : (ns : List ℤ) → EachIn (row axis).ranges ns → axis_numbers (axis_costs_of ns) ≡ ns
     go (a ∷ []) e = absurd e.1
-    go (a ∷ b ∷ []) e = cc ((natural_range 1 9 a e.0).0, (natural_range 1 9 b e.1.0).0)
+    go (a ∷ b ∷ []) e = cc ((natural_range 1 axis_cost_limit a e.0).0, (natural_range 1 axis_cost_limit b e.1.0).0)
     go (a ∷ b ∷ other ∷ others) e = absurd e.1.1
     go [] e = elim e [ ]
 
@@ -245,5 +247,5 @@ stop_back_lem ns t = go ns (each_in (row stop).ranges ns t)
     go (x ∷ []) e = absurd e.1
     go (x ∷ y ∷ []) e = absurd e.1.1
     go (x ∷ y ∷ v ∷ other ∷ others) e = absurd e.1.1.1
-    go (x ∷ y ∷ v ∷ []) e = ap (λ (z : ℤ). x ∷ y ∷ z ∷ []) (sym (natural_range 1 65535 v e.1.1.0).0)
+    go (x ∷ y ∷ v ∷ []) e = ap (λ (z : ℤ). x ∷ y ∷ z ∷ []) (sym (natural_range 1 visits_limit v e.1.1.0).0)
     go [] e = elim e [ ]

@@ -1,10 +1,8 @@
 -- A job that was read: what the record says of the bytes, and of the deck that they spell.
 use mathlib.Core.Path.{◌≡◌, refl, sym, ap, subst, ◌∙◌}
-use mathlib.Core.Bool.{true, false}
 use mathlib.Core.List.{List}
 use Prim.Native.Nat.{ℕ}
 use native.Mathlib.Omega.{arith}
-use lib.Dec.{T}
 use Rattle.query.specs.Range.{InRange}
 use Rattle.std.specs.Prelude as Std
 use Rattle.std.specs.Prelude.{Ok, Err}
@@ -18,10 +16,6 @@ use Rattle.deck.specs.DeckOf.{deck_of, deck_record}
 use Rattle.deck.specs.Sound.{Sound}
 use Rattle.deck.proofs.DeckLaws.{held_deck}
 use Rattle.deck.proofs.SoundLaws.{record_sound}
-
--- a test's two outcomes differ
-pub differ : {P : Type 0} → true ≡ false → P
-differ e = absurd (subst T e tt)
 
 -- a job and a refusal differ
 pub not_both : {P : Type 0} {j : Held.Job} {why : Refusal} → Ok j ≡ Err why → P
@@ -77,6 +71,6 @@ module _ {bytes : List ℕ} (s : Spelt bytes) where
     pub read_deck_of : deck_of j.deck ≡ s.job.deck
     read_deck_of = ap deck_of (read_deck bytes j e s) ∙ held_deck s.job.deck
 
-    -- 02 card 5: reading leaves a sound record
+    -- reading leaves a sound record
     pub read_sound : Sound j.deck
     read_sound = subst Sound (sym (read_deck bytes j e s)) (record_sound s.job.deck spelt_range s.allowed.area_full)

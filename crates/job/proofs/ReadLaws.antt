@@ -23,7 +23,7 @@ use Rattle.job_line.proofs.LineLaws.{line_at_is, line_counts}
 use Rattle.job.specs.Reader.{and_then, optional, end}
 use Rattle.job.specs.Format as Format
 use Rattle.job.specs.Format.{refused, accepted, area_of, axis_costs_of, axis_numbers, count_of, post_of, stop_of, job_of, empty_area, check_parts, checked}
-use Rattle.job.specs.Format.{job_lines, reading_result, read_with, missing_axis, read_job}
+use Rattle.job.specs.Format.{job_lines, reading_result, size_limit, read_with, missing_axis, read_job}
 use Rattle.job.specs.JobRecord.{job_result}
 use Rattle.job.specs.ManyLines.{post_lines, stop_lines, counted_lines, all_posts, all_stops, last_line, rest_lines, with_posts, with_stops}
 use Rattle.job.specs.ManyLines.{lines_read, last_read, job_unless, AxisAt, PostsAt, StopsAt, LastAt, CheckedAt, RestAt}
@@ -31,6 +31,7 @@ use Rattle.query.specs.Deck as Query
 use Rattle.query.specs.Place as Place
 use Rattle.query.specs.Travel as Travel
 use Rattle.query.specs.Cost.{before}
+use Rattle.query.specs.Range.{posts_limit, stops_limit}
 use Rattle.deck.specs.DeckOf.{held_axis, axis_record, places}
 use Rattle.deck.specs.Ranges.{PlacesInRange, VisitsInRange}
 use Rattle.deck.specs.StopFigures.{Nears, paid}
@@ -178,13 +179,13 @@ start_deck a c = record {
   xhi = back a.xhi;
   yhi = back a.yhi;
   posts = 0;
-  post_x = replicate 64 (pos 0);
-  post_y = replicate 64 (pos 0);
+  post_x = replicate posts_limit (pos 0);
+  post_y = replicate posts_limit (pos 0);
   stops = 0;
-  stop_x = replicate 512 (pos 0);
-  stop_y = replicate 512 (pos 0);
-  visits = replicate 512 0;
-  near = replicate 512 0;
+  stop_x = replicate stops_limit (pos 0);
+  stop_y = replicate stops_limit (pos 0);
+  visits = replicate stops_limit 0;
+  near = replicate stops_limit 0;
   before = 0;
 }
 
@@ -197,13 +198,13 @@ accepted_is : (a c : List ℤ) (ps ss : List (List ℤ)) (n : List ℤ) → job_
     xhi = (area_of a).xhi;
     yhi = (area_of a).yhi;
     posts = length (map post_of ps);
-    post_x = padded 64 (pos 0) (map (λ p. p.x) (map post_of ps));
-    post_y = padded 64 (pos 0) (map (λ p. p.y) (map post_of ps));
+    post_x = padded posts_limit (pos 0) (map (λ p. p.x) (map post_of ps));
+    post_y = padded posts_limit (pos 0) (map (λ p. p.y) (map post_of ps));
     stops = length (map stop_of ss);
-    stop_x = padded 512 (pos 0) (map (λ s. s.at.x) (map stop_of ss));
-    stop_y = padded 512 (pos 0) (map (λ s. s.at.y) (map stop_of ss));
-    visits = padded 512 0 (map (λ s. s.visits) (map stop_of ss));
-    near = padded 512 0 (map (Travel.near (job_of a c ps ss n).deck) (map stop_of ss));
+    stop_x = padded stops_limit (pos 0) (map (λ s. s.at.x) (map stop_of ss));
+    stop_y = padded stops_limit (pos 0) (map (λ s. s.at.y) (map stop_of ss));
+    visits = padded stops_limit 0 (map (λ s. s.visits) (map stop_of ss));
+    near = padded stops_limit 0 (map (Travel.near (job_of a c ps ss n).deck) (map stop_of ss));
     before = before (job_of a c ps ss n).deck;
   };
 })
@@ -222,11 +223,11 @@ module _ {unread : Unread} {d₀ d₁ : Deck} {left : Unread} (posts_at : PostsA
     posts_count : d₂.posts ≡ length posts_at.lines
     posts_count = ap (λ (d : Deck). d.posts) filled
 
-    pub filled_posts : PlacesInRange 64 d₂.post_x d₂.post_y d₂.posts
-    filled_posts = subst (λ (d : Deck). PlacesInRange 64 d.post_x d.post_y d.posts) (sym filled) (posts_in posts_at)
+    pub filled_posts : PlacesInRange posts_limit d₂.post_x d₂.post_y d₂.posts
+    filled_posts = subst (λ (d : Deck). PlacesInRange posts_limit d.post_x d.post_y d.posts) (sym filled) (posts_in posts_at)
 
-    pub filled_stops : PlacesInRange 512 d₂.stop_x d₂.stop_y d₂.stops
-    filled_stops = subst (λ (d : Deck). PlacesInRange 512 d.stop_x d.stop_y d.stops) (sym filled) (stops_in stops_at)
+    pub filled_stops : PlacesInRange stops_limit d₂.stop_x d₂.stop_y d₂.stops
+    filled_stops = subst (λ (d : Deck). PlacesInRange stops_limit d.stop_x d.stop_y d.stops) (sym filled) (stops_in stops_at)
 
     pub filled_visits : VisitsInRange d₂.visits d₂.stops
     filled_visits = subst (λ (d : Deck). VisitsInRange d.visits d.stops) (sym filled) (visits_in stops_at)
@@ -263,12 +264,12 @@ job_made {a} c ps ss n held xlo ylo xhi yhi {near} {sum} found summed =
       map-map (λ s. s.visits) stop_of ss,
     )
   where
-    found_in : Nears (held_axis c) (take (length ps) (places (padded 64 (pos 0) (map (λ l. (post_of l).x) ps))
-        (padded 64 (pos 0) (map (λ l. (post_of l).y) ps))))
-        (take (length ss) (places (padded 512 (pos 0) (map (λ l. (post_of l).x) ss)) (padded 512 (pos 0) (map (λ l. (post_of l).y) ss)))) near
+    found_in : Nears (held_axis c) (take (length ps) (places (padded posts_limit (pos 0) (map (λ l. (post_of l).x) ps))
+        (padded posts_limit (pos 0) (map (λ l. (post_of l).y) ps))))
+        (take (length ss) (places (padded stops_limit (pos 0) (map (λ l. (post_of l).x) ss)) (padded stops_limit (pos 0) (map (λ l. (post_of l).y) ss)))) near
     found_in = subst (λ (d : Deck). Nears (held_axis c) (take d.posts (places d.post_x d.post_y)) (take d.stops (places d.stop_x d.stop_y)) near) held found
 
-    paid_in : sum ≡ paid (padded 512 0 (map (λ l. (stop_of l).visits) ss)) near (length ss)
+    paid_in : sum ≡ paid (padded stops_limit 0 (map (λ l. (stop_of l).visits) ss)) near (length ss)
     paid_in = subst (λ (d : Deck). sum ≡ paid d.visits near d.stops) held summed
 
 -- the reading that they come to
@@ -323,11 +324,11 @@ module _ {unread : Unread} {a : Rect} {c : AxisCosts} where
             xlo ylo xhi yhi found summed ∙ ap job_result (sym (checked_is posts_at stops_at c n checked_at)))
 
 -- ---- the whole reading
-pub read_long : (missing : Query.AxisCosts) (s : List ℕ) → 16384 < length s → Err TooLong ≡ job_result (read_with missing s)
+pub read_long : (missing : Query.AxisCosts) (s : List ℕ) → size_limit < length s → Err TooLong ≡ job_result (read_with missing s)
 unfolding read_with job_result
-read_long missing s h = rw (lt-ltb 16384 (length s) h)
+read_long missing s h = rw (lt-ltb size_limit (length s) h)
 
-module _ (missing : AxisCosts) {whole : Unread} (first : whole.line ≡ 1) (short : length whole.text.now ≤ 16384) where
+module _ (missing : AxisCosts) {whole : Unread} (first : whole.line ≡ 1) (short : length whole.text.now ≤ size_limit) where
   from_area : {r : Reading (List ℤ)} → LineAt (row area) whole r → job_lines (held_axis missing) 1 whole.text.now ≡ and_then r
       (λ a n bs. and_then (optional (row axis) (cost_numbers missing) n bs) (rest_lines a))
   from_area area_at = rw (lines_are (held_axis missing) 1 whole.text.now, line_at_is area_at (omega arith), first)

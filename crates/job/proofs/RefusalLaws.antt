@@ -8,7 +8,7 @@ use lib.IntN.{ℤ}
 use lib.ListN.{length, length-append}
 use Rattle.numbers.proofs.Joined.{flatten_snoc}
 use Rattle.job_line.specs.Kinds.{Kind, area, axis, posts, post, stops, stop, rounds, row, form_of}
-use Rattle.job.specs.Format.{refused, read_job}
+use Rattle.job.specs.Format.{refused, read_job, size_limit}
 use Rattle.refusal.specs.Refusal.{number_of, line_of}
 use Rattle.job.specs.Meaning.{Good, top, one_more, FirstMalformed, no_form, too_much, Condition, too_long, in_text}
 use Rattle.job.specs.Meaning.{TextCondition, malformed, out_of_range, empty_area_law, no_posts, no_stops}
@@ -35,13 +35,13 @@ some_bytes k (b ∷ text) e = omega arith
 
 good_length : {lines : List (List ℕ)} {rest : List ℕ} {due : List Kind} → Good lines rest due → length lines ≤ length (flatten lines)
 good_length top = omega arith
-good_length (one_more {lines} {rest} {k} {due} text ns good e t) =
+good_length (one_more {lines} {rest} {kind} {due} text ns good e t) =
     let joined : flatten (lines ++ (text ∷ [])) ++ [] ≡ flatten lines ++ (text ++ []) = flatten_snoc lines text [] in
     let same = ap length joined in
     omega (
       arith,
       good_length good,
-      some_bytes k text e,
+      some_bytes kind text e,
       length-append lines (text ∷ []),
       length-append (flatten lines) (text ++ []),
       length-append text [],
@@ -49,15 +49,15 @@ good_length (one_more {lines} {rest} {k} {due} text ns good e t) =
       same,
     )
 
-line_number : (bytes : List ℕ) (lines : List (List ℕ)) (rest : List ℕ) {due : List Kind} {n : ℕ} → length bytes ≤ 16384 → Good lines rest due →
-    bytes ≡ flatten lines ++ rest → n ≡ suc (length lines) → n ≤ 16385
+line_number : (bytes : List ℕ) (lines : List (List ℕ)) (rest : List ℕ) {due : List Kind} {n : ℕ} → length bytes ≤ size_limit → Good lines rest due →
+    bytes ≡ flatten lines ++ rest → n ≡ suc (length lines) → n ≤ suc size_limit
 line_number bytes lines rest short good split number = omega (arith, good_length good, ap length split, length-append (flatten lines) rest)
 
-malformed_most : (bytes : List ℕ) (n : ℕ) → length bytes ≤ 16384 → FirstMalformed bytes n → n ≤ 16385
+malformed_most : (bytes : List ℕ) (n : ℕ) → length bytes ≤ size_limit → FirstMalformed bytes n → n ≤ suc size_limit
 malformed_most bytes n short (no_form lines rest k due good split number e) = line_number bytes lines rest short good split number
 malformed_most bytes n short (too_much lines rest good split number some-text) = line_number bytes lines rest short good split number
 
-pub condition_line : (bytes : List ℕ) (why : Refusal) → Condition bytes why → line_of why ≤ 16385
+pub condition_line : (bytes : List ℕ) (why : Refusal) → Condition bytes why → line_of why ≤ suc size_limit
 condition_line bytes _ (too_long h) = omega arith
 condition_line bytes _ (in_text short (malformed {n} f)) = malformed_most bytes n short f
 condition_line bytes _ (in_text short (out_of_range f)) = line_number bytes f.lines f.rest short f.before f.split f.number
@@ -77,5 +77,5 @@ pub condition_number : (bytes : List ℕ) (why : Refusal) → Condition bytes wh
 condition_number bytes _ (too_long h) = omega arith
 condition_number bytes why (in_text short f) = (text_number bytes why f).1
 
-pub line_most : (bytes : List ℕ) (why : Refusal) → read_job bytes ≡ refused why → line_of why ≤ 16385
+pub line_most : (bytes : List ℕ) (why : Refusal) → read_job bytes ≡ refused why → line_of why ≤ suc size_limit
 line_most bytes why e = condition_line bytes why ((refused_job bytes why).0 e)

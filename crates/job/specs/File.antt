@@ -1,4 +1,4 @@
--- Document 02, cards 1 and 2: the file that a deck's record and a number of rounds would be saved in.
+-- The file that a deck's record and a number of rounds are saved in (RULES "Change 1", "Change 2").
 use Rattle.std.specs.Prelude.{ℕ, Bool, not, ◌&&◌, eqb}
 use mathlib.Core.List.{List, flat_map}
 use Rattle.query.specs.Deck.{AxisCosts}
@@ -11,7 +11,7 @@ use Rattle.job.specs.Spelling.{JobLine, lines_counting, spell_line, spell}
 abbrev pub held_job : Deck → ℕ → Job
 held_job deck rounds = record { deck = deck_of deck; rounds = rounds }
 
--- 02 card 2, "The writer leaves the line out for 1,1"
+-- whether it has the axis line
 unfoldable pub writes_axis : AxisCosts → Bool
 writes_axis c = not (eqb c.a 1 && eqb c.b 1)
 

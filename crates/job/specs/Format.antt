@@ -1,4 +1,4 @@
--- Document 01, "Job and report" and "Turned down", and document 02, card 2: what a job's bytes are read as.
+-- What a job's bytes are read as (RULES "Job", "Refusals", "Change 2").
 use Rattle.std.specs.Prelude as Std
 use Rattle.std.specs.Prelude.{Ok, Err, ℕ, Bool, cond, ◌||◌, List, [], ◌∷◌, map, eqb, ltb, length, get_or, ℤ, pos, nat_abs}
 use Rattle.std.specs.Int.Signed.{lt_z}
@@ -51,8 +51,7 @@ job_of a c ps ss n = record {
 }
 
 -- ---- reading
--- 01 "A job is lines in this order .. Nothing follows"; 02 card 2, "A job may carry `axis=a,b` as its second line", where a missing one
--- means these costs
+-- all lines of a job, where a missing axis line means these costs
 unfoldable pub job_lines : AxisCosts → Reader Job
 unfolding line return repeated optional end ◌>>=◌ ◌>>◌
 job_lines missing = do
@@ -71,11 +70,11 @@ pub data Result : Type 0 where
   refused : Refusal → Result
   accepted : Job → Result
 
--- 01 refusal 4, "xlo > xhi or ylo > yhi"
+-- refusal 4
 unfoldable pub empty_area : Rect → Bool
 empty_area r = lt_z r.xhi r.xlo || lt_z r.yhi r.ylo
 
--- 01 refusals 4, 5 and 6 of an area and of so many posts and stops, in this order
+-- refusals 4, 5 and 6 of an area and of so many posts and stops
 unfoldable pub check_parts : Rect → ℕ → ℕ → Std.Result (Unit {0}) Refusal
 unfolding empty_area
 check_parts r n m = cond (empty_area r) (Err EmptyArea) (cond (eqb n 0) (Err NoPosts) (cond (eqb m 0) (Err NoStops) (Ok tt)))
@@ -90,20 +89,20 @@ abbrev pub reading_result : Reading Job → Result
 reading_result (fault why) = refused why
 reading_result (got job n bs) = checked job
 
--- 01 refusal 1, "more than 16,384 bytes"
+-- refusal 1
 abbrev pub size_limit : ℕ
 size_limit = 16384
 
--- 01 "line by line from the top ..; then 4 to 8", of which 4 to 6 are found in the text, whatever its size
+-- refusals 2 to 6, which are found in the text, whatever its size
 abbrev pub text_with : AxisCosts → List ℕ → Result
 text_with missing bytes = reading_result (job_lines missing 1 bytes)
 
--- 01 "Order: 1; then line by line from the top ..; then 4 to 8"
+-- refusal 1 before all others
 unfoldable pub read_with : AxisCosts → List ℕ → Result
 unfolding job_lines checked
 read_with missing bytes = cond (ltb size_limit (length bytes)) (refused TooLong) (text_with missing bytes)
 
--- 02 card 2, "without the line it is 1,1"
+-- what a missing axis line means
 abbrev pub missing_axis : AxisCosts
 missing_axis = plain
 

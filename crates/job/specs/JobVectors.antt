@@ -1,6 +1,6 @@
--- Document 01, "Job and report" and "Decks to try": the bytes of cases A and B, and what they are read as. Document 02, card 2: a job with
--- the axis line and without it. The other rows of what is refused are in calls/specs/RefusalTable and AxisTable; the three
--- here are checked with this crate, so that a wrong edit of it alone is refused.
+-- Rows: the bytes of cases A and B and what they are read as (RULES "Worked cases"), and a job with the axis line and without it (RULES
+-- "Change 2"). The other rows of what is refused are in calls/specs/RefusalTable and AxisTable; the three here are checked with this crate,
+-- so that a wrong edit of it alone is refused.
 use Rattle.std.specs.Prelude.{ℕ, ◌≡◌, List, [], ◌∷◌, ◌++◌, pos, negsuc}
 use Prim.Native.String.{String}
 use Rattle.query.specs.Marked.{at, stop, deck_a, deck_b}
@@ -31,7 +31,7 @@ pub record JobVectors : Type 0 where
       ≡ accepted (record { deck = deck_b; rounds = 10 })
   pub rounds_1000 : read_job (bytes "area=2,2,8,8\nposts=1\npost=0,0\nstops=2\nstop=4,3,2\nstop=8,12,1\nrounds=1000\n")
       ≡ accepted (record { deck = deck_a; rounds = 1000 })
-  -- 02 card 2
+  -- with the axis line, and without it
   pub axis_2_3 : read_job (carrying "axis=2,3\n") ≡ accepted (costing 2 3)
   pub axis_1_1 : read_job (carrying "axis=1,1\n") ≡ accepted (costing 1 1)
   pub axis_missing : read_job (carrying "") ≡ accepted (costing 1 1)

@@ -18,9 +18,9 @@ use Rattle.refusal.specs.declared.Refusal.{Refusal}
 use Rattle.query.specs.Range.{posts_limit, stops_limit}
 
 -- the second line of a job, which may be missing and then stands for these costs
-pub record AxisAt (unread : Unread) (missing : AxisCosts) (r : Std.Result (AxisCosts × Unread) Refusal) : Type 0 where
-  pub is : reading_of cost_numbers r ≡ optional (row axis) (cost_numbers missing) unread.line unread.text.now
-  pub few : IfOk r (λ a. a.1.line ≤ unread.line + 1)
+pub record AxisAt (unread : Unread) (missing : AxisCosts) (result : Std.Result (AxisCosts × Unread) Refusal) : Type 0 where
+  pub is : reading_of cost_numbers result ≡ optional (row axis) (cost_numbers missing) unread.line unread.text.now
+  pub few : IfOk result (λ a. a.1.line ≤ unread.line + 1)
 
 -- so many lines of a kind
 abbrev pub many_lines : Kind → ℕ → Reader (List (List ℤ))
@@ -85,12 +85,12 @@ lines_read lines (Err why) = fault why
 
 -- what the lines of a list are read as: where none is refused, the record holds them, and they are at most `most`
 pub record ListAt (all : Reader (List (List ℤ))) (with_lines : Deck → List (List ℤ) → Deck) (most : ℕ) (unread : Unread) (old new : Deck)
-    (r : Std.Result Unread Refusal) : Type 0 where
+    (result : Std.Result Unread Refusal) : Type 0 where
   pub lines : List (List ℤ)
-  pub is : lines_read lines r ≡ all unread.line unread.text.now
-  pub few : IfOk r (λ left. length lines ≤ most)
-  pub counted : IfOk r (λ left. left.line ≤ unread.line + 1 + most)
-  pub held : IfOk r (λ left. new ≡ with_lines old lines)
+  pub is : lines_read lines result ≡ all unread.line unread.text.now
+  pub few : IfOk result (λ left. length lines ≤ most)
+  pub counted : IfOk result (λ left. left.line ≤ unread.line + 1 + most)
+  pub held : IfOk result (λ left. new ≡ with_lines old lines)
 
 abbrev pub PostsAt : Unread → Deck → Deck → Std.Result Unread Refusal → Type 0
 PostsAt = ListAt all_posts with_posts posts_limit
@@ -111,8 +111,8 @@ abbrev pub last_read : ℕ → Std.Result ℕ Refusal → Reading (List ℤ)
 last_read n (Ok count) = got (pos count ∷ []) (n + 1) []
 last_read n (Err why) = fault why
 
-pub record LastAt (unread : Unread) (r : Std.Result ℕ Refusal) : Type 0 where
-  pub is : last_read unread.line r ≡ last_line unread.line unread.text.now
+pub record LastAt (unread : Unread) (result : Std.Result ℕ Refusal) : Type 0 where
+  pub is : last_read unread.line result ≡ last_line unread.line unread.text.now
 
 -- the lines behind those of the area and the axis costs, whose numbers these are, and nothing behind them
 unfoldable pub rest_lines : List ℤ → List ℤ → Reader Format.Job
@@ -129,11 +129,11 @@ job_unless job (Ok u) = accepted job
 job_unless job (Err why) = refused why
 
 -- refusals 4, 5 and 6 of so many posts and stops
-pub record CheckedAt (area : Rect) (posts stops : ℕ) (r : Std.Result (Unit {0}) Refusal) : Type 0 where
+pub record CheckedAt (area : Rect) (posts stops : ℕ) (result : Std.Result (Unit {0}) Refusal) : Type 0 where
   pub is : (c : List ℤ) (ps ss : List (List ℤ)) (n : List ℤ) → posts ≡ length ps → stops ≡ length ss →
-      checked (job_of (area_numbers area) c ps ss n) ≡ job_unless (job_of (area_numbers area) c ps ss n) r
-  pub posts_some : IfOk r (λ u. 1 ≤ posts)
+      checked (job_of (area_numbers area) c ps ss n) ≡ job_unless (job_of (area_numbers area) c ps ss n) result
+  pub posts_some : IfOk result (λ u. 1 ≤ posts)
 
 -- the job that they come to
-pub record RestAt (unread : Unread) (area : Rect) (costs : AxisCosts) (r : Std.Result Job Refusal) : Type 0 where
-  pub is : r ≡ job_result (reading_result (rest_lines (area_numbers area) (cost_numbers costs) unread.line unread.text.now))
+pub record RestAt (unread : Unread) (area : Rect) (costs : AxisCosts) (result : Std.Result Job Refusal) : Type 0 where
+  pub is : result ≡ job_result (reading_result (rest_lines (area_numbers area) (cost_numbers costs) unread.line unread.text.now))

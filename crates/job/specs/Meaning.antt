@@ -1,4 +1,4 @@
--- Promises 1 and 2 of the reader: what an accepted job's bytes are, and what each refusal says of the bytes.
+-- RULES "Promise 1" and "Promise 2" of the reader: what an accepted job's bytes are, and what each refusal says of the bytes.
 use Rattle.std.specs.Prelude.{ℕ, suc, ◌≤◌, ◌<◌, ◌≡◌, Bool, not, cond, false, ◌↔◌, ◌≢◌, T, ℤ, length, replicate}
 use mathlib.Core.List.{List, [], ◌∷◌, ◌++◌, flatten}
 use Rattle.std.proofs.Math.Option.{none, some}
@@ -10,7 +10,7 @@ use Rattle.job.specs.Spelling.{spell, Spells, Writable, Allowed}
 use Rattle.refusal.specs.declared.Refusal.{Refusal}
 use Rattle.refusal.specs.declared.Refusal.TheVariants.{TooLong, Malformed, OutOfRange, EmptyArea, NoPosts, NoStops}
 
--- demand 2: "A job is read as exactly the deck that it spells", where a missing axis line means these costs, which are in range
+-- RULES "Promise 2": the bytes that are accepted as a job are its spellings. A missing axis line means these costs, which are in range
 pub record AcceptedLaw (missing : AxisCosts) (bytes : List ℕ) (job : Job) : Type 0 where
   pub exactly : T (in_ranges (row axis).ranges (axis_numbers missing)) →
       (read_with missing bytes ≡ accepted job) ↔ ((length bytes ≤ size_limit) × Spells missing bytes job × Allowed job)
@@ -29,7 +29,6 @@ pub record SpellingLaw (job : Job) : Type 0 where
   pub left_out : (missing : AxisCosts) → Spells missing (spell false job) job ↔ (job.deck.axis ≡ missing)
 
 -- ---- refusals
--- 01 "`posts=n`, then n lines `post=x,y`, `stops=n`, then n lines `stop=x,y,visits`", 02 "A job may carry `axis=a,b` as its second line":
 -- the lines that a line makes due, where this text follows it
 abbrev pub due_after : Kind → List ℤ → List ℕ → List Kind
 due_after area ns rest = cond (starts_with (row axis).key rest) (axis ∷ []) []
@@ -44,30 +43,30 @@ due_after rounds ns rest = []
 -- due next
 pub data Good : List (List ℕ) → List ℕ → List Kind → Type 0 where
   top : {rest : List ℕ} → Good [] rest (area ∷ posts ∷ stops ∷ rounds ∷ [])
-  one_more : {lines : List (List ℕ)} {rest : List ℕ} {k : Kind} {due : List Kind} (text : List ℕ) (ns : List ℤ) →
-      Good lines (text ++ rest) (k ∷ due) → form_of (row k) text ≡ some (ns, []) → T (in_ranges (row k).ranges ns) →
-      Good (lines ++ (text ∷ [])) rest (due_after k ns rest ++ due)
+  one_more : {lines : List (List ℕ)} {rest : List ℕ} {kind : Kind} {due : List Kind} (text : List ℕ) (ns : List ℤ) →
+      Good lines (text ++ rest) (kind ∷ due) → form_of (row kind) text ≡ some (ns, []) → T (in_ranges (row kind).ranges ns) →
+      Good (lines ++ (text ∷ [])) rest (due_after kind ns rest ++ due)
 
--- line n is the first that does not have its form, is missing, or is too much
+-- the first fault is in line n: the line that is due there is missing or has not its form, or none is due and text is left
 pub data FirstMalformed (bytes : List ℕ) (n : ℕ) : Type 0 where
-  no_form : (lines : List (List ℕ)) (rest : List ℕ) (k : Kind) (due : List Kind) → Good lines rest (k ∷ due) →
-      bytes ≡ flatten lines ++ rest → n ≡ suc (length lines) → form_of (row k) rest ≡ none → FirstMalformed bytes n
+  no_form : (lines : List (List ℕ)) (rest : List ℕ) (kind : Kind) (due : List Kind) → Good lines rest (kind ∷ due) →
+      bytes ≡ flatten lines ++ rest → n ≡ suc (length lines) → form_of (row kind) rest ≡ none → FirstMalformed bytes n
   too_much : (lines : List (List ℕ)) (rest : List ℕ) → Good lines rest [] → bytes ≡ flatten lines ++ rest → n ≡ suc (length lines) →
       rest ≢ [] → FirstMalformed bytes n
 
--- line n has its form and a value out of range, and every line before it has its form and ranges
+-- the first fault is in line n, which has its form and a value out of range
 pub record FirstOutOfRange (bytes : List ℕ) (n : ℕ) : Type 0 where
   pub lines : List (List ℕ)
   pub rest : List ℕ
   pub after : List ℕ
-  pub k : Kind
+  pub kind : Kind
   pub due : List Kind
-  pub before : Good lines rest (k ∷ due)
+  pub before : Good lines rest (kind ∷ due)
   pub split : bytes ≡ flatten lines ++ rest
   pub number : n ≡ suc (length lines)
   pub numbers : List ℤ
-  pub form : form_of (row k) rest ≡ some (numbers, after)
-  pub range : T (not (in_ranges (row k).ranges numbers))
+  pub form : form_of (row kind) rest ≡ some (numbers, after)
+  pub range : T (not (in_ranges (row kind).ranges numbers))
 
 -- the bytes spell a job, and the values of all their lines are in range, so that only refusals 4 to 6 are left
 pub record Spelled (bytes : List ℕ) : Type 0 where
@@ -76,7 +75,7 @@ pub record Spelled (bytes : List ℕ) : Type 0 where
   pub writable : Writable carried job
   pub spelled : bytes ≡ spell carried job
 
--- document 01, "Turned down": refusals 2 to 6, which reading gives for text of any size, each with its condition, in the stated order
+-- RULES "Refusals": the condition of each of refusals 2 to 6, which reading gives for text of any size
 pub data TextCondition (bytes : List ℕ) : Refusal → Type 0 where
   malformed : {n : ℕ} → FirstMalformed bytes n → TextCondition bytes (Malformed n)
   out_of_range : {n : ℕ} → FirstOutOfRange bytes n → TextCondition bytes (OutOfRange n)
@@ -85,12 +84,12 @@ pub data TextCondition (bytes : List ℕ) : Refusal → Type 0 where
   no_stops : (s : Spelled bytes) → T (not (empty_area s.job.deck.area)) → s.job.deck.posts ≢ [] → s.job.deck.stops ≡ [] →
       TextCondition bytes NoStops
 
--- all that reading can give: 1 first, then those
+-- and of refusal 1, which comes before those
 pub data Condition (bytes : List ℕ) : Refusal → Type 0 where
   too_long : size_limit < length bytes → Condition bytes TooLong
   in_text : {why : Refusal} → length bytes ≤ size_limit → TextCondition bytes why → Condition bytes why
 
--- demand 1 of the reader: "A number is used under its condition and under no other", whatever a missing axis line means
+-- RULES "Promise 1" of the reader: each refusal exactly on its condition, whatever a missing axis line means
 pub record RefusedLaw (missing : AxisCosts) (bytes : List ℕ) (why : Refusal) : Type 0 where
   pub exactly : (read_with missing bytes ≡ refused why) ↔ Condition bytes why
   pub exactly_in_text : (text_with missing bytes ≡ refused why) ↔ TextCondition bytes why

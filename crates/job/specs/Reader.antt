@@ -1,4 +1,4 @@
--- Reading line by line, one reader of a line after another.
+-- Reading line by line (RULES "Job"), one reader of a line after another.
 use Rattle.std.specs.Prelude.{ℕ, zero, suc, cond, List, [], ◌∷◌, ◌++◌, ℤ}
 use Rattle.text.specs.TextReading.{starts_with}
 use Rattle.job_line.specs.Kinds.{Row}
@@ -34,7 +34,7 @@ unfoldable pub optional : Row → List ℤ → Reader (List ℤ)
 unfolding starts_with line
 optional row missing n bs = cond (starts_with row.key bs) (line row n bs) (got missing n bs)
 
--- 01 "Nothing follows"
+-- the end of the text
 unfoldable pub end : Reader (Unit {0})
 end n [] = got tt n []
 end n (b ∷ bs) = fault (Malformed n)

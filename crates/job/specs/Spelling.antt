@@ -1,4 +1,4 @@
--- How a job is spelled, with its axis line or without it, and which jobs can be.
+-- How a job is spelled (RULES "Job", "Numbers", "Change 2"), with its axis line or without it, and which jobs can be.
 use Rattle.std.specs.Prelude.{ℕ, ◌≤◌, ◌≡◌, Bool, true, false, cond, T, ℤ, pos, length}
 use mathlib.Core.List.{List, [], ◌∷◌, ◌++◌, map, flat_map, Memᴰ}
 use Rattle.query.specs.Place.{Place, Rect, NonEmpty}
@@ -34,13 +34,12 @@ post_line p = record { kind = post; numbers = p.x ∷ p.y ∷ [] }
 abbrev pub stop_line : Stop → JobLine
 stop_line s = record { kind = stop; numbers = s.at.x ∷ s.at.y ∷ pos s.visits ∷ [] }
 
--- 01 "A job is lines in this order": the lines of a job behind those of its area and axis costs, where these numbers of posts and of
--- stops are written
+-- the lines of a job behind those of its area and axis costs, in order, where these numbers of posts and of stops are written
 abbrev pub later_lines : ℕ → ℕ → Job → List JobLine
 later_lines p s job = count_line posts p
     ∷ (map post_line job.deck.posts ++ (count_line stops s ∷ (map stop_line job.deck.stops ++ (count_line rounds job.rounds ∷ []))))
 
--- all its lines. 02 card 2, "A job may carry `axis=a,b` as its second line": whether it does
+-- all its lines, with the axis line or without it
 abbrev pub lines_counting : Bool → ℕ → ℕ → Job → List JobLine
 lines_counting carried p s job =
     area_line job.deck.area ∷ (cond carried (axis_line job.deck.axis ∷ []) [] ++ later_lines p s job)
@@ -66,7 +65,7 @@ unfoldable pub spell : Bool → Job → List ℕ
 unfolding flat_map spell_line
 spell carried job = flat_map spell_line (lines_of carried job)
 
--- 02 card 2: the spellings of a job, where a missing line means these costs. The one without the line is a spelling only of a job with them
+-- the spellings of a job, where a missing line means these costs. The one without the line is a spelling only of a job with them
 pub data Spells (missing : AxisCosts) (bs : List ℕ) (job : Job) : Type 0 where
   with_line : bs ≡ spell true job → Spells missing bs job
   without_line : bs ≡ spell false job → job.deck.axis ≡ missing → Spells missing bs job
@@ -76,7 +75,7 @@ pub data Spells (missing : AxisCosts) (bs : List ℕ) (job : Job) : Type 0 where
 pub record Writable (carried : Bool) (job : Job) : Type 0 where
   pub in_ranges_law : (l : JobLine) → Memᴰ l (lines_of carried job) → T (in_ranges (row l.kind).ranges l.numbers)
 
--- those that documents 01 and 02 allow: axis costs in range, 1 to 64 posts, 1 to 512 stops and a non-empty area besides
+-- those that are accepted (RULES "Deck", "Calls"): with their axis costs in range too, an area that has a point, and a post and a stop
 pub record Allowed (job : Job) : Type 0 where
   pub writable : Writable true job
   pub area_full : NonEmpty job.deck.area

@@ -1,4 +1,4 @@
-// The job format: a job's bytes are read as the deck and rounds that they spell, or refused at their first fault.
+// The job format (RULES "Job"): a job's bytes are read as the deck and rounds that they spell, or refused at their first fault.
 
 #![tactic(auto)]
 
@@ -16,7 +16,7 @@ use job_line::Unread;
 use limits::{JOB_BYTES, MOST_ROUNDS, POSTS, STOPS};
 use refusal::Refusal;
 
-// What a job's bytes spell.
+/// What an accepted job's bytes spell: the rounds, and the deck's record, which is sound (deck/specs/Sound.antt).
 #[derive(Drop)]
 pub struct Job {
     pub rounds: u64,
@@ -83,14 +83,14 @@ fn last_line(unread: Unread<'_>) -> Result<u64, Refusal>
 
 // ---- the job
 
-// Refusal 4: the area has no point.
-pub fn empty_area(a: Rect) -> bool
-    ensures { result ≡ empty_area (area_of (area_numbers a)) }
+/// Whether a rectangle has no point, as refusal 4 says of an area (RULES "Refusals").
+pub fn empty_area(area: Rect) -> bool
+    ensures { result ≡ empty_area (area_of (area_numbers area)) }
 {
-    a.xhi < a.xlo || a.yhi < a.ylo
+    area.xhi < area.xlo || area.yhi < area.ylo
 }
 
-// Refusals 4, 5 and 6, in this order.
+/// Refusals 4, 5 and 6, in this order, of a job with this area and so many posts and stops (RULES "Refusals").
 pub fn check_parts(area: Rect, posts: usize, stops: usize) -> Result<(), Refusal>
     ensures { result ≡ check_parts (area_of (area_numbers area)) posts stops }
 {
@@ -139,8 +139,8 @@ fn read_rest(unread: Unread<'_>, area: Rect, axis: AxisCosts) -> Result<Job, Ref
     Ok(Job { rounds, deck })
 }
 
-// A job's bytes, read line by line from the top: the deck and the rounds that they spell, or the first refusal. A job without an axis
-// line has the axis costs `missing`.
+/// Reads a job's bytes: the rounds and the deck's record that they spell, or the refusal, of 1 to 6, that comes first (RULES "Refusals"). A
+/// job without an axis line has the axis costs `missing`.
 pub fn read_with(bytes: &[u8], missing: AxisCosts) -> Result<Job, Refusal>
     requires { CostsInRange (held_axis missing) }
     ensures { result ≡ job_result (read_with (held_axis missing) bytes.now) }
@@ -157,16 +157,16 @@ pub fn read_with(bytes: &[u8], missing: AxisCosts) -> Result<Job, Refusal>
     read_rest(unread, area, costs)
 }
 
-// The same, where a job without an axis line has the axis costs 1 and 1.
+/// Reads a job's bytes as every call does: without an axis line the axis costs are 1 and 1 (RULES "Change 2").
 pub fn read(bytes: &[u8]) -> Result<Job, Refusal>
     ensures { result ≡ job_result (read_job bytes.now) }
 {
     read_with(bytes, AxisCosts { a: 1, b: 1 })
 }
 
-// Whether the writer has a line for these axis costs.
-pub fn writes_axis(c: AxisCosts) -> bool
-    ensures { result ≡ writes_axis (held_axis c) }
+/// Whether the file of a record with these axis costs has a line for them: costs of 1 and 1 have none (RULES "Change 2").
+pub fn writes_axis(costs: AxisCosts) -> bool
+    ensures { result ≡ writes_axis (held_axis costs) }
 {
-    c.a != 1 || c.b != 1
+    costs.a != 1 || costs.b != 1
 }

@@ -9,6 +9,7 @@ use native.Mathlib.Omega.{arith}
 use lib.IntN.{ℤ, pos}
 use lib.ListN.{length}
 use Rattle.std.specs.Prelude as Std
+use Rattle.query.specs.Range.{posts_limit, stops_limit}
 use Rattle.deck.specs.declared.Deck.{Deck}
 use Rattle.deck.specs.declared.Rect.{Rect}
 use Rattle.deck.specs.DeckOf.{Sized, held_axis, deck_of}
@@ -61,14 +62,14 @@ counted most n line l ls g h e =
     count_most most n line (ap₂ (λ (ranges : List Range) (ns : List ℤ). numbers_fault ranges line ns) h g)
     (or_left (line_fault line l) (first_fault (line + 1) ls) (sym (fault_more line l ls) ∙ e))
 
-pub posts_most : (deck : Deck) (line : ℕ) {p : Option Refusal} → p ≡ first_fault line (post_part deck) → p ≡ none → deck.posts ≤ 64
+pub posts_most : (deck : Deck) (line : ℕ) {p : Option Refusal} → p ≡ first_fault line (post_part deck) → p ≡ none → deck.posts ≤ posts_limit
 posts_most deck line is-p fine =
-    counted 64 deck.posts line (count_line posts deck.posts) (post_lines deck.post_x deck.post_y deck.posts) refl refl
+    counted posts_limit deck.posts line (count_line posts deck.posts) (post_lines deck.post_x deck.post_y deck.posts) refl refl
     (sym is-p ∙ fine)
 
-pub stops_most : (deck : Deck) (line : ℕ) {s : Option Refusal} → s ≡ first_fault line (stop_part deck) → s ≡ none → deck.stops ≤ 512
+pub stops_most : (deck : Deck) (line : ℕ) {s : Option Refusal} → s ≡ first_fault line (stop_part deck) → s ≡ none → deck.stops ≤ stops_limit
 stops_most deck line is-s fine =
-    counted 512 deck.stops line (count_line stops deck.stops) (stop_lines deck.stop_x deck.stop_y deck.visits deck.stops) refl refl
+    counted stops_limit deck.stops line (count_line stops deck.stops) (stop_lines deck.stop_x deck.stop_y deck.visits deck.stops) refl refl
     (sym is-s ∙ fine)
 
 -- ---- what is left of a file's refusal, once parts of it have no fault
@@ -136,14 +137,14 @@ pub posts_behind : {deck : Deck} {n line : ℕ} → line ≡ posts_at deck → L
 posts_behind e left = rw e left
 
 module _ {deck : Deck} {n : ℕ} (sized : Sized deck) (line : ℕ) where
-  pub stops_behind : deck.posts ≤ 64 → Left deck n (behind_posts deck n (line + length (post_part deck))) →
+  pub stops_behind : deck.posts ≤ posts_limit → Left deck n (behind_posts deck n (line + length (post_part deck))) →
       Left deck n (behind_posts deck n (line + 1 + deck.posts))
   stops_behind few left = subst (λ (k : ℕ). Left deck n (behind_posts deck n k)) (omega (
     arith,
     posts_count deck.post_x deck.post_y deck.posts (omega (arith, sized.post_x)) (omega (arith, sized.post_y)),
   )) left
 
-  pub rounds_behind : deck.stops ≤ 512 → Left deck n (behind_stops deck n (line + length (stop_part deck))) →
+  pub rounds_behind : deck.stops ≤ stops_limit → Left deck n (behind_stops deck n (line + length (stop_part deck))) →
       Left deck n (behind_stops deck n (line + 1 + deck.stops))
   rounds_behind many left = subst (λ (k : ℕ). Left deck n (behind_stops deck n k)) (omega (
     arith,

@@ -16,6 +16,7 @@ use Rattle.numbers.proofs.Members.{each_cons}
 use Rattle.numbers.specs.Lists.{non_empty}
 use Rattle.query.specs.Place.{Place, Rect}
 use Rattle.query.specs.Deck.{AxisCosts, Stop}
+use Rattle.query.specs.Range.{posts_limit, stops_limit}
 use Rattle.text.specs.Ascii.{bytes}
 use Rattle.text.specs.TextReading.{starts_with}
 use Rattle.deck.specs.DeckOf.{Sized, deck_of}
@@ -189,10 +190,10 @@ checked_same held job = go (empty_area held.deck.area) (non_empty held.deck.post
 
 -- ---- the file of a record
 module _ (deck : Deck) (rounds-held : ℕ) (sized : Sized deck) where
-  posts_held : deck.posts ≤ 64 → length (deck_of deck).posts ≡ deck.posts
+  posts_held : deck.posts ≤ posts_limit → length (deck_of deck).posts ≡ deck.posts
   posts_held h = omega (arith, posts_counted deck sized)
 
-  stops_held : deck.stops ≤ 512 → length (deck_of deck).stops ≡ deck.stops
+  stops_held : deck.stops ≤ stops_limit → length (deck_of deck).stops ≡ deck.stops
   stops_held h = omega (arith, stops_counted deck sized)
 
   file_follows : Follows all_due (file_lines deck rounds-held)
@@ -204,28 +205,29 @@ module _ (deck : Deck) (rounds-held : ℕ) (sized : Sized deck) where
       refl,
       refl,
       λ p. many_follow post (λ p. (post_line p).numbers) (λ a. refl) (λ ns rest. refl) (deck_of deck).posts deck.posts
-          (posts_held ((count_range 64 deck.posts).0 p)) (stops ∷ rounds ∷ []) _ (
+          (posts_held ((count_range posts_limit deck.posts).0 p)) (stops ∷ rounds ∷ []) _ (
             refl,
             refl,
             λ q. many_follow stop (λ s. (stop_line s).numbers) (λ a. refl)
-                (λ ns rest. refl) (deck_of deck).stops deck.stops (stops_held ((count_range 512 deck.stops).0 q)) (rounds ∷ []) _ (refl, refl, λ r. refl),
+                (λ ns rest. refl) (deck_of deck).stops deck.stops (stops_held ((count_range stops_limit deck.stops).0 q))
+                (rounds ∷ []) _ (refl, refl, λ r. refl),
           ),
     ),
   )
 
-  lines_held : deck.posts ≤ 64 → deck.stops ≤ 512 →
+  lines_held : deck.posts ≤ posts_limit → deck.stops ≤ stops_limit →
       file_lines deck rounds-held ≡ lines_of (writes_axis (deck_of deck).axis) (held_job deck rounds-held)
   lines_held p s = ap₂ (λ (p s : ℕ). lines_counting (writes_axis (deck_of deck).axis) p s (held_job deck rounds-held)) (sym (posts_held p)) (sym (stops_held s))
 
   -- where the counts are those of the lists, the file is the spelling of the job that is held
-  pub file_spelled : deck.posts ≤ 64 → deck.stops ≤ 512 → file_text deck rounds-held ≡ saved_spelling (held_job deck rounds-held)
+  pub file_spelled : deck.posts ≤ posts_limit → deck.stops ≤ stops_limit → file_text deck rounds-held ≡ saved_spelling (held_job deck rounds-held)
   unfolding file_text spell
   file_spelled p s = ap (flat_map spell_line) (lines_held p s)
 
   -- as it is where no line has a fault
   record AllFine : Type 0 where
-    posts_few : deck.posts ≤ 64
-    stops_few : deck.stops ≤ 512
+    posts_few : deck.posts ≤ posts_limit
+    stops_few : deck.stops ≤ stops_limit
     writable : Writable (writes_axis (deck_of deck).axis) (held_job deck rounds-held)
     spelled : file_text deck rounds-held ≡ saved_spelling (held_job deck rounds-held)
 
@@ -235,8 +237,8 @@ module _ (deck : Deck) (rounds-held : ℕ) (sized : Sized deck) where
       let each = lines_fine (file_lines deck rounds-held) 1 e in
       let later : (l : JobLine) → Memᴰ l (later_lines deck.posts deck.stops (held_job deck rounds-held)) → InRanges l
       = λ l i. each l (Memᴰ.tail (Memᴰ.append_right (axis_lines (deck_of deck).axis) i)) in
-      let p : deck.posts ≤ 64 = (count_range 64 deck.posts).0 (later _ (Memᴰ.head refl)) in
-      let s : deck.stops ≤ 512 = (count_range 512 deck.stops).0
+      let p : deck.posts ≤ posts_limit = (count_range posts_limit deck.posts).0 (later _ (Memᴰ.head refl)) in
+      let s : deck.stops ≤ stops_limit = (count_range stops_limit deck.stops).0
       (later _ (Memᴰ.tail (Memᴰ.append_right (map post_line (deck_of deck).posts) (Memᴰ.head refl)))) in
       record {
         posts_few = p;
@@ -288,8 +290,8 @@ module _ (deck : Deck) (rounds-held : ℕ) (sized : Sized deck) where
 
   -- and where it finds no fault: the job that is held, whose file has the record's own counts
   pub record FileIs : Type 0 where
-    pub few_posts : deck.posts ≤ 64
-    pub few_stops : deck.stops ≤ 512
+    pub few_posts : deck.posts ≤ posts_limit
+    pub few_stops : deck.stops ≤ stops_limit
     pub text : file_text deck rounds-held ≡ saved_spelling (held_job deck rounds-held)
     pub allowed : Allowed (held_job deck rounds-held)
     pub read : read_text (file_text deck rounds-held) ≡ accepted (held_job deck rounds-held)

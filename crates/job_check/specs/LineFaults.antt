@@ -1,4 +1,4 @@
--- What reading finds in lines that numbers were spelled in: their first refusal, by the numbers themselves.
+-- What reading finds in lines that numbers were spelled in (RULES "Refusals", "Change 1"): their first refusal, by the numbers themselves.
 use Rattle.std.specs.Prelude as Std
 use Rattle.std.specs.Prelude.{Ok, Err, ℕ, ◌+◌, Bool, true, cond, ◌&&◌, List, [], ◌∷◌, ltb, ℤ, nat_abs}
 use Rattle.std.proofs.Math.Option.{Option, none, some}
@@ -9,7 +9,7 @@ use Rattle.job.specs.Spelling.{JobLine}
 use Rattle.refusal.specs.declared.Refusal.{Refusal}
 use Rattle.refusal.specs.declared.Refusal.TheVariants.{Malformed, OutOfRange}
 
--- 01 "A number has 1 to 9 digits"
+-- nine digits at most (RULES "Numbers")
 unfoldable pub short : ℤ → Bool
 short z = ltb (nat_abs z) 1000000000
 

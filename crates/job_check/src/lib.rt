@@ -1,7 +1,8 @@
-// The refusal that reading the file of a deck's record and rounds would give, found from their numbers.
+// The refusal that reading the file of a deck's record and rounds would give (RULES "Change 1"), found from their numbers.
 #![tactic(auto)]
 
 ghost use Rattle.std.specs.Prelude.{◌≡◌, cond, [], ◌∷◌, map, ◌≤◌, pos, length, take};
+ghost use Rattle.query.specs.Range.{posts_limit, stops_limit};
 ghost use Rattle.deck.specs.DeckOf.{held_axis, places, stops_of};
 ghost use Rattle.job_line.specs.Kinds.{area, axis, posts, post, stops, stop, up_to, row};
 ghost use Rattle.job_line.specs.Reading.{area_numbers, cost_numbers, place_numbers, stop_numbers};
@@ -104,7 +105,7 @@ fn stop_line(s: Stop, line: u64) -> Result<(), Refusal>
 
 // The lines of posts, from line `first` on.
 fn post_lines(posts: Places<'_>, first: u64) -> Result<(), Refusal>
-    requires { (length posts.x.now ≤ 512) × (first ≤ 1000) }
+    requires { (length posts.x.now ≤ posts_limit) × (first ≤ 1000) }
     ensures { checked_as result ≡ first_fault first (map post_line (places posts.entry.x.now posts.entry.y.now)) }
 {
     for ((x, y), line) in posts.x.iter().zip(posts.y).zip(first..) {
@@ -115,7 +116,7 @@ fn post_lines(posts: Places<'_>, first: u64) -> Result<(), Refusal>
 
 // The lines of stops, from line `first` on.
 fn stop_lines(stops: Stops<'_>, first: u64) -> Result<(), Refusal>
-    requires { (length stops.at.x.now ≤ 512) × (first ≤ 1000) }
+    requires { (length stops.at.x.now ≤ stops_limit) × (first ≤ 1000) }
     ensures { checked_as result ≡ first_fault first
         (map stop_line (stops_of (places stops.entry.at.x.now stops.entry.at.y.now) stops.entry.visits.now)) }
 {
@@ -159,7 +160,8 @@ fn posts_at(c: AxisCosts) -> u64
     if job::writes_axis(c) { 3 } else { 2 }
 }
 
-// The refusal that reading the file of a record and rounds would give, its size aside.
+/// The refusal, of 2 to 6, that reading the file of a record and these rounds would give, with the line that it would have there. The
+/// file's size is not looked at, nor are the record's near and before, which no file holds.
 pub fn check(deck: &Deck, rounds: u64) -> Result<(), Refusal>
     ensures { checked_as result ≡ refusal_in (read_text (file_text deck.now rounds)) }
 {

@@ -1,4 +1,4 @@
--- The texts that the functions of this crate write: parts of a file.
+-- The texts that the functions of this crate write: parts of a file (RULES "Change 1").
 use Rattle.std.specs.Prelude.{ℕ, cond, ℤ, take}
 use mathlib.Core.List.{List, [], ◌∷◌, ◌++◌, map, flat_map}
 use Rattle.query.specs.Deck.{AxisCosts}

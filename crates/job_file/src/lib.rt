@@ -1,7 +1,8 @@
-// The file of a deck's record and rounds: its length, and its bytes written into an output that has room for them.
+// The file of a deck's record and rounds (RULES "Change 1"): its length, and its bytes written into an output that has room for them.
 #![tactic(auto)]
 
 ghost use Rattle.std.specs.Prelude.{◌≡◌, [], ◌∷◌, ◌++◌, ◌+◌, ◌*◌, ◌≤◌, pos, length};
+ghost use Rattle.query.specs.Range.{posts_limit, stops_limit};
 ghost use Rattle.text.specs.Ascii.{newline};
 ghost use Rattle.text.specs.Decimal.{spell_int};
 ghost use Rattle.write.specs.Written.{HasRoom, Overwrote, Wrote};
@@ -36,7 +37,7 @@ fn axis_len(c: AxisCosts) -> usize
 
 // The lines of posts.
 fn posts_len(posts: Places<'_>) -> usize
-    requires { length posts.x.now ≤ 512 }
+    requires { length posts.x.now ≤ posts_limit }
     ensures value { result ≡ length (post_texts posts.entry.x.now posts.entry.y.now (length posts.entry.x.now)) }
     ensures upper_bound { result ≤ length posts.entry.x.now * 49 }
 {
@@ -49,7 +50,7 @@ fn posts_len(posts: Places<'_>) -> usize
 
 // The lines of stops.
 fn stops_len(stops: Stops<'_>) -> usize
-    requires { length stops.at.x.now ≤ 512 }
+    requires { length stops.at.x.now ≤ stops_limit }
     ensures value { result
         ≡ length (stop_texts stops.entry.at.x.now stops.entry.at.y.now stops.entry.visits.now (length stops.entry.at.x.now)) }
     ensures upper_bound { result ≤ length stops.entry.at.x.now * 70 }
@@ -61,9 +62,9 @@ fn stops_len(stops: Stops<'_>) -> usize
     len
 }
 
-// How many bytes the file takes.
+/// How many bytes the file of a record and these rounds takes.
 pub fn file_len(deck: &Deck, rounds: u64) -> usize
-    requires { (deck.now.posts ≤ 64) × (deck.now.stops ≤ 512) }
+    requires { (deck.now.posts ≤ posts_limit) × (deck.now.stops ≤ stops_limit) }
     ensures { result ≡ length (file_text deck.now rounds) }
 {
     let posts = posts_len(deck.post_places());
@@ -95,7 +96,7 @@ fn put_number<T: Decimal>(w: &mut Writer, n: T, end: u8)
     w.put_byte(end);
 }
 
-// Two numbers, with a comma behind the first. Always inlined, without which writing takes longer.
+// Two numbers, with a comma behind the first. Not inlined, it makes writing take longer.
 #[inline(always)]
 fn put_place(w: &mut Writer, p: Place, end: u8)
     requires { HasRoom w.old (length (place_text p.x p.y end)) }
@@ -172,9 +173,10 @@ fn put_stops(w: &mut Writer, stops: Stops<'_>)
 
 // ---- the file
 
-// The bytes of the file at the start of `out`, and how many they are.
+/// Writes the file of a record and these rounds over the first bytes of `out`, which has room for it, and gives how many bytes it takes.
+/// Any numbers are written, also those that a reader would refuse; the bytes of `out` behind the file stay.
 pub fn put_file(deck: &Deck, rounds: u64, out: &mut [u8]) -> usize
-    requires { (deck.now.posts ≤ 64) × (deck.now.stops ≤ 512) × (length (file_text deck.now rounds) ≤ length out.old) }
+    requires { (deck.now.posts ≤ posts_limit) × (deck.now.stops ≤ stops_limit) × (length (file_text deck.now rounds) ≤ length out.old) }
     ensures { Overwrote out.old (file_text deck.now rounds) out.new result }
 {
     let low = Place {

@@ -26,7 +26,7 @@ unfoldable pub byte : ℕ → Form (Unit {0})
 byte b [] = none
 byte b (c ∷ cs) = cond (eqb c b) (some (tt, cs)) none
 
--- 01 "Keys are compared byte for byte"
+-- these bytes
 unfoldable pub key : List ℕ → Form (Unit {0})
 unfolding byte return ◌>>◌
 key [] = return tt

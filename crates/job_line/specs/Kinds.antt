@@ -1,5 +1,4 @@
--- Document 01, "Job and report", and document 02, card 2: the lines of a job in one table, and the form and the ranges that a line has by
--- its row.
+-- The lines of a job in one table (RULES "Job", "Change 2"), and the form and the ranges that a line has by its row.
 use Rattle.std.specs.Prelude.{ℕ, Bool, true, false, ◌&&◌, List, [], ◌∷◌, ℤ, pos, neg_ℤ}
 use Rattle.numbers.specs.Integer.{between}
 use Rattle.query.specs.Range.{coordinate_limit, posts_limit, stops_limit, visits_limit, rounds_limit, axis_cost_limit}
@@ -16,19 +15,17 @@ pub record Range : Type 0 where
   pub low : ℤ
   pub high : ℤ
 
--- 01 "Coordinates are .. −20,000 to 20,000"
+-- the ranges of RULES "Deck" and "Travel"
 abbrev pub coordinates : Range
 coordinates = record { low = neg_ℤ (pos coordinate_limit); high = pos coordinate_limit }
 
--- 01 "each with 1 to 65,535 visits"
 abbrev pub visits : Range
 visits = record { low = pos 1; high = pos visits_limit }
 
--- 02 card 2, "each 1 to 9"
 abbrev pub axis_costs : Range
 axis_costs = record { low = pos 1; high = pos axis_cost_limit }
 
--- 01 "posts may be written 0 to 64 and stops 0 to 512"; "Rounds: 0 to 1,000"
+-- a count may be written as 0
 abbrev pub up_to : ℕ → Range
 up_to most = record { low = pos 0; high = pos most }
 
@@ -37,7 +34,7 @@ pub record Row : Type 0 where
   pub key : List ℕ
   pub ranges : List Range
 
--- 01 `area=xlo,ylo,xhi,yhi`, 02 `axis=a,b`, 01 `posts=n`, `post=x,y`, `stops=n`, `stop=x,y,visits`, `rounds=n`
+-- `area=xlo,ylo,xhi,yhi`, `axis=a,b`, `posts=n`, `post=x,y`, `stops=n`, `stop=x,y,visits`, `rounds=n`
 abbrev pub row : Kind → Row
 row area = record { key = bytes "area="; ranges = coordinates ∷ coordinates ∷ coordinates ∷ coordinates ∷ [] }
 row axis = record { key = bytes "axis="; ranges = axis_costs ∷ axis_costs ∷ [] }
@@ -48,7 +45,7 @@ row stop = record { key = bytes "stop="; ranges = coordinates ∷ coordinates �
 row rounds = record { key = bytes "rounds="; ranges = up_to rounds_limit ∷ [] }
 
 -- ---- a line by its row
--- the byte that ends a number: a comma where others follow; 01 "each ended by byte 10" behind the last
+-- the byte that ends a number: a comma where others follow, byte 10 behind the last
 abbrev pub end_of : {A : Type 0} → List A → ℕ
 end_of [] = newline
 end_of (other ∷ others) = comma
@@ -69,7 +66,7 @@ form_of row = do
   key row.key
   numbers row.ranges
 
--- 01 refusal 3, "a value out of range", is where a number is not in its range
+-- refusal 3 is of a number that is not
 unfoldable pub in_range : Range → ℤ → Bool
 unfolding between
 in_range range n = between range.low range.high n

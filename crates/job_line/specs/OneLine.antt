@@ -1,4 +1,4 @@
--- One line of a job: first by its form (refusal 2), then by its ranges (refusal 3), with lines counted from 1.
+-- One line of a job (RULES "Job", "Refusals"): first by its form, then by its ranges, with lines counted from 1.
 use Rattle.std.specs.Prelude.{ℕ, ◌+◌, cond, List, ℤ}
 use Rattle.std.proofs.Math.Option.{Option, none, some}
 use Rattle.job_line.specs.Kinds.{Row, form_of, in_ranges}
@@ -13,7 +13,7 @@ pub data Reading (A : Type 0) : Type 0 where
 abbrev pub Reader : Type 0 → Type 0
 Reader A = ℕ → List ℕ → Reading A
 
--- 01 "2 before 3 in a line"
+-- refusal 2 before refusal 3
 abbrev pub line_result : Row → ℕ → Option (List ℤ × List ℕ) → Reading (List ℤ)
 line_result row n none = fault (Malformed n)
 line_result row n (some r) = cond (in_ranges row.ranges r.0) (got r.0 (n + 1) r.1) (fault (OutOfRange n))

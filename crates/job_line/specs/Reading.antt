@@ -27,15 +27,15 @@ InLine left n (Ok r) = (left r).line ≡ n
 InLine left n (Err why) = why ≡ Malformed n
 
 -- a key
-pub record KeyAt (name : List ℕ) (unread : Unread) (r : Result Unread Refusal) : Type 0 where
-  pub is : key_in r ≡ key name unread.text.now
-  pub in_line : InLine (λ left. left) unread.line r
+pub record KeyAt (name : List ℕ) (unread : Unread) (result : Result Unread Refusal) : Type 0 where
+  pub is : key_in result ≡ key name unread.text.now
+  pub in_line : InLine (λ left. left) unread.line result
 
 -- a number, of at most nine digits, and the byte that ends it
-pub record FieldAt (end : ℕ) (unread : Unread) (r : Result (ℤ × Unread) Refusal) : Type 0 where
-  pub is : field_in r ≡ field end unread.text.now
-  pub nine_digits : IfOk r (λ a. nat_abs a.0 < 10 ^ 9)
-  pub in_line : InLine (λ a. a.1) unread.line r
+pub record FieldAt (end : ℕ) (unread : Unread) (result : Result (ℤ × Unread) Refusal) : Type 0 where
+  pub is : field_in result ≡ field end unread.text.now
+  pub nine_digits : IfOk result (λ a. nat_abs a.0 < 10 ^ 9)
+  pub in_line : InLine (λ a. a.1) unread.line result
 
 -- ---- the numbers of a line, as the code holds them
 abbrev pub area_numbers : Rect → List ℤ
@@ -74,8 +74,8 @@ in_64_bits (fault why) = fault why
 in_64_bits (got a n bs) = got a (line_number n) bs
 
 -- what is read where a line with this row is due
-pub record LineAt (row : Row) (unread : Unread) (r : Reading (List ℤ)) : Type 0 where
-  pub is : r ≡ in_64_bits (line row unread.line unread.text.now)
+pub record LineAt (row : Row) (unread : Unread) (result : Reading (List ℤ)) : Type 0 where
+  pub is : result ≡ in_64_bits (line row unread.line unread.text.now)
 
 -- the row of a count, by its key and the most that it may be
 abbrev pub count_row : List ℕ → ℕ → Row

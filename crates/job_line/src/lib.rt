@@ -1,4 +1,5 @@
-// One line of a job: what it holds and what is left behind it, or the refusal of a line without its form or of a value out of range.
+// One line of a job (RULES "Job"): what it holds and what is left behind it, or refusal 2 of a line without its form, or refusal 3 of a
+// value out of range.
 
 #![tactic(auto)]
 
@@ -12,7 +13,7 @@ use deck::{AxisCosts, Place, Rect, Stop};
 use limits::{LEAST_COORDINATE, MOST_AXIS_COST, MOST_COORDINATE, MOST_VISITS};
 use refusal::Refusal;
 
-// What is left to read of a job: its text, and the number of the line that this begins in.
+/// What is left to read of a job: its text, and the number, from 1, of the line that this begins in.
 #[derive(Clone, Copy)]
 pub struct Unread<'a> {
     pub text: &'a [u8],
@@ -33,16 +34,18 @@ fn coordinate_in_range(v: i64) -> bool
     between(LEAST_COORDINATE, MOST_COORDINATE, v)
 }
 
-pub fn place_in_range(p: Place) -> bool
-    ensures { result ≡ in_ranges (row post).ranges (place_numbers p) }
+/// Whether both coordinates of a place are in range.
+pub fn place_in_range(place: Place) -> bool
+    ensures { result ≡ in_ranges (row post).ranges (place_numbers place) }
 {
-    coordinate_in_range(p.x) && coordinate_in_range(p.y)
+    coordinate_in_range(place.x) && coordinate_in_range(place.y)
 }
 
-pub fn area_in_range(a: Rect) -> bool
-    ensures { result ≡ in_ranges (row area).ranges (area_numbers a) }
+/// Whether all edges of a rectangle are in range. It may have no point.
+pub fn area_in_range(rectangle: Rect) -> bool
+    ensures { result ≡ in_ranges (row area).ranges (area_numbers rectangle) }
 {
-    place_in_range(a.low()) && place_in_range(a.high())
+    place_in_range(rectangle.low()) && place_in_range(rectangle.high())
 }
 
 fn cost_in_range(v: u64) -> bool
@@ -51,16 +54,18 @@ fn cost_in_range(v: u64) -> bool
     (1..=MOST_AXIS_COST).contains(&v)
 }
 
-pub fn axis_in_range(c: AxisCosts) -> bool
-    ensures { result ≡ in_ranges (row axis).ranges (cost_numbers c) }
+/// Whether both axis costs are in range.
+pub fn axis_in_range(costs: AxisCosts) -> bool
+    ensures { result ≡ in_ranges (row axis).ranges (cost_numbers costs) }
 {
-    cost_in_range(c.a) && cost_in_range(c.b)
+    cost_in_range(costs.a) && cost_in_range(costs.b)
 }
 
-pub fn stop_in_range(p: Place, visits: i64) -> bool
-    ensures { result ≡ in_ranges (row stop).ranges (p.x ∷ p.y ∷ visits ∷ []) }
+/// Whether a stop's place and its visits are in range.
+pub fn stop_in_range(place: Place, visits: i64) -> bool
+    ensures { result ≡ in_ranges (row stop).ranges (place.x ∷ place.y ∷ visits ∷ []) }
 {
-    place_in_range(p) && between(1, MOST_VISITS, visits)
+    place_in_range(place) && between(1, MOST_VISITS, visits)
 }
 
 // ---- parts of a line: without one the line is malformed
@@ -96,7 +101,8 @@ fn next_line(unread: Unread<'_>) -> Unread<'_>
 
 // ---- lines
 
-// `area=xlo,ylo,xhi,yhi`
+/// Reads the line `area=xlo,ylo,xhi,yhi`. Like each reader below it gives what the line holds and what is left behind it, or refusal 2 or 3
+/// with the line's number (RULES "Refusals").
 pub fn area_line(unread: Unread<'_>) -> Result<(Rect, Unread<'_>), Refusal>
     ensures { LineAt (row area) unread.entry (reading_of area_numbers result) }
 {
@@ -112,7 +118,7 @@ pub fn area_line(unread: Unread<'_>) -> Result<(Rect, Unread<'_>), Refusal>
     Ok((area, next_line(unread)))
 }
 
-// `axis=a,b`
+/// Reads the line `axis=a,b`.
 pub fn axis_line(unread: Unread<'_>) -> Result<(AxisCosts, Unread<'_>), Refusal>
     ensures { LineAt (row axis) unread.entry (reading_of cost_numbers result) }
 {
@@ -129,7 +135,7 @@ pub fn axis_line(unread: Unread<'_>) -> Result<(AxisCosts, Unread<'_>), Refusal>
     Ok((costs, next_line(unread)))
 }
 
-// `posts=n`, `stops=n`, `rounds=n`: a number from 0 to `most` behind `key`.
+/// Reads a line `posts=n`, `stops=n` or `rounds=n`: a number from 0 to `most` behind `key`, which holds the `=` too.
 pub fn count_line<'a>(
     unread: Unread<'a>,
     key: &[u8],
@@ -148,7 +154,7 @@ pub fn count_line<'a>(
     Ok((n, next_line(unread)))
 }
 
-// `post=x,y`
+/// Reads a line `post=x,y`.
 pub fn post_line(unread: Unread<'_>) -> Result<(Place, Unread<'_>), Refusal>
     ensures { LineAt (row post) unread.entry (reading_of place_numbers result) }
 {
@@ -162,7 +168,7 @@ pub fn post_line(unread: Unread<'_>) -> Result<(Place, Unread<'_>), Refusal>
     Ok((post, next_line(unread)))
 }
 
-// `stop=x,y,visits`
+/// Reads a line `stop=x,y,visits`.
 pub fn stop_line(unread: Unread<'_>) -> Result<(Stop, Unread<'_>), Refusal>
     ensures { LineAt (row stop) unread.entry (reading_of stop_numbers result) }
 {

@@ -18,7 +18,7 @@ use Rattle.numbers.proofs.Integer.{order, abs_range, sub_nat}
 use Rattle.numbers.proofs.Words.{difference, difference_fits}
 use Rattle.query.specs.Place.{Place, Rect}
 use Rattle.query.specs.Deck.{Deck}
-use Rattle.query.specs.Range.{load_limit, cost_limit}
+use Rattle.query.specs.Range.{coordinate_limit, load_limit, cost_limit}
 use Rattle.job.specs.Format.{Result, read_job}
 use Rattle.job.proofs.ReadDeck.{Spelt}
 use Rattle.deck.specs.DeckOf.{deck_of}
@@ -37,6 +37,7 @@ use Rattle.trial.specs.declared.opened.Opened.{Opened}
 use Rattle.trial.proofs.OpenLaws.{whole_pricing, open_refused, on_job_lem}
 use Rattle.kernels.specs.Sums.{
   sum_to,
+  turns_limit,
   residue,
   Sampled,
   TurnPlace,
@@ -73,7 +74,7 @@ summed_more {f} {limit} {k} {sum} {t} v s h e l = record {
   most = omega (arith, s.most);
 }
 
-pub summed_all : {f : ℕ → ℕ} {k sum t : ℕ} → Summed f cost_limit k sum t → k ≤ t → k ≤ 100000 → Figure (sum_to f k) (100000 * cost_limit) sum
+pub summed_all : {f : ℕ → ℕ} {k sum t : ℕ} → Summed f cost_limit k sum t → k ≤ t → k ≤ turns_limit → Figure (sum_to f k) (turns_limit * cost_limit) sum
 summed_all {f} {k} {sum} {t} s h few =
     let e : t ≡ k = omega (arith, s.within) in
     record { is = s.is ∙ ap (sum_to f) e; within = omega (arith, s.most) }
@@ -103,14 +104,14 @@ module _ (o : Opened) (t : ℕ) {n : ℕ} where
 
 -- ---- what `kernel_sum` answers
 abbrev SumIs : (ℕ → ℕ) → ℕ → ℕ → Type 0
-SumIs f k n = Figure (sum_to f k) (100000 * cost_limit) n
+SumIs f k n = Figure (sum_to f k) (turns_limit * cost_limit) n
 
 pub kernel_none : (which k : ℕ) (r : Result) → 4 < which → least ≡ kernel_sum which k r
 kernel_none which k r h = rw (lt-ltb 4 which h)
 
 module _ (which k : ℕ) (w : which ≤ 4) where
   abbrev on_deck : Result → ℤ
-  on_deck r = on_job minus_one (λ job. cond (ltb 100000 k) minus_one (pos (sum_to (turn job.deck which) k))) r
+  on_deck r = on_job minus_one (λ job. cond (ltb turns_limit k) minus_one (pos (sum_to (turn job.deck which) k))) r
 
   kernel_is : (r : Result) → on_deck r ≡ kernel_sum which k r
   kernel_is r = rw (le-ltb 4 which w)
@@ -120,39 +121,39 @@ module _ (which k : ℕ) (w : which ≤ 4) where
   kernel_refused bytes r e f = open_refused bytes r e _ _ f ∙ kernel_is (read_job bytes)
 
   module _ {bytes : List ℕ} (s : Spelt bytes) where
-    sum_is : cond (ltb 100000 k) minus_one (pos (sum_to (turn s.job.deck which) k)) ≡ kernel_sum which k (read_job bytes)
-    sum_is = on_job_lem minus_one (λ job. cond (ltb 100000 k) minus_one (pos (sum_to (turn job.deck which) k))) s ∙ kernel_is (read_job bytes)
+    sum_is : cond (ltb turns_limit k) minus_one (pos (sum_to (turn s.job.deck which) k)) ≡ kernel_sum which k (read_job bytes)
+    sum_is = on_job_lem minus_one (λ job. cond (ltb turns_limit k) minus_one (pos (sum_to (turn job.deck which) k))) s ∙ kernel_is (read_job bytes)
 
-    pub too_many : 100000 < k → minus_one ≡ kernel_sum which k (read_job bytes)
-    too_many h = sym (ap (λ (b : Bool). cond b minus_one (pos (sum_to (turn s.job.deck which) k))) (lt-ltb 100000 k h)) ∙ sum_is
+    pub too_many : turns_limit < k → minus_one ≡ kernel_sum which k (read_job bytes)
+    too_many h = sym (ap (λ (b : Bool). cond b minus_one (pos (sum_to (turn s.job.deck which) k))) (lt-ltb turns_limit k h)) ∙ sum_is
 
-    pub kernel_answer : {deck : Deck} {n : ℕ} → deck ≡ s.job.deck → k ≤ 100000 → SumIs (turn deck which) k n →
+    pub kernel_answer : {deck : Deck} {n : ℕ} → deck ≡ s.job.deck → k ≤ turns_limit → SumIs (turn deck which) k n →
         to_z w64 n ≡ kernel_sum which k (read_job bytes)
     kernel_answer {deck} {n} e h fig =
         to_z_pos w64 n (omega (arith, fig.within)) ∙ ap pos (fig.is ∙ ap (λ (d : Deck). sum_to (turn d which) k) e)
-        ∙ sym (ap (λ (b : Bool). cond b minus_one (pos (sum_to (turn s.job.deck which) k))) (le-ltb 100000 k h)) ∙ sum_is
+        ∙ sym (ap (λ (b : Bool). cond b minus_one (pos (sum_to (turn s.job.deck which) k))) (le-ltb turns_limit k h)) ∙ sum_is
 
 -- ---- numbers of a turn
 pub product_fits : (t factor : ℕ) → factor ≤ 65536 → (t % 65536) * factor ≤ 65536 * 65536
 product_fits t factor h = let g : t % 65536 ≤ 65536 = omega arith in mul-le-mul g h
 
-pub residue_most : (t factor : ℕ) → residue t factor ≤ 20000
+pub residue_most : (t factor : ℕ) → residue t factor ≤ coordinate_limit
 residue_most t factor = go ((t % 65536) * factor)
   where
-    go : (n : ℕ) → n % 20001 ≤ 20000
+    go : (n : ℕ) → n % (coordinate_limit + 1) ≤ coordinate_limit
     go n = omega arith
 
-module _ (m s : ℕ) (g : m ≤ 20000) (h : s ≤ 20000) where
+module _ (m s : ℕ) (g : m ≤ coordinate_limit) (h : s ≤ coordinate_limit) where
   pub less_fits : SFits w64 (to_z w64 m -ℤ to_z w64 s)
   less_fits = difference_fits m s (omega arith) (omega arith)
 
   less_is : to_z w64 (of_z w64 (to_z w64 m -ℤ to_z w64 s)) ≡ pos m -ℤ pos s
   less_is = to_z-of_z w64 (to_z w64 m -ℤ to_z w64 s) less_fits ∙ difference m s (omega arith) (omega arith)
 
-  less_range : nat_abs (pos m -ℤ pos s) ≤ 20000
-  less_range = (abs_range (pos m -ℤ pos s) 20000).1 (omega (arith, sub_nat (pos m) (pos s)))
+  less_range : nat_abs (pos m -ℤ pos s) ≤ coordinate_limit
+  less_range = (abs_range (pos m -ℤ pos s) coordinate_limit).1 (omega (arith, sub_nat (pos m) (pos s)))
 
-pub sample_is : (t factor less : ℕ) → less ≤ 20000 → Sampled t factor less (to_z w64 (of_z w64 (to_z w64 (residue t factor) -ℤ to_z w64 less)))
+pub sample_is : (t factor less : ℕ) → less ≤ coordinate_limit → Sampled t factor less (to_z w64 (of_z w64 (to_z w64 (residue t factor) -ℤ to_z w64 less)))
 sample_is t factor less h =
     let e = less_is (residue t factor) less (residue_most t factor) h in
     record { is = e; range = rw e (less_range (residue t factor) less (residue_most t factor) h) }
@@ -163,10 +164,11 @@ module _ {t : ℕ} {x y : ℤ} (a : Sampled t 7919 10000 x) (b : Sampled t 6007 
   place_turn = record { is = λ i. record { x = a.is i; y = b.is i }; range = record { x_range = a.range; y_range = b.range } }
 
 -- a low edge is not above a high one
-low_high : (m s : ℕ) → m ≤ 20000 → (pos m -ℤ pos 20000) ≤ℤ (pos s -ℤ pos 0)
-low_high m s h = omega (arith, order, sub_nat (pos m) (pos 20000), sub_nat (pos s) (pos 0))
+low_high : (m s : ℕ) → m ≤ coordinate_limit → (pos m -ℤ pos coordinate_limit) ≤ℤ (pos s -ℤ pos 0)
+low_high m s h = omega (arith, order, sub_nat (pos m) (pos coordinate_limit), sub_nat (pos s) (pos 0))
 
-module _ {t : ℕ} {xlo ylo xhi yhi : ℤ} (a : Sampled t 7919 20000 xlo) (b : Sampled t 6007 20000 ylo) (c : Sampled t 4409 0 xhi) (d : Sampled t 3001 0 yhi) where
+module _ {t : ℕ} {xlo ylo xhi yhi : ℤ} (a : Sampled t 7919 coordinate_limit xlo) (b : Sampled t 6007 coordinate_limit ylo) (c : Sampled t 4409 0 xhi)
+    (d : Sampled t 3001 0 yhi) where
   turn_is : ◌≡◌ {A = Rect} (record { xlo = back xlo; ylo = back ylo; xhi = back xhi; yhi = back yhi }) (rect_at t)
   turn_is =
       rect_back (record { xlo = xlo; ylo = ylo; xhi = xhi; yhi = yhi })

@@ -1,4 +1,5 @@
--- Figures that are summed over places and rectangles made from an index, for the benchmarks.
+-- Figures (RULES "Near", "Cost", "Reach", "Bound", "Cuts") that are summed over turns, each at a place or a rectangle of its own, for the
+-- benchmarks.
 use Rattle.std.specs.Prelude.{ℕ, zero, suc, ◌+◌, ◌*◌, ◌%◌, ◌≤◌, ◌≡◌, cond, [], ◌∷◌, map, ltb, ℤ, pos, nat_abs, ◌-ℤ◌}
 use Rattle.std.specs.Prelude.{get_or, Option, Some, None}
 use Rattle.std.specs.Int.Signed.{lt_z}
@@ -25,9 +26,13 @@ unfoldable pub sum_to : (ℕ → ℕ) → ℕ → ℕ
 sum_to f zero = 0
 sum_to f (suc k) = sum_to f k + f k
 
--- a number from 0 to 20,000 for each turn, less a number
+-- the turns of which the figures are summed, at most
+abbrev pub turns_limit : ℕ
+turns_limit = 100000
+
+-- a number for each turn, from 0 to coordinate_limit, and that less a number
 abbrev pub residue : ℕ → ℕ → ℕ
-residue t factor = (t % 65536) * factor % 20001
+residue t factor = (t % 65536) * factor % (coordinate_limit + 1)
 
 abbrev pub sample : ℕ → ℕ → ℕ → ℤ
 sample t factor less = pos (residue t factor) -ℤ pos less
@@ -84,7 +89,7 @@ near_turn deck t = get_or (padded stops_limit 0 (map (near deck) deck.stops)) (t
 abbrev pub turn : Deck → ℕ → ℕ → ℕ
 turn deck which = get_or (cost_turn deck ∷ load_turn deck ∷ bound_turn deck ∷ cut_turn deck ∷ near_turn deck ∷ []) which (λ t. 0)
 
--- a sum over k turns. -1 where the job is refused or k is above 100,000, and the least number where there is no such kernel
+-- a sum over some turns: minus_one where the job is refused or there are too many turns, and least where there is no such kernel
 abbrev pub kernel_sum : ℕ → ℕ → Result → ℤ
-kernel_sum which k r =
-    cond (ltb 4 which) least (on_job minus_one (λ job. cond (ltb 100000 k) minus_one (pos (sum_to (turn job.deck which) k))) r)
+kernel_sum which turns r =
+    cond (ltb 4 which) least (on_job minus_one (λ job. cond (ltb turns_limit turns) minus_one (pos (sum_to (turn job.deck which) turns))) r)

@@ -1,15 +1,16 @@
-// The kernels of pricing over many places and rectangles, for the benchmarks: the job is read once and the loop runs here.
+// The kernels of pricing over many places and rectangles, for the benchmarks: the job is read once, and the loop over the turns runs here.
 #![tactic(auto)]
 
 ghost use Rattle.std.specs.Prelude.{◌≡◌, ℕ, ◌*◌, ◌≤◌};
 ghost use Rattle.query.specs.Deck as Query;
-ghost use Rattle.query.specs.Range.{cost_limit};
+ghost use Rattle.query.specs.Range.{coordinate_limit, cost_limit};
 ghost use Rattle.job.specs.Format.{read_job};
 ghost use Rattle.deck.specs.DeckOf.{deck_of};
 ghost use Rattle.pricing.specs.ObjectFigures.{Figure};
 ghost use Rattle.trial.specs.Trial.{minus_one, figure_or};
 ghost use Rattle.kernels.specs.Sums.{
   sum_to,
+  turns_limit,
   Sampled,
   TurnPlace,
   TurnRect,
@@ -24,15 +25,19 @@ ghost use Rattle.kernels.specs.Sums.{
 };
 
 use deck::{Place, Rect};
+use limits::{MOST_COORDINATE, STOPS};
 use trial::opened::Opened;
 use trial::{NO_FIGURE, opened};
 
-// A number of -20,000 to 20,000 for each turn.
+// The turns of which the figures are summed, at most.
+const MOST_TURNS: u64 = 100000;
+
+// A coordinate for each turn.
 fn sample(t: u64, factor: u64, less: u64) -> i64
-    requires { (factor ≤ 65536) × (less ≤ 20000) }
+    requires { (factor ≤ 65536) × (less ≤ coordinate_limit) }
     ensures { Sampled t factor less result }
 {
-    ((t % 65536) * factor % 20001) as i64 - less as i64
+    ((t % 65536) * factor % (MOST_COORDINATE as u64 + 1)) as i64 - less as i64
 }
 
 fn positive(z: i64) -> u64
@@ -56,8 +61,8 @@ fn turn_rect(t: u64) -> Rect
     ensures { TurnRect t result }
 {
     Rect {
-        xlo: sample(t, 7919, 20000),
-        ylo: sample(t, 6007, 20000),
+        xlo: sample(t, 7919, MOST_COORDINATE as u64),
+        ylo: sample(t, 6007, MOST_COORDINATE as u64),
         xhi: sample(t, 4409, 0),
         yhi: sample(t, 3001, 0),
     }
@@ -127,56 +132,56 @@ impl Kernel for Near {
     fn at(o: &Opened, t: u64) -> u64 {
         let deck = &o.deck;
         let near = deck::nears_of(deck.axis, deck.post_places(), deck.stop_columns().at);
-        near[(t % 512) as usize]
+        near[(t % STOPS as u64) as usize]
     }
 }
 
-// What a kernel gives over k turns, summed.
-fn sum_turns<K: Kernel>(o: &Opened, k: u64) -> u64
-    requires { k ≤ 100000 }
-    ensures { Figure (sum_to (K.figure (deck_of o.now.deck)) k) (100000 * cost_limit) result }
+// What a kernel gives over some turns, summed.
+fn sum_turns<K: Kernel>(o: &Opened, turns: u64) -> u64
+    requires { turns ≤ turns_limit }
+    ensures { Figure (sum_to (K.figure (deck_of o.now.deck)) turns) (turns_limit * cost_limit) result }
 {
     let mut sum = 0;
-    for t in 0..k {
+    for t in 0..turns {
         sum += K::at(o, t);
     }
     sum
 }
 
-// The sum for a job. None where the job is refused or k is above 100,000.
-fn sum_of_job(job: &[u8], which: u64, k: u64) -> Option<i64>
+// The sum for a job. None where the job is refused or there are too many turns.
+fn sum_of_job(job: &[u8], which: u64, turns: u64) -> Option<i64>
     requires { which ≤ 4 }
-    ensures { figure_or minus_one result ≡ kernel_sum which k (read_job job.now) }
+    ensures { figure_or minus_one result ≡ kernel_sum which turns (read_job job.now) }
 {
     let o = Opened::of_job(job)?;
-    if 100000 < k {
+    if MOST_TURNS < turns {
         return None;
     }
-    Some(sum_of(&o, which, k) as i64)
+    Some(sum_of(&o, which, turns) as i64)
 }
 
 // The sum by the kernel's number.
-// kept: the number comes from a C function, and here it picks the type whose kernel is summed.
-fn sum_of(o: &Opened, which: u64, k: u64) -> u64
-    requires { (which ≤ 4) × (k ≤ 100000) }
-    ensures { Figure (sum_to (turn (deck_of o.now.deck) which) k) (100000 * cost_limit) result }
+fn sum_of(o: &Opened, which: u64, turns: u64) -> u64
+    requires { (which ≤ 4) × (turns ≤ turns_limit) }
+    ensures { Figure (sum_to (turn (deck_of o.now.deck) which) turns) (turns_limit * cost_limit) result }
 {
     match which {
-        0 => sum_turns::<Cost>(o, k),
-        1 => sum_turns::<Load>(o, k),
-        2 => sum_turns::<Bound>(o, k),
-        3 => sum_turns::<Cut>(o, k),
-        _ => sum_turns::<Near>(o, k),
+        0 => sum_turns::<Cost>(o, turns),
+        1 => sum_turns::<Load>(o, turns),
+        2 => sum_turns::<Bound>(o, turns),
+        3 => sum_turns::<Cut>(o, turns),
+        _ => sum_turns::<Near>(o, turns),
     }
 }
 
-// The sum of a kernel over k turns; -1 where the job is refused or k is above 100,000. The least number where there is no such kernel.
-// kept: the C function that the benchmarks call gives a number, so -1 and the least number stand for no sum.
-pub fn kernel_sum(job: &[u8], which: u64, k: u64) -> i64
-    ensures { result ≡ kernel_sum which k (read_job job.now) }
+/// What a kernel gives over so many turns, summed, by its number: 0 cost, 1 load, 2 whether the bound is above 0, 3 whether there is a cut
+/// at a line above 0, 4 the near of a stop, with that of all stops found anew at each turn. −1 where the job is refused or there are more
+/// than 100,000 turns, and `trial::NO_FIGURE` where no kernel has the number; the callers are C functions, which give a number.
+pub fn kernel_sum(job: &[u8], which: u64, turns: u64) -> i64
+    ensures { result ≡ kernel_sum which turns (read_job job.now) }
 {
     if 4 < which {
         return NO_FIGURE;
     }
-    sum_of_job(job, which, k).unwrap_or(-1)
+    sum_of_job(job, which, turns).unwrap_or(-1)
 }

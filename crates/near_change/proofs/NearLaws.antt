@@ -12,7 +12,7 @@ use Rattle.numbers.proofs.WordTests.{back}
 use Rattle.query.specs.Place.{Place}
 use Rattle.query.specs.Deck.{AxisCosts}
 use Rattle.query.specs.Travel.{travel}
-use Rattle.query.specs.Range.{PlaceInRange}
+use Rattle.query.specs.Range.{PlaceInRange, coordinate_limit, stops_limit, travel_limit}
 use Rattle.deck.specs.DeckOf.{places}
 use Rattle.deck.specs.Ranges.{CostsInRange, PlacesInRange}
 use Rattle.deck.proofs.WordLaws.{wide}
@@ -28,16 +28,17 @@ module _ {axis : AxisCosts} {ux uy vx vy : ℤ} (costs : CostsInRange axis) (p :
   y_apart : dist (back uy) (back vy) ≡ dist uy vy
   y_apart = ap₂ dist (wide uy (omega (arith, p.y_range))) (wide vy (omega (arith, q.y_range)))
 
-  pub x_cost : {d : ℕ} → d ≡ dist (back ux) (back vx) → axis.a * d ≤ 360000
-  x_cost {d} e = mul-le-mul costs.most.0 (go (dist_most 20000 ux vx p.x_range q.x_range))
+  -- half of the longest travel along each axis
+  pub x_cost : {d : ℕ} → d ≡ dist (back ux) (back vx) → 2 * (axis.a * d) ≤ travel_limit
+  x_cost {d} e = omega (arith, mul-le-mul costs.most.0 (go (dist_most coordinate_limit ux vx p.x_range q.x_range)))
     where
-      go : dist ux vx ≤ 40000 → d ≤ 40000
+      go : dist ux vx ≤ 2 * coordinate_limit → d ≤ 2 * coordinate_limit
       go h = omega (arith, e ∙ x_apart)
 
-  pub y_cost : {d : ℕ} → d ≡ dist (back uy) (back vy) → axis.b * d ≤ 360000
-  y_cost {d} e = mul-le-mul costs.most.1 (go (dist_most 20000 uy vy p.y_range q.y_range))
+  pub y_cost : {d : ℕ} → d ≡ dist (back uy) (back vy) → 2 * (axis.b * d) ≤ travel_limit
+  y_cost {d} e = omega (arith, mul-le-mul costs.most.1 (go (dist_most coordinate_limit uy vy p.y_range q.y_range)))
     where
-      go : dist uy vy ≤ 40000 → d ≤ 40000
+      go : dist uy vy ≤ 2 * coordinate_limit → d ≤ 2 * coordinate_limit
       go h = omega (arith, e ∙ y_apart)
 
   pub travel_found : {d e : ℕ} → d ≡ dist (back ux) (back vx) → e ≡ dist (back uy) (back vy) →
@@ -46,7 +47,7 @@ module _ {axis : AxisCosts} {ux uy vx vy : ℤ} (costs : CostsInRange axis) (p :
   travel_found f g = rw (f ∙ x_apart, g ∙ y_apart)
 
 -- ---- near, stop after stop: each by its place and what was stored
-module _ (f : Place → ℕ → ℕ) (near : List ℕ) {sx sy : List ℤ} {n : ℕ} (stops : PlacesInRange 512 sx sy n) (g : n ≤ length near) where
+module _ (f : Place → ℕ → ℕ) (near : List ℕ) {sx sy : List ℤ} {n : ℕ} (stops : PlacesInRange stops_limit sx sy n) (g : n ≤ length near) where
   abbrev Renewing : List ℕ → ℕ → Type 0
   Renewing to i = Copied near 0 (zip_with f (places sx sy) near) n to i
 
@@ -67,7 +68,7 @@ module _ (f : Place → ℕ → ℕ) (near : List ℕ) {sx sy : List ℤ} {n : �
       subst (λ (m : ℕ). Renewing (set to m v) (i + 1)) z (copied_more near 0 (zip_with f (places sx sy) near) n v 0 (omega arith) target_long so_far h
       (e ∙ ap (λ (q : Place). f q (get_or to i 0)) p ∙ ap (f (place_at sx sy i)) same ∙ sym (target_at i h)))
 
-pub stop_in_range : {sx sy : List ℤ} {n : ℕ} → PlacesInRange 512 sx sy n → (i : ℕ) → i < n → PlaceInRange (place_at sx sy i)
+pub stop_in_range : {sx sy : List ℤ} {n : ℕ} → PlacesInRange stops_limit sx sy n → (i : ℕ) → i < n → PlaceInRange (place_at sx sy i)
 stop_in_range stops i h = record { x_range = stops.x.range i h; y_range = stops.y.range i h }
 
 -- a place in range, as words hold it

@@ -1,11 +1,11 @@
-// The near of stops with one post more, and with one less.
+// The near of the stops of a record with one post more, and with one less, and of one more stop (RULES "Change 6").
 #![tactic(auto)]
 
 ghost use Rattle.std.specs.Prelude.{◌≡◌, ◌≤◌, length};
 ghost use mathlib.Core.List.{zip_with};
 ghost use Rattle.std.proofs.Math.Seq.{paste};
 ghost use Rattle.query.specs.Travel.{travel, closest};
-ghost use Rattle.query.specs.Range.{PlaceInRange};
+ghost use Rattle.query.specs.Range.{PlaceInRange, posts_limit, stops_limit};
 ghost use Rattle.deck.specs.DeckOf.{held_axis, places};
 ghost use Rattle.deck.specs.Held.{axis_of_posts, places_of_posts};
 ghost use Rattle.deck.specs.Ranges.{CostsInRange, PlacesInRange};
@@ -30,10 +30,10 @@ fn near_with(near: u64, axis: AxisCosts, stop: Place, post: Place) -> u64
     near.min(travel(axis, stop, post))
 }
 
-// The near of stops in columns with one more post.
-// kept: one loop for this and `reprice` would take a closure, with clauses on each of its calls, which is longer than the second loop.
+/// Brings `near`, the near of these stops, up to date for one more post: what is held of each stop becomes the travel to the post where
+/// that is less. What stands behind the last stop's near stays.
 pub fn improve(near: &mut [u64], stops: Places<'_>, axis: AxisCosts, post: Place)
-    requires { CostsInRange (held_axis axis) × PlacesInRange 512 stops.x.now stops.y.now (length stops.x.now)
+    requires { CostsInRange (held_axis axis) × PlacesInRange stops_limit stops.x.now stops.y.now (length stops.x.now)
         × PlaceInRange (place_of post) × (length stops.x.now ≤ length near.old) }
     ensures { near.new ≡ paste near.old 0
         (zip_with (near_with (held_axis axis) (place_of post)) (places stops.entry.x.now stops.entry.y.now) near.old)
@@ -61,10 +61,10 @@ fn near_without(near: u64, stop: Place, post: Place, left: &ScaledPosts) -> u64
     }
 }
 
-// The near of stops in columns without a post, where these are left.
-// kept: a loop beside that of `improve`, for the reason given there.
+// Brings the near of stops up to date for a post that goes, where these are left. A loop of its own beside that of `improve`: one for both
+// would take a closure with clauses on each of its calls, which is longer than the loop.
 fn reprice(near: &mut [u64], stops: Places<'_>, post: Place, left: &ScaledPosts)
-    requires { PlacesInRange 512 stops.x.now stops.y.now (length stops.x.now) × PlaceInRange (place_of post)
+    requires { PlacesInRange stops_limit stops.x.now stops.y.now (length stops.x.now) × PlaceInRange (place_of post)
         × (length stops.x.now ≤ length near.old) }
     ensures { near.new ≡ paste near.old 0
         (zip_with (near_but (held_axis (axis_of_posts left.now)) (place_of post) (places_of_posts left.now))
@@ -79,7 +79,8 @@ fn reprice(near: &mut [u64], stops: Places<'_>, post: Place, left: &ScaledPosts)
     }
 }
 
-// The same, where the posts in columns are left.
+/// Brings `near`, the near of these stops, up to date for a post that goes, where the posts at the places `left` are left, one at least:
+/// it is found anew of just those stops whose held near is their travel to that post. What stands behind the last stop's near stays.
 pub fn renew_without(
     near: &mut [u64],
     stops: Places<'_>,
@@ -87,9 +88,9 @@ pub fn renew_without(
     post: Place,
     left: Places<'_>,
 )
-    requires { CostsInRange (held_axis axis) × PlacesInRange 512 stops.x.now stops.y.now (length stops.x.now)
+    requires { CostsInRange (held_axis axis) × PlacesInRange stops_limit stops.x.now stops.y.now (length stops.x.now)
         × PlaceInRange (place_of post) × (length stops.x.now ≤ length near.old)
-        × PlacesInRange 64 left.x.now left.y.now (length left.x.now) × (1 ≤ length left.x.now) }
+        × PlacesInRange posts_limit left.x.now left.y.now (length left.x.now) × (1 ≤ length left.x.now) }
     ensures { near.new ≡ paste near.old 0
         (zip_with (near_without (held_axis axis) (place_of post) (places left.entry.x.now left.entry.y.now))
         (places stops.entry.x.now stops.entry.y.now) near.old) (length stops.entry.x.now) }
@@ -98,9 +99,9 @@ pub fn renew_without(
     reprice(near, stops, post, &left);
 }
 
-// The travel from a place to the closest of the posts in columns.
+/// The near of a stop at this place (RULES "Near"): its travel to the closest of these posts, of which there is one at least.
 pub fn near_of(axis: AxisCosts, posts: Places<'_>, place: Place) -> u64
-    requires { CostsInRange (held_axis axis) × PlacesInRange 64 posts.x.now posts.y.now (length posts.x.now)
+    requires { CostsInRange (held_axis axis) × PlacesInRange posts_limit posts.x.now posts.y.now (length posts.x.now)
         × PlaceInRange (place_of place) × (1 ≤ length posts.x.now) }
     ensures { result ≡ closest (held_axis axis) (place_of place) (places posts.entry.x.now posts.entry.y.now) }
 {

@@ -1,4 +1,4 @@
--- Whole numbers ℤ: what document 01 needs of them beyond the library's `◌+ℤ◌`, `◌-ℤ◌`, `nat_abs`, `le_z` and `lt_z`.
+-- Whole numbers ℤ: what the rules need of them beside the library's `◌+ℤ◌`, `◌-ℤ◌`, `nat_abs`, `le_z` and `lt_z`.
 use Rattle.std.specs.Prelude.{ℕ, suc, ◌+◌, ◌/◌, Bool, false, cond, ◌&&◌, eqb, ℤ, pos, negsuc, neg_ℤ, nat_abs, ◌-ℤ◌, ◌*ℤ◌}
 use Rattle.std.specs.Int.Signed.{le_z, lt_z}
 
@@ -29,7 +29,7 @@ strictly_between lo hi v = lt_z lo v && lt_z v hi
 unfoldable pub clamp : ℤ → ℤ → ℤ → ℤ
 clamp lo hi v = cond (lt_z v lo) lo (cond (lt_z hi v) hi v)
 
--- document 01, "halve towards plus infinity": half of 3 is 2, half of −3 is −1, half of −4 is −2
+-- half of z, rounded towards plus infinity (RULES "Bound")
 unfoldable pub half_up : ℤ → ℤ
 half_up (pos n) = pos ((n + 1) / 2)
 half_up (negsuc n) = neg_ℤ (pos (suc n / 2))

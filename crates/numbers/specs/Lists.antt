@@ -1,4 +1,4 @@
--- Lists: what document 01 needs of them beyond the library's `map`, `foldl`, `foldr`, `length` and `◌++◌`.
+-- Lists: what the rules need of them beside the library's `map`, `foldl`, `foldr`, `length` and `◌++◌`.
 use Prim.Native.Nat.{ℕ, suc, ◌+◌}
 use Rattle.std.specs.Prelude.{Bool, true, false, cond, ℤ}
 use mathlib.Core.List.{List, [], ◌∷◌, map, foldl}

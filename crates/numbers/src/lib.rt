@@ -1,11 +1,10 @@
-// Whole numbers and lists: definitions in specs/, their laws in proofs/, and the two operations of whole numbers that document 01 needs.
+// Whole numbers and lists: definitions in specs/, their laws in proofs/, and the two operations of whole numbers that the rules need.
 #![tactic(auto)]
 
 ghost use Rattle.std.specs.Prelude.{◌≡◌, ◌^◌, ◌≤◌, nat_abs};
 ghost use Rattle.numbers.specs.Integer.{dist, half_up};
 
-// |u − v|, for numbers whose difference fits.
-// kept: beside the library's `abs_diff`, by the rule that an edit keeps its meaning: `range_too_wide` is of the range that is asked here.
+/// The distance of two numbers, in their unit: |u − v|.
 pub fn abs_diff(u: i64, v: i64) -> u64
     requires { (nat_abs u ≤ 2 ^ 61) × (nat_abs v ≤ 2 ^ 61) }
     ensures { result ≡ dist u v }
@@ -13,7 +12,7 @@ pub fn abs_diff(u: i64, v: i64) -> u64
     (u - v).unsigned_abs()
 }
 
-// Half of t, rounded towards plus infinity.
+/// Half of t, rounded towards plus infinity (RULES "Bound"): 2 for 3, −1 for −3, −2 for −4.
 pub fn half_up(t: i64) -> i64
     ensures { result ≡ half_up t }
 {

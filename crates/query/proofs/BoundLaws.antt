@@ -31,7 +31,7 @@ lb r = record { x = r.xlo; y = r.yhi }
 abbrev rf : Rect → Place
 rf r = record { x = r.xhi; y = r.ylo }
 
--- (width + height) × load
+-- span × load
 abbrev slack : Deck → Rect → ℕ
 slack deck r = span deck.axis r * load deck r
 
@@ -73,7 +73,7 @@ diagonal deck r r' p q p' q' h k l w = omega (
   mul-le-mul_left (span deck.axis r') l,
 )
 
--- Theorem 4 of 000 between rectangles: a part has no smaller bound
+-- the paper's Theorem 4 between rectangles: a part has no smaller bound
 pub part : (deck : Deck) (r r' : Rect) → NonEmpty r' → In r (record { x = r'.xlo; y = r'.ylo }) → In r (record { x = r'.xhi; y = r'.yhi }) →
     bound deck r ≤ℤ bound deck r'
 part deck r r' n h k = rw (bound_is deck r, bound_is deck r')
@@ -96,7 +96,7 @@ part deck r r' n h k = rw (bound_is deck r, bound_is deck r')
 abbrev point : Place → Rect
 point p = record { xlo = p.x; ylo = p.y; xhi = p.x; yhi = p.y }
 
--- Theorem 4 of 000: no point of a rectangle costs less than its bound. The point is itself a part, whose corners all have its cost
+-- the paper's Theorem 4: no point of a rectangle costs less than its bound. The point is itself a part, whose corners all have its cost
 pub below : (deck : Deck) (r : Rect) (p : Place) → In r p → bound deck r ≤ℤ pos (cost deck p)
 below deck r p h = omega (arith, order, part deck r (point p) (omega (arith, order)) h h, at_point)
   where

@@ -85,7 +85,7 @@ abbrev pub Free : Deck → Axis → ℤ → ℤ → Type 0
 Free deck axis lo hi = (stop : Stop) → Memᴰ stop deck.stops → T (reach deck deck.area stop) →
     (coordinate axis stop.at ≤ℤ lo) ⊎ (hi ≤ℤ coordinate axis stop.at)
 
--- 000, the proof of Theorem 2: cost is concave between lo and hi
+-- from the paper's proof of its Theorem 2: cost is concave between lo and hi
 pub chord : (deck : Deck) (axis : Axis) (p : Place) (lo hi : ℤ) → In deck.area p → lo ≤ℤ coordinate axis p → coordinate axis p ≤ℤ hi → Free deck axis lo hi
     → dist (coordinate axis p) hi * cost deck (moved axis lo p) + dist lo (coordinate axis p) * cost deck (moved axis hi p) ≤
     (dist lo (coordinate axis p) + dist (coordinate axis p) hi) * cost deck p

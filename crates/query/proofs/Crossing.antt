@@ -1,4 +1,4 @@
--- Theorem 2 of 000 with document 01's rule for ties: for every place of the area some crossing of lines is as good.
+-- The paper's Theorem 2, with ties decided by which place is earlier: for every place of the area some crossing of lines is as good.
 use mathlib.Core.Path.{◌≡◌, refl, ap}
 use mathlib.Core.Bool.{not}
 use mathlib.Core.Logic.{◌⊎◌, inl, inr, ⊎_elim}
@@ -142,7 +142,7 @@ module _ (deck : Deck) (axis : Axis) (p : Place) (within : In deck.area p) where
       (λ t. slid_to r.lo r.lo_kind r.from_low (omega (arith, order)) (omega (arith, nltb→le)) (λ e. r.below))
       (test (ltb (cost deck p) (cost deck (moved axis r.lo p))))
 
-  -- 000, Theorem 2, along one axis
+  -- the paper's Theorem 2, along one axis
   pub slide : Slid
   slide =
       slid
@@ -150,7 +150,7 @@ module _ (deck : Deck) (axis : Axis) (p : Place) (within : In deck.area p) where
       (((lines_law deck axis).named (low_edge axis deck.area)).1 (edge_low refl))
       (((lines_law deck axis).named (high_edge axis deck.area)).1 (edge_high refl)) (along within axis).0 (along within axis).1 (λ v m. m))
 
--- 000, Theorem 2: some crossing of two lines is as good as p, ties by which is earlier included
+-- the paper's Theorem 2: some crossing of two lines is as good as p, ties included
 pub crossing : (deck : Deck) (p : Place) → In deck.area p → (q : Place) × AsGood deck p q
 crossing deck p within =
     let (v, on-v, within-v, v-as-good) = slide deck x_axis p within in

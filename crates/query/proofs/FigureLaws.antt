@@ -25,7 +25,7 @@ use Rattle.query.proofs.CellsAfter.{axis_of, line_of, first_of, second_of, after
 use Rattle.query.proofs.Lawful.{Lawful, OnLines}
 use Rattle.query.proofs.Invariant.{NotBetter, Ok, taken_cut, is_first_part, is_second_part, best_kept, best_from}
 
--- ---- low is the least of high and of the live bounds
+-- ---- low is at most high and each live bound
 pub low_le_high : (s : Search) → low s ≤ℤ pos (high s)
 unfolding low
 low_le_high s = omega (arith, order, least_le lt_z lt_z_strict (pos (high s)) (map (λ c. c.bound) s.live) (Memᴰ.head refl))

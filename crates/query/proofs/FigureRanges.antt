@@ -15,7 +15,7 @@ use Rattle.query.specs.Problem.{problem}
 use Rattle.query.specs.Order.{Cell}
 use Rattle.query.specs.Search.{run}
 use Rattle.query.specs.Figures.{high, low, figures_of, figures}
-use Rattle.query.specs.Range.{PlaceInRange, RectInRange, InRange, cost_limit, RunInRange}
+use Rattle.query.specs.Range.{coordinate_limit, PlaceInRange, RectInRange, InRange, cost_limit, RunInRange}
 use Rattle.query.proofs.Ranges.{figure_limits}
 use Rattle.query.proofs.CutLaws.{cut_law}
 use Rattle.query.proofs.Invariant.{Ok, run_ok}
@@ -29,8 +29,8 @@ within_range k lo v hi a b h g = let p = (abs_range lo k).0 a in let q = (abs_ra
 
 pub point_in_range : (r : Rect) (p : Place) → RectInRange r → In r p → PlaceInRange p
 point_in_range r p h i = record {
-  x_range = within_range 20000 r.xlo p.x r.xhi h.low_corner_law.x_range h.high_corner_law.x_range i.left i.right;
-  y_range = within_range 20000 r.ylo p.y r.yhi h.low_corner_law.y_range h.high_corner_law.y_range i.front i.back;
+  x_range = within_range coordinate_limit r.xlo p.x r.xhi h.low_corner_law.x_range h.high_corner_law.x_range i.left i.right;
+  y_range = within_range coordinate_limit r.ylo p.y r.yhi h.low_corner_law.y_range h.high_corner_law.y_range i.front i.back;
 }
 
 module _ (deck : Deck) (range : InRange deck) (full : NonEmpty deck.area) where

@@ -1,4 +1,4 @@
--- The invariant of the run: every crossing of the area lies in a live cell, or is not better than the best place.
+-- The invariant of the run: every crossing of the area lies in a live cell, or the best place is as good.
 use mathlib.Core.Path.{◌≡◌, refl, sym, subst}
 use mathlib.Core.Bool.{not}
 use mathlib.Core.Logic.{◌⊎◌, inl, inr, ⊎_elim}

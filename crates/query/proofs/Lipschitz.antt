@@ -32,7 +32,7 @@ load_mono deck r r' sub some = rw (load_sum deck r, load_sum deck r')
     more true false v f = absurd (f tt)
     more false c v f = omega arith
 
--- Lemma 2 of 000, one-sided: a stop within reach pays at most the way from q to p more at p than at q, any other stop nothing
+-- the paper's Lemma 2, one-sided: a stop within reach pays at most the way from q to p more at p than at q, any other stop nothing
 pub lipschitz : (deck : Deck) (r : Rect) (p q : Place) → In r q → cost deck p ≤ cost deck q + travel deck.axis q p * load deck r
 lipschitz deck r p q h = rw (
   cost_sum deck p,

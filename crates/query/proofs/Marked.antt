@@ -1,4 +1,4 @@
--- The eight marked decks, by computation.
+-- The worked cases, by computation.
 use mathlib.Core.Path.{refl}
 use Rattle.query.specs.Figures.{figures}
 use Rattle.query.specs.Marked.{Marked}

@@ -1,4 +1,4 @@
--- Demand 3 of the rules, for every deck with a non-empty area and every number of rounds.
+-- Promise 3, for every deck with a non-empty area and every number of rounds.
 use mathlib.Core.Path.{◌≡◌, refl}
 use mathlib.Core.Logic.{◌↔◌}
 use mathlib.Core.List.{List, [], ◌∷◌}
@@ -26,7 +26,7 @@ use Rattle.query.proofs.Beaten.{Cheapest, best_costs, cheapest_beats}
 use Rattle.query.proofs.EstimateLaws.{cuts_within}
 use Rattle.query.proofs.Counts.{live_cuts, cuts_made_lem}
 
--- the rules of document 01 are lawful: Theorem 2, Theorem 4 and its like for parts
+-- the rules are lawful: the paper's Theorem 2 and Theorem 4, and the like of Theorem 4 for parts
 pub lawful : (deck : Deck) → NonEmpty deck.area → Lawful (problem deck)
 unfolding problem
 lawful deck full = record {

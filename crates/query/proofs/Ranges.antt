@@ -15,7 +15,8 @@ use Rattle.query.specs.Travel.{travel, near}
 use Rattle.query.specs.Cost.{cost, before}
 use Rattle.query.specs.Reach.{reach, load}
 use Rattle.query.specs.Bound.{span, corner_sum, bound}
-use Rattle.query.specs.Range.{PlaceInRange, RectInRange, InRange, axis_cost_limit, travel_limit, load_limit, cost_limit, FigureLimits}
+use Rattle.query.specs.Range.{coordinate_limit, visits_limit, axis_cost_limit, PlaceInRange, RectInRange, InRange, travel_limit, load_limit, cost_limit}
+use Rattle.query.specs.Range.{FigureLimits}
 use Rattle.query.proofs.CostLaws.{cost_sum}
 use Rattle.query.proofs.NearLaws.{near_law}
 use Rattle.query.proofs.BoundLaws.{bound_is, corner_sum_is}
@@ -25,8 +26,8 @@ pub costs_limit : (axis : AxisCosts) → (axis.a ≤ axis_cost_limit) × (axis.b
 unfolding travel
 costs_limit axis most p q h k = omega (
   arith,
-  mul-le-mul most.0 (dist_most 20000 p.x q.x h.x_range k.x_range),
-  mul-le-mul most.1 (dist_most 20000 p.y q.y h.y_range k.y_range),
+  mul-le-mul most.0 (dist_most coordinate_limit p.x q.x h.x_range k.x_range),
+  mul-le-mul most.1 (dist_most coordinate_limit p.y q.y h.y_range k.y_range),
 )
 
 module _ (deck : Deck) (range : InRange deck) where
@@ -47,8 +48,8 @@ module _ (deck : Deck) (range : InRange deck) where
       sum_of (λ stop. stop.visits * f stop) deck.stops ≤ load_limit * k
   visits_limit_lem f k h = omega (
     arith,
-    mul-le-mul_right (65535 * k) range.most_stops,
-    sum_of_most (λ (stop : Stop). stop.visits * f stop) (65535 * k) deck.stops (λ stop m. mul-le-mul (range.stops stop m).most_visits (h stop m)),
+    mul-le-mul_right (visits_limit * k) range.most_stops,
+    sum_of_most (λ (stop : Stop). stop.visits * f stop) (visits_limit * k) deck.stops (λ stop m. mul-le-mul (range.stops stop m).most_visits (h stop m)),
   )
 
   cost_limit_lem : (p : Place) → cost deck p ≤ cost_limit
@@ -64,7 +65,7 @@ module _ (deck : Deck) (range : InRange deck) where
   load_limit_lem r = omega (
     arith,
     sum_of_keep_le (λ (stop : Stop). stop.visits) (reach deck r) deck.stops,
-    sum_of_most (λ (stop : Stop). stop.visits) 65535 deck.stops (λ stop m. (range.stops stop m).most_visits),
+    sum_of_most (λ (stop : Stop). stop.visits) visits_limit deck.stops (λ stop m. (range.stops stop m).most_visits),
   )
 
   bound_limit : (r : Rect) → RectInRange r → nat_abs (bound deck r) ≤ cost_limit

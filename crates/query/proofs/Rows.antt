@@ -1,4 +1,4 @@
--- The rows beside the marked decks, by computation.
+-- The rows beside the worked cases, by computation.
 use mathlib.Core.Path.{refl}
 use lib.Dec.{ltb→lt}
 use Rattle.numbers.specs.Integer.{half_up}
@@ -44,10 +44,12 @@ rows = record {
   estimate_y_cost = refl;
   equal = refl;
   level = refl;
+  best_corner = refl;
   reach = refl;
   far = refl;
   load_1 = refl;
   tie_1 = refl;
+  middle_1 = refl;
   square_1 = refl;
   long_1 = refl;
   first = refl;
@@ -76,6 +78,7 @@ rows = record {
   space_a_3 = refl;
   space_d_0 = refl;
   space_order_2 = refl;
+  space_columns_2 = refl;
   exhaustive_a = refl;
   exhaustive_b = refl;
   exhaustive_c = refl;

@@ -1,4 +1,4 @@
--- Document 01, "The full walk": the exhaustive search (MDOL_basic of 000).
+-- The exhaustive search (RULES "Exhaustive search"): the paper's MDOL_basic.
 use mathlib.Core.List.{List, map, flat_map}
 use Rattle.query.specs.Place.{Place, corner}
 use Rattle.query.specs.Grid.{Grid}
@@ -6,12 +6,12 @@ use Rattle.query.specs.Problem.{Problem}
 use Rattle.query.specs.Order.{Priced}
 use Rattle.query.specs.Search.{priced_at, best_of}
 
--- 01 "every crossing of lines", 000 the candidate locations
+-- all crossings of two lines: the paper's candidate locations
 unfoldable pub crossings : Grid → List Place
 unfolding flat_map
 crossings G = flat_map (λ v. map (λ h. record { x = v; y = h }) G.horizontal) G.vertical
 
--- the place and cost of the cheapest crossing, the earliest among equals. The area's first corner is a crossing
+-- the best of all crossings, of which the area's corner (xlo, ylo) is one
 unfoldable pub exhaustive : Problem → Priced
 unfolding best_of crossings
 exhaustive P = best_of P.rules (priced_at P.rules (corner P.area)) (crossings P.rules.grid)

@@ -1,4 +1,4 @@
--- What the exhaustive search gives: the earliest cheapest point of the area, which is that of every finished search.
+-- What the exhaustive search gives (RULES "Exhaustive search"): the best point of the whole area, which a done report has too.
 use Rattle.std.specs.Prelude.{ℕ, ◌≡◌, ◌≢◌}
 use Rattle.query.specs.Place.{Place, In}
 use Rattle.query.specs.Deck.{Deck}
@@ -11,8 +11,8 @@ use Rattle.query.specs.Promise3.{Beaten}
 pub record ExhaustiveLaw (deck : Deck) : Type 0 where
   pub in_area : In deck.area (exhaustive (problem deck)).at
   pub costs : cost deck (exhaustive (problem deck)).at ≡ (exhaustive (problem deck)).cost
-  -- every other point of the area costs more, or the same and is further right, or as far right and further back
+  -- it beats each other point of the area
   pub best : (p : Place) → In deck.area p → p ≢ (exhaustive (problem deck)).at → Beaten deck (exhaustive (problem deck)).at p
-  -- the place and the cost of every done report of the deck
+  -- every done report of the deck has its place and its cost
   pub done_place : (n : ℕ) → (figures deck n).state ≡ done → (figures deck n).at ≡ (exhaustive (problem deck)).at
   pub done_cost : (n : ℕ) → (figures deck n).state ≡ done → (figures deck n).high ≡ (exhaustive (problem deck)).cost

@@ -1,15 +1,15 @@
--- Document 01, "Lines, cells and bounds": the lines of both axes, on which cuts are made.
+-- The lines of both axes (RULES "Lines"), at which cells are cut.
 use Rattle.std.specs.Prelude.{List, ℤ}
 use Rattle.query.specs.Place.{Axis, x_axis, y_axis}
 use Rattle.query.specs.Deck.{Deck}
 use Rattle.query.specs.Lines.{lines}
 
--- 01 "lines": the vertical ones, along x, and the horizontal ones, along y
+-- the x of each vertical line, and the y of each horizontal one
 pub record Grid : Type 0 where
   pub vertical : List ℤ
   pub horizontal : List ℤ
 
--- the lines that a cut along an axis can use: vertical lines cut the x side
+-- the lines that part a side along an axis: the vertical ones part the x side
 abbrev pub lines_along : Grid → Axis → List ℤ
 lines_along G x_axis = G.vertical
 lines_along G y_axis = G.horizontal

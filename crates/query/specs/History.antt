@@ -1,4 +1,4 @@
--- The cuts that the rounds of a search make, one after another: which cell, on which axis, at which line.
+-- The cuts that the rounds of a search make, one after another (RULES "Rounds"): which cell, and at which line.
 use Rattle.std.specs.Prelude.{ℕ, zero, suc, List, [], ◌++◌, map, take}
 use Rattle.query.specs.Place.{Rect}
 use Rattle.query.specs.Grid.{Grid}
@@ -15,7 +15,7 @@ pub record Cut : Type 0 where
 abbrev pub cell_cut : Grid → Cell → Cut
 cell_cut G c = record { cell = c.rect; line = cut_line G c.rect }
 
--- the cuts of the first n rounds: each of the first live cell, and none where no cell is live
+-- the cuts of the first n rounds: a round cuts the first live cell, and none where none is live
 unfoldable pub cuts_made : Problem → ℕ → List Cut
 unfolding cut_line run
 cuts_made P zero = []

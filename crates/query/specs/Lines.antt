@@ -1,4 +1,4 @@
--- Document 01, "Lines, cells and bounds": lines and gaps.
+-- Lines and gaps (RULES "Lines").
 use Rattle.std.specs.Prelude.{ℕ, ◌-◌, max, ℤ, length}
 use mathlib.Core.List.{List, [], map, foldr}
 use Rattle.numbers.specs.Integer.{between}
@@ -13,14 +13,14 @@ unfolding between keep reach
 stop_coordinates deck axis = keep (between (low_edge axis deck.area) (high_edge axis deck.area))
     (map (λ stop. coordinate axis stop.at) (keep (reach deck deck.area) deck.stops))
 
--- 01 "lines", 000 the lines whose intersections are the candidate locations: through the area's edges and those coordinates,
--- each once, in increasing order. Along x they are the vertical lines, along y the horizontal ones
+-- lines stand at the area's edges and at these coordinates, each once and in increasing order: vertical ones along x, horizontal ones
+-- along y. Where they cross are the paper's candidate locations
 unfoldable pub lines : Deck → Axis → List ℤ
 unfolding stop_coordinates insert_once
 lines deck axis =
     insert_once (low_edge axis deck.area) (insert_once (high_edge axis deck.area) (foldr insert_once [] (stop_coordinates deck axis)))
 
--- 01 "gaps": the lines less one, but at least 1. Across along x, deep along y
+-- how many gaps the lines leave, gaps across along x and gaps deep along y: a single line leaves one too
 unfoldable pub gaps : Deck → Axis → ℕ
 unfolding lines
 gaps deck axis = max 1 (length (lines deck axis) - 1)

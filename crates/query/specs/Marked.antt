@@ -1,4 +1,4 @@
--- Document 01, "Decks to try": the eight marked decks, as rows under one theorem about the definitions; `proofs/Marked.antt` proves it.
+-- The worked cases A to D (RULES "Worked cases"): the figures of their eight reports. `proofs/Marked.antt` proves them.
 use Rattle.std.specs.Prelude.{ℕ, ◌≡◌, [], ◌∷◌, ℤ, pos, negsuc}
 use Rattle.query.specs.Place.{Place, Rect}
 use Rattle.query.specs.Deck.{Stop, Deck, plain}

@@ -1,4 +1,4 @@
--- What the searches see of a deck: its area, and the rules by which rounds go: the lines, the cost of a place and the bound of a cell.
+-- What a search sees of a deck: its area, and for each round the lines, the cost of a place and the bound of a cell (RULES "Rounds").
 use Rattle.std.specs.Prelude.{ℕ, ℤ}
 use Rattle.query.specs.Place.{Place, Rect}
 use Rattle.query.specs.Deck.{Deck}
@@ -6,7 +6,7 @@ use Rattle.query.specs.Cost.{cost}
 use Rattle.query.specs.Bound.{bound}
 use Rattle.query.specs.Grid.{Grid, grid}
 
--- what a round sees. Where the search started is no part of it
+-- what a round sees: not where the search started
 pub record Rules : Type 0 where
   pub grid : Grid
   pub price : Place → ℕ

@@ -1,5 +1,5 @@
--- What is proved of the rules of document 01, in one statement: a field for each theorem, with all that it speaks of and all that it
--- supposes. What a theorem says stands in the file of its record. `proofs/QueryTheorems.antt` proves it, as `query_theorems`.
+-- What is proved of the rules, in one statement: a field for each theorem, with all that it speaks of and all that it supposes. What a
+-- theorem says stands in the file of its record. `proofs/QueryTheorems.antt` proves it, as `query_theorems`.
 use Rattle.std.specs.Prelude.{ℕ, ◌≡◌, List, ◌∷◌, ℤ}
 use Rattle.numbers.specs.NumberRows.{NumberRows}
 use Rattle.query.specs.Place.{Place, Rect, In, NonEmpty, Axis}
@@ -18,16 +18,16 @@ use Rattle.query.specs.Marked.{Marked}
 use Rattle.query.specs.Rows.{Rows}
 
 pub record QueryTheorems : Type 0 where
-  -- figures of decks: the eight marked ones, and further rows
+  -- figures of decks: the worked cases, and further rows
   pub marked : Marked
   pub rows : Rows
   -- of whole numbers and lists
   pub number_rows : NumberRows
-  -- demand 3, of every deck whose area has a point and every number of rounds
+  -- RULES "Promise 3", of every deck whose area has a point and every number of rounds
   pub promise_3 : (deck : Deck) → NonEmpty deck.area → (n : ℕ) → Promise3 deck n (figures deck n)
-  -- the full walk, of every such deck
+  -- RULES "Exhaustive search", of every such deck
   pub exhaustive : (deck : Deck) → NonEmpty deck.area → ExhaustiveLaw deck
-  -- the parts of the rules. A grid is any lines, and a problem any area with any lines, prices and bounds
+  -- the single rules. A grid is any lines, and a problem any area with any lines, prices and bounds
   pub half : (z : ℤ) → HalfLaw z
   pub near : (deck : Deck) (stop : Stop) → NearLaw deck stop
   pub travel_to_law : (deck : Deck) (r : Rect) (stop : Stop) → TravelToLaw deck r stop
@@ -41,7 +41,7 @@ pub record QueryTheorems : Type 0 where
   pub round : (P : Problem) (n : ℕ) → RoundLaw P n
   pub taken : (P : Problem) (n : ℕ) (c : Cell) (others : List Cell) → (run P n).live ≡ c ∷ others → TakenLaw P n c
   pub partition : (P : Problem) (n : ℕ) → PartitionLaw P n
-  -- what a search needs, of every deck
+  -- RULES "Change 3", "Cell space", of every deck
   pub estimate : (deck : Deck) (rounds : ℕ) → EstimateLaw deck rounds
   pub space : (deck : Deck) (n : ℕ) → SpaceLaw deck n
   -- figures of decks whose values are in range

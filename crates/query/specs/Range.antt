@@ -1,4 +1,4 @@
--- Document 01, "The deck": the ranges of a deck's values, and the limits that they put on its figures.
+-- The ranges of a deck's values (RULES "Deck", "Change 2"), and the limits that they put on its figures.
 use Rattle.std.specs.Prelude.{ℕ, ◌≤◌, nat_abs, length}
 use mathlib.Core.List.{Memᴰ}
 use Rattle.query.specs.Place.{Place, Rect, corner}
@@ -13,7 +13,7 @@ use Rattle.query.specs.Search.{run}
 use Rattle.query.specs.Figures.{Figures, figures}
 
 -- ---- the ranges
--- 01 "Coordinates are .. −20,000 to 20,000"; "Posts: 1 to 64. Stops: 1 to 512, each with 1 to 65,535 visits"; "Rounds: 0 to 1,000"
+-- tenths of a millimetre, to either side of the centre
 abbrev pub coordinate_limit : ℕ
 coordinate_limit = 20000
 
@@ -29,7 +29,6 @@ visits_limit = 65535
 abbrev pub rounds_limit : ℕ
 rounds_limit = 1000
 
--- 02 card 2, "each 1 to 9"
 abbrev pub axis_cost_limit : ℕ
 axis_cost_limit = 9
 
@@ -46,7 +45,7 @@ pub record StopInRange (stop : Stop) : Type 0 where
   pub some_visits : 1 ≤ stop.visits
   pub most_visits : stop.visits ≤ visits_limit
 
--- the ranges of a deck
+-- a deck whose values are all in range
 pub record InRange (deck : Deck) : Type 0 where
   pub axis_some : (1 ≤ deck.axis.a) × (1 ≤ deck.axis.b)
   pub axis_most : (deck.axis.a ≤ axis_cost_limit) × (deck.axis.b ≤ axis_cost_limit)
@@ -58,17 +57,20 @@ pub record InRange (deck : Deck) : Type 0 where
   pub some_stops : 1 ≤ length deck.stops
   pub most_stops : length deck.stops ≤ stops_limit
 
--- the most that two places can be apart, that all stops can be visited, and that a place can cost
+-- ---- the limits on figures
+-- the most travel between two places in range: axis_cost_limit × 2 × coordinate_limit along each axis
 abbrev pub travel_limit : ℕ
 travel_limit = 720000
 
+-- the most visits of a deck: stops_limit × visits_limit
 abbrev pub load_limit : ℕ
 load_limit = 33553920
 
+-- the most that a place can cost: load_limit × travel_limit
 abbrev pub cost_limit : ℕ
 cost_limit = 24158822400000
 
--- every figure of a deck in range stays within these, far below 2 ^ 63
+-- no figure of a deck in range passes these limits, which are far below 2 ^ 63
 pub record FigureLimits (deck : Deck) : Type 0 where
   pub travel_limit_lem : (p q : Place) → PlaceInRange p → PlaceInRange q → travel deck.axis p q ≤ travel_limit
   pub near_limit : (stop : Stop) → Memᴰ stop deck.stops → near deck stop ≤ travel_limit
@@ -78,7 +80,7 @@ pub record FigureLimits (deck : Deck) : Type 0 where
   pub span_limit : (r : Rect) → RectInRange r → span deck.axis r ≤ travel_limit
   pub bound_limit : (r : Rect) → RectInRange r → nat_abs (bound deck r) ≤ cost_limit
 
--- the same of a report's figures after so many rounds at most
+-- nor does a figure of a report, where so many rounds are allowed
 pub record FiguresInRange (rounds : ℕ) (f : Figures) : Type 0 where
   pub place : PlaceInRange f.at
   pub high_limit : f.high ≤ cost_limit
@@ -86,7 +88,7 @@ pub record FiguresInRange (rounds : ℕ) (f : Figures) : Type 0 where
   pub before_limit : f.before ≤ cost_limit
   pub rounds_limit_lem : f.rounds ≤ rounds
 
--- and of the cells that a search keeps
+-- nor does a figure or a cell after n rounds
 pub record RunInRange (deck : Deck) (n : ℕ) : Type 0 where
   pub figures_range : FiguresInRange n (figures deck n)
   pub cells_range : (c : Cell) → Memᴰ c (run (problem deck) n).live → RectInRange c.rect

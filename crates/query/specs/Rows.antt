@@ -1,5 +1,5 @@
--- Rows beside the eight marked decks: figures of small decks, each chosen so that a rule told wrongly gives another figure.
--- The figures are those of a program written from documents 01 and 02 alone; `proofs/Rows.antt` proves that the definitions give them.
+-- Rows beside the worked cases: figures of small decks, each chosen so that a rule told wrongly (RULES "Wrong readings") gives another
+-- figure. The figures come from a program apart from the definitions; `proofs/Rows.antt` proves that the definitions give them.
 use Rattle.std.specs.Prelude.{ℕ, ◌<◌, ◌≡◌, [], ◌∷◌, ◌++◌, map, pos, negsuc, length, replicate, ◌<ℤ◌}
 use Rattle.numbers.specs.Integer.{half_up}
 use Rattle.query.specs.Place.{Place, x_axis, y_axis}
@@ -22,6 +22,10 @@ deck_equal = record { axis = plain; area = rect 0 0 2 4; posts = at 2 1 ∷ []; 
 abbrev pub deck_level : Deck
 deck_level = record { axis = plain; area = rect 1 1 1 4; posts = at 5 2 ∷ []; stops = stop 0 3 1 ∷ stop 0 2 1 ∷ stop 0 0 3 ∷ [] }
 
+-- after one cut a cell's bound equals the best cost, and its corner 1,0 is the best place: it is not live, though a line is inside it
+abbrev pub deck_corner : Deck
+deck_corner = record { axis = plain; area = rect 0 0 2 2; posts = at 0 2 ∷ []; stops = stop 1 0 2 ∷ stop 0 1 1 ∷ [] }
+
 -- the stop's travel to the area equals its near: no line, no load
 abbrev pub deck_reach : Deck
 deck_reach = record { axis = plain; area = rect 0 0 1 2; posts = at 2 2 ∷ []; stops = stop 5 1 2 ∷ [] }
@@ -30,13 +34,17 @@ deck_reach = record { axis = plain; area = rect 0 0 1 2; posts = at 2 2 ∷ []; 
 abbrev pub deck_far : Deck
 deck_far = record { axis = plain; area = rect 0 0 2 5; posts = at 1 0 ∷ []; stops = stop 4 4 2 ∷ stop 1 0 2 ∷ [] }
 
--- a stop within reach of the area and of one part only
+-- a stop that is within reach of the area, and of one of its parts only
 abbrev pub deck_load : Deck
 deck_load = record { axis = plain; area = rect 0 0 3 3; posts = at 2 3 ∷ []; stops = stop 3 4 1 ∷ stop 2 1 1 ∷ [] }
 
 -- two lines as close to the middle
 abbrev pub deck_tie : Deck
 deck_tie = record { axis = plain; area = rect 0 0 3 0; posts = at 0 1 ∷ []; stops = stop 1 0 2 ∷ stop 2 0 2 ∷ [] }
+
+-- the middle is at 2.5, between the lines 1 and 3, and closer to 3
+abbrev pub deck_middle : Deck
+deck_middle = record { axis = plain; area = rect 0 0 5 3; posts = at 8 6 ∷ []; stops = stop 3 2 1 ∷ stop 1 0 2 ∷ [] }
 
 -- equal sides with a line inside each
 abbrev pub deck_square : Deck
@@ -53,6 +61,10 @@ deck_first = record { axis = plain; area = rect 0 0 0 3; posts = at 4 1 ∷ []; 
 -- the first cut leaves two cells of bound 0
 abbrev pub deck_order : Deck
 deck_order = record { axis = plain; area = rect 0 0 5 2; posts = at 4 1 ∷ []; stops = stop 2 0 1 ∷ stop 1 1 2 ∷ [] }
+
+-- the first cut leaves two cells of bound 0, with corners 0,0 and 0,2; the second leaves two of bound 0, with corners 0,2 and 1,0
+abbrev pub deck_columns : Deck
+deck_columns = record { axis = plain; area = rect 0 0 3 4; posts = at 0 0 ∷ []; stops = stop 2 1 1 ∷ stop 1 2 3 ∷ [] }
 
 -- the bound of the area is half of 3
 abbrev pub deck_half : Deck
@@ -109,22 +121,22 @@ abbrev pub needs : ℕ → ℕ → ℕ → ℕ → Estimate
 needs across deep limit cells = record { across = across; deep = deep; limit = limit; cells = cells }
 
 pub record Rows : Type 0 where
-  -- 01 "Half of 3 is 2, half of −3 is −1, half of −4 is −2"
+  -- halves go towards plus infinity, below 0 too
   pub half_3 : half_up (pos 3) ≡ pos 2
   pub half_minus_3 : half_up (negsuc 2) ≡ negsuc 0
   pub half_minus_4 : half_up (negsuc 3) ≡ negsuc 1
-  -- the lines less one, but at least 1
+  -- a single line leaves a gap too
   pub gaps_a_across : gaps deck_a x_axis ≡ 2
   pub gaps_a_deep : gaps deck_a y_axis ≡ 2
   pub gaps_b_across : gaps deck_b x_axis ≡ 1
   pub gaps_c_across : gaps deck_c x_axis ≡ 1
-  -- demand 3 says no more than holds: the cut limit is reached, a high falls, a low rises, and a place that costs the same and is
-  -- further right is beaten
+  -- RULES "Promise 3" says no more than holds: the cut limit is reached, a high falls, a low rises, and of two places of equal cost the
+  -- right one is beaten
   pub limit_reached : (figures deck_a 3).rounds ≡ cut_limit deck_a
   pub high_falls : (figures deck_a 1).high < (figures deck_a 0).high
   pub low_rises : (figures deck_a 1).low <ℤ (figures deck_a 2).low
   pub further_right : Beaten deck_b (at 0 0) (at 10 0)
-  -- 02, card 3: the estimate of case A, with rounds + 1 below the product, equal to it and above it
+  -- the estimate of case A, with rounds + 1 below, at and above the product of the gaps
   pub estimate_a_0 : estimate deck_a 0 ≡ needs 2 2 3 1
   pub estimate_a_2 : estimate deck_a 2 ≡ needs 2 2 3 3
   pub estimate_a_3 : estimate deck_a 3 ≡ needs 2 2 3 4
@@ -148,6 +160,8 @@ pub record Rows : Type 0 where
   -- when a cell is live
   pub equal : figures deck_equal 10 ≡ report done (at 0 3) 5 (pos 5) 9 4
   pub level : figures deck_level 10 ≡ report done (at 1 1) 11 (pos 11) 32 1
+  -- refused: at equal figures a cell is live where its corner is the best place (then 3 rounds)
+  pub best_corner : figures deck_corner 10 ≡ report done (at 1 0) 1 (pos 1) 7 2
   -- what is within reach
   pub reach : figures deck_reach 10 ≡ report done (at 0 0) 8 (pos 8) 8 0
   pub far : figures deck_far 10 ≡ report done (at 2 4) 4 (pos 4) 14 1
@@ -156,6 +170,8 @@ pub record Rows : Type 0 where
   pub tie_1 : figures deck_tie 1 ≡ report stopped (at 1 0) 2 (pos 0) 10 1
   pub square_1 : figures deck_square 1 ≡ report stopped (at 1 2) 1 (pos 0) 5 1
   pub long_1 : figures deck_long 1 ≡ report stopped (at 0 1) 1 (pos 0) 4 1
+  -- refused: the middle rounded down, so that line 1 is as close to it as line 3 (then at 1,0, high 4)
+  pub middle_1 : figures deck_middle 1 ≡ report stopped (at 3 0) 6 (pos 0) 35 1
   -- which place is the best, and which cell is next
   pub first : figures deck_first 10 ≡ report done (at 0 1) 6 (pos 6) 22 1
   pub order_1 : figures deck_order 1 ≡ report stopped (at 2 0) 4 (pos 0) 9 1
@@ -185,7 +201,10 @@ pub record Rows : Type 0 where
   pub space_a_3 : space deck_a 3 22 ≡ replicate 22 (pos 0)
   pub space_d_0 : space deck_d 0 7 ≡ pos 0 ∷ pos 0 ∷ pos 9 ∷ pos 0 ∷ negsuc 2 ∷ pos 0 ∷ pos 0 ∷ []
   pub space_order_2 : space deck_order 2 17 ≡ map pos (1 ∷ 0 ∷ 2 ∷ 2 ∷ 0 ∷ 2 ∷ 0 ∷ 5 ∷ 2 ∷ 0 ∷ 0 ∷ 0 ∷ 1 ∷ 2 ∷ 1 ∷ 0 ∷ 0 ∷ [])
-  -- the full walk
+  -- refused: cells of equal bound go by y before x, by x alone, or by x and then the larger y
+  pub space_columns_2 : space deck_columns 2 17
+      ≡ map pos (0 ∷ 2 ∷ 3 ∷ 4 ∷ 0 ∷ 1 ∷ 0 ∷ 3 ∷ 2 ∷ 0 ∷ 0 ∷ 0 ∷ 1 ∷ 2 ∷ 1 ∷ 0 ∷ 0 ∷ [])
+  -- the exhaustive search
   pub exhaustive_a : exhaustive (problem deck_a) ≡ record { at = at 4 3; cost = 13 }
   pub exhaustive_b : exhaustive (problem deck_b) ≡ record { at = at 0 0; cost = 10 }
   pub exhaustive_c : exhaustive (problem deck_c) ≡ record { at = at 5 5; cost = 16 }

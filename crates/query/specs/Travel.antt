@@ -1,11 +1,11 @@
--- Document 01, "The deck": travel and near.
+-- Travel, and near (RULES "Travel", "Near").
 use Rattle.std.specs.Prelude.{ℕ, ◌+◌, ◌*◌, List, [], ◌∷◌, map, ltb}
 use Rattle.numbers.specs.Integer.{dist}
 use Rattle.numbers.specs.Lists.{least_by}
 use Rattle.query.specs.Place.{Place}
 use Rattle.query.specs.Deck.{AxisCosts, Stop, Deck}
 
--- 01 "travel", 02 card 2 "a × x difference + b × y difference", 000 the L1 distance d, with each axis weighed
+-- the travel between two places: the paper's L1 distance d, with a cost for each axis
 unfoldable pub travel : AxisCosts → Place → Place → ℕ
 unfolding dist
 travel axis p q = axis.a * dist p.x q.x + axis.b * dist p.y q.y
@@ -16,7 +16,7 @@ unfolding travel least_by
 closest axis p [] = 0
 closest axis p (post ∷ posts) = least_by ltb (travel axis p post) (map (travel axis p) posts)
 
--- 01 "near", 000 dNN(o, S): a stop's travel to the closest post
+-- near, the paper's dNN(o, S)
 unfoldable pub near : Deck → Stop → ℕ
 unfolding closest
 near deck stop = closest deck.axis stop.at deck.posts

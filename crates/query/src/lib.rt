@@ -1,3 +1,4 @@
-// The min-dist optimal-location query of document 01: definitions in specs/, theorems in proofs/. No code.
+// The rules of a deck, of its search and of the figures (RULES "Deck", "Rounds", "Figures"): definitions in specs/, theorems in proofs/.
+// No code.
 
 #![tactic(auto)]

@@ -1,4 +1,4 @@
--- 128 bytes hold every report, and 36 every refusal: the record of specs/Limits.antt.
+-- How long reports and refusals are: the record of specs/Limits.antt.
 use mathlib.Core.Path.{refl}
 use Prim.Native.Nat.{◌≤◌}
 use native.Mathlib.Omega.{arith}
@@ -6,12 +6,12 @@ use lib.ListN.{length, length-append}
 use Rattle.query.specs.Figures.{Figures}
 use Rattle.text.specs.Ascii.{bytes}
 use Rattle.report.specs.Text.{report_text}
-use Rattle.query.specs.Range.{FiguresInRange}
+use Rattle.query.specs.Range.{rounds_limit, FiguresInRange}
 use Rattle.report.specs.Limits.{ReportFits}
 use Rattle.report.proofs.TextLaws.{state_part, place_part, costs_part, rounds_part, report_parts, refusal_parts, length_five, length_state, length_place}
 use Rattle.report.proofs.TextLaws.{length_costs, length_rounds, length_refusal}
 
-longest : (f : Figures) → FiguresInRange 1000 f → length (report_text f) ≤ 105
+longest : (f : Figures) → FiguresInRange rounds_limit f → length (report_text f) ≤ 105
 unfolding bytes
 longest f r =
     rw report_parts (omega (

@@ -7,4 +7,14 @@ use Rattle.report.specs.ReportVectors.{ReportVectors}
 
 pub vectors : ReportVectors
 unfolding report_text refusal_text figures bytes
-vectors = record { case_a_law = refl; case_a_0 = refl; too_long = refl; malformed = refl; full = refl }
+vectors = record {
+  case_a_law = refl;
+  case_a_0 = refl;
+  seven_digits = refl;
+  ten_digits = refl;
+  most_digits = refl;
+  largest_cost = refl;
+  too_long = refl;
+  malformed = refl;
+  full = refl;
+}

@@ -8,7 +8,7 @@ use mathlib.Core.Option.{Option, none, some}
 use lib.ListN.{length, length-append, get_or, drop}
 use lib.IntN.{ℤ, pos, nat_abs}
 use Rattle.query.specs.Figures.{Figures, State, done, stopped}
-use Rattle.query.specs.Range.{cost_limit}
+use Rattle.query.specs.Range.{coordinate_limit, rounds_limit, cost_limit}
 use Rattle.text.specs.Ascii.{bytes, comma}
 use Rattle.text.specs.Decimal.{spell_nat, spell_int}
 use Rattle.text.specs.Numeral.{digits, natural}
@@ -91,7 +91,7 @@ unfolding bytes
 length_state done = omega arith
 length_state stopped = omega arith
 
-pub length_place : (x y : ℤ) → nat_abs x ≤ 20000 → nat_abs y ≤ 20000 → length (place_part x y) ≤ 17
+pub length_place : (x y : ℤ) → nat_abs x ≤ coordinate_limit → nat_abs y ≤ coordinate_limit → length (place_part x y) ≤ 17
 unfolding bytes
 length_place x y h k = simp length-append (omega (arith, length_spell_int_below 4 x (omega arith), length_spell_int_below 4 y (omega arith)))
 
@@ -106,7 +106,7 @@ length_costs high low before h k l =
       length_spell_nat_below 13 before (omega arith),
     ))
 
-pub length_rounds : (n : ℕ) → n ≤ 1000 → length (rounds_part n) ≤ 12
+pub length_rounds : (n : ℕ) → n ≤ rounds_limit → length (rounds_part n) ≤ 12
 unfolding bytes
 length_rounds n h = simp length-append (omega (arith, length_spell_nat_below 3 n (omega arith)))
 

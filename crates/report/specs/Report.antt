@@ -1,4 +1,4 @@
--- The figures of document 01 that a report of the code carries.
+-- The figures (RULES "Figures") that a report of the code carries.
 use Rattle.query.specs.Figures as Query
 use Rattle.query.specs.Figures.{Figures}
 use Rattle.report.specs.declared.Report.{Report}

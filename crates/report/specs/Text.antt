@@ -1,16 +1,15 @@
--- Document 01, "Job and report": the text of a report, and of a refusal.
+-- The text of a report, and of a refusal (RULES "Report").
 use Rattle.std.specs.Prelude.{ℕ}
 use mathlib.Core.List.{List, [], ◌∷◌, flatten}
 use Rattle.query.specs.Figures.{Figures, State, done, stopped}
 use Rattle.text.specs.Ascii.{bytes, comma}
 use Rattle.text.specs.Decimal.{spell_nat, spell_int}
 
--- 01 "state is `done` or `stopped`"
 abbrev pub state_text : State → List ℕ
 state_text done = bytes "done"
 state_text stopped = bytes "stopped"
 
--- 01 "prints state=done .."; "Each printed line ends in byte 10"
+-- each line ends in byte 10, which stands here at the start of the next key
 unfoldable pub report_text : Figures → List ℕ
 unfolding flatten bytes spell_nat spell_int
 report_text f = flatten (
@@ -22,7 +21,7 @@ report_text f = flatten (
     ∷ bytes "\nrounds=" ∷ spell_nat f.rounds
     ∷ bytes "\n" ∷ [])
 
--- 01 "the two lines refused=n and line=n": of a refusal's number and line
+-- by its number and its line
 unfoldable pub refusal_text : ℕ → ℕ → List ℕ
 unfolding flatten bytes spell_nat
 refusal_text number line = flatten (bytes "refused=" ∷ spell_nat number ∷ bytes "\nline=" ∷ spell_nat line ∷ bytes "\n" ∷ [])

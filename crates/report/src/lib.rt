@@ -1,4 +1,4 @@
-// The text of a report and of a refusal.
+// What a report carries, and the text of a report and of a refusal.
 #![tactic(auto)]
 
 ghost use Rattle.std.specs.Prelude.{◌+◌, ◌≤◌, [], ◌∷◌, ◌++◌, length};
@@ -8,26 +8,34 @@ ghost use Rattle.text.specs.Decimal.{spell_nat, spell_int};
 ghost use Rattle.write.specs.Written.{HasRoom, Overwrote, Wrote};
 ghost use Rattle.report.specs.Report.{report_state, report_figures};
 ghost use Rattle.report.specs.Text.{state_text, report_text, refusal_text};
-ghost use Rattle.query.specs.Range.{FiguresInRange};
+ghost use Rattle.report.specs.Limits.{output_size};
+ghost use Rattle.query.specs.Range.{rounds_limit, FiguresInRange};
 
 use refusal::Refusal;
 use write::{Decimal, Writer};
 
+/// How a search ended (RULES "Rounds").
 #[derive(Clone, Copy, PartialEq, Eq)]
 pub enum State {
+    /// No cell is live: the place is the best of the area.
     Done,
+    /// The rounds are used up, and cells are live.
     Stopped,
 }
 
-// What a report carries.
+/// The figures of a report (RULES "Figures").
 #[derive(Clone, Copy, PartialEq, Eq)]
 pub struct Report {
     pub state: State,
+    /// The place found, in tenths of a millimetre.
     pub x: i64,
     pub y: i64,
+    /// Its cost, and what every place of the area costs at least.
     pub high: u64,
     pub low: i64,
+    /// The cost without a new post.
     pub before: u64,
+    /// The cuts made.
     pub rounds: u64,
 }
 
@@ -70,22 +78,22 @@ fn put_costs(w: &mut Writer, high: u64, low: i64, before: u64)
     put_key(w, b"\nbefore=", before);
 }
 
-// The report at the start of `out`, and its length.
-pub fn write_report(out: &mut [u8], r: Report) -> usize
-    requires in_bounds { 128 ≤ length out.old }
-    requires figures_in_range { FiguresInRange 1000 (report_figures r) }
-    ensures { Overwrote out.old (report_text (report_figures r)) out.new result }
+/// Writes a report's lines (RULES "Report") to the start of the output, and gives the bytes written. Bytes behind them stay.
+pub fn write_report(out: &mut [u8], report: Report) -> usize
+    requires in_bounds { output_size ≤ length out.old }
+    requires figures_in_range { FiguresInRange rounds_limit (report_figures report) }
+    ensures { Overwrote out.old (report_text (report_figures report)) out.new result }
 {
     let mut w = Writer::new(out);
-    put_state(&mut w, r.state);
-    put_place(&mut w, r.x, r.y);
-    put_costs(&mut w, r.high, r.low, r.before);
-    put_key(&mut w, b"\nrounds=", r.rounds);
+    put_state(&mut w, report.state);
+    put_place(&mut w, report.x, report.y);
+    put_costs(&mut w, report.high, report.low, report.before);
+    put_key(&mut w, b"\nrounds=", report.rounds);
     w.put(b"\n");
     w.len()
 }
 
-// The two lines of a refusal at the start of `out`, and their length.
+/// Writes the two lines of a refusal (RULES "Report") to the start of the output, and gives the bytes written. Bytes behind them stay.
 pub fn write_refusal(out: &mut [u8], why: Refusal) -> usize
     requires { 64 ≤ length out.old }
     ensures { Overwrote out.old (refusal_text (number_of why) (line_of why)) out.new result }

@@ -16,6 +16,7 @@ use Rattle.refusal.proofs.Numbers.{number_most}
 use Rattle.refusal.specs.Refusal.{number_of, line_of}
 use Rattle.refusal.specs.declared.Refusal.{Refusal}
 use Rattle.report.specs.Report.{report_figures}
+use Rattle.report.specs.Limits.{output_size}
 use Rattle.report.specs.Text.{report_text, refusal_text}
 use Rattle.write.specs.Written.{overwritten, Overwrote}
 use Rattle.report.proofs.Fits.{report_fits}
@@ -55,28 +56,28 @@ module _ (job out : List ℕ) (cells : List ℤ) (out' : List ℕ) where
   entry_refused why s n f = ap (λ (z : ℤ). record { result = z; out = out' }) (rw f (minus_number why)) ∙ ap returned s.left
 
 -- ---- the program's text
-padded_is : (text : List ℕ) → length text ≤ 128 → overwritten text (replicate 128 0) ≡ padded 128 0 text
+padded_is : (text : List ℕ) → length text ≤ output_size → overwritten text (replicate output_size 0) ≡ padded output_size 0 text
 unfolding overwritten
-padded_is text h = rw (padded_none {A = ℕ} 128 0) at (padded_over {A = ℕ} 128 0 [] text (omega arith) h)
+padded_is text h = rw (padded_none {A = ℕ} output_size 0) at (padded_over {A = ℕ} output_size 0 [] text (omega arith) h)
 
 nothing_over : (out : List ℕ) → overwritten [] out ≡ out
 unfolding overwritten
 nothing_over out = refl
 
 -- a text written over zeros
-module _ {out : List ℕ} {n : ℕ} (text : List ℕ) (f : Overwrote (replicate 128 0) text out n) (h : length text ≤ 128) where
-  padded_out : out ≡ padded 128 0 text
+module _ {out : List ℕ} {n : ℕ} (text : List ℕ) (f : Overwrote (replicate output_size 0) text out n) (h : length text ≤ output_size) where
+  padded_out : out ≡ padded output_size 0 text
   padded_out = f.content ∙ padded_is text h
 
   text_taken : take n out ≡ text
-  text_taken = (λ i. take (f.number i) (padded_out i)) ∙ padded_front 128 0 text
+  text_taken = (λ i. take (f.number i) (padded_out i)) ∙ padded_front output_size 0 text
 
   text_in : TextIn out n
-  text_in = record { few = omega (arith, f.number); rest = padded_out ∙ ap (padded 128 0) (sym text_taken) }
+  text_in = record { few = omega (arith, f.number); rest = padded_out ∙ ap (padded output_size 0) (sym text_taken) }
 
 module _ (job : List ℕ) (cells : List ℤ) (out : List ℕ) where
-  module _ (x : Response) (s : Responded (report_call job own_space (replicate 128 0)) (replicate 128 0) cells out (Ok x)) where
-    report_text_few : length (report_text (report_figures x.report)) ≤ 128
+  module _ (x : Response) (s : Responded (report_call job own_space (replicate output_size 0)) (replicate output_size 0) cells out (Ok x)) where
+    report_text_few : length (report_text (report_figures x.report)) ≤ output_size
     report_text_few = omega (arith, s.few, s.filled.number)
 
     pub report_in : TextIn out x.bytes
@@ -88,13 +89,13 @@ module _ (job : List ℕ) (cells : List ℤ) (out : List ℕ) where
         text_taken (report_text (report_figures x.report)) s.filled report_text_few
         ∙ ap (λ (l : Left). text_of l.answer) s.left
 
-  module _ (why : Refusal) (s : Responded (report_call job own_space (replicate 128 0)) (replicate 128 0) cells out (Err why))
+  module _ (why : Refusal) (s : Responded (report_call job own_space (replicate output_size 0)) (replicate output_size 0) cells out (Err why))
       (out' : List ℕ) (n : ℕ) (f : Overwrote out (refusal_text (number_of why) (line_of why)) out' n) where
-    over_zeros : Overwrote (replicate 128 0) (refusal_text (number_of why) (line_of why)) out' n
+    over_zeros : Overwrote (replicate output_size 0) (refusal_text (number_of why) (line_of why)) out' n
     over_zeros = subst (λ (o : List ℕ). Overwrote o (refusal_text (number_of why) (line_of why)) out' n)
-        (s.filled.content ∙ nothing_over (replicate 128 0)) f
+        (s.filled.content ∙ nothing_over (replicate output_size 0)) f
 
-    refusal_few : length (refusal_text (number_of why) (line_of why)) ≤ 128
+    refusal_few : length (refusal_text (number_of why) (line_of why)) ≤ output_size
     refusal_few = omega (arith, report_fits.refusal_longest why)
 
     pub refusal_in_text : TextIn out' n

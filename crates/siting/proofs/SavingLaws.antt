@@ -18,18 +18,17 @@ use Rattle.job_check.specs.LineFaults.{refusal_in, checked_as}
 use Rattle.std.specs.Prelude.{Ok, Err}
 use Rattle.job_check.proofs.FileFaults.{FileIs, file_is}
 use Rattle.write.specs.Written.{Overwrote}
-use Rattle.calls.specs.Answers.{gives, refusal, read_answer}
-use Rattle.calls.specs.ReadCall.{Read, read_as, read_deck, read_call}
+use Rattle.calls.specs.Answers.{AnswerOf, gives, refusal, for_accepted, read_answer}
+use Rattle.calls.specs.ReadCall.{job_record, read_call}
 use Rattle.calls.specs.WriteCall.{write_call}
 use Rattle.calls.proofs.SavingLaw.{file_refused, file_short, file_written}
 
 -- ---- read
-pub read_answers : (job : List ℕ) (r : Std.Result Held.Job Refusal) → r ≡ job_result (read_job job) →
-    record { answer = read_answer r; deck = read_deck r } ≡ read_call job
-unfolding read_call read_as job_result
-read_answers job r e = ap (λ (x : Std.Result Held.Job Refusal). record { answer = read_answer x; deck = read_deck x }) e ∙ go (read_job job)
+pub read_answers : (job : List ℕ) (r : Std.Result Held.Job Refusal) → r ≡ job_result (read_job job) → read_answer r ≡ read_call job
+unfolding read_call for_accepted job_result
+read_answers job r e = ap read_answer e ∙ go (read_job job)
   where
-    go : (q : Result) → ◌≡◌ {A = Read} (record { answer = read_answer (job_result q); deck = read_deck (job_result q) }) (read_as q)
+    go : (q : Result) → ◌≡◌ {A = AnswerOf Held.Job} (read_answer (job_result q)) (for_accepted job_record q)
     go (refused why) = refl
     go (accepted job) = refl
 

@@ -1,5 +1,5 @@
--- The parts of `solve` and `respond` make up the call of document 01.
-use Prim.Native.Nat.{ℕ, ◌*◌, ◌≤◌, ◌<◌}
+-- The parts of `solve` and `respond` make up the call `report`.
+use Prim.Native.Nat.{ℕ, ◌+◌, ◌*◌, ◌≤◌, ◌<◌}
 use mathlib.Core.Path.{◌≡◌, refl, sym, ap, ap₂, subst, ◌∙◌}
 use mathlib.Core.List.{List, [], ◌∷◌, map}
 use native.Mathlib.Omega.{arith}
@@ -20,7 +20,7 @@ use Rattle.query.specs.Figures.{figures, figures_of}
 use Rattle.query.specs.Estimate as Estimate
 use Rattle.query.specs.Space.{all_numbers, space, space_needed}
 use Rattle.query.specs.Cost.{before}
-use Rattle.query.specs.Range.{cost_limit, InRange, FiguresInRange}
+use Rattle.query.specs.Range.{rounds_limit, cost_limit, InRange, FiguresInRange}
 use Rattle.query.proofs.EstimateLaws.{needs_most}
 use Rattle.query.proofs.SpaceLaws.{space_law}
 use Rattle.query.proofs.Ranges.{figure_limits}
@@ -153,7 +153,7 @@ module _ (bytes : List ℕ) (g : PreparedJob) (e : given_by (Ok g) ≡ given_for
   paid : g.before ≡ before deck
   paid = before_same bytes g e
 
-  pub few_rounds : g.rounds ≤ 1000
+  pub few_rounds : g.rounds ≤ rounds_limit
   few_rounds = rounds_limit_lem bytes g e
 
   -- what the exhaustive search asks of what is paid before
@@ -173,7 +173,7 @@ module _ (bytes : List ℕ) (g : PreparedJob) (e : given_by (Ok g) ≡ given_for
   unfolding Estimate.estimate
   needed_is = ap (λ (n : Estimate.Estimate). 5 * n.cells) (deck_estimate deck _ (problem_same bytes g e) g.rounds)
 
-  needed_most : space_needed deck g.rounds ≤ 5005
+  needed_most : space_needed deck g.rounds ≤ 5 * (rounds_limit + 1)
   needed_most = omega (arith, needs_most deck g.rounds, few_rounds)
 
   module _ (needs : Calls.Estimate)
@@ -181,7 +181,7 @@ module _ (bytes : List ℕ) (g : PreparedJob) (e : given_by (Ok g) ≡ given_for
     space_is : 5 * needs.cells ≡ space_needed deck g.rounds
     space_is = ap (λ (n : Estimate.Estimate). 5 * n.cells) f ∙ needed_is
 
-    pub few_cells : needs.cells ≤ 1001
+    pub few_cells : needs.cells ≤ rounds_limit + 1
     few_cells = omega (arith, space_is, needed_most)
 
     pub small : (cells : List ℤ) (out : List ℕ) → length cells < 5 * needs.cells → report_call bytes cells out ≡ turned_down SmallSpace cells out
@@ -199,8 +199,8 @@ module _ (bytes : List ℕ) (g : PreparedJob) (e : given_by (Ok g) ≡ given_for
     solved_live : map entry_cell l.entries ≡ (run (problem deck) g.rounds).live
     solved_live = s.cells ∙ ap (λ (q : Problem). (run q g.rounds).live) (prepared_problem prepared)
 
-    pub report_limits : FiguresInRange 1000 (report_figures x)
-    report_limits = subst (FiguresInRange 1000) (sym solved_figures)
+    pub report_limits : FiguresInRange rounds_limit (report_figures x)
+    report_limits = subst (FiguresInRange rounds_limit) (sym solved_figures)
         (more_rounds (run_in_range deck range spells.allowed.area_full g.rounds).figures_range few_rounds)
 
     pub live_fit : (lent : ℕ) → Fits g lent → 5 * length l.entries ≤ lent
@@ -244,4 +244,4 @@ module _ (bytes : List ℕ) (g : PreparedJob) (e : given_by (Ok g) ≡ given_for
   pub responded_alone : (out out' : List ℕ) (r : Std.Result Response Refusal) → AnsweredAlone g out out' r →
       RespondedAlone (report_call bytes own_space out) out out' r
   responded_alone out out' r k =
-      alone (responded own_space out (omega (arith, needed_most, length-replicate 5005 (pos 0))) k.live out' r k.answered)
+      alone (responded own_space out (omega (arith, needed_most, length-replicate (5 * (rounds_limit + 1)) (pos 0))) k.live out' r k.answered)

@@ -1,4 +1,4 @@
-// The public calls of the siting tool; crate `calls` defines what they answer.
+// The public calls of the siting tool (RULES "Calls"); crate `calls` defines what they answer.
 #![tactic(auto)]
 
 ghost use Rattle.std.specs.Prelude.{◌≤◌, ◌≡◌, length};
@@ -9,16 +9,17 @@ ghost use Rattle.calls.specs.Entry.{entry};
 ghost use Rattle.calls.specs.Program.{answer_text};
 ghost use Rattle.calls.specs.CheapestCall.{exhaustive_call};
 ghost use Rattle.calls.specs.EstimateCall.{estimate_call};
-ghost use Rattle.calls.specs.ReadCall.{read_deck, read_call};
+ghost use Rattle.calls.specs.ReadCall.{read_call};
 ghost use Rattle.calls.specs.WriteCall.{write_call};
 ghost use Rattle.calls.specs.ChangeCall.{change_call};
 ghost use Rattle.cells.specs.Live.{none_live};
 ghost use Rattle.change.specs.Change.{add_post, remove_post, add_stop, remove_stop};
 ghost use Rattle.deck.specs.Rectangle.{place_of, stop_of};
+ghost use Rattle.report.specs.Limits.{output_size};
 ghost use Rattle.priced_place.specs.Prepared.{problem_of, Prepared};
 ghost use Rattle.siting.specs.Response.{state_for, Solved, OfJob, Fits, Answered, AnsweredIn, AnsweredAlone, Responded, RespondedAlone};
 
-use calls::{Estimate, Text};
+use calls::{Answer, Estimate, Text};
 use cells::LiveCells;
 use deck::{Deck, Place, Stop};
 use job::Job;
@@ -44,7 +45,7 @@ fn state_of(done: bool) -> State
 }
 
 // The report of a deck's problem, with what is paid before, for so many rounds. It begins with no live cell, and leaves those that are
-// live.
+// live at the end.
 fn solve(problem: &Problem, before: u64, rounds: u64, live: &mut LiveCells) -> Report
     requires { Prepared problem.now × (rounds ≤ rounds_limit) × (live.old ≡ none_live) }
     ensures { Solved (problem_of problem.now) before rounds live.new result }
@@ -63,8 +64,7 @@ fn solve(problem: &Problem, before: u64, rounds: u64, live: &mut LiveCells) -> R
 }
 
 // The report of what a job gives, with its text in the output, or refusal 8, which comes before any place is priced.
-// Not inlined: where it is, a report of many rounds takes 2 % longer.
-// kept: `OfJob`, here and below, is a clause and no ghost field of `PreparedJob`, since it gives the job, and a field only that there is one.
+// Not inlined: a report of many rounds takes 2 % longer where it is. `OfJob`, here and below, names the job that `given` comes from.
 #[inline(never)]
 fn respond_to(
     given: &PreparedJob,
@@ -127,16 +127,21 @@ fn respond_alone(job: &[u8], out: &mut [u8]) -> Result<Response, Refusal>
     respond_without_cells(&given, out)
 }
 
-// The report of a job, with its text in the output and its live cells in the cell space, or the refusal that applies first.
-pub fn report(job: &[u8], cells: &mut [i64], out: &mut [u8]) -> Result<Report, Refusal>
+/// Searches a job's area (RULES "Calls", "Refusals"): the report, with its text at the start of the output, and its live cells in the cell
+/// space with 0 behind them; or the first refusal that applies, 1 to 8, and both as they were. The cell space that is enough for a job is
+/// five numbers for each of the `cells` that `estimate` gives, and the output `limits::REPORT_BYTES` bytes.
+pub fn report(job: &[u8], cells: &mut [i64], out: &mut [u8]) -> Answer
     ensures { record { answer = report_answer result; cells = cells.new; out = out.new }
         ≡ report_call job.now cells.old out.old }
 {
-    let response = respond(job, cells, out)?;
-    Ok(response.report)
+    match respond(job, cells, out) {
+        Ok(response) => Answer::Report(response.report),
+        Err(why) => Answer::Refused(why),
+    }
 }
 
-// The entry for C: the bytes written, or minus the number of the refusal.
+/// The entry for C, which `siting_c` exports (RULES "Calls"): writes the report's text as `report` does, with cell space of its own, and
+/// gives the bytes written, or minus the number of the refusal, and leaves the output as it was. It never gives -7.
 pub fn siting_report(job: &[u8], out: &mut [u8]) -> i64
     ensures { record { result = result; out = out.new } ≡ entry job.now out.old }
 {
@@ -146,7 +151,8 @@ pub fn siting_report(job: &[u8], out: &mut [u8]) -> i64
     }
 }
 
-// The cheapest crossing of lines, the earliest among equals, or the refusal of the job. Its rounds are not used.
+/// The cheapest crossing of lines, the earliest of equals (RULES "Exhaustive search"), or the job's refusal, 1 to 6. The rounds of the job
+/// play no part.
 pub fn exhaustive(job: &[u8]) -> Result<PricedPlace, Refusal>
     ensures { cheapest_answer result ≡ exhaustive_call job.now }
 {
@@ -154,21 +160,23 @@ pub fn exhaustive(job: &[u8]) -> Result<PricedPlace, Refusal>
     Ok(exhaustive::cheapest(&prepared.problem, prepared.before))
 }
 
-// What the job needs, or the refusal of the job. No place is priced.
+/// What the job needs (RULES "Change 3"), or its refusal, 1 to 6. It prices no place.
 pub fn estimate(job: &[u8]) -> Result<Estimate, Refusal>
     ensures { estimated_answer result ≡ estimate_call job.now }
 {
     estimate::of_job(job)
 }
 
-// A job's bytes as the deck's record and the rounds that they spell, or the refusal of the job.
+/// The record of the deck and the rounds that a job's bytes spell (RULES "Job"), or the job's refusal, 1 to 6.
 pub fn read(job: &[u8]) -> Result<Job, Refusal>
-    ensures { record { answer = read_answer result; deck = read_deck result } ≡ read_call job.now }
+    ensures { read_answer result ≡ read_call job.now }
 {
     job::read(job)
 }
 
-// The job of any record and rounds, written into the output: how many bytes it has, or the refusal that applies first.
+/// Writes the job of a record and rounds (RULES "Change 1") to the start of the output, and gives its bytes; or the first refusal that
+/// applies: the number and line that this file would get, 2 to 6, or 8 where it does not fit. Bytes behind the job stay, and all after a
+/// refusal. Near and before of the record do not count.
 pub fn write(deck: Deck, rounds: u64, out: &mut [u8]) -> Result<usize, Refusal>
     ensures { record { answer = written_answer result; out = out.new } ≡ write_call deck rounds out.old }
 {
@@ -179,38 +187,42 @@ pub fn write(deck: Deck, rounds: u64, out: &mut [u8]) -> Result<usize, Refusal>
     Ok(job_file::put_file(&deck, rounds, out))
 }
 
-// Puts a post behind the last; near and before follow. Or the refusal that applies first, and the record as it was.
+/// Puts a post behind the last (RULES "Change 6"), and brings near and before up to date; or the first refusal that applies, 3 or 10, and
+/// the record as it was.
 pub fn add_post(deck: &mut Deck, post: Place) -> Result<(), Refusal>
     ensures { record { answer = change_answer result; deck = deck.new } ≡ change_call deck.old (add_post (place_of post)) }
 {
     change::add_post(deck, post)
 }
 
-// Takes away the first post at a place; near and before follow. Or the refusal that applies first, and the record as it was.
+/// Removes the first post at a place (RULES "Change 6"), and brings near and before up to date; or the first refusal that applies, 3, 9 or
+/// 5, and the record as it was.
 pub fn remove_post(deck: &mut Deck, post: Place) -> Result<(), Refusal>
     ensures { record { answer = change_answer result; deck = deck.new } ≡ change_call deck.old (remove_post (place_of post)) }
 {
     change::remove_post(deck, post)
 }
 
-// Puts a stop behind the last; near and before follow. Or the refusal that applies first, and the record as it was.
+/// Puts a stop behind the last (RULES "Change 6"), with its near, and brings before up to date; or the first refusal that applies, 3 or 10,
+/// and the record as it was.
 pub fn add_stop(deck: &mut Deck, stop: Stop) -> Result<(), Refusal>
     ensures { record { answer = change_answer result; deck = deck.new } ≡ change_call deck.old (add_stop (stop_of stop)) }
 {
     change::add_stop(deck, stop)
 }
 
-// Takes away the first stop with these values; near and before follow. Or the refusal that applies first, and the record as it was.
+/// Removes the first stop with this place and these visits (RULES "Change 6"), and brings before up to date; or the first refusal that
+/// applies, 3, 9 or 6, and the record as it was.
 pub fn remove_stop(deck: &mut Deck, stop: Stop) -> Result<(), Refusal>
     ensures { record { answer = change_answer result; deck = deck.new } ≡ change_call deck.old (remove_stop (stop_of stop)) }
 {
     change::remove_stop(deck, stop)
 }
 
-// What the program prints for its input.
+/// What the program prints for its input (RULES "Report"): the report's lines, or the two lines of a refusal, 1 to 6.
 pub fn answer_text(job: &[u8]) -> Text
     ensures whole { result ≡ answer_text job.now }
-    ensures short { length result ≤ 128 }
+    ensures short { length result ≤ output_size }
 {
     let mut bytes = [0u8; REPORT_BYTES];
     match respond_alone(job, &mut bytes) {

@@ -1,10 +1,11 @@
-// The entry for C, as include/siting.h describes it.
+// The entry for C (RULES "Calls"), as include/siting.h describes it.
 #![tactic(auto)]
 
 ghost use Rattle.std.specs.Prelude.{◌≡◌};
 ghost use Rattle.calls.specs.Entry.{entry};
 
-// The entry for C: the bytes written, or minus the number of the refusal.
+/// Writes the report of a job's bytes to the start of the output, and gives the bytes written; or minus the number of the refusal, and the
+/// output as it was.
 #[unsafe(no_mangle)]
 pub extern "C" fn siting_report(job: &[u8], out: &mut [u8]) -> i64
     ensures { record { result = result; out = out.new } ≡ entry job.now out.old }

@@ -13,6 +13,7 @@ use Rattle.numbers.proofs.Truth.{test, and_left, and_right, and_intro, cond_ind,
 use Rattle.text.specs.Ascii.{is_digit}
 use Rattle.text.specs.Numeral.{digits, value_of}
 use Rattle.text.specs.Decimal.{decimal}
+use Rattle.text.specs.DecimalRows.{DigitsOf}
 
 -- ---- the digits that a text starts with
 pub digit_range : (b : ℕ) → T (is_digit b) → (48 ≤ b) × (b ≤ 57)
@@ -78,13 +79,7 @@ decimal_all (suc most) n = ⊎_elim
 abbrev onwards : ℕ → List ℕ → ℕ
 onwards v ds = foldl (λ value d. value * 10 + (d - 48)) v ds
 
--- what the digits ds of n are
-pub record DigitsOf (n : ℕ) (ds : List ℕ) : Type 0 where
-  pub all_digits : digits ds ≡ ds
-  pub value : value_of ds ≡ n
-  pub some_digit : 1 ≤ length ds
-  pub first_digit : 1 ≤ n → get_or ds 0 0 ≢ 48
-
+-- the digits of a number
 one_digit : (n : ℕ) → n < 10 → DigitsOf n ((48 + n) ∷ [])
 unfolding value_of digits
 one_digit n h = record {
@@ -131,7 +126,7 @@ decimal_onwards (d ∷ ds) most v e h =
 alone : (most d : ℕ) → 48 ≤ d → d ≤ 57 → decimal (suc most) (0 + (d - 48)) ≡ d ∷ []
 alone most d low high = let e : 48 + (0 + (d - 48)) ≡ d = omega arith in decimal_small most (0 + (d - 48)) (omega arith) ∙ ap (λ (b : ℕ). b ∷ []) e
 
--- digits with no leading zero, save in `0` itself, are the digits of their number
+-- digits of which the first is a zero only where it is alone are the digits of their number
 pub decimal_value : (ds : List ℕ) → digits ds ≡ ds → 1 ≤ length ds → length ds ≤ 20 → (get_or ds 0 0 ≡ 48 → length ds ≡ 1) → decimal 20 (value_of ds) ≡ ds
 unfolding value_of
 decimal_value [] e some_digit short first = absurd (omega arith)

@@ -111,9 +111,6 @@ module _ {bs : List ℕ} where
         none : length (digits bs) - count ≡ 0
         none = sym (length-drop count (digits bs)) ∙ ap length (m.left ∙ digit_stop digit)
 
-    pub scanned_ten : 10 ≤ count → count ≤ 10 → FirstDigits bs count value
-    scanned_ten g h = record { count_is = omega (arith, m.enough); value_is = m.value_is; below = m.below }
-
     pub scanned_small : count ≤ 10 → value < 10 ^ 10
     scanned_small h = omega (arith, m.below, pow-le-pow_right {n = 10} (omega arith) h)
 
@@ -213,7 +210,7 @@ module _ {bs : List ℕ} {count value : ℕ} (run : FirstDigits bs count value) 
     pub natural_small : value < 10 ^ 9
     natural_small = omega (arith, run.below, pow-le-pow_right {n = 10} (omega arith) high)
 
-    -- a run of digits with no leading zero save in `0` itself
+    -- a run of digits of which the first is a zero only where it is alone
     pub natural_one : count ≤ 1 → number_then value (drop count bs) ≡ natural bs
     natural_one h = rw (natural_is, eq-eqb count 1 (omega arith)) refl
 

@@ -1,4 +1,5 @@
 pub mod DecimalLaws
+pub mod DecimalRows
 pub mod NumeralLaws
 pub mod KeyLaws
 pub mod DigitLaws

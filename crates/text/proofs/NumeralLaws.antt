@@ -13,7 +13,8 @@ use lib.Seq.{drop-append_seam}
 use Rattle.numbers.proofs.Truth.{and_left, and_right, and_fails_left, holds, cond_ind, cond-false}
 use Rattle.text.specs.Numeral.{digits, value_of, is_natural, natural, negative, number}
 use Rattle.text.specs.Decimal.{spell_nat, spell_int}
-use Rattle.text.proofs.DecimalLaws.{DigitsOf, decimal_all, decimal_digits, digits_append, digits_first, digits_rest, digits_twice, decimal_value}
+use Rattle.text.specs.DecimalRows.{DigitsOf}
+use Rattle.text.proofs.DecimalLaws.{decimal_all, decimal_digits, digits_append, digits_first, digits_rest, digits_twice, decimal_value}
 use Rattle.text.proofs.DecimalLaws.{value_less}
 use Rattle.text.proofs.DigitCounts.{length_decimal_from, length_spell_nat_below}
 

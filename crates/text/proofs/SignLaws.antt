@@ -27,9 +27,6 @@ abs_neg zero = refl
 abs_neg (suc n) = refl
 
 module _ (n : ℕ) (h : n < 10 ^ 9) where
-  pub pos_fits : SFits w64 (pos n)
-  pos_fits = record { sfits = omega arith }
-
   pub pos_bits : to_z w64 n ≡ pos n
   pos_bits = to_z_pos w64 n (omega arith)
 

@@ -1,4 +1,4 @@
--- Text as bytes: fixed strings, and the bytes of the job format that have a meaning of their own.
+-- Text as bytes: fixed strings, and the bytes that a job's lines are made with (RULES "Job", "Numbers").
 use Rattle.std.specs.Prelude.{ℕ, zero, suc, ◌+◌, Bool, ◌&&◌, List, [], ◌∷◌, leb}
 use Prim.Native.Char.{code}
 use Prim.Native.String.{String, len, char_at}
@@ -13,7 +13,7 @@ unfoldable pub bytes : String → List ℕ
 unfolding bytes_from
 bytes s = bytes_from s 0 (len s)
 
--- "byte 10", which ends a line; `,`; `-`; `0`
+-- the byte that ends a line; `,`; `-`; `0`
 abbrev pub newline : ℕ
 newline = 10
 

@@ -1,4 +1,4 @@
--- Numbers as they are written: decimal digits, with a `-` in front where negative.
+-- Numbers as they are written (RULES "Numbers"): decimal digits, with a `-` in front where negative.
 use Rattle.std.specs.Prelude.{ℕ, zero, suc, ◌+◌, ◌/◌, ◌%◌, cond, List, [], ◌∷◌, ◌++◌, ltb, ℤ, pos, negsuc}
 use Rattle.text.specs.Ascii.{minus, zero_digit}
 

@@ -1,4 +1,5 @@
 pub mod Ascii
 pub mod Numeral
 pub mod Decimal
+pub mod DecimalRows
 pub mod TextReading

@@ -1,5 +1,4 @@
--- Document 01, "Job and report": a number has 1 to 9 digits, a leading `-` if negative, no `+`, no leading zero save in `0` itself, no
--- `-0`.
+-- Numbers as they are read (RULES "Numbers"): nine digits at most, and one way to write each number.
 use Rattle.std.specs.Prelude.{ℕ, ◌+◌, ◌-◌, ◌*◌, Bool, cond, not, ◌&&◌, ◌||◌, leb, eqb, ℤ, pos, neg_ℤ, length, get_or, drop}
 use mathlib.Core.List.{List, [], ◌∷◌, foldl}
 use Rattle.std.proofs.Math.Option.{Option, none, some}
@@ -15,7 +14,7 @@ digits (b ∷ bs) = let more = b ∷ digits bs in cond (is_digit b) more []
 unfoldable pub value_of : List ℕ → ℕ
 value_of ds = foldl (λ value d. value * 10 + (d - 48)) 0 ds
 
--- 1 to 9 digits, with no leading zero save in `0` itself
+-- 1 to 9 digits, of which the first is a zero only where it is the only one
 unfoldable pub is_natural : List ℕ → Bool
 is_natural ds = leb 1 (length ds) && leb (length ds) 9 && (eqb (length ds) 1 || not (eqb (get_or ds 0 0) zero_digit))
 

@@ -22,8 +22,8 @@ unfolding is_digit
 first_digit [] = None
 first_digit (b ∷ bs) = cond (is_digit b) (Some (b - 48, bs)) None
 
-pub record FirstDigit (text : List ℕ) (r : Option (ℕ × Bor (List ℕ))) : Type 0 where
-  pub is : option_map (λ p. (p.0, p.1.now)) r ≡ first_digit text
+pub record FirstDigit (text : List ℕ) (result : Option (ℕ × Bor (List ℕ))) : Type 0 where
+  pub is : option_map (λ p. (p.0, p.1.now)) result ≡ first_digit text
 
 -- how many digits a text starts with, ten at most, and the number that they spell
 pub record FirstDigits (text : List ℕ) (count value : ℕ) : Type 0 where

@@ -1,4 +1,4 @@
-// Numbers and fixed keys at the start of a text, each with the text after it.
+// Numbers (RULES "Numbers") and fixed keys at the start of a text, each with the text after it.
 #![tactic(auto)]
 
 ghost use Rattle.std.specs.Prelude.{◌≡◌, ◌^◌, ◌<◌, ◌∷◌, [], IfSome, option_copied, nat_abs};
@@ -12,15 +12,15 @@ struct DigitRun {
     value: u64,
 }
 
-// The text after the byte `b`.
-pub fn after_byte(text: &[u8], b: u8) -> Option<&[u8]>
-    ensures { option_copied result ≡ behind (b ∷ []) text.now }
+/// The text after its first byte, if that is `byte`.
+pub fn after_byte(text: &[u8], byte: u8) -> Option<&[u8]>
+    ensures { option_copied result ≡ behind (byte ∷ []) text.now }
 {
     let (first, rest) = text.split_first()?;
-    if *first == b { Some(rest) } else { None }
+    if *first == byte { Some(rest) } else { None }
 }
 
-// The text after `key`.
+/// The text after `key`, if it starts with these bytes.
 pub fn after_key<'a>(text: &'a [u8], key: &[u8]) -> Option<&'a [u8]>
     ensures { option_copied result ≡ behind key.now text.now }
 {
@@ -55,7 +55,7 @@ fn digits(text: &[u8]) -> DigitRun
     DigitRun { count: 10, value }
 }
 
-// A number of 1 to 9 digits with no leading zero save in `0` itself.
+// A number without a sign, and the text after it.
 fn natural(text: &[u8]) -> Option<(u64, &[u8])>
     ensures number { natural_read result ≡ natural text.now }
     ensures nine_digits { IfSome result (λ r. r.0 < 10 ^ 9) }
@@ -72,7 +72,7 @@ fn natural(text: &[u8]) -> Option<(u64, &[u8])>
     Some((run.value, rest))
 }
 
-// What follows a `-`: a number, and not `0`.
+// What follows a `-`: a number other than 0, which it makes negative, and the text after it.
 fn negative(text: &[u8]) -> Option<(i64, &[u8])>
     ensures number { number_read result ≡ negative text.now }
     ensures nine_digits { IfSome result (λ r. nat_abs r.0 < 10 ^ 9) }
@@ -84,7 +84,8 @@ fn negative(text: &[u8]) -> Option<(i64, &[u8])>
     Some((-(n as i64), rest))
 }
 
-// A number and the text after it: 1 to 9 digits, a `-` in front where negative, no leading zero save in `0` itself, no `-0`.
+/// The number that a text starts with, and the text after it (RULES "Numbers"). None where it starts with none: also where ten digits stand
+/// there, `-0`, or a zero in front of other digits.
 pub fn number(text: &[u8]) -> Option<(i64, &[u8])>
     ensures number { number_read result ≡ number text.now }
     ensures nine_digits { IfSome result (λ r. nat_abs r.0 < 10 ^ 9) }

@@ -2,7 +2,7 @@
 use mathlib.Core.Path.{◌≡◌, refl, sym, ap, ◌∙◌}
 use mathlib.Core.Bool.{Bool, true, false, cond, ◌&&◌}
 use mathlib.Core.List.{List, ◌++◌}
-use Prim.Native.Nat.{ℕ, ◌≤◌, ◌<◌}
+use Prim.Native.Nat.{ℕ, ◌+◌, ◌≤◌, ◌<◌}
 use native.Mathlib.Omega.{arith}
 use lib.IntN.{ℤ, pos}
 use lib.Dec.{ltb}
@@ -16,6 +16,7 @@ use Rattle.query.specs.Place.{Rect, Axis, x_axis, y_axis}
 use Rattle.query.specs.Lines.{lines}
 use Rattle.query.specs.Grid.{grid}
 use Rattle.query.specs.Cut.{can_cut, cut_line}
+use Rattle.query.specs.Range.{stops_limit}
 use Rattle.job.specs.Format.{Job, Result, refused, accepted, read_job}
 use Rattle.deck.specs.DeckOf.{deck_of}
 use Rattle.lines.proofs.DeckLines.{lines_in_order}
@@ -100,7 +101,7 @@ module _ {bytes : List ℕ} {o : Opened} (w : Open bytes o) (across : Bool) wher
   abbrev ls : List ℤ
   ls = lines job.deck (lines_axis across)
 
-  pub few_lines : length ls ≤ 514
+  pub few_lines : length ls ≤ stops_limit + 2
   few_lines = (lines_in_order job.deck (lines_axis across) (spelt_range w.job).most_stops).few
 
   pub vertical_lines : across ≡ true → o.problem.vertical ≡ ls

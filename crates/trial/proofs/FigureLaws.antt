@@ -20,7 +20,7 @@ use Rattle.query.specs.Travel.{near}
 use Rattle.query.specs.Cost.{cost, before}
 use Rattle.query.specs.Reach.{load}
 use Rattle.query.specs.Bound.{bound}
-use Rattle.query.specs.Range.{cost_limit, load_limit}
+use Rattle.query.specs.Range.{cost_limit, load_limit, stops_limit, travel_limit}
 use Rattle.job.specs.Format.{read_job}
 use Rattle.deck.specs.declared.Deck.{Deck}
 use Rattle.deck.specs.DeckOf.{deck_record}
@@ -70,7 +70,7 @@ module _ {bytes : List ℕ} {o : Opened} (w : Open bytes o) where
   unfolding deck_record
   count_is = ap (λ (d : Deck). d.stops) (open_held w)
 
-  pub few_stops : o.deck.stops ≤ 512
+  pub few_stops : o.deck.stops ≤ stops_limit
   few_stops = omega (arith, count_is, (spelt_range s).most_stops)
 
   -- the nears of the stops that there are
@@ -79,7 +79,7 @@ module _ {bytes : List ℕ} {o : Opened} (w : Open bytes o) where
   near_column =
       let nears = map (near s.job.deck) s.job.deck.stops in
       ap (λ (d : Deck). take d.stops d.near) (open_held w)
-      ∙ ap (λ (n : ℕ). take n (padded 512 0 nears)) (sym (length-map s.job.deck.stops (near s.job.deck))) ∙ padded_front 512 0 nears
+      ∙ ap (λ (n : ℕ). take n (padded stops_limit 0 nears)) (sym (length-map s.job.deck.stops (near s.job.deck))) ∙ padded_front stops_limit 0 nears
 
   near_figure_lem : (i : ℕ) →
       cond (ltb i (length s.job.deck.stops)) (pos (get_or (map (near s.job.deck) s.job.deck.stops) i 0)) minus_one ≡ near_figure i (read_job bytes)
@@ -93,12 +93,12 @@ module _ {bytes : List ℕ} {o : Opened} (w : Open bytes o) where
     as_many : length column ≡ length s.job.deck.stops
     as_many = ap length column_is ∙ length-map s.job.deck.stops (near s.job.deck)
 
-    pub near_small : i < length column → get_or column i 0 ≤ 720000
+    pub near_small : i < length column → get_or column i 0 ≤ travel_limit
     near_small h =
         let nears = map (near s.job.deck) s.job.deck.stops in
         let few : i < length nears = omega (arith, as_many, length-map s.job.deck.stops (near s.job.deck)) in
-        rw (column_is, ← padded_at 512 0 nears i few)
-        (subst (λ (d : Query.Deck). get_or (padded 512 0 (map (near d) d.stops)) i 0 ≤ 720000) (open_deck w) (sound_limit o.sound i))
+        rw (column_is, ← padded_at stops_limit 0 nears i few)
+        (subst (λ (d : Query.Deck). get_or (padded stops_limit 0 (map (near d) d.stops)) i 0 ≤ travel_limit) (open_deck w) (sound_limit o.sound i))
 
     pub near_answer : i < length column → to_z w64 (get_or column i 0) ≡ near_figure i (read_job bytes)
     near_answer h =

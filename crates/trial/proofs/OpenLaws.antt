@@ -29,6 +29,7 @@ use Rattle.priced_place.specs.Prepared.{Prepared}
 use Rattle.priced_place.proofs.DeckProblem.{made_prepared, prepared_pricing, prepared_grid}
 use Rattle.numbers.proofs.Words.{is_true}
 use Rattle.query.specs.Place.{Rect}
+use Rattle.query.specs.Range.{rounds_limit}
 use Rattle.reach.specs.Columns.{Ranged}
 use Rattle.trial.specs.Ranges.{rect_allowed}
 use Rattle.trial.proofs.RectLaws.{rect_range}
@@ -36,9 +37,9 @@ use Rattle.trial.specs.Opened.{OpenedParts, parts_of, opened_deck, opened_record
 use Rattle.trial.specs.Trial.{on_job}
 use Rattle.trial.specs.declared.opened.Opened.{Opened}
 
--- an accepted job has at most 1,000 rounds
+-- the rounds of an accepted job
 pub rounds_read : (bytes : List ℕ) (r : Std.Result Held.Job Refusal) (e : r ≡ job_result (read_job bytes)) (j : Held.Job) (f : r ≡ Ok j) →
-    (j.rounds ≤ 1000) × (j.rounds ≡ (read_accepted bytes j (sym f ∙ e)).job.rounds)
+    (j.rounds ≤ rounds_limit) × (j.rounds ≡ (read_accepted bytes j (sym f ∙ e)).job.rounds)
 rounds_read bytes r e j f =
     let s = read_accepted bytes j (sym f ∙ e) in
     let g = read_rounds bytes j (sym f ∙ e) s in

@@ -1,4 +1,4 @@
--- A job that was read, with the problem of its deck, as the code holds it.
+-- A job that was read (RULES "Job"), with the objects and the lines of its deck, as the code holds them.
 use Rattle.std.specs.Prelude.{Option, None, Some}
 use Rattle.query.specs.Deck as Query
 use Rattle.job.specs.Format.{Result, refused, accepted}

@@ -1,4 +1,4 @@
--- What is asked of a place or rectangle that is priced.
+-- What is asked of a place or rectangle that is priced (RULES "Deck").
 use Rattle.std.specs.Prelude.{Bool, ◌&&◌}
 use Rattle.std.specs.Int.Signed.{le_z}
 use Rattle.query.specs.Place.{Place, Rect, corner}

@@ -1,4 +1,5 @@
--- What each function for tests answers, of a job's bytes: a figure of the deck that they spell.
+-- What each function for tests answers, of a job's bytes: a figure of the deck that they spell (RULES "Cost", "Reach", "Lines", "Bound",
+-- "Cuts"), or of the refusal that they get (RULES "Refusals").
 use Rattle.std.specs.Prelude.{ℕ, Bool, cond, ◌&&◌, List, [], ◌∷◌, map, ◌++◌, ltb, ℤ, pos, negsuc, length, get_or, drop, Option, None, Some}
 use Rattle.query.specs.Place.{Place, Rect, corner, Axis, x_axis, y_axis}
 use Rattle.query.specs.Travel.{near}

@@ -1,13 +1,14 @@
 // Functions for tests and benchmarks from Rust, and for nothing else: each reads a job's bytes and answers one number of the job or of
-// its deck.
+// its deck. Where there is no answer a number stands for it, since the callers are C functions, which give a number.
 #![tactic(auto)]
 
+/// A job that was read, with what is asked of its deck.
 pub mod opened;
 
-ghost use Rattle.std.specs.Prelude.{◌≡◌, ◌≤◌, cond, get_or, None};
+ghost use Rattle.std.specs.Prelude.{◌≡◌, ◌+◌, ◌≤◌, cond, get_or, None};
 ghost use Rattle.std.specs.Option.{option_map};
 ghost use Rattle.refusal.specs.Refusal.{line_of};
-ghost use Rattle.job.specs.Format.{read_job};
+ghost use Rattle.job.specs.Format.{read_job, size_limit};
 ghost use Rattle.deck.specs.Rectangle.{place_of, rect_of};
 ghost use Rattle.cuts.specs.CutRecord.{axis_of};
 ghost use Rattle.trial.specs.Ranges.{rect_allowed};
@@ -35,19 +36,17 @@ use deck::{Place, Rect};
 use opened::Opened;
 use refusal::Refusal;
 
-// Stands for a figure that there is not.
-// kept: the C functions that the tests call take the number of a figure and give a number, so a number stands for none.
+/// Stands for a figure that there is not.
 pub const NO_FIGURE: i64 = i64::MIN;
 
-// Stands for a figure that is no number below 0, where the job is refused, or the place or rectangle is out of range or empty.
-// kept: as for NO_FIGURE.
+// Stands for a figure that is never below 0, where the job is refused, or the place or rectangle is out of range or empty.
 const REFUSED: i64 = -1;
 
 // ---- reading
 
-// The number of a refusal, and its line. The least number behind them.
+/// Of a refusal its number, where `which` is 0, and its line, where it is 1. `NO_FIGURE` for any other `which`.
 pub fn refusal_figure(why: Refusal, which: u64) -> i64
-    requires { line_of why ≤ 16385 }
+    requires { line_of why ≤ size_limit + 1 }
     ensures { result ≡ get_or (refusal_numbers why) which least }
 {
     match which {
@@ -57,8 +56,8 @@ pub fn refusal_figure(why: Refusal, which: u64) -> i64
     }
 }
 
-// Of what reading a job gives: the number of the refusal and its line, both 0 for an accepted job; the rounds, -1 for a refused job.
-// The least number behind them.
+/// Of what reading a job gives, by `which` from 0: the number of the refusal and its line, both 0 for an accepted job; the rounds, −1 for a
+/// refused job. `NO_FIGURE` for any other `which`.
 pub fn trial_reading(job: &[u8], which: u64) -> i64
     ensures { result ≡ get_or (reading_numbers (read_job job.now)) which least }
 {
@@ -78,7 +77,7 @@ pub fn trial_reading(job: &[u8], which: u64) -> i64
 
 // ---- figures of a job's deck, none where the job is refused, or what it is asked of is out of range or empty
 
-// What all stops pay with the posts that there are, from the record.
+// The deck's before, from the record.
 fn before(job: &[u8]) -> Option<i64>
     ensures { figure_or minus_one result ≡ before_figure (read_job job.now) }
 {
@@ -86,7 +85,7 @@ fn before(job: &[u8]) -> Option<i64>
     Some(o.deck.before as i64)
 }
 
-// The near of stop `i`, counted from 0, from the record.
+// The near of stop i, counted from 0, from the record.
 fn near(job: &[u8], i: i64) -> Option<i64>
     ensures { figure_or minus_one result ≡ near_at i (read_job job.now) }
 {
@@ -162,9 +161,10 @@ fn cut_line(job: &[u8], rect: Rect) -> Option<i64>
     Some(cut.at)
 }
 
-// A figure of the job's deck: before, the near of stop `xlo`, the cost of (`xlo`, `ylo`); of the rectangle the load, the bound, the axis
-// and the line of the cut. In place of one that there is not, -1, or the least number for the bound and the line. The least number behind
-// them.
+/// A figure of the job's deck, by `which` from 0: before, the near of stop `xlo`, counted from 0, the cost of the place (`xlo`, `ylo`); of
+/// the rectangle the load, the bound, the axis of its cut (1 at an x, 2 at a y, 0 for no cut) and the line of its cut. Where the job is
+/// refused, a coordinate is out of range, the rectangle is empty, or there is no such stop or line, `NO_FIGURE` stands for the bound and
+/// the line, and −1 for the others. `NO_FIGURE` for any other `which`.
 pub fn trial_figure(job: &[u8], which: u64, xlo: i64, ylo: i64, xhi: i64, yhi: i64) -> i64
     ensures { result
         ≡ get_or (deck_figures (record { xlo = xlo; ylo = ylo; xhi = xhi; yhi = yhi }) (read_job job.now)) which least }
@@ -182,8 +182,8 @@ pub fn trial_figure(job: &[u8], which: u64, xlo: i64, ylo: i64, xhi: i64, yhi: i
     }
 }
 
-// Puts the lines along an axis in front of `out`: how many there are, or -1 where the job is refused or `out` is too short.
-// kept: the C function that the tests call takes a bool for the axis and gives a number, so -1 stands for no lines.
+/// Puts the vertical lines of the job's deck in front of `out`, or the horizontal ones where `across` is false, in increasing order, and
+/// says how many there are; what stands behind them stays. −1 where the job is refused or `out` is too short, and then all of `out` stays.
 pub fn trial_lines(job: &[u8], across: bool, out: &mut [i64]) -> i64
     ensures { record { result = result; out = out.new } ≡ lines_written across out.old (read_job job.now) }
 {

@@ -1,4 +1,4 @@
-// A job that was read with the problem of its deck, and what is asked of both: ranges, bounds and cuts.
+// A job that was read, with its deck prepared for pricing, and what is asked of both: ranges, bounds and cuts.
 ghost use Rattle.std.specs.Prelude.{◌≡◌};
 ghost use Rattle.std.specs.Option.{option_map};
 ghost use Rattle.query.specs.Grid.{grid};
@@ -19,7 +19,7 @@ use prepare::Problem;
 use reach::Objects;
 use slots::Costs;
 
-// The deck of a job that was read, and its problem.
+/// The record that a job is read as, and what its deck is for pricing: its objects and its lines.
 #[derive(Drop)]
 pub struct Opened {
     pub deck: Deck,
@@ -31,7 +31,7 @@ pub struct Opened {
 impl Opened {
     ghost use Rattle.trial.specs.Opened.{parts_of, opened_record};
 
-    // None where the job is refused.
+    /// Reads a job and prepares its deck. None where the job is refused.
     pub fn of_job(bytes: &[u8]) -> Option<Opened>
         ensures { option_map parts_of result ≡ opened_record (read_job bytes.now) }
     {
@@ -43,42 +43,69 @@ impl Opened {
         })
     }
 
-    // The cut of a rectangle, if it has one.
-    pub fn cut_of(&self, r: Rect) -> Option<Cut>
-        requires { Ranged (rect_of r) }
-        ensures { result ≡ cut_record (grid (deck_of self.now.deck)) (rect_of r) }
+    /// The cut of a rectangle by the lines of the deck (RULES "Cuts"). None where it cannot be cut.
+    pub fn cut_of(&self, rect: Rect) -> Option<Cut>
+        requires { Ranged (rect_of rect) }
+        ensures { result ≡ cut_record (grid (deck_of self.now.deck)) (rect_of rect) }
     {
         let p = &self.problem;
-        cuts::find_cut(p.vertical.as_slice(), p.horizontal.as_slice(), r)
+        cuts::find_cut(p.vertical.as_slice(), p.horizontal.as_slice(), rect)
     }
 }
 
 // ---- ranges
 
-pub fn place_in_range(at: Place) -> bool
-    ensures { result ≡ place_in_range (place_of at) }
+/// Whether both coordinates of a place are in range (RULES "Deck").
+pub fn place_in_range(place: Place) -> bool
+    ensures { result ≡ place_in_range (place_of place) }
 {
-    job_line::place_in_range(at)
+    job_line::place_in_range(place)
 }
 
-pub fn rect_allowed(r: Rect) -> bool
-    ensures { result ≡ rect_allowed (rect_of r) }
+/// Whether all coordinates of a rectangle are in range, and no low edge is above its high one.
+pub fn rect_allowed(rect: Rect) -> bool
+    ensures { result ≡ rect_allowed (rect_of rect) }
 {
-    job_line::area_in_range(r) && !job::empty_area(r)
+    job_line::area_in_range(rect) && !job::empty_area(rect)
 }
 
 // ---- figures of a problem
 
-pub fn bound_in(objects: &Objects, r: Rect) -> i64
-    requires { Ranged (rect_of r) }
-    ensures { result ≡ bound_of (pricing_of_objects objects.now) (rect_of r) }
+/// The bound of a rectangle (RULES "Bound"), whose corners are priced for it.
+pub fn bound_in(objects: &Objects, rect: Rect) -> i64
+    requires { Ranged (rect_of rect) }
+    ensures { result ≡ bound_of (pricing_of_objects objects.now) (rect_of rect) }
 {
     let corners = Costs {
-        c00: pricing::cost(objects, Place { x: r.xlo, y: r.ylo }),
-        c01: pricing::cost(objects, Place { x: r.xlo, y: r.yhi }),
-        c10: pricing::cost(objects, Place { x: r.xhi, y: r.ylo }),
-        c11: pricing::cost(objects, Place { x: r.xhi, y: r.yhi }),
+        c00: pricing::cost(
+            objects,
+            Place {
+                x: rect.xlo,
+                y: rect.ylo,
+            },
+        ),
+        c01: pricing::cost(
+            objects,
+            Place {
+                x: rect.xlo,
+                y: rect.yhi,
+            },
+        ),
+        c10: pricing::cost(
+            objects,
+            Place {
+                x: rect.xhi,
+                y: rect.ylo,
+            },
+        ),
+        c11: pricing::cost(
+            objects,
+            Place {
+                x: rect.xhi,
+                y: rect.yhi,
+            },
+        ),
     };
-    let load = pricing::load(objects, r);
-    pricing::bound(corners, pricing::span(objects.axis(), r), load)
+    let load = pricing::load(objects, rect);
+    pricing::bound(corners, pricing::span(objects.axis(), rect), load)
 }

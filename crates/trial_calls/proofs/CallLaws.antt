@@ -1,5 +1,5 @@
 -- The calls `report` and `exhaustive` as the tests see them: what their answers carry, as numbers.
-use Prim.Native.Nat.{ℕ, ◌-◌, ◌≤◌, ◌<◌}
+use Prim.Native.Nat.{ℕ, ◌+◌, ◌-◌, ◌≤◌, ◌<◌}
 use mathlib.Core.Path.{◌≡◌, refl, sym, ap, subst, ◌∙◌}
 use mathlib.Core.List.{List}
 use native.Mathlib.Omega.{arith}
@@ -13,17 +13,19 @@ use Rattle.query.specs.Exhaustive as Query
 use Rattle.query.proofs.Ranges.{figure_limits}
 use Rattle.query.proofs.FigureRanges.{point_in_range}
 use Rattle.refusal.specs.Refusal.{number_of, line_of}
-use Rattle.job.specs.Format.{Result, refused, accepted, read_job}
+use Rattle.job.specs.Format.{Result, refused, accepted, size_limit, read_job}
 use Rattle.refusal.specs.declared.Refusal.{Refusal}
 use Rattle.job.proofs.Meaning.{refused_job, allowed_in_range}
 use Rattle.job.proofs.RefusalLaws.{condition_line}
 use Rattle.report.specs.Report.{report_figures}
-use Rattle.query.specs.Range.{PlaceInRange, FiguresInRange, cost_limit}
-use Rattle.report.specs.declared.Report.{Report}
+use Rattle.query.specs.Range.{PlaceInRange, FiguresInRange, cost_limit, rounds_limit}
+use Rattle.report.specs.declared.Report as Held
 use Rattle.priced_place.specs.ObjectProblem.{priced_of}
 use Rattle.priced_place.specs.declared.PricedPlace.{PricedPlace}
 use Rattle.std.specs.Prelude.{Ok, Err}
 use Rattle.std.specs.Prelude as Std
+use Rattle.calls.specs.declared.Answer.{Answer}
+use Rattle.calls.specs.declared.Answer.TheVariants.{Report, Refused}
 use Rattle.calls.specs.Answers.{gives, report_answer, cheapest_answer}
 use Rattle.calls.specs.Call.{Left, report_call}
 use Rattle.calls.specs.CheapestCall.{exhaustive_call}
@@ -35,13 +37,13 @@ use Rattle.trial.specs.Trial.{least, refusal_numbers}
 use Rattle.trial_calls.specs.Calls.{refused_numbers}
 
 -- ---- the line of a refusal
-line_few : (why : Refusal) (job : List ℕ) (cells : List ℤ) (out : List ℕ) → Applies job cells out why → line_of why ≤ 16385
+line_few : (why : Refusal) (job : List ℕ) (cells : List ℤ) (out : List ℕ) → Applies job cells out why → line_of why ≤ size_limit + 1
 line_few why job cells out (in_reading c) = condition_line job why c
 line_few _ job cells out (small_space j e h) = omega arith
 line_few _ job cells out (short_output j e h k) = omega arith
 
 -- ---- the answer of the call, by its case
-module _ (job : List ℕ) (cells : List ℤ) (out : List ℕ) (answer : Std.Result Report Refusal) (cells' : List ℤ) (out' : List ℕ) (e : record {
+module _ (job : List ℕ) (cells : List ℤ) (out : List ℕ) (answer : Answer) (cells' : List ℤ) (out' : List ℕ) (e : record {
   answer = report_answer answer;
   cells = cells';
   out = out';
@@ -50,14 +52,14 @@ module _ (job : List ℕ) (cells : List ℤ) (out : List ℕ) (answer : Std.Resu
   answer_is = sym (ap (λ (l : Left). l.answer) e)
 
   -- the report's figures are in range
-  pub limits : (r : Report) → answer ≡ Ok r → FiguresInRange 1000 (report_figures r)
+  pub limits : (r : Held.Report) → answer ≡ Report r → FiguresInRange rounds_limit (report_figures r)
   limits r a =
       let f = answer_is ∙ ap report_answer a in
       let (j, ok) = accepted_one job cells out (report_figures r) f in
-      subst (FiguresInRange 1000) (figures_are job cells out j (report_figures r) ok f) (job_limits j ((read_exactly job j).0 ok.read).1)
+      subst (FiguresInRange rounds_limit) (figures_are job cells out j (report_figures r) ok f) (job_limits j ((read_exactly job j).0 ok.read).1)
 
   -- the line of a refusal is small
-  pub report_line : (why : Refusal) → answer ≡ Err why → line_of why ≤ 16385
+  pub report_line : (why : Refusal) → answer ≡ Refused why → line_of why ≤ size_limit + 1
   report_line why a = line_few why job cells out (((promises job cells out).promise_1.refused_exactly why).0 (answer_is ∙ ap report_answer a))
 
 -- ---- the call `exhaustive`
@@ -87,7 +89,7 @@ module _ (job : List ℕ) (answer : Std.Result PricedPlace Refusal) (e : cheapes
             ),
           )
 
-  pub exhaustive_line : (why : Refusal) → answer ≡ Err why → line_of why ≤ 16385
+  pub exhaustive_line : (why : Refusal) → answer ≡ Err why → line_of why ≤ size_limit + 1
   exhaustive_line why a = condition_line job why (((exhaustive_call_law job).refused_exactly why).0 (sym e ∙ ap cheapest_answer a))
 
 -- ---- a refused call

@@ -1,5 +1,5 @@
 -- The changes as the tests see them: the line of a refusal, and a record's numbers in two lists.
-use Prim.Native.Nat.{ℕ, ◌≤◌}
+use Prim.Native.Nat.{ℕ, ◌+◌, ◌≤◌}
 use mathlib.Core.Path.{◌≡◌, sym, ap, ◌∙◌}
 use mathlib.Core.Bool.{Bool, cond, ◌&&◌}
 use mathlib.Core.List.{List}
@@ -14,17 +14,19 @@ use Rattle.numbers.proofs.WordTests.{back, back_is}
 use Rattle.deck.specs.declared.Deck.{Deck}
 use Rattle.refusal.specs.Refusal.{number_of, line_of}
 use Rattle.refusal.specs.declared.Refusal.{Refusal}
+use Rattle.job.specs.Format.{size_limit}
 use Rattle.change.specs.Change.{Change}
 use Rattle.calls.specs.Answers.{AnswerOf, refusal}
 use Rattle.calls.specs.ChangeCall.{AfterChange, change_call}
 use Rattle.calls.proofs.ChangeLaw.{change_law}
 use Rattle.trial.specs.Trial.{least}
+use Rattle.trial_calls.specs.Records.{coordinates_size, naturals_size}
 use Rattle.trial_calls.specs.Records.{coordinates_of, naturals_of, deck_from, change_figure, change_of, change_into, trial_change}
 use Rattle.trial_calls.proofs.RecordLaws.{as_long}
 
 -- a refused change has line 0
 pub change_line : (deck : Deck) (change : Change) (why : Refusal) {after : Deck} →
-    record { answer = refusal why; deck = after } ≡ change_call deck change → line_of why ≤ 16385
+    record { answer = refusal why; deck = after } ≡ change_call deck change → line_of why ≤ size_limit + 1
 change_line deck change why e =
     omega (arith, (change_law deck change).line_0 (number_of why) (line_of why) (sym (ap (λ (r : AfterChange). r.answer) e)))
 
@@ -33,7 +35,8 @@ module _ (zs : List ℤ) (ns : List ℕ) (kind : ℕ) {x y : ℤ} (visits which 
   abbrev change : ℤ → ℤ → Change
   change u v = change_of kind (record { x = u; y = v }) visits
 
-  pub change_is : length zs ≡ 1156 → length ns ≡ 1029 → kind ≤ 3 → {deck after : Deck} {answer : AnswerOf (Unit {0})} → deck ≡ deck_from zs ns →
+  pub change_is : length zs ≡ coordinates_size → length ns ≡ naturals_size → kind ≤ 3 →
+      {deck after : Deck} {answer : AnswerOf (Unit {0})} → deck ≡ deck_from zs ns →
       record { answer = answer; deck = after } ≡ change_call deck (change (back x) (back y)) → {v : ℤ} {zs' : List ℤ} {ns' : List ℕ} →
       v ≡ change_figure which answer → zs' ≡ coordinates_of after → ns' ≡ naturals_of after →
       record { result = v; coordinates = zs'; naturals = ns' } ≡ trial_change zs ns kind x y visits which

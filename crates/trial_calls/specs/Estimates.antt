@@ -5,11 +5,11 @@ use Rattle.calls.specs.Answers.{AnswerOf, gives, refuses}
 use Rattle.trial.specs.Trial.{least}
 
 -- an estimate whose numbers are signed words
-pub record SmallEstimate (e : Estimate) : Type 0 where
-  pub across : e.across < 2 ^ 63
-  pub deep : e.deep < 2 ^ 63
-  pub limit : e.limit < 2 ^ 63
-  pub cells : e.cells < 2 ^ 63
+pub record SmallEstimate (needs : Estimate) : Type 0 where
+  pub across : needs.across < 2 ^ 63
+  pub deep : needs.deep < 2 ^ 63
+  pub limit : needs.limit < 2 ^ 63
+  pub cells : needs.cells < 2 ^ 63
 
 -- the numbers of an estimate, and 0 for the number and the line of a refusal
 abbrev pub needs_numbers : Estimate → List ℤ

@@ -1,11 +1,13 @@
 -- What the functions over the calls that read, write and change records answer: a deck's record as two lists of numbers, and a figure of
 -- the answer.
-use Rattle.std.specs.Prelude.{ℕ, Bool, cond, ◌&&◌, List, [], ◌∷◌, ◌++◌, eqb, ltb, ℤ, pos, length, get_or, take, drop}
+use Rattle.std.specs.Prelude.{ℕ, ◌+◌, ◌*◌, Bool, cond, ◌&&◌, List, [], ◌∷◌, ◌++◌, eqb, ltb, ℤ, pos, length, replicate, get_or, take, drop}
 use Rattle.query.specs.Place.{Place}
+use Rattle.query.specs.Range.{posts_limit, stops_limit}
 use Rattle.deck.specs.declared.Deck.{Deck}
 use Rattle.change.specs.Change.{Change, add_post, remove_post, add_stop, remove_stop}
 use Rattle.calls.specs.Answers.{AnswerOf, gives, refuses}
-use Rattle.calls.specs.ReadCall.{Read, read_call}
+use Rattle.job.specs.declared.Job as Held
+use Rattle.calls.specs.ReadCall.{read_call}
 use Rattle.calls.specs.WriteCall.{Saved, write_call}
 use Rattle.calls.specs.ChangeCall.{AfterChange, change_call}
 use Rattle.trial.specs.Trial.{least}
@@ -19,26 +21,48 @@ coordinates_of deck =
 abbrev pub naturals_of : Deck → List ℕ
 naturals_of deck = deck.axis.a ∷ deck.axis.b ∷ deck.posts ∷ deck.stops ∷ (deck.visits ++ (deck.near ++ (deck.before ∷ [])))
 
+-- where their parts start: behind four numbers the posts' x, or the visits, and then these; and how long they are
+abbrev pub post_y_place : ℕ
+post_y_place = 4 + posts_limit
+
+abbrev pub stop_x_place : ℕ
+stop_x_place = 4 + 2 * posts_limit
+
+abbrev pub stop_y_place : ℕ
+stop_y_place = stop_x_place + stops_limit
+
+abbrev pub coordinates_size : ℕ
+coordinates_size = stop_y_place + stops_limit
+
+abbrev pub near_place : ℕ
+near_place = 4 + stops_limit
+
+abbrev pub before_place : ℕ
+before_place = 4 + 2 * stops_limit
+
+abbrev pub naturals_size : ℕ
+naturals_size = before_place + 1
+
 -- whether lists are as long as those of a record, and the record that has these numbers
 abbrev pub is_record : List ℤ → List ℕ → Bool
-is_record zs ns = eqb (length zs) 1156 && eqb (length ns) 1029
+is_record coordinates naturals = eqb (length coordinates) coordinates_size && eqb (length naturals) naturals_size
 
 abbrev pub deck_from : List ℤ → List ℕ → Deck
-deck_from zs ns = record {
-  axis = record { a = get_or ns 0 0; b = get_or ns 1 0 };
-  xlo = get_or zs 0 (pos 0);
-  ylo = get_or zs 1 (pos 0);
-  xhi = get_or zs 2 (pos 0);
-  yhi = get_or zs 3 (pos 0);
-  posts = get_or ns 2 0;
-  post_x = take 64 (drop 4 zs);
-  post_y = take 64 (drop 68 zs);
-  stops = get_or ns 3 0;
-  stop_x = take 512 (drop 132 zs);
-  stop_y = take 512 (drop 644 zs);
-  visits = take 512 (drop 4 ns);
-  near = take 512 (drop 516 ns);
-  before = get_or ns 1028 0;
+deck_from coordinates naturals = record {
+  axis = record { a = get_or naturals 0 0; b = get_or naturals 1 0 };
+  xlo = get_or coordinates 0 (pos 0);
+  ylo = get_or coordinates 1 (pos 0);
+  xhi = get_or coordinates 2 (pos 0);
+  yhi = get_or coordinates 3 (pos 0);
+  posts = get_or naturals 2 0;
+  post_x = take posts_limit (drop 4 coordinates);
+  post_y = take posts_limit (drop post_y_place coordinates);
+  stops = get_or naturals 3 0;
+  stop_x = take stops_limit (drop stop_x_place coordinates);
+  stop_y = take stops_limit (drop stop_y_place coordinates);
+  visits = take stops_limit (drop 4 naturals);
+  near = take stops_limit (drop near_place naturals);
+  before = get_or naturals before_place 0;
 }
 
 -- the number that is given, and 0 for the number and the line of a refusal; a refusal has only the last two
@@ -50,19 +74,24 @@ count_numbers (refuses number line) = least ∷ pos number ∷ pos line ∷ []
 abbrev pub count_figure : ℕ → AnswerOf ℕ → ℤ
 count_figure which answer = get_or (count_numbers answer) which least
 
--- ---- the call `read`: a figure, and the record's numbers in lists that are as long; other lists are left as they are
+-- ---- the call `read`: a figure, and the record's numbers in lists that are as long, or zeros for a refusal. Other lists stay as they are
 pub record ReadInto : Type 0 where
   pub result : ℤ
   pub coordinates : List ℤ
   pub naturals : List ℕ
 
-abbrev pub read_into : ℕ → Read → ReadInto
-read_into which r =
-    record { result = count_figure which r.answer; coordinates = coordinates_of r.deck; naturals = naturals_of r.deck }
+abbrev pub read_into : ℕ → AnswerOf Held.Job → ReadInto
+read_into which (gives job) =
+    record { result = count_figure which (gives job.rounds); coordinates = coordinates_of job.deck; naturals = naturals_of job.deck }
+read_into which (refuses number line) = record {
+  result = count_figure which (refuses number line);
+  coordinates = replicate coordinates_size (pos 0);
+  naturals = replicate naturals_size 0;
+}
 
 abbrev pub trial_read : List ℕ → List ℤ → List ℕ → ℕ → ReadInto
-trial_read job zs ns which =
-    cond (is_record zs ns) (read_into which (read_call job)) (record { result = least; coordinates = zs; naturals = ns })
+trial_read job coordinates naturals which = cond (is_record coordinates naturals) (read_into which (read_call job))
+    (record { result = least; coordinates = coordinates; naturals = naturals })
 
 -- ---- the call `write` of the record that has these numbers: a figure, and the output
 pub record WroteFrom : Type 0 where
@@ -73,8 +102,8 @@ abbrev pub wrote_from : ℕ → Saved → WroteFrom
 wrote_from which s = record { result = count_figure which s.answer; out = s.out }
 
 abbrev pub trial_write : List ℤ → List ℕ → ℕ → List ℕ → ℕ → WroteFrom
-trial_write zs ns rounds out which =
-    cond (is_record zs ns) (wrote_from which (write_call (deck_from zs ns) rounds out)) (record { result = least; out = out })
+trial_write coordinates naturals rounds out which = cond (is_record coordinates naturals)
+    (wrote_from which (write_call (deck_from coordinates naturals) rounds out)) (record { result = least; out = out })
 
 -- ---- the changes of the record that has these numbers: a figure, and the record's numbers as they are then
 -- 0 for the number and the line of a refusal where a change is made
@@ -97,6 +126,6 @@ change_into which r =
     record { result = change_figure which r.answer; coordinates = coordinates_of r.deck; naturals = naturals_of r.deck }
 
 abbrev pub trial_change : List ℤ → List ℕ → ℕ → ℤ → ℤ → ℕ → ℕ → ReadInto
-trial_change zs ns kind x y visits which = cond (is_record zs ns && ltb kind 4)
-    (change_into which (change_call (deck_from zs ns) (change_of kind (record { x = x; y = y }) visits)))
-    (record { result = least; coordinates = zs; naturals = ns })
+trial_change coordinates naturals kind x y visits which = cond (is_record coordinates naturals && ltb kind 4)
+    (change_into which (change_call (deck_from coordinates naturals) (change_of kind (record { x = x; y = y }) visits)))
+    (record { result = least; coordinates = coordinates; naturals = naturals })

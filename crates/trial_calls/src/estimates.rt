@@ -1,4 +1,4 @@
-// The call `siting::estimate`, for the tests and benchmarks from Rust: a number of the answer.
+// The call `siting::estimate`, for the tests and benchmarks from Rust: one number of the answer.
 ghost use Rattle.std.specs.Prelude.{◌≡◌, get_or};
 ghost use Rattle.calls.specs.Answers.{estimate_numbers};
 ghost use Rattle.calls.specs.EstimateCall.{estimate_call};
@@ -10,7 +10,6 @@ use calls::Estimate;
 use trial::NO_FIGURE;
 
 // A number of an estimate: gaps across, gaps deep, cut limit, cells; then 0 twice, for no refusal. The least number behind them.
-// kept: `which` is a number, as the C functions that the tests call take it.
 fn needs_figure(e: Estimate, which: u64) -> i64
     requires { SmallEstimate (estimate_numbers e) }
     ensures { result ≡ get_or (needs_numbers (estimate_numbers e)) which least }
@@ -25,8 +24,8 @@ fn needs_figure(e: Estimate, which: u64) -> i64
     }
 }
 
-// Of the estimate call's answer: gaps across, gaps deep, cut limit, cells, the number of the refusal and its line (0 for none). The least
-// number where there is no such figure.
+/// A number of the answer of `siting::estimate`: gaps across, gaps deep, cut limit, cells, and the refusal's number and line, 0 for none.
+/// The least number where there is none.
 pub fn trial_estimate(job: &[u8], which: u64) -> i64
     ensures { result ≡ estimate_figure which (estimate_call job.now) }
 {

@@ -1,22 +1,23 @@
-// The calls `siting::report` and `siting::exhaustive`, for the tests and benchmarks from Rust: a number of the answer, and all that the
-// first leaves in the memory that it is lent. `estimates`: the call that estimates a job.
-// `records`: the calls that read and write jobs, and those that change a deck's record.
+// The calls of crate `siting`, for the tests and benchmarks from Rust: each gives one number of the answer, counted from 0, as C functions
+// can. Here `report` and `exhaustive`; the others are in `estimates` and `records`.
 #![tactic(auto)]
 
 pub mod estimates;
 pub mod records;
 
-ghost use Rattle.std.specs.Prelude.{◌≡◌, ◌≤◌, get_or};
+ghost use Rattle.std.specs.Prelude.{◌+◌, ◌≡◌, ◌≤◌, get_or};
 ghost use Rattle.refusal.specs.Refusal.{line_of};
 ghost use Rattle.report.specs.Report.{report_state, report_figures};
 ghost use Rattle.priced_place.specs.ObjectProblem.{priced_of};
-ghost use Rattle.query.specs.Range.{PlaceInRange, FiguresInRange, cost_limit};
+ghost use Rattle.query.specs.Range.{PlaceInRange, FiguresInRange, cost_limit, rounds_limit};
+ghost use Rattle.job.specs.Format.{size_limit};
 ghost use Rattle.calls.specs.Call.{report_call};
 ghost use Rattle.calls.specs.CheapestCall.{exhaustive_call};
 ghost use Rattle.trial.specs.Trial.{least};
 ghost use Rattle.trial_calls.specs.Calls.{called, state_number, report_numbers, figure_for, spot_numbers, cheapest_figure};
 ghost use Rattle.trial_calls.specs.Calls.{refused_numbers};
 
+use calls::Answer;
 use priced_place::PricedPlace;
 use refusal::Refusal;
 use report::{Report, State};
@@ -25,7 +26,7 @@ use trial::NO_FIGURE;
 // Of a refused call: none of the so many figures that its answer has otherwise, then the number of the refusal and its line. The least
 // number where there is no such figure.
 fn refused_figure(figures: u64, why: Refusal, which: u64) -> i64
-    requires { line_of why ≤ 16385 }
+    requires { line_of why ≤ size_limit + 1 }
     ensures { result ≡ get_or (refused_numbers figures why) which least }
 {
     if which < figures {
@@ -44,9 +45,8 @@ fn state_number(state: State) -> i64
 }
 
 // A number that a report carries: state, x, y, high, low, before, rounds; then 0 twice, for no refusal. The least number behind them.
-// kept: `which` is a number, as the C functions that the tests call take it.
 fn figure(r: Report, which: u64) -> i64
-    requires { FiguresInRange 1000 (report_figures r) }
+    requires { FiguresInRange rounds_limit (report_figures r) }
     ensures { result ≡ get_or (report_numbers (report_figures r)) which least }
 {
     match which {
@@ -62,16 +62,15 @@ fn figure(r: Report, which: u64) -> i64
     }
 }
 
-// Of the report call's answer: state, x, y, high, low, before, rounds, the number of the refusal and its line (0 for a report). The least
-// number where there is no such figure.
-// kept: beside `trial_exhaustive` and `trial_estimate`, since each is a call and a `match` of two arms.
+/// A number of the answer of `siting::report`: state (0 done, 1 stopped), x, y, high, low, before, rounds, and the number and the line of
+/// the refusal, 0 for a report. The least number where there is none. The cell space and the output are as `siting::report` leaves them.
 pub fn trial_report(job: &[u8], cells: &mut [i64], out: &mut [u8], which: u64) -> i64
     ensures { record { result = result; cells = cells.new; out = out.new }
         ≡ called (figure_for which) (report_call job.now cells.old out.old) }
 {
     match siting::report(job, cells, out) {
-        Ok(r) => figure(r, which),
-        Err(why) => refused_figure(7, why, which),
+        Answer::Report(r) => figure(r, which),
+        Answer::Refused(why) => refused_figure(7, why, which),
     }
 }
 
@@ -89,8 +88,8 @@ fn spot_figure(s: PricedPlace, which: u64) -> i64
     }
 }
 
-// Of the exhaustive call's answer: x, y, the cost, the number of the refusal and its line (0 for none). The least number where there is no
-// such figure.
+/// A number of the answer of `siting::exhaustive`: x, y, cost, and the refusal's number and line, 0 for none. The least number where there
+/// is none.
 pub fn trial_exhaustive(job: &[u8], which: u64) -> i64
     ensures { result ≡ cheapest_figure which (exhaustive_call job.now) }
 {

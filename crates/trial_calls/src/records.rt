@@ -1,10 +1,12 @@
-// The calls that read, write and change records, for the tests and benchmarks from Rust. A deck's record is two lists of numbers: 1,156
-// coordinates, of the area, the posts' x and y, the stops' x and y; and 1,029 others, the axis costs, the counts of posts and stops, the
+// The calls that read, write and change records, for the tests and benchmarks from Rust. A deck's record is two lists of numbers: the
+// coordinates, of the area, the posts' x and y, the stops' x and y; and the others, the axis costs, the counts of posts and stops, the
 // visits, near and before.
 ghost use Rattle.std.specs.Prelude.{◌≡◌, ◌≤◌, length, get_or};
 ghost use Rattle.deck.specs.Rectangle.{place_of};
 ghost use Rattle.calls.specs.Answers.{gives, change_answer};
 ghost use Rattle.calls.specs.ChangeCall.{change_call};
+ghost use Rattle.job.specs.Format.{size_limit};
+ghost use Rattle.trial_calls.specs.Records.{coordinates_size, naturals_size};
 ghost use Rattle.trial_calls.specs.Records.{coordinates_of, naturals_of, deck_from, count_figure, change_figure, change_of};
 ghost use Rattle.trial_calls.specs.Records.{trial_read, trial_write, trial_change};
 
@@ -14,14 +16,24 @@ use limits::{POSTS, STOPS};
 use refusal::Refusal;
 use trial::NO_FIGURE;
 
-// How long the two lists are.
-const COORDINATES: usize = 1156;
+// How long the two lists are, and where their parts start: behind four numbers the posts' x, or the visits, and then these.
+const COORDINATES: usize = STOP_Y + STOPS;
 
-const NATURALS: usize = 1029;
+const POST_Y: usize = 4 + POSTS;
+
+const STOP_X: usize = 4 + 2 * POSTS;
+
+const STOP_Y: usize = STOP_X + STOPS;
+
+const NATURALS: usize = BEFORE + 1;
+
+const NEAR: usize = 4 + STOPS;
+
+const BEFORE: usize = 4 + 2 * STOPS;
 
 // The record that has these numbers.
 fn deck_from(coordinates: &[i64], naturals: &[u64]) -> Deck
-    requires { (length coordinates.now ≡ 1156) × (length naturals.now ≡ 1029) }
+    requires { (length coordinates.now ≡ coordinates_size) × (length naturals.now ≡ naturals_size) }
     ensures { result ≡ deck_from coordinates.now naturals.now }
 {
     let mut post_x = [0i64; POSTS];
@@ -30,12 +42,12 @@ fn deck_from(coordinates: &[i64], naturals: &[u64]) -> Deck
     let mut stop_y = [0i64; STOPS];
     let mut visits = [0u64; STOPS];
     let mut near = [0u64; STOPS];
-    post_x.copy_from_slice(&coordinates[4..68]);
-    post_y.copy_from_slice(&coordinates[68..132]);
-    stop_x.copy_from_slice(&coordinates[132..644]);
-    stop_y.copy_from_slice(&coordinates[644..1156]);
-    visits.copy_from_slice(&naturals[4..516]);
-    near.copy_from_slice(&naturals[516..1028]);
+    post_x.copy_from_slice(&coordinates[4..POST_Y]);
+    post_y.copy_from_slice(&coordinates[POST_Y..STOP_X]);
+    stop_x.copy_from_slice(&coordinates[STOP_X..STOP_Y]);
+    stop_y.copy_from_slice(&coordinates[STOP_Y..COORDINATES]);
+    visits.copy_from_slice(&naturals[4..NEAR]);
+    near.copy_from_slice(&naturals[NEAR..BEFORE]);
     Deck {
         axis: AxisCosts {
             a: naturals[0],
@@ -53,24 +65,24 @@ fn deck_from(coordinates: &[i64], naturals: &[u64]) -> Deck
         stop_y,
         visits,
         near,
-        before: naturals[1028],
+        before: naturals[BEFORE],
     }
 }
 
 // The numbers of a record.
 fn put_coordinates(deck: &Deck, coordinates: &mut [i64])
-    requires { length coordinates.old ≡ 1156 }
+    requires { length coordinates.old ≡ coordinates_size }
     ensures { coordinates.new ≡ coordinates_of deck.now }
 {
     coordinates[..4].copy_from_slice(&[deck.xlo, deck.ylo, deck.xhi, deck.yhi]);
-    coordinates[4..68].copy_from_slice(&deck.post_x);
-    coordinates[68..132].copy_from_slice(&deck.post_y);
-    coordinates[132..644].copy_from_slice(&deck.stop_x);
-    coordinates[644..].copy_from_slice(&deck.stop_y);
+    coordinates[4..POST_Y].copy_from_slice(&deck.post_x);
+    coordinates[POST_Y..STOP_X].copy_from_slice(&deck.post_y);
+    coordinates[STOP_X..STOP_Y].copy_from_slice(&deck.stop_x);
+    coordinates[STOP_Y..].copy_from_slice(&deck.stop_y);
 }
 
 fn put_naturals(deck: &Deck, naturals: &mut [u64])
-    requires { length naturals.old ≡ 1029 }
+    requires { length naturals.old ≡ naturals_size }
     ensures { naturals.new ≡ naturals_of deck.now }
 {
     naturals[..4].copy_from_slice(&[
@@ -79,15 +91,14 @@ fn put_naturals(deck: &Deck, naturals: &mut [u64])
         deck.posts as u64,
         deck.stops as u64,
     ]);
-    naturals[4..516].copy_from_slice(&deck.visits);
-    naturals[516..1028].copy_from_slice(&deck.near);
-    naturals[1028] = deck.before;
+    naturals[4..NEAR].copy_from_slice(&deck.visits);
+    naturals[NEAR..BEFORE].copy_from_slice(&deck.near);
+    naturals[BEFORE] = deck.before;
 }
 
 // A number that goes with a count: the count itself; then 0 twice, for no refusal. The least number behind them.
-// kept: `which` is a number, as the C functions that the tests call take it.
 fn count_figure(n: u64, which: u64) -> i64
-    requires { n ≤ 20000 }
+    requires { n ≤ size_limit }
     ensures { result ≡ count_figure which (gives n) }
 {
     match which {
@@ -97,9 +108,9 @@ fn count_figure(n: u64, which: u64) -> i64
     }
 }
 
-// Of the reading call's answer: the rounds, the number of the refusal and its line (0 for none); the least number where there is no such
-// figure. The record's numbers are put into the two lists, zeros for a refusal. The least number, and nothing put, where they are not as
-// long as a record's.
+/// A number of the answer of `siting::read`: the rounds, and the refusal's number and line, 0 for none. The least number where there is
+/// none. The record's numbers are put into the two lists, and zeros for a refusal. The least number, and nothing put, where the lists are
+/// not as long as a record's.
 pub fn trial_read(job: &[u8], coordinates: &mut [i64], naturals: &mut [u64], which: u64) -> i64
     ensures { record { result = result; coordinates = coordinates.new; naturals = naturals.new }
         ≡ trial_read job.now coordinates.old naturals.old which }
@@ -124,8 +135,9 @@ pub fn trial_read(job: &[u8], coordinates: &mut [i64], naturals: &mut [u64], whi
     }
 }
 
-// Of the writing call's answer for the record that has these numbers: the bytes written, the number of the refusal and its line (0 for
-// none); the least number where there is no such figure, or where the lists are not as long as a record's.
+/// A number of the answer of `siting::write` for the record that has these numbers: the bytes written, and the refusal's number and line, 0
+/// for none. The least number where there is none, or where the lists are not as long as a record's. The output is as `siting::write`
+/// leaves it.
 pub fn trial_write(
     coordinates: &[i64],
     naturals: &[u64],
@@ -162,7 +174,6 @@ fn change(deck: &mut Deck, kind: u64, at: Place, visits: u64) -> Result<(), Refu
 }
 
 // A number that goes with a change that is made: 0 twice, for no refusal. The least number behind them.
-// kept: `which` is a number, as the C functions that the tests call take it.
 fn change_figure(which: u64) -> i64
     ensures { result ≡ change_figure which (gives tt) }
 {
@@ -172,9 +183,9 @@ fn change_figure(which: u64) -> i64
     }
 }
 
-// Of the answer to a change of the record that has these numbers, where kind 0 adds a post, 1 removes one, 2 adds a stop and 3 removes one:
-// the number of the refusal and its line (0 for none); the least number where there is no such figure. The numbers of the record as it is
-// then are put into the two lists. The least number, and nothing put, where they are not as long as a record's, or there is no such kind.
+/// A number of the answer to a change of the record that has these numbers, where kind 0 adds a post, 1 removes one, 2 adds a stop and 3
+/// removes one: the refusal's number and line, 0 for none. The least number where there is none. The numbers of the record as it is then
+/// are put into the two lists. The least number, and nothing put, where they are not as long as a record's, or there is no such kind.
 pub fn trial_change(
     coordinates: &mut [i64],
     naturals: &mut [u64],

@@ -1,4 +1,4 @@
-// The functions of crate `trial_calls`, for the tests and benchmarks from Rust.
+// Exports of the functions of crate `trial_calls`, for the tests and benchmarks from Rust.
 #![tactic(auto)]
 
 ghost use Rattle.std.specs.Prelude.{◌≡◌};
@@ -11,8 +11,7 @@ ghost use Rattle.trial_calls.specs.Records.{trial_read, trial_write, trial_chang
 
 use trial_calls::{estimates, records};
 
-// Of the report call's answer: state, x, y, high, low, before, rounds, the number of the refusal and its line (0 for a report). The least
-// number where there is no such figure.
+/// `trial_calls::trial_report`: a number of the answer of `siting::report`.
 #[unsafe(no_mangle)]
 pub extern "C" fn trial_report(job: &[u8], cells: &mut [i64], out: &mut [u8], which: u64) -> i64
     ensures { record { result = result; cells = cells.new; out = out.new }
@@ -21,8 +20,7 @@ pub extern "C" fn trial_report(job: &[u8], cells: &mut [i64], out: &mut [u8], wh
     trial_calls::trial_report(job, cells, out, which)
 }
 
-// Of the exhaustive call's answer: x, y, the cost, the number of the refusal and its line (0 for none). The least number where there is no
-// such figure.
+/// `trial_calls::trial_exhaustive`: a number of the answer of `siting::exhaustive`.
 #[unsafe(no_mangle)]
 pub extern "C" fn trial_exhaustive(job: &[u8], which: u64) -> i64
     ensures { result ≡ cheapest_figure which (exhaustive_call job.now) }
@@ -30,8 +28,7 @@ pub extern "C" fn trial_exhaustive(job: &[u8], which: u64) -> i64
     trial_calls::trial_exhaustive(job, which)
 }
 
-// Of the estimate call's answer: gaps across, gaps deep, cut limit, cells, the number of the refusal and its line (0 for none). The least
-// number where there is no such figure.
+/// `trial_calls::estimates::trial_estimate`: a number of the answer of `siting::estimate`.
 #[unsafe(no_mangle)]
 pub extern "C" fn trial_estimate(job: &[u8], which: u64) -> i64
     ensures { result ≡ estimate_figure which (estimate_call job.now) }
@@ -39,8 +36,7 @@ pub extern "C" fn trial_estimate(job: &[u8], which: u64) -> i64
     estimates::trial_estimate(job, which)
 }
 
-// Of the reading call's answer: the rounds, the number of the refusal and its line (0 for none); the least number where there is no such
-// figure. The record's numbers are put into the two lists. The least number, and nothing put, where they are not as long as a record's.
+/// `trial_calls::records::trial_read`: a number of the answer of `siting::read`, and the record as two lists of numbers.
 #[unsafe(no_mangle)]
 pub extern "C" fn trial_read(
     job: &[u8],
@@ -54,8 +50,7 @@ pub extern "C" fn trial_read(
     records::trial_read(job, coordinates, naturals, which)
 }
 
-// Of the writing call's answer for the record that has these numbers: the bytes written, the number of the refusal and its line (0 for
-// none); the least number where there is no such figure, or where the lists are not as long as a record's.
+/// `trial_calls::records::trial_write`: a number of the answer of `siting::write` for a record as two lists of numbers, and the output.
 #[unsafe(no_mangle)]
 pub extern "C" fn trial_write(
     coordinates: &[i64],
@@ -70,9 +65,7 @@ pub extern "C" fn trial_write(
     records::trial_write(coordinates, naturals, rounds, out, which)
 }
 
-// Of the answer to a change of the record that has these numbers, where kind 0 adds a post, 1 removes one, 2 adds a stop and 3 removes one:
-// the number of the refusal and its line (0 for none); the least number where there is no such figure. The numbers of the record as it is
-// then are put into the two lists. The least number, and nothing put, where they are not as long as a record's, or there is no such kind.
+/// `trial_calls::records::trial_change`: a number of the answer of a change of a record as two lists of numbers, and the record then.
 #[unsafe(no_mangle)]
 pub extern "C" fn trial_change(
     coordinates: &mut [i64],

@@ -5,11 +5,11 @@ use native.Mathlib.Nat.{zero-add, add-zero, add_assoc}
 use native.Mathlib.Numerals.{add-one}
 use native.Mathlib.Omega.{arith}
 use mathlib.Core.List.{List, [], ◌∷◌, ◌++◌, append_assoc, append-nil}
-use lib.ListN.{length, take, drop, set, get_or, length-append, length-set, length-take, length-drop, take-append-drop}
+use lib.ListN.{length, take, drop, set, length-append, length-set, length-take, length-drop, take-append-drop}
 use borrow.Rule.Slice.Mut.{set_vals}
 use borrow.Rule.Slice.PartMut.{put_mid}
 use Rattle.std.proofs.lemmas.Slice.{put_mid-paste}
-use lib.Seq.{take_at, drop_at, drop-drop, length-take-le, set_split, take-suc, take_all}
+use lib.Seq.{take_at, drop_at, drop-drop, length-take-le, set_split, take_all}
 use Rattle.write.specs.declared.Writer.{Writer}
 use Rattle.write.specs.Written.{overwritten, written, Overwrote, HasRoom, Wrote}
 
@@ -101,15 +101,3 @@ wrote_part {part} w bs h e =
 -- a byte stored at the place
 pub wrote_store : (w : Writer) (b : ℕ) → HasRoom w 1 → Wrote w (b ∷ []) (record { out = set_vals (set w.out.now w.at b) w.out; at = w.at + 1 })
 wrote_store w b h = record { same_slice = refl; size = length-set w.out.now w.at b; next = refl; text = sym (written_one w.out.now w.at b (omega arith)) }
-
--- a turn of a loop that copies s
-pub wrote_turn : {before mid : Writer} (s : List ℕ) (i : ℕ) → Wrote before (take i s) mid → HasRoom before (length s) → i < length s →
-    Wrote before (take (i + 1) s) (record { out = set_vals (set mid.out.now mid.at (get_or s i 0)) mid.out; at = mid.at + 1 })
-wrote_turn {before} {mid} s i w h k =
-    let e : take (i + 1) s ≡ take i s ++ (get_or s i 0 ∷ []) = rw add-one (take-suc s i 0 k) in
-    let room : HasRoom mid 1 = omega (arith, w.next, w.size, length-take-le i s (omega arith)) in
-    rw e (wrote_both w (wrote_store mid (get_or s i 0) room))
-
--- all of s
-pub wrote_all : {before mid : Writer} (s : List ℕ) (i : ℕ) → Wrote before (take i s) mid → length s ≤ i → Wrote before s mid
-wrote_all s i w h = rw (take_all i s h) at w

@@ -1,9 +1,9 @@
--- Bytes put over the front, or over a part, of a buffer.
+-- Bytes put over the front, or over a part, of a buffer: what a call that writes leaves of the output (RULES "Calls").
 use Rattle.std.specs.Prelude.{◌≡◌, ◌≤◌, ℕ, ◌+◌, List, ◌++◌, length, take, drop}
 use Rattle.std.specs.Borrow.{GName}
 use Rattle.write.specs.declared.Writer.{Writer}
 
--- 01 "A report fills the first bytes of the output; later bytes keep their values"
+-- an output with a text over its first bytes
 unfoldable pub overwritten : List ℕ → List ℕ → List ℕ
 overwritten text out = text ++ drop (length text) out
 
@@ -27,13 +27,13 @@ slice_name w = w.out.ghost_name
 abbrev pub written_len : Writer → ℕ
 written_len w = w.at
 
--- n more bytes fit behind what is written
+-- so many more bytes fit behind what is written
 abbrev pub HasRoom : Writer → ℕ → Type 0
-HasRoom w n = written_len w + n ≤ length (slice_bytes w)
+HasRoom w count = written_len w + count ≤ length (slice_bytes w)
 
 -- what a call that writes bytes leaves of a writer: the same slice with the bytes at its place, and the place after them
-pub record Wrote (before : Writer) (bs : List ℕ) (after : Writer) : Type 0 where
+pub record Wrote (before : Writer) (bytes : List ℕ) (after : Writer) : Type 0 where
   pub same_slice : slice_name after ≡ slice_name before
   pub size : length (slice_bytes after) ≡ length (slice_bytes before)
-  pub next : written_len after ≡ written_len before + length bs
-  pub text : slice_bytes after ≡ written (slice_bytes before) (written_len before) bs
+  pub next : written_len after ≡ written_len before + length bytes
+  pub text : slice_bytes after ≡ written (slice_bytes before) (written_len before) bytes

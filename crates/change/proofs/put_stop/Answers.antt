@@ -3,6 +3,7 @@ use mathlib.Core.Path.{◌≡◌, ◌∙◌}
 use native.Mathlib.Omega.{arith}
 use borrow.Author.Rules.{rules}
 use lib.ListN.{length}
+use Rattle.query.specs.Range.{stops_limit}
 use Rattle.deck.specs.DeckOf.{Sized}
 use Rattle.change.proofs.UsableExactly.{usable_says}
 use Rattle.change.proofs.FrontChanges.{one_more}
@@ -23,7 +24,7 @@ near_of-requires c =
 pub renew_before-requires : goal.renew_before-requires
 renew_before-requires c =
     let sized : Sized c.args.deck.now = search rules in
-    let long : length c.args.deck.now.near ≡ 512 = search rules in
+    let long : length c.args.deck.now.near ≡ stops_limit = search rules in
     let u = usable_says _ sized long c.requires.0 in
     let posts = c.post_places.ensures in
     let most = closest_of_columns (held_costs sized u) (given_posts sized u posts.x posts.y) (given_some sized u posts.x posts.y) _ c.requires.2.place in (

@@ -19,12 +19,12 @@ pub loop-i-preserved : goal.loop-i-preserved
 loop-i-preserved c =
     let from = c.args.from.now in
     let taken = c.loop-i-test.true in
-    let count = length-map from (times (nat_abs (to_z w32 (of_z w32 c.args.k)))) in
+    let count = length-map from (times (nat_abs (to_z w32 (of_z w32 c.args.cost)))) in
     copied_start _ _ _ _ (omega (arith, count, c.requires.2)) c.loop-i.invariant (omega (arith, count, taken))
     (scaled_word _ (c.requires.0.range _ taken) c.scaled.ensures ∙ sym (scaled_at _ from _))
 
 pub returns : goal.returns
 returns c =
-    let count = length-map c.args.from.now (times (nat_abs c.args.k)) in
-    copied_whole _ _ (omega (arith, count, c.requires.2)) (rw (coordinate c.args.k (omega (arith, c.requires.1.most))) at c.loop-i.invariant)
+    let count = length-map c.args.from.now (times (nat_abs c.args.cost)) in
+    copied_whole _ _ (omega (arith, count, c.requires.2)) (rw (coordinate c.args.cost (omega (arith, c.requires.1.most))) at c.loop-i.invariant)
     (omega (arith, count, c.loop-i-test.false))

@@ -7,4 +7,4 @@ use Rattle.deck.proofs.CopyLaws.{Copied}
 use Rattle.deck.proofs.copy_coordinates.Given as goal
 
 abbrev pub invariant-loop-i : goal.invariant-loop-i
-invariant-loop-i l = Copied l.initial.to 0 (map (times (nat_abs l.k)) l.from) (length (map (times (nat_abs l.k)) l.from)) l.to l.i
+invariant-loop-i l = Copied l.initial.to 0 (map (times (nat_abs l.cost)) l.from) (length (map (times (nat_abs l.cost)) l.from)) l.to l.i

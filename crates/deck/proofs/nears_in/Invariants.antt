@@ -5,7 +5,9 @@ use Prim.Native.Nat.{◌≤◌}
 use lib.IntN.{nat_abs}
 use lib.ListN.{take, drop}
 use Rattle.numbers.specs.Padded.{padded}
+use Rattle.query.specs.Range.{stops_limit}
+use Rattle.deck.specs.Columns.{near_column}
 use Rattle.deck.proofs.nears_in.Given as goal
 
 abbrev pub invariant-loop-row : goal.invariant-loop-row
-invariant-loop-row l = (l.row ≤ l.n) × (l.near ≡ padded 512 0 (take l.row (map nat_abs (drop 1536 l.columns))))
+invariant-loop-row l = (l.row ≤ l.n) × (l.near ≡ padded stops_limit 0 (take l.row (map nat_abs (drop near_column l.columns))))

@@ -1,5 +1,5 @@
 -- What `deck::nears_of` owes.
-use Rattle.deck.proofs.MadeNears.{stops_copied, near_column, made_nears}
+use Rattle.deck.proofs.MadeNears.{stops_copied, near_held, made_nears}
 use Rattle.deck.proofs.nears_of.Goals as goal
 
 pub put_nears-requires : goal.put_nears-requires
@@ -8,7 +8,7 @@ put_nears-requires c = stops_copied _ c.requires.0 c.requires.1 c.requires.2 c.r
 pub nears_in-requires : goal.nears_in-requires
 nears_in-requires c = (
   c.requires.2.few,
-  near_column _ c.requires.0 c.requires.1 c.requires.2 c.requires.3 c.put_places.ensures c.of-posts.ensures.posts c.put_nears.ensures,
+  near_held _ c.requires.0 c.requires.1 c.requires.2 c.requires.3 c.put_places.ensures c.of-posts.ensures.posts c.put_nears.ensures,
 )
 
 pub returns : goal.returns

@@ -3,4 +3,4 @@ use Rattle.deck.proofs.ScaleLaws.{product_scaled}
 use Rattle.deck.proofs.scaled.Goals as goal
 
 pub returns : goal.returns
-returns c = product_scaled c.args.k c.args.v c.requires.0 c.requires.1
+returns c = product_scaled c.args.cost c.args.coordinate c.requires.0 c.requires.1

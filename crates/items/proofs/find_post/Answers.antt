@@ -11,5 +11,5 @@ use Rattle.items.proofs.find_post.Goals as goal
 pub returns : goal.returns
 returns c =
     position_from_yields_List (is_same_place (place_of c.args.place)) c.position.new.self _ c.position.result c.position.ensures.ran
-    (places_yielded c.args.px.now c.args.py.now (search rules) (search rules)) (λ x b q k. search (rules, tests))
+    (places_yielded c.args.post_x.now c.args.post_y.now (search rules) (search rules)) (λ x b q k. search (rules, tests))
     ∙ found_is (is_same_place (place_of c.args.place)) _

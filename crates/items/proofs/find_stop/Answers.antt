@@ -11,5 +11,5 @@ use Rattle.items.proofs.find_stop.Goals as goal
 pub returns : goal.returns
 returns c =
     position_from_yields_List (is_same_stop (stop_of c.args.stop)) c.position.new.self _ c.position.result c.position.ensures.ran
-    (stops_yielded c.args.sx.now c.args.sy.now c.args.visits.now (search rules) (search rules) (search rules)) (λ x b q k. search (rules, tests))
+    (stops_yielded c.args.stop_x.now c.args.stop_y.now c.args.visits.now (search rules) (search rules) (search rules)) (λ x b q k. search (rules, tests))
     ∙ found_is (is_same_stop (stop_of c.args.stop)) _

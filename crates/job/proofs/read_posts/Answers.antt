@@ -1,6 +1,7 @@
 -- What `job::read_posts` owes.
 use native.Mathlib.Omega.{arith}
 use borrow.Author.Rules.{rules}
+use Rattle.query.specs.Range.{posts_limit}
 use Rattle.text.specs.Ascii.{bytes}
 use Rattle.job_line.specs.Kinds.{posts, post}
 use Rattle.job.proofs.RangeLaws.{count_range}
@@ -25,7 +26,7 @@ returns-in_err-count c = rw (handed _ c.from_residual.ensures.1) (list_no_count 
 
 pub loop-i-init : goal.loop-i-init
 unfolding bytes
-loop-i-init c = ((count_range 64 _).0 (counted_in posts post c.requires.0 c.in_ok-count.ensures), filled_none (posts_none c.requires.1))
+loop-i-init c = ((count_range posts_limit _).0 (counted_in posts post c.requires.0 c.in_ok-count.ensures), filled_none (posts_none c.requires.1))
 
 pub returns-in_err-post : goal.returns-in_err-post
 unfolding bytes

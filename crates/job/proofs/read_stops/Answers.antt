@@ -1,6 +1,7 @@
 -- What `job::read_stops` owes.
 use native.Mathlib.Omega.{arith}
 use borrow.Author.Rules.{rules}
+use Rattle.query.specs.Range.{stops_limit}
 use Rattle.text.specs.Ascii.{bytes}
 use Rattle.job_line.specs.Kinds.{stops, stop}
 use Rattle.job.proofs.RangeLaws.{count_range}
@@ -25,7 +26,7 @@ returns-in_err-count c = rw (handed _ c.from_residual.ensures.1) (list_no_count 
 
 pub loop-i-init : goal.loop-i-init
 unfolding bytes
-loop-i-init c = ((count_range 512 _).0 (counted_in stops stop c.requires.0 c.in_ok-count.ensures), filled_none (stops_none c.requires.1))
+loop-i-init c = ((count_range stops_limit _).0 (counted_in stops stop c.requires.0 c.in_ok-count.ensures), filled_none (stops_none c.requires.1))
 
 pub returns-in_err-stop : goal.returns-in_err-stop
 unfolding bytes

@@ -15,8 +15,8 @@ by_b : (a b : ℕ) → a ≡ 1 → not (eqb b 1) ≡ writes_axis (record { a = a
 unfolding writes_axis
 by_b a b one = rw (eq-eqb a 1 one)
 
-pub returns-then-c-ne1 : goal.returns-then-c-ne1
-returns-then-c-ne1 c = by_a _ _ c.if-c-ne1.true
+pub returns-then-costs-ne1 : goal.returns-then-costs-ne1
+returns-then-costs-ne1 c = by_a _ _ c.if-costs-ne1.true
 
-pub returns-else-c-ne1 : goal.returns-else-c-ne1
-returns-else-c-ne1 c = by_b _ _ c.if-c-ne1.false
+pub returns-else-costs-ne1 : goal.returns-else-costs-ne1
+returns-else-costs-ne1 c = by_b _ _ c.if-costs-ne1.false

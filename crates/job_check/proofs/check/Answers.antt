@@ -4,6 +4,7 @@ use mathlib.Core.Option.{Option, none}
 use Prim.Native.Nat.{ℕ, ◌+◌, ◌≤◌}
 use native.Mathlib.Omega.{arith}
 use borrow.Author.Rules.{rules}
+use Rattle.query.specs.Range.{posts_limit, stops_limit}
 use Rattle.deck.specs.DeckOf.{Sized, held_axis}
 use Rattle.deck.specs.declared.Deck.{Deck}
 use Rattle.deck.specs.declared.Rect.{Rect}
@@ -50,7 +51,7 @@ module _ {deck : Deck} {n : ℕ} (sized : Sized deck) {r : Rect} (area_is : r �
 first_few : (deck : Deck) {first : ℕ} → first ≡ posts_at deck → first ≤ 3
 first_few deck e = omega (arith, e, third_line (writes_axis (held_axis deck.axis)))
 
-line_few : (deck : Deck) {first : ℕ} → first ≡ posts_at deck → deck.posts ≤ 64 → first + 1 + deck.posts ≤ 68
+line_few : (deck : Deck) {first : ℕ} → first ≡ posts_at deck → deck.posts ≤ posts_limit → first + 1 + deck.posts ≤ posts_limit + 4
 line_few deck e few = omega (arith, first_few deck e)
 
 pub returns-in_err-area_line : goal.returns-in_err-area_line
@@ -78,12 +79,12 @@ returns-in_err-all_posts c =
 
 pub overflow_add-line-2 : goal.overflow_add-line-2
 overflow_add-line-2 c =
-    let few : c.args.deck.now.posts ≤ 64 = posts_most c.args.deck.now _ c.all_posts.ensures (ap checked_as c.in_ok-all_posts.was) in
+    let few : c.args.deck.now.posts ≤ posts_limit = posts_most c.args.deck.now _ c.all_posts.ensures (ap checked_as c.in_ok-all_posts.was) in
     omega (arith, line_few c.args.deck.now c.posts_at-first.ensures few)
 
 pub all_stops-requires : goal.all_stops-requires
 all_stops-requires c =
-    let few : c.args.deck.now.posts ≤ 64 = posts_most c.args.deck.now _ c.all_posts.ensures (ap checked_as c.in_ok-all_posts.was) in
+    let few : c.args.deck.now.posts ≤ posts_limit = posts_most c.args.deck.now _ c.all_posts.ensures (ap checked_as c.in_ok-all_posts.was) in
     omega (arith, line_few c.args.deck.now c.posts_at-first.ensures few)
 
 pub returns-in_err-all_stops : goal.returns-in_err-all_stops
@@ -97,13 +98,13 @@ returns-in_err-all_stops c =
 
 pub overflow_add-line-3 : goal.overflow_add-line-3
 overflow_add-line-3 c =
-    let few : c.args.deck.now.posts ≤ 64 = posts_most c.args.deck.now _ c.all_posts.ensures (ap checked_as c.in_ok-all_posts.was) in
+    let few : c.args.deck.now.posts ≤ posts_limit = posts_most c.args.deck.now _ c.all_posts.ensures (ap checked_as c.in_ok-all_posts.was) in
     omega (arith, line_few c.args.deck.now c.posts_at-first.ensures few)
 
 pub overflow_add-line-4 : goal.overflow_add-line-4
 overflow_add-line-4 c =
-    let few : c.args.deck.now.posts ≤ 64 = posts_most c.args.deck.now _ c.all_posts.ensures (ap checked_as c.in_ok-all_posts.was) in
-    let many : c.args.deck.now.stops ≤ 512 = stops_most c.args.deck.now _ c.all_stops.ensures (ap checked_as c.in_ok-all_stops.was) in
+    let few : c.args.deck.now.posts ≤ posts_limit = posts_most c.args.deck.now _ c.all_posts.ensures (ap checked_as c.in_ok-all_posts.was) in
+    let many : c.args.deck.now.stops ≤ stops_limit = stops_most c.args.deck.now _ c.all_stops.ensures (ap checked_as c.in_ok-all_stops.was) in
     omega (arith, line_few c.args.deck.now c.posts_at-first.ensures few, many)
 
 pub returns-in_err-count_line : goal.returns-in_err-count_line

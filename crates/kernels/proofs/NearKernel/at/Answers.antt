@@ -5,6 +5,7 @@ use Prim.Native.Nat.{ℕ, ◌%◌, ◌≤◌}
 use native.Mathlib.Omega.{arith}
 use lib.ListN.{get_or}
 use Rattle.numbers.specs.Padded.{padded}
+use Rattle.query.specs.Range.{stops_limit, travel_limit}
 use Rattle.query.specs.Travel.{near}
 use Rattle.deck.specs.DeckOf.{deck_of}
 use Rattle.deck.proofs.DeckLaws.{costs_range, stops_range, posts_range}
@@ -33,15 +34,15 @@ nears_of-near-requires c =
 
 pub returns : goal.returns
 returns c =
-    let i = c.args.t % 512 in
+    let i = c.args.t % stops_limit in
     let record_of = c.args.o.now.deck in
     let deck = deck_of record_of in
     let posts = c.post_places.ensures in
     let stops = c.stop_columns.ensures in
-    let found : c.nears_of-near.result ≡ padded 512 0 (map (near deck) deck.stops) =
+    let found : c.nears_of-near.result ≡ padded stops_limit 0 (map (near deck) deck.stops) =
     found_nears _ (sound_columns c.args.o.now.sound) (nears_given (given_places record_of.posts record_of.post_x record_of.post_y posts.x posts.y)
     (given_places record_of.stops record_of.stop_x record_of.stop_y stops.x stops.y) c.nears_of-near.ensures) in
-    let most : get_or c.nears_of-near.result i 0 ≤ 720000 = rw found (sound_limit c.args.o.now.sound i) in
+    let most : get_or c.nears_of-near.result i 0 ≤ travel_limit = rw found (sound_limit c.args.o.now.sound i) in
     record {
       is = ap (λ (l : List ℕ). get_or l i 0) found;
       within = omega (arith, most);

@@ -8,7 +8,7 @@ use Rattle.trial.proofs.opened.bound_in.Goals as goal
 
 pub returns : goal.returns
 returns c =
-    let r = c.args.r in
+    let r = c.args.rect in
     let h = c.requires.range in
     to_z-of_z w64 _ (record { sfits = c.bound.type_inv }) ∙ c.bound.ensures
     ∙ rw (

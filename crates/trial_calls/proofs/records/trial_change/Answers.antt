@@ -3,11 +3,13 @@ use mathlib.Core.Path.{refl, ◌∙◌}
 use borrow.Author.Tests.{eq-eqb, ne_eqb}
 use mir.Syntax.{w64}
 use mir.ValLaws.{to_z-of_z}
+use Rattle.trial_calls.specs.Records.{coordinates_size, naturals_size}
 use Rattle.trial_calls.proofs.ChangeFigures.{change_line, change_is}
 use Rattle.trial_calls.proofs.records.trial_change.Goals as goal
 
 pub returns-then-naturals-ne-NATURALS : goal.returns-then-naturals-ne-NATURALS
-returns-then-naturals-ne-NATURALS c = rw (eq-eqb _ 1156 c.if-coordinates-ne-COORDINATES.false, ne_eqb _ 1029 c.if-naturals-ne-NATURALS.true) refl
+returns-then-naturals-ne-NATURALS c =
+    rw (eq-eqb _ coordinates_size c.if-coordinates-ne-COORDINATES.false, ne_eqb _ naturals_size c.if-naturals-ne-NATURALS.true) refl
 
 pub refusal_figure-requires : goal.refusal_figure-requires
 refusal_figure-requires c = change_line _ _ _ c.in-Err.ensures

@@ -9,5 +9,5 @@ use Rattle.trial.proofs.opened.Opened.cut_of.Goals as goal
 
 pub returns : goal.returns
 returns c =
-    c.find_cut.ensures ∙ (λ i. cut_record (grid_of (c.as_slice.ensures.lines i) (c.as_slice-2.ensures.lines i)) (rect_of c.args.r))
-    ∙ ap (λ (G : Grid). cut_record G (rect_of c.args.r)) (whole_grid c.args.self.now)
+    c.find_cut.ensures ∙ (λ i. cut_record (grid_of (c.as_slice.ensures.lines i) (c.as_slice-2.ensures.lines i)) (rect_of c.args.rect))
+    ∙ ap (λ (G : Grid). cut_record G (rect_of c.args.rect)) (whole_grid c.args.self.now)
