@@ -117,23 +117,23 @@ fn first_of(first: &Side<'_>, second: &Side<'_>) -> Option<Cut>
     }
 }
 
-/// Where the cell `r` is cut, among the vertical lines `v` and the horizontal lines `h` (RULES "Cuts"); `None` where no line lies strictly
-/// inside it. Sides are compared in tenths of a millimetre, whatever the axis costs.
-pub fn find_cut<'a>(v: &'a [i64], h: &'a [i64], r: Rect) -> Option<Cut>
-    requires { Lined v.now h.now × RectInRange (rect_of r) }
-    ensures { result ≡ cut_record (grid_of v.now h.now) (rect_of r) }
+/// Where the cell `rectangle` is cut, among the vertical and the horizontal lines (RULES "Cuts"); `None` where no line lies strictly inside
+/// it. Sides are compared in tenths of a millimetre, whatever the axis costs.
+pub fn find_cut<'a>(vertical: &'a [i64], horizontal: &'a [i64], rectangle: Rect) -> Option<Cut>
+    requires { Lined vertical.now horizontal.now × RectInRange (rect_of rectangle) }
+    ensures { result ≡ cut_record (grid_of vertical.now horizontal.now) (rect_of rectangle) }
 {
     let across = Side {
         axis: Axis::X,
-        lines: v,
-        lo: r.xlo,
-        hi: r.xhi,
+        lines: vertical,
+        lo: rectangle.xlo,
+        hi: rectangle.xhi,
     };
     let deep = Side {
         axis: Axis::Y,
-        lines: h,
-        lo: r.ylo,
-        hi: r.yhi,
+        lines: horizontal,
+        lo: rectangle.ylo,
+        hi: rectangle.yhi,
     };
     if deep.length() <= across.length() {
         first_of(&across, &deep)

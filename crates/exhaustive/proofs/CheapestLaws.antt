@@ -24,8 +24,8 @@ module _ (a b : PricedPlace) where
   leaves t = rw (fails (ltb b.cost a.cost) t)
 
 -- a priced place made of the fields of one
-pub spot_same : (s : PricedPlace) → mag s.at.x < 2 ^ 63 → mag s.at.y < 2 ^ 63 → record { at = record { x = back s.at.x; y = back s.at.y }; cost = s.cost } ≡ s
-spot_same s h k = rw (fitting s.at.x h, fitting s.at.y k)
+pub priced_same : (s : PricedPlace) → mag s.at.x < 2 ^ 63 → mag s.at.y < 2 ^ 63 → record { at = record { x = back s.at.x; y = back s.at.y }; cost = s.cost } ≡ s
+priced_same s h k = rw (fitting s.at.x h, fitting s.at.y k)
 
 -- ---- of some places
 module _ (P : Pricing) where

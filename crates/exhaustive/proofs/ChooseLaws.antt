@@ -34,14 +34,14 @@ module _ (ls : List ℤ) (v : ℤ) (costs : List ℕ) (first : PricedPlace) wher
     abbrev y : ℤ
     y = get_or ls j (pos 0)
 
-    spot_is : (p : PricedPlace) → p ≡ priced_place_at v (back y) (get_or costs j 0) → (P : Pricing) (old : List ℕ) → costs ≡ costs_along P ls v old
+    priced_is : (p : PricedPlace) → p ≡ priced_place_at v (back y) (get_or costs j 0) → (P : Pricing) (old : List ℕ) → costs ≡ costs_along P ls v old
         → p ≡ priced_place_of P (record { x = v; y = y })
-    spot_is p f P old e = f ∙ rw (small_back y (omega (arith, lines.range j h)), e, costs_at_lem P ls v old j h)
+    priced_is p f P old e = f ∙ rw (small_back y (omega (arith, lines.range j h)), e, costs_at_lem P ls v old j h)
 
     pub choose_more : (p found' : PricedPlace) → p ≡ priced_place_at v (back y) (get_or costs j 0) → found' ≡ cheaper_of found p
         → Choosing ls v costs first found' (j + 1)
     choose_more p found' f g = record {
       left =
           λ P old e. s.left P old e ∙ rw (next_line ls j h) (cheapest_more P found (record { x = v; y = y }) (along (drop (j + 1) ls) v))
-          ∙ ap (λ (q : PricedPlace). first_cheapest P q (along (drop (j + 1) ls) v)) (sym (g ∙ ap (cheaper_of found) (spot_is p f P old e)));
+          ∙ ap (λ (q : PricedPlace). first_cheapest P q (along (drop (j + 1) ls) v)) (sym (g ∙ ap (cheaper_of found) (priced_is p f P old e)));
     }

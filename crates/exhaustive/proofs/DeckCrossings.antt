@@ -30,7 +30,7 @@ use Rattle.prepare.specs.declared.Problem.{Problem}
 use Rattle.priced_place.specs.declared.PricedPlace.{PricedPlace}
 use Rattle.priced_place.specs.ObjectProblem.{priced_of, priced_place_of}
 use Rattle.priced_place.specs.Prepared.{problem_of, Prepared}
-use Rattle.priced_place.proofs.Coordinates.{near_places, spot_back}
+use Rattle.priced_place.proofs.Coordinates.{near_places, priced_back}
 use Rattle.priced_place.proofs.DeckProblem.{prepared_ranged}
 use Rattle.exhaustive.specs.Ramps.{LinesInRange}
 use Rattle.exhaustive.specs.Cheapest.{first_cheapest, along}
@@ -91,6 +91,6 @@ module _ {p : Problem} (prepared : Prepared p) where
       → r ≡ first_cheapest P first (flat_map (along p.horizontal) p.vertical) → priced_of r ≡ exhaustive (problem_of p)
   answers first r e b =
       let low = (prepared_ranged prepared).range.low_corner_law in
-      let corner_first : first ≡ priced_place_of P (corner (rect_of p.area)) = spot_back P p.area.xlo p.area.ylo first low.x_range low.y_range e in
+      let corner_first : first ≡ priced_place_of P (corner (rect_of p.area)) = priced_back P p.area.xlo p.area.ylo first low.x_range low.y_range e in
       ap priced_of (b ∙ ap (λ (s : PricedPlace). first_cheapest P s (flat_map (along p.horizontal) p.vertical)) corner_first)
       ∙ cheapest_is P (grid_of p.vertical p.horizontal) (rect_of p.area) turn none_earlier

@@ -11,7 +11,7 @@ use Rattle.exhaustive.specs.Ramps.{ObjectsAdded}
 
 -- the cheaper of two places, the first of them where they cost the same
 unfoldable pub cheaper_of : PricedPlace → PricedPlace → PricedPlace
-cheaper_of best p = cond (ltb p.cost best.cost) p best
+cheaper_of best other = cond (ltb other.cost best.cost) other best
 
 -- the cheapest of one place with its cost and some others, the first among equals
 unfoldable pub first_cheapest : Pricing → PricedPlace → List Place → PricedPlace
@@ -29,9 +29,9 @@ unfolding cost_of
 costs_along P ls v old = map (λ h. cost_of P (record { x = v; y = h })) ls ++ drop (length ls) old
 
 -- such an array, whatever the objects whose ramps there are, where b is the axis cost of y
-pub record Swept (ls : List ℤ) (b : ℕ) (r : ObjectRamps) (before : ℕ) (old costs : List ℕ) : Type 0 where
-  pub is : (P : Pricing) (m : ℕ) (v : ℤ) → P.axis.b ≡ b → ObjectsAdded P m ls v r → before ≡ before_of P → costs ≡ costs_along P ls v old
+pub record Swept (ls : List ℤ) (b : ℕ) (ramps : ObjectRamps) (before : ℕ) (old costs : List ℕ) : Type 0 where
+  pub is : (P : Pricing) (m : ℕ) (v : ℤ) → P.axis.b ≡ b → ObjectsAdded P m ls v ramps → before ≡ before_of P → costs ≡ costs_along P ls v old
 
 -- the cheapest of one place and the crossings of the vertical line at v, whatever the objects whose costs the array holds
-pub record Chosen (ls : List ℤ) (v : ℤ) (costs : List ℕ) (first r : PricedPlace) : Type 0 where
-  pub is : (P : Pricing) (old : List ℕ) → costs ≡ costs_along P ls v old → r ≡ first_cheapest P first (along ls v)
+pub record Chosen (ls : List ℤ) (v : ℤ) (costs : List ℕ) (first chosen : PricedPlace) : Type 0 where
+  pub is : (P : Pricing) (old : List ℕ) → costs ≡ costs_along P ls v old → chosen ≡ first_cheapest P first (along ls v)

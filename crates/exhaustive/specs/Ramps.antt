@@ -58,30 +58,30 @@ pub record LineTable (ls : List ℤ) (table : List ℕ) : Type 0 where
   pub parted : (t : ℕ) → t ≤ 40000 → Parted ls (t + 980000) (get_or table t 0)
 
 -- for each object the first line that is not below it
-pub record ObjectLines (o : Objects) (ls : List ℤ) (rows : List ℕ) : Type 0 where
+pub record ObjectLines (objects : Objects) (horizontal : List ℤ) (rows : List ℕ) : Type 0 where
   pub long : length rows ≡ stops_limit
-  pub first : (i : ℕ) → i < count_of_objects o
-      → FirstAtLeast (scaled_lines (axis_in (columns_of_objects o)).b ls) (object_at (columns_of_objects o) i).at.y (get_or rows i 0)
+  pub first : (i : ℕ) → i < count_of_objects objects → let columns = columns_of_objects objects in
+      FirstAtLeast (scaled_lines (axis_in columns).b horizontal) (object_at columns i).at.y (get_or rows i 0)
 
 -- such lines found, in an array whose entries behind them are as they were
-pub record LinesFound (o : Objects) (ls : List ℤ) (old rows : List ℕ) : Type 0 where
-  pub lines : ObjectLines o ls rows
-  pub kept : (i : ℕ) → count_of_objects o ≤ i → get_or rows i 0 ≡ get_or old i 0
+pub record LinesFound (objects : Objects) (horizontal : List ℤ) (old rows : List ℕ) : Type 0 where
+  pub lines : ObjectLines objects horizontal rows
+  pub kept : (i : ℕ) → count_of_objects objects ≤ i → get_or rows i 0 ≡ get_or old i 0
 
 -- ramps are held by line, at the first line that is not below the start: the sum of their weights, and that of weight × height of the
 -- start. Up to line j the weights times the height of that line, and the starts
 abbrev pub weights_at : List ℤ → Ramps → ℕ → ℕ
-weights_at ls r j = prefix_sum r.weights (j + 1) * height_of (get_or ls j (pos 0))
+weights_at ls ramps j = prefix_sum ramps.weights (j + 1) * height_of (get_or ls j (pos 0))
 
 abbrev pub starts_at : Ramps → ℕ → ℕ
-starts_at r j = prefix_sum r.starts (j + 1)
+starts_at ramps j = prefix_sum ramps.starts (j + 1)
 
 -- such sums, each of at most m ramps
-pub record RampSums (r : Ramps) (m : ℕ) : Type 0 where
-  pub weights_long : length r.weights ≡ 515
-  pub starts_long : length r.starts ≡ 515
-  pub weights_most : (k : ℕ) → get_or r.weights k 0 ≤ m * 131070
-  pub starts_most : (k : ℕ) → get_or r.starts k 0 ≤ m * 262140000000
+pub record RampSums (ramps : Ramps) (m : ℕ) : Type 0 where
+  pub weights_long : length ramps.weights ≡ 515
+  pub starts_long : length ramps.starts ≡ 515
+  pub weights_most : (k : ℕ) → get_or ramps.weights k 0 ≤ m * 131070
+  pub starts_most : (k : ℕ) → get_or ramps.starts k 0 ≤ m * 262140000000
 
 pub record RampInRange (start : ℤ) (w : ℕ) : Type 0 where
   pub start_range : nat_abs start ≤ 900000
@@ -100,16 +100,16 @@ pub record RampAdded (ls : List ℤ) (start : ℤ) (w : ℕ) (old new : Ramps) :
       ≡ weights_at ls old j + starts_at new j + w * (height_of (get_or ls j (pos 0)) - height_of start)
 
 -- the ramps that raise the cost and those that lower it, of at most m objects
-pub record ObjectSums (r : ObjectRamps) (m : ℕ) : Type 0 where
-  pub up_sums : RampSums r.up m
-  pub down_sums : RampSums r.down (2 * m)
+pub record ObjectSums (ramps : ObjectRamps) (m : ℕ) : Type 0 where
+  pub up_sums : RampSums ramps.up m
+  pub down_sums : RampSums ramps.down (2 * m)
 
 -- what they come to at line j: raised_at − lowered_at, each with the starts of the other, so that both are sums
 abbrev pub raised_at : List ℤ → ObjectRamps → ℕ → ℕ
-raised_at ls r j = weights_at ls r.up j + starts_at r.down j
+raised_at ls ramps j = weights_at ls ramps.up j + starts_at ramps.down j
 
 abbrev pub lowered_at : List ℤ → ObjectRamps → ℕ → ℕ
-lowered_at ls r j = weights_at ls r.down j + starts_at r.up j
+lowered_at ls ramps j = weights_at ls ramps.down j + starts_at ramps.up j
 
 -- one object more, along the line at v
 pub record ObjectAdded (ls : List ℤ) (v sx sy : ℤ) (visits near : ℕ) (old new : ObjectRamps) : Type 0 where
@@ -119,30 +119,30 @@ pub record ObjectAdded (ls : List ℤ) (v sx sy : ℤ) (visits near : ℕ) (old 
       ≡ visits * near + raised_at ls new j + lowered_at ls old j
 
 -- the ramps of m objects along the line at v: the cost at each line is what the objects pay now and what is added, less what is taken off
-pub record ObjectsAdded (P : Pricing) (m : ℕ) (ls : List ℤ) (v : ℤ) (r : ObjectRamps) : Type 0 where
-  pub sums : ObjectSums r m
+pub record ObjectsAdded (P : Pricing) (m : ℕ) (ls : List ℤ) (v : ℤ) (ramps : ObjectRamps) : Type 0 where
+  pub sums : ObjectSums ramps m
   pub cost : (j : ℕ) → j < length ls → let scaled = scaled_lines P.axis.b ls in
-      cost_of P (record { x = v; y = get_or ls j (pos 0) }) + lowered_at scaled r j ≡ before_of P + raised_at scaled r j
+      cost_of P (record { x = v; y = get_or ls j (pos 0) }) + lowered_at scaled ramps j ≡ before_of P + raised_at scaled ramps j
 
 -- the sums of the ramps of the first j lines
-pub record SumsTo (r : ObjectRamps) (j : ℕ) (s : RunningSums) : Type 0 where
-  pub up_is : s.up ≡ prefix_sum r.up.weights j
-  pub up_at_is : s.up_at ≡ prefix_sum r.up.starts j
-  pub down_is : s.down ≡ prefix_sum r.down.weights j
-  pub down_at_is : s.down_at ≡ prefix_sum r.down.starts j
+pub record SumsTo (ramps : ObjectRamps) (j : ℕ) (sums : RunningSums) : Type 0 where
+  pub up_is : sums.up ≡ prefix_sum ramps.up.weights j
+  pub up_at_is : sums.up_at ≡ prefix_sum ramps.up.starts j
+  pub down_is : sums.down ≡ prefix_sum ramps.down.weights j
+  pub down_at_is : sums.down_at ≡ prefix_sum ramps.down.starts j
 
 -- what `cost_at` asks: no sum is too large, and not more is taken off than is there
-pub record Payable (before : ℕ) (s : RunningSums) (t : ℕ) : Type 0 where
+pub record Payable (before : ℕ) (sums : RunningSums) (t : ℕ) : Type 0 where
   pub before_small : before ≤ 2 ^ 60
-  pub up_small : s.up ≤ 2 ^ 40
-  pub up_at_small : s.up_at ≤ 2 ^ 60
-  pub down_small : s.down ≤ 2 ^ 40
-  pub down_at_small : s.down_at ≤ 2 ^ 60
+  pub up_small : sums.up ≤ 2 ^ 40
+  pub up_at_small : sums.up_at ≤ 2 ^ 60
+  pub down_small : sums.down ≤ 2 ^ 40
+  pub down_at_small : sums.down_at ≤ 2 ^ 60
   pub height_small : t ≤ 2000000
-  pub enough : s.down * t + s.up_at ≤ before + (s.up * t + s.down_at)
+  pub enough : sums.down * t + sums.up_at ≤ before + (sums.up * t + sums.down_at)
 
 -- what `sweep` asks: at each line not more is taken off than is there
-pub record Sweepable (ls : List ℤ) (r : ObjectRamps) (before : ℕ) : Type 0 where
+pub record Sweepable (ls : List ℤ) (ramps : ObjectRamps) (before : ℕ) : Type 0 where
   pub before_most : before ≤ cost_limit
-  pub sums : ObjectSums r 600
-  pub enough : (j : ℕ) → j < length ls → lowered_at ls r j ≤ before + raised_at ls r j
+  pub sums : ObjectSums ramps 600
+  pub enough : (j : ℕ) → j < length ls → lowered_at ls ramps j ≤ before + raised_at ls ramps j

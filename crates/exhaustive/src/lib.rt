@@ -82,11 +82,11 @@ impl<'a> Crossings<'a> {
         }
     }
 
-    // The ramps of all objects along the vertical line at `v`, where there was none.
-    fn add_objects(&self, v: i64, ramps: &mut ObjectRamps)
-        requires { (nat_abs v ≤ 20000) × ObjectSums ramps.old 0 }
+    // The ramps of all objects along the vertical line at `coordinate`, where there was none.
+    fn add_objects(&self, coordinate: i64, ramps: &mut ObjectRamps)
+        requires { (nat_abs coordinate ≤ 20000) × ObjectSums ramps.old 0 }
         ensures { ObjectsAdded (pricing_of_objects self.now.objects.now) (count_of_objects self.now.objects.now)
-            self.now.lines.at.now v ramps.new }
+            self.now.lines.at.now coordinate ramps.new }
     {
         let axis = self.objects.axis();
         let divisor = Divisor::new(axis.b);
@@ -94,18 +94,18 @@ impl<'a> Crossings<'a> {
             plain: self.lines,
             divisor,
         };
-        let x = scaled(axis.a as i32, v) as i64;
+        let x = scaled(axis.a as i32, coordinate) as i64;
         for i in 0..self.objects.count() {
             ramps.add_object(&lines, x, self.objects.row(i), self.rows[i] as usize);
         }
     }
 
-    /// Writes the cost of each crossing of the vertical line at `v` with the horizontal lines to the front of `costs`, in the order of the
-    /// lines. The entries behind them stay as they are.
-    pub fn costs_along(&self, v: i64, costs: &mut [u64; LINES])
-        requires { (nat_abs v ≤ 20000) × (length costs.old ≡ 514) }
+    /// Writes the cost of each crossing of the vertical line at `coordinate` with the horizontal lines to the front of `costs`, in the
+    /// order of the lines. The entries behind them stay as they are.
+    pub fn costs_along(&self, coordinate: i64, costs: &mut [u64; LINES])
+        requires { (nat_abs coordinate ≤ 20000) × (length costs.old ≡ 514) }
         ensures { costs.new
-            ≡ costs_along (pricing_of_objects self.now.objects.now) self.now.lines.at.now v costs.old }
+            ≡ costs_along (pricing_of_objects self.now.objects.now) self.now.lines.at.now coordinate costs.old }
     {
         let mut ramps = ObjectRamps {
             up: Ramps {
@@ -117,22 +117,28 @@ impl<'a> Crossings<'a> {
                 starts: [0; 515],
             },
         };
-        self.add_objects(v, &mut ramps);
+        self.add_objects(coordinate, &mut ramps);
         let axis = self.objects.axis();
         ramps.sweep(&self.lines, axis.b, self.before, costs);
     }
 
-    // The cheapest of `first` and the crossings of the vertical line at `v`, the first among equals. `costs` holds their costs then.
-    fn cheapest_on(&self, v: i64, costs: &mut [u64; LINES], first: PricedPlace) -> PricedPlace
-        requires { (nat_abs v ≤ 20000) × (length costs.old ≡ 514) }
+    // The cheapest of `first` and the crossings of the vertical line at `coordinate`, the first among equals. `costs` then holds the costs
+    // of these crossings.
+    fn cheapest_on(
+        &self,
+        coordinate: i64,
+        costs: &mut [u64; LINES],
+        first: PricedPlace,
+    ) -> PricedPlace
+        requires { (nat_abs coordinate ≤ 20000) × (length costs.old ≡ 514) }
         ensures chosen { result
             ≡ first_cheapest (pricing_of_objects self.now.objects.now) first
-            (along self.now.lines.at.now v) }
+            (along self.now.lines.at.now coordinate) }
         ensures priced { costs.new
-            ≡ costs_along (pricing_of_objects self.now.objects.now) self.now.lines.at.now v costs.old }
+            ≡ costs_along (pricing_of_objects self.now.objects.now) self.now.lines.at.now coordinate costs.old }
     {
-        self.costs_along(v, costs);
-        choose(&self.lines, v, costs, first)
+        self.costs_along(coordinate, costs);
+        choose(&self.lines, coordinate, costs, first)
     }
 
     // The cheapest of `first` and the crossings of all lines, the first among equals.
@@ -153,16 +159,16 @@ impl<'a> Crossings<'a> {
 
 // The cheaper of two places, `best` where they cost the same. Field by field: of a whole `PricedPlace` the compiler picks the address and
 // copies what is there, at each crossing.
-fn cheaper(best: PricedPlace, p: PricedPlace) -> PricedPlace
-    ensures { result ≡ cheaper_of best p }
+fn cheaper(best: PricedPlace, other: PricedPlace) -> PricedPlace
+    ensures { result ≡ cheaper_of best other }
 {
-    if p.cost < best.cost {
+    if other.cost < best.cost {
         return PricedPlace {
             at: Place {
-                x: p.at.x,
-                y: p.at.y,
+                x: other.at.x,
+                y: other.at.y,
             },
-            cost: p.cost,
+            cost: other.cost,
         };
     }
     PricedPlace {
@@ -174,16 +180,24 @@ fn cheaper(best: PricedPlace, p: PricedPlace) -> PricedPlace
     }
 }
 
-// The cheapest of `first` and the crossings of the vertical line at `v`, the first among equals, from their costs. Not inlined, as
+// The cheapest of `first` and the crossings of the vertical line at `coordinate`, the first among equals, from their costs. Not inlined, as
 // `cheapest`.
 #[inline(never)]
-fn choose(lines: &NumberedLines, v: i64, costs: &[u64; LINES], first: PricedPlace) -> PricedPlace
-    ensures { Chosen lines.now.at.now v costs.now first result }
+fn choose(
+    lines: &NumberedLines,
+    coordinate: i64,
+    costs: &[u64; LINES],
+    first: PricedPlace,
+) -> PricedPlace
+    ensures { Chosen lines.now.at.now coordinate costs.now first result }
 {
     let mut found = first;
     for (j, y) in lines.at.iter().enumerate() {
-        let at = Place { x: v, y: *y };
-        found = cheaper(found, priced_place::place(at, costs[j]));
+        let at = Place {
+            x: coordinate,
+            y: *y,
+        };
+        found = cheaper(found, priced_place::with_cost(at, costs[j]));
     }
     found
 }
@@ -198,12 +212,12 @@ pub fn cheapest(problem: &Problem, before: u64) -> PricedPlace
     ensures { priced_of result ≡ exhaustive (problem_of problem.now) }
 {
     let objects = &problem.objects;
-    let v = problem.vertical.as_slice();
-    let h = problem.horizontal.as_slice();
+    let vertical = problem.vertical.as_slice();
+    let horizontal = problem.horizontal.as_slice();
     let mut table = [0u16; 40001];
-    number_lines(h, &mut table);
+    number_lines(horizontal, &mut table);
     let lines = NumberedLines {
-        at: h,
+        at: horizontal,
         table: &table,
     };
     let mut rows = [0u16; STOPS];
@@ -214,5 +228,5 @@ pub fn cheapest(problem: &Problem, before: u64) -> PricedPlace
         y: problem.area.ylo,
     };
     let first = priced_place::priced(objects, corner);
-    crossings.cheapest_of(v, first)
+    crossings.cheapest_of(vertical, first)
 }

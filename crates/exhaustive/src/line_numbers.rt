@@ -51,19 +51,19 @@ fn fill(table: &mut [u16; 40001], from: usize, to: usize, j: u16)
     table[from..to].fill(j);
 }
 
-/// Makes the table of the horizontal lines `h`: for each coordinate where lines can be, from the least on, the number of the first line
-/// that is not below it, or the number of lines where all are.
-pub fn number_lines(h: &[i64], table: &mut [u16; 40001])
-    requires { LinesInRange h.now × (length table.old ≡ 40001) }
-    ensures { LineTable h.now table.new }
+/// Makes the table of horizontal lines: for each coordinate where lines can be, from the least on, the number of the first line that is
+/// not below it, or the number of lines where all are.
+pub fn number_lines(horizontal: &[i64], table: &mut [u16; 40001])
+    requires { LinesInRange horizontal.now × (length table.old ≡ 40001) }
+    ensures { LineTable horizontal.now table.new }
 {
     let mut from: usize = 0;
-    for (j, y) in h.iter().enumerate() {
+    for (j, y) in horizontal.iter().enumerate() {
         let to = (height(*y) - 979999) as usize;
         fill(table, from, to, j as u16);
         from = to;
     }
-    fill(table, from, 40001, h.len() as u16);
+    fill(table, from, 40001, horizontal.len() as u16);
 }
 
 /// Horizontal lines, with the table that `number_lines` makes of them.

@@ -25,12 +25,12 @@ pub record Parts : Type 0 where
 
 -- those that a record of the code holds
 abbrev pub parts_in : Problem → Parts
-parts_in p = record {
-  area = p.area;
-  count = count_of_objects p.objects;
-  columns = columns_of_objects p.objects;
-  vertical = p.vertical;
-  horizontal = p.horizontal;
+parts_in problem = record {
+  area = problem.area;
+  count = count_of_objects problem.objects;
+  columns = columns_of_objects problem.objects;
+  vertical = problem.vertical;
+  horizontal = problem.horizontal;
 }
 
 -- those of a deck's problem
@@ -53,7 +53,7 @@ pub record GivenParts : Type 0 where
 
 -- as the code holds it, or the refusal
 abbrev pub given_by : Std.Result PreparedJob Refusal → Std.Result GivenParts Refusal
-given_by (Ok g) = Ok (record { rounds = g.rounds; before = g.before; problem = parts_in g.problem })
+given_by (Ok given) = Ok (record { rounds = given.rounds; before = given.before; problem = parts_in given.problem })
 given_by (Err why) = Err why
 
 -- that of a job, as it is read

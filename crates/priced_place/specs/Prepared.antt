@@ -15,15 +15,15 @@ use Rattle.priced_place.specs.ObjectProblem.{object_problem}
 
 -- the problem of the objects, the lines and the area that a record holds
 abbrev pub problem_of : Problem → QueryProblem.Problem
-problem_of p = object_problem (pricing_of_objects p.objects) (grid_of p.vertical p.horizontal) (rect_of p.area)
+problem_of problem = object_problem (pricing_of_objects problem.objects) (grid_of problem.vertical problem.horizontal) (rect_of problem.area)
 
 -- the problem of some deck in range that has an area
-pub record Prepared (p : Problem) : Type 0 where
+pub record Prepared (problem : Problem) : Type 0 where
   pub deck : Query.Deck
   pub range : InRange deck
   pub full : NonEmpty deck.area
-  pub columns_are : columns_of_objects p.objects ≡ columns_of (pricing_of deck)
-  pub count_is : count_of_objects p.objects ≡ length deck.stops
-  pub vertical_are : p.vertical ≡ lines deck x_axis
-  pub horizontal_are : p.horizontal ≡ lines deck y_axis
-  pub area_is : rect_of p.area ≡ deck.area
+  pub columns_are : columns_of_objects problem.objects ≡ columns_of (pricing_of deck)
+  pub count_is : count_of_objects problem.objects ≡ length deck.stops
+  pub vertical_are : problem.vertical ≡ lines deck x_axis
+  pub horizontal_are : problem.horizontal ≡ lines deck y_axis
+  pub area_is : rect_of problem.area ≡ deck.area

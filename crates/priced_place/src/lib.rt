@@ -23,11 +23,11 @@ pub fn priced(objects: &Objects, at: Place) -> PricedPlace
     ensures { result ≡ priced_place_of (pricing_of_objects objects.now) (place_of at) }
 {
     let cost = pricing::cost(objects, at);
-    place(at, cost)
+    with_cost(at, cost)
 }
 
 /// A place with a cost that is known: it is not priced again.
-pub fn place(at: Place, cost: u64) -> PricedPlace
+pub fn with_cost(at: Place, cost: u64) -> PricedPlace
     ensures { result ≡ priced_place_at at.x at.y cost }
 {
     PricedPlace { at, cost }

@@ -56,12 +56,12 @@ fn borne(row: Row, edges: Edges) -> u32
     }
 }
 
-/// The load of the rectangle `r`: the visits of all objects within reach of it (RULES "Reach").
-pub fn load(objects: &Objects, r: Rect) -> u64
-    requires { Ranged (rect_of r) }
-    ensures { Figure (load_of (pricing_of_objects objects.now) (rect_of r)) load_limit result }
+/// The load of the rectangle: the visits of all objects within reach of it (RULES "Reach").
+pub fn load(objects: &Objects, rectangle: Rect) -> u64
+    requires { Ranged (rect_of rectangle) }
+    ensures { Figure (load_of (pricing_of_objects objects.now) (rect_of rectangle)) load_limit result }
 {
-    let edges = Edges::of(objects.axis(), r);
+    let edges = Edges::of(objects.axis(), rectangle);
     let mut sum: u32 = 0;
     for i in 0..objects.count() {
         sum += borne(objects.row(i), edges);
@@ -69,13 +69,13 @@ pub fn load(objects: &Objects, r: Rect) -> u64
     sum as u64
 }
 
-/// The span of the rectangle `r`, by the axis costs (RULES "Bound").
-pub fn span(axis: AxisCosts, r: Rect) -> u64
-    requires { CostsInRange (held_axis axis) × Ranged (rect_of r) }
-    ensures { Figure (Bound.span (held_axis axis) (rect_of r)) travel_limit result }
+/// The span of the rectangle, by the axis costs (RULES "Bound").
+pub fn span(axis: AxisCosts, rectangle: Rect) -> u64
+    requires { CostsInRange (held_axis axis) × Ranged (rect_of rectangle) }
+    ensures { Figure (Bound.span (held_axis axis) (rect_of rectangle)) travel_limit result }
 {
-    let e = Edges::of(axis, r);
-    (e.xhi - e.xlo) as u64 + (e.yhi - e.ylo) as u64
+    let edges = Edges::of(axis, rectangle);
+    (edges.xhi - edges.xlo) as u64 + (edges.yhi - edges.ylo) as u64
 }
 
 /// The bound of a cell from the costs of its corners, its span and its load, halved upwards (RULES "Bound"). It can be negative.

@@ -29,9 +29,9 @@ pub record Priceable (columns : List ℤ) (n : ℕ) : Type 0 where
   pub costs : AxisCostsInRange columns
 
 -- a rectangle in range that has a point
-pub record Ranged (r : Rect) : Type 0 where
-  pub range : RectInRange r
-  pub full : NonEmpty r
+pub record Ranged (rectangle : Rect) : Type 0 where
+  pub range : RectInRange rectangle
+  pub full : NonEmpty rectangle
 
 -- the scaled edges of a rectangle as the passes take them
 pub record EdgesInRange (xlo ylo xhi yhi : ℤ) : Type 0 where

@@ -14,18 +14,18 @@ use Rattle.reach.specs.declared.rectangle.Edges.{Edges}
 
 -- the object of a row
 abbrev pub object_of_row : Row → Object
-object_of_row r = record { at = record { x = r.x; y = r.y }; visits = nat_abs r.visits; near = nat_abs r.near }
+object_of_row row = record { at = record { x = row.x; y = row.y }; visits = nat_abs row.visits; near = nat_abs row.near }
 
 -- the columns of objects, with the axis costs behind them, and how many objects there are
 abbrev pub columns_of_objects : Objects → List ℤ
-columns_of_objects o = o.columns
+columns_of_objects objects = objects.columns
 
 abbrev pub count_of_objects : Objects → ℕ
-count_of_objects o = o.count
+count_of_objects objects = objects.count
 
 -- what pricing needs, of objects in columns
 abbrev pub pricing_of_objects : Objects → Pricing
-pricing_of_objects o = pricing_in (columns_of_objects o) (count_of_objects o)
+pricing_of_objects objects = pricing_in (columns_of_objects objects) (count_of_objects objects)
 
 -- axis costs as the code holds them
 pub record AxisOf (axis : AxisCosts) (held : Code.AxisCosts) : Type 0 where
@@ -34,9 +34,9 @@ pub record AxisOf (axis : AxisCosts) (held : Code.AxisCosts) : Type 0 where
 
 -- scaled edges as a rectangle
 abbrev pub edges_rect : Edges → Rect
-edges_rect e = record { xlo = e.xlo; ylo = e.ylo; xhi = e.xhi; yhi = e.yhi }
+edges_rect edges = record { xlo = edges.xlo; ylo = edges.ylo; xhi = edges.xhi; yhi = edges.yhi }
 
 -- the edges of a rectangle, scaled, in the range that the passes need
-pub record EdgesOf (axis : AxisCosts) (r : Rect) (e : Edges) : Type 0 where
-  pub are : edges_rect e ≡ scaled_rect axis r
-  pub range : EdgesInRange e.xlo e.ylo e.xhi e.yhi
+pub record EdgesOf (axis : AxisCosts) (rectangle : Rect) (edges : Edges) : Type 0 where
+  pub are : edges_rect edges ≡ scaled_rect axis rectangle
+  pub range : EdgesInRange edges.xlo edges.ylo edges.xhi edges.yhi

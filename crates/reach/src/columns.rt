@@ -10,7 +10,7 @@ ghost use Rattle.reach.specs.Columns.{ObjectInRange, Priceable};
 use deck::{AxisCosts, Stops, put_columns};
 use limits::{COLUMNS, NEAR_COLUMN, VISITS_COLUMN, X_COST, Y_COLUMN, Y_COST};
 
-/// One object, a stop at its scaled place: each coordinate is multiplied by the cost of its axis, so that travel and near are distances.
+/// One object: a stop at its scaled place, whose coordinates are multiplied by the costs of their axes, with its visits and its near.
 #[derive(Clone, Copy)]
 pub struct Row {
     pub x: i32,
@@ -67,16 +67,16 @@ impl Objects {
         }
     }
 
-    /// The object in row `i`, counted from 0.
-    pub fn row(&self, i: usize) -> Row
-        requires { i < count_of_objects self.now }
-        ensures { object_of_row result ≡ object_at (columns_of_objects self.now) i }
+    /// The object in the row `index`, counted from 0.
+    pub fn row(&self, index: usize) -> Row
+        requires { index < count_of_objects self.now }
+        ensures { object_of_row result ≡ object_at (columns_of_objects self.now) index }
     {
         Row {
-            x: self.columns[i],
-            y: self.columns[Y_COLUMN + i],
-            visits: self.columns[VISITS_COLUMN + i],
-            near: self.columns[NEAR_COLUMN + i],
+            x: self.columns[index],
+            y: self.columns[Y_COLUMN + index],
+            visits: self.columns[VISITS_COLUMN + index],
+            near: self.columns[NEAR_COLUMN + index],
         }
     }
 }

@@ -16,12 +16,12 @@ use deck::Rect;
 use limits::STOPS;
 pub use rectangle::Edges;
 
-/// For each row of the objects whether it is within reach of the rectangle `r` (RULES "Reach"); `false` behind the last object.
-pub fn reach_flags(objects: &Objects, r: Rect) -> [bool; STOPS]
-    requires { Ranged (rect_of r) }
-    ensures { result ≡ flags_of (pricing_of_objects objects.now) (rect_of r) }
+/// For each row of the objects whether it is within reach of the rectangle (RULES "Reach"); `false` behind the last object.
+pub fn reach_flags(objects: &Objects, rectangle: Rect) -> [bool; STOPS]
+    requires { Ranged (rect_of rectangle) }
+    ensures { result ≡ flags_of (pricing_of_objects objects.now) (rect_of rectangle) }
 {
-    let edges = Edges::of(objects.axis(), r);
+    let edges = Edges::of(objects.axis(), rectangle);
     let mut flags = [false; STOPS];
     for i in 0..objects.count() {
         let row = objects.row(i);

@@ -38,18 +38,18 @@ fn outside(v: i32, lo: i32, hi: i32) -> i32
 impl Edges {
     ghost use Rattle.reach.specs.Held.{EdgesOf};
 
-    /// The edges of the rectangle `r` under these axis costs.
-    pub fn of(axis: AxisCosts, r: Rect) -> Edges
-        requires { CostsInRange (held_axis axis) × Ranged (rect_of r) }
-        ensures { EdgesOf (held_axis axis) (rect_of r) result }
+    /// The edges of the rectangle under these axis costs.
+    pub fn of(axis: AxisCosts, rectangle: Rect) -> Edges
+        requires { CostsInRange (held_axis axis) × Ranged (rect_of rectangle) }
+        ensures { EdgesOf (held_axis axis) (rect_of rectangle) result }
     {
         let a = axis.a as i32;
         let b = axis.b as i32;
         Edges {
-            xlo: scaled(a, r.xlo),
-            ylo: scaled(b, r.ylo),
-            xhi: scaled(a, r.xhi),
-            yhi: scaled(b, r.yhi),
+            xlo: scaled(a, rectangle.xlo),
+            ylo: scaled(b, rectangle.ylo),
+            xhi: scaled(a, rectangle.xhi),
+            yhi: scaled(b, rectangle.yhi),
         }
     }
 

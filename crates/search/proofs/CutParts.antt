@@ -149,8 +149,8 @@ module _ (P : Pricing) (G : Grid) (r : Rect) (k : Costs) (h : Cutting P G r k) w
     pub low_place : PlaceInRange (place_of at)
     low_place = subst (λ (a : Code.Place). PlaceInRange (place_of a)) (sym low) (part_ranged Behind p e).range.low_corner_law
 
-    pub new_low : (spot : PricedPlace) → spot ≡ priced_place_of P (place_of at) → spot ≡ priced_place_of P (low_corner line.axis line.at r)
-    new_low spot q =
+    pub new_low : (priced : PricedPlace) → priced ≡ priced_place_of P (place_of at) → priced ≡ priced_place_of P (low_corner line.axis line.at r)
+    new_low priced q =
         q
         ∙ ap (λ (a : Code.Place). priced_place_of P (place_of a)) low
         ∙ ap (λ (s : Rect). priced_place_of P (corner s)) e
@@ -160,8 +160,8 @@ module _ (P : Pricing) (G : Grid) (r : Rect) (k : Costs) (h : Cutting P G r k) w
     pub high_place : PlaceInRange (place_of at)
     high_place = subst (λ (a : Code.Place). PlaceInRange (place_of a)) (sym high) (part_ranged Before p e).range.high_corner_law
 
-    pub new_high : (spot : PricedPlace) → spot ≡ priced_place_of P (place_of at) → spot ≡ priced_place_of P (high_corner line.axis line.at r)
-    new_high spot q =
+    pub new_high : (priced : PricedPlace) → priced ≡ priced_place_of P (place_of at) → priced ≡ priced_place_of P (high_corner line.axis line.at r)
+    new_high priced q =
         q
         ∙ ap (λ (a : Code.Place). priced_place_of P (place_of a)) high
         ∙ ap (λ (s : Rect). priced_place_of P (record { x = s.xhi; y = s.yhi })) e

@@ -29,10 +29,10 @@ use Rattle.search.specs.declared.run.Corners.{Corners}
 use Rattle.search.specs.Corners.{priced_corners, costs_of, corner_costs, entry_for, CostsInRange, improved, best_corner}
 
 -- ---- the better of two
-pub spot_better : (p best : PricedPlace) (r : Bool) (k l : Key) → k ≡ priced_key (priced_of p) → l ≡ priced_key (priced_of best)
+pub priced_better : (p best : PricedPlace) (r : Bool) (k l : Key) → k ≡ priced_key (priced_of p) → l ≡ priced_key (priced_of best)
     → r ≡ precedes k l → r ≡ better (priced_of p) (priced_of best)
 unfolding better
-spot_better p best r k l f g e = e ∙ (λ i. precedes (f i) (g i))
+priced_better p best r k l f g e = e ∙ (λ i. precedes (f i) (g i))
 
 pub improve_taken : (best p : PricedPlace) (r : Bool) → r ≡ better (priced_of p) (priced_of best) → r ≡ true → p ≡ improved best p
 unfolding improved

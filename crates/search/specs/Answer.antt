@@ -13,9 +13,9 @@ use Rattle.cells.specs.Live.{Live}
 use Rattle.cells.specs.Steps.{EntriesInOrder}
 
 -- live entries in order, and a best cost in range
-pub record Answerable (l : Live) (st : Running) : Type 0 where
-  pub cost_limit_lem : st.best.cost ≤ cost_limit
-  pub in_order : EntriesInOrder l.entries
+pub record Answerable (live : Live) (state : Running) : Type 0 where
+  pub cost_limit_lem : state.best.cost ≤ cost_limit
+  pub in_order : EntriesInOrder live.entries
 
 abbrev pub is_done : List Query.Cell → Bool
 is_done [] = true
@@ -31,6 +31,6 @@ found_of s = record {
 }
 
 -- the answer, and the cells that are then live
-pub record Searched (Q : Problem) (rounds : ℕ) (l : Live) (r : Found) : Type 0 where
-  pub found : r ≡ found_of (run Q rounds)
-  pub cells : map entry_cell l.entries ≡ (run Q rounds).live
+pub record Searched (Q : Problem) (rounds : ℕ) (live : Live) (answer : Found) : Type 0 where
+  pub found : answer ≡ found_of (run Q rounds)
+  pub cells : map entry_cell live.entries ≡ (run Q rounds).live

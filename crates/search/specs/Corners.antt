@@ -23,7 +23,7 @@ priced_corners P r = record {
 
 -- their costs
 abbrev pub costs_of : Corners → Costs
-costs_of k = record { c00 = k.c00.cost; c01 = k.c01.cost; c10 = k.c10.cost; c11 = k.c11.cost }
+costs_of corners = record { c00 = corners.c00.cost; c01 = corners.c01.cost; c10 = corners.c10.cost; c11 = corners.c11.cost }
 
 abbrev pub corner_costs : Pricing → Rect → Costs
 corner_costs P r = costs_of (priced_corners P r)
@@ -38,15 +38,15 @@ entry_for P r = record { cell = cell_for P r; costs = corner_costs P r }
 -- the better of two
 unfoldable pub improved : PricedPlace → PricedPlace → PricedPlace
 unfolding better
-improved best p = cond (better (priced_of p) (priced_of best)) p best
+improved best other = cond (better (priced_of other) (priced_of best)) other best
 
-pub record CostsInRange (k : Costs) : Type 0 where
-  pub corner_00 : k.c00 ≤ cost_limit
-  pub corner_01 : k.c01 ≤ cost_limit
-  pub corner_10 : k.c10 ≤ cost_limit
-  pub corner_11 : k.c11 ≤ cost_limit
+pub record CostsInRange (costs : Costs) : Type 0 where
+  pub corner_00 : costs.c00 ≤ cost_limit
+  pub corner_01 : costs.c01 ≤ cost_limit
+  pub corner_10 : costs.c10 ≤ cost_limit
+  pub corner_11 : costs.c11 ≤ cost_limit
 
 -- the best of a rectangle's corners
 unfoldable pub best_corner : Corners → PricedPlace
 unfolding improved
-best_corner k = improved (improved (improved k.c00 k.c01) k.c10) k.c11
+best_corner corners = improved (improved (improved corners.c00 corners.c01) corners.c10) corners.c11

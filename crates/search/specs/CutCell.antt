@@ -43,7 +43,7 @@ halves_of P line r = record {
 }
 
 -- a rectangle that is cut, and its corners' costs
-pub record Cutting (P : Pricing) (G : Grid) (r : Rect) (k : Costs) : Type 0 where
-  pub ranged : Ranged r
-  pub can_cut_lem : T (can_cut G r)
-  pub costs : k ≡ corner_costs P r
+pub record Cutting (P : Pricing) (G : Grid) (rectangle : Rect) (corners : Costs) : Type 0 where
+  pub ranged : Ranged rectangle
+  pub can_cut_lem : T (can_cut G rectangle)
+  pub costs : corners ≡ corner_costs P rectangle

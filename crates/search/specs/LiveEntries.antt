@@ -18,20 +18,20 @@ use Rattle.search.specs.Corners.{corner_costs}
 -- an entry more, if it is live
 unfoldable pub with_live : Grid → Priced → Entry → List Entry → List Entry
 unfolding is_live insert_by entry_before
-with_live G best e es = cond (is_live G best (entry_cell e)) (insert_by entry_before e es) es
+with_live G best entry es = cond (is_live G best (entry_cell entry)) (insert_by entry_before entry es) es
 
 -- where an entry more may go: a slot is free, and its cell and the best place are in range
-pub record Addable (l : Live) (e : Entry) (best : PricedPlace) : Type 0 where
-  pub room : 1 ≤ l.free
-  pub ranged : RectInRange (rect_in e.cell)
+pub record Addable (live : Live) (entry : Entry) (best : PricedPlace) : Type 0 where
+  pub room : 1 ≤ live.free
+  pub ranged : RectInRange (rect_in entry.cell)
   pub cost_limit_lem : best.cost ≤ cost_limit
 
--- the live entries after are those before and e, if it is live; at most one slot more is taken, and none comes free
-pub record Added (G : Grid) (best : Priced) (e : Entry) (l l' : Live) : Type 0 where
-  pub down : l'.free ≤ l.free
-  pub by_one : l.free ≤ l'.free + 1
-  pub entries_are : l'.entries ≡ with_live G best e l.entries
+-- the live entries after are those before and an entry, if it is live; at most one slot more is taken, and none comes free
+pub record Added (G : Grid) (best : Priced) (entry : Entry) (old new : Live) : Type 0 where
+  pub down : new.free ≤ old.free
+  pub by_one : old.free ≤ new.free + 1
+  pub entries_are : new.entries ≡ with_live G best entry old.entries
 
 -- each has the costs of its corners
 pub record Costed (P : Pricing) (es : List Entry) : Type 0 where
-  pub each : (e : Entry) → Memᴰ e es → e.costs ≡ corner_costs P (entry_cell e).rect
+  pub each : (entry : Entry) → Memᴰ entry es → entry.costs ≡ corner_costs P (entry_cell entry).rect

@@ -17,20 +17,20 @@ use Rattle.search.specs.LiveEntries.{Costed}
 
 -- the search that live entries and a state hold
 unfoldable pub search_of : List Entry → Running → Search
-search_of es st = record { best = priced_of st.best; live = map entry_cell es; cuts = st.cuts }
+search_of es state = record { best = priced_of state.best; live = map entry_cell es; cuts = state.cuts }
 
 -- what a round asks of the entry that it takes, and of those that are left
-pub record Takeable (P : Pricing) (G : Grid) (e : Entry) (l : Live) (st : Running) : Type 0 where
-  pub room : 2 ≤ l.free
-  pub few : st.cuts < rounds_limit
-  pub cost_limit_lem : st.best.cost ≤ cost_limit
-  pub ranged : Ranged (rect_in e.cell)
-  pub can_cut_lem : (f : Entry) → Memᴰ f (e ∷ l.entries) → T (can_cut G (entry_cell f).rect)
-  pub costed : Costed P (e ∷ l.entries)
-  pub in_order : EntriesInOrder (e ∷ l.entries)
+pub record Takeable (P : Pricing) (G : Grid) (entry : Entry) (live : Live) (state : Running) : Type 0 where
+  pub room : 2 ≤ live.free
+  pub few : state.cuts < rounds_limit
+  pub cost_limit_lem : state.best.cost ≤ cost_limit
+  pub ranged : Ranged (rect_in entry.cell)
+  pub can_cut_lem : (e : Entry) → Memᴰ e (entry ∷ live.entries) → T (can_cut G (entry_cell e).rect)
+  pub costed : Costed P (entry ∷ live.entries)
+  pub in_order : EntriesInOrder (entry ∷ live.entries)
 
 -- live entries and a state that hold a search, with so many slots free at least
-pub record Holds (P : Pricing) (search : Search) (lowest : ℕ) (l : Live) (st : Running) : Type 0 where
-  pub is : search_of l.entries st ≡ search
-  pub costed : Costed P l.entries
-  pub low_free : lowest ≤ l.free
+pub record Holds (P : Pricing) (search : Search) (lowest : ℕ) (live : Live) (state : Running) : Type 0 where
+  pub is : search_of live.entries state ≡ search
+  pub costed : Costed P live.entries
+  pub low_free : lowest ≤ live.free

@@ -39,23 +39,23 @@ enum Part {
 }
 
 // The key of a place: its cost, and between equal costs the place.
-pub(crate) fn spot_key(spot: PricedPlace) -> Key
-    requires { spot.cost ≤ cost_limit }
-    ensures { query_key result ≡ priced_key (priced_of spot) }
+pub(crate) fn priced_key(priced: PricedPlace) -> Key
+    requires { priced.cost ≤ cost_limit }
+    ensures { query_key result ≡ priced_key (priced_of priced) }
 {
     Key {
-        figure: spot.cost as i64,
-        at: spot.at,
+        figure: priced.cost as i64,
+        at: priced.at,
     }
 }
 
 // The better of two places.
-pub(crate) fn improve(best: PricedPlace, p: PricedPlace) -> PricedPlace
-    requires { (best.cost ≤ cost_limit) × (p.cost ≤ cost_limit) }
-    ensures { result ≡ improved best p }
+pub(crate) fn improve(best: PricedPlace, other: PricedPlace) -> PricedPlace
+    requires { (best.cost ≤ cost_limit) × (other.cost ≤ cost_limit) }
+    ensures { result ≡ improved best other }
 {
-    if spot_key(p).precedes(spot_key(best)) {
-        return p;
+    if priced_key(other).precedes(priced_key(best)) {
+        return other;
     }
     best
 }

@@ -14,7 +14,7 @@ ghost use Rattle.search.specs.Answer.{Answerable, found_of, Searched};
 ghost use Rattle.priced_place.specs.ObjectProblem.{priced_of, rect_in};
 ghost use Rattle.priced_place.specs.Prepared.{problem_of, Prepared};
 
-use crate::halves::{bounded, cut_of, halve, improve, spot_key};
+use crate::halves::{bounded, cut_of, halve, improve, priced_key};
 use cells::{Key, LiveCells};
 use deck::{Place, Rect};
 use prepare::Problem;
@@ -92,7 +92,7 @@ fn is_live(problem: &Problem, c: Cell, best: PricedPlace) -> bool
     requires { RectInRange (rect_in c) × (best.cost ≤ cost_limit) }
     ensures { result ≡ Search.is_live (problem_of problem.now).rules.grid (priced_of best) (query_cell c) }
 {
-    Key::of_cell(c).precedes(spot_key(best)) && cut_of(problem, c.rect).is_some()
+    Key::of_cell(c).precedes(priced_key(best)) && cut_of(problem, c.rect).is_some()
 }
 
 // One more entry among the live ones, if its cell is live.
@@ -115,7 +115,7 @@ fn round(problem: &Problem, live: &mut LiveCells, entry: Entry, st: Running) -> 
 {
     let halves = halve(problem, entry);
     let best = improve(improve(st.best, halves.low), halves.high);
-    live.trim(spot_key(best));
+    live.trim(priced_key(best));
     add(problem, live, halves.second, best);
     add(problem, live, halves.first, best);
     Running {

@@ -80,35 +80,35 @@ fn get_costs(costs: &[u64; CORNER_COSTS], slot: usize) -> Costs
 }
 
 /// Stores a cell in a slot of `numbers`, its edges and its bound as five numbers. All other numbers stay as they are.
-pub fn put_cell(numbers: &mut [i64], slot: usize, c: Cell)
+pub fn put_cell(numbers: &mut [i64], slot: usize, cell: Cell)
     requires { (slot < 1001) × (slot * 5 + 4 < length numbers.old) }
-    ensures { CellPut numbers.old slot c numbers.new }
+    ensures { CellPut numbers.old slot cell numbers.new }
 {
     let at = slot * 5;
-    let r = c.rect;
-    let xlo = r.xlo;
+    let rect = cell.rect;
+    let xlo = rect.xlo;
     numbers[at] = xlo;
-    let ylo = r.ylo;
+    let ylo = rect.ylo;
     numbers[at + 1] = ylo;
-    let xhi = r.xhi;
+    let xhi = rect.xhi;
     numbers[at + 2] = xhi;
-    let yhi = r.yhi;
+    let yhi = rect.yhi;
     numbers[at + 3] = yhi;
-    let bound = c.bound;
+    let bound = cell.bound;
     numbers[at + 4] = bound;
 }
 
 // Stores the costs of a cell's corners in a slot. The numbers are written through a slice, which tells how many they are.
-fn put_costs(costs: &mut [u64; CORNER_COSTS], slot: usize, k: Costs)
+fn put_costs(costs: &mut [u64; CORNER_COSTS], slot: usize, corners: Costs)
     requires { slot < 1001 }
-    ensures { CostsPut costs.old slot k costs.new }
+    ensures { CostsPut costs.old slot corners costs.new }
 {
     let numbers: &mut [u64] = costs;
     let at = slot * 4;
-    numbers[at] = k.c00;
-    numbers[at + 1] = k.c01;
-    numbers[at + 2] = k.c10;
-    numbers[at + 3] = k.c11;
+    numbers[at] = corners.c00;
+    numbers[at + 1] = corners.c01;
+    numbers[at + 2] = corners.c10;
+    numbers[at + 3] = corners.c11;
 }
 
 /// Stores a cell and the costs of its corners in a slot. Every other slot stays as it is.

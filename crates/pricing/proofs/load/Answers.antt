@@ -23,7 +23,7 @@ overflow_add-sum c =
 pub returns : goal.returns
 returns c =
     let full : c.loop-i.i ≡ count_of_objects c.args.objects.now = omega (arith, c.loop-i-test.false, c.loop-i.auto.i-end, c.count-i-end.ensures) in
-    let edges = c.of-edges.ensures.are ∙ ap (λ (axis : AxisCosts). scaled_rect axis (rect_of c.args.r)) c.axis.ensures.is in
+    let edges = c.of-edges.ensures.are ∙ ap (λ (axis : AxisCosts). scaled_rect axis (rect_of c.args.rectangle)) c.axis.ensures.is in
     record {
       is = c.loop-i.invariant.so_far ∙ rw (full, edges) (sym (load_of_sum (pricing_of_objects c.args.objects.now) _));
       within = omega (arith, c.loop-i.invariant.most, full, c.args.objects.now.priceable.count);

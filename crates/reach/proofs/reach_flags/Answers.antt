@@ -20,5 +20,5 @@ loop-i-preserved c =
 pub returns : goal.returns
 returns c =
     let full : c.loop-i.i ≡ c.args.objects.now.count = omega (arith, c.loop-i-test.false, c.loop-i.auto.i-end, c.count-i-end.ensures) in
-    let edges = c.of-edges.ensures.are ∙ ap (λ (axis : AxisCosts). scaled_rect axis (rect_of c.args.r)) c.axis.ensures.is in
+    let edges = c.of-edges.ensures.are ∙ ap (λ (axis : AxisCosts). scaled_rect axis (rect_of c.args.rectangle)) c.axis.ensures.is in
     c.loop-i.invariant.are ∙ rw (full, edges) (sym (flags_of_map (pricing_of_objects c.args.objects.now) _))

@@ -10,5 +10,5 @@ returns c =
     let a = c.args in
     let told = c.struct_told-5-1.given in
     let rect = told.0.1.1 in
-    let stored = read_cell a.c rect.0.1 rect.1.0.1 rect.1.1.0.1 rect.1.1.1.0.1 told.1.0.1 in
+    let stored = read_cell a.cell rect.0.1 rect.1.0.1 rect.1.1.0.1 rect.1.1.1.0.1 told.1.0.1 in
     record { put = ap (with_cell a.numbers.now a.slot) stored }

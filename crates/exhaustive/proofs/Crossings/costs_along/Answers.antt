@@ -10,7 +10,7 @@ use Rattle.exhaustive.proofs.Crossings.costs_along.Goals as goal
 
 pub add_objects-requires : goal.add_objects-requires
 add_objects-requires c =
-    let near : nat_abs (back c.args.v) ≤ 20000 = rw (back_is c.ranges.v) c.requires.0 in
+    let near : nat_abs (back c.args.coordinate) ≤ 20000 = rw (back_is c.ranges.coordinate) c.requires.0 in
     (omega (arith, near), zero_sums)
 
 pub sweep-requires : goal.sweep-requires
@@ -27,5 +27,5 @@ pub returns : goal.returns
 returns c =
     let it = c.args.self.now in
     let b_is = ap (λ (a : AxisCosts). a.b) c.axis-axis.ensures.is in
-    rw (back_is c.ranges.v) at
-    (swept_line _ _ _ (back c.args.v) _ _ it.objects.now.priceable.count it.paid c.add_objects.ensures _ _ _ (sym b_is) c.sweep.ensures)
+    rw (back_is c.ranges.coordinate) at
+    (swept_line _ _ _ (back c.args.coordinate) _ _ it.objects.now.priceable.count it.paid c.add_objects.ensures _ _ _ (sym b_is) c.sweep.ensures)

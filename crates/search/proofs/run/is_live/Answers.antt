@@ -12,7 +12,7 @@ pub returns-then-precedes : goal.returns-then-precedes
 returns-then-precedes c =
     let a = c.args in
     let compared : c.precedes.result ≡ precedes (cell_key (query_cell a.c)) (priced_key (priced_of a.best)) =
-    c.precedes.ensures ∙ (λ i. precedes (c.of_cell.ensures i) (c.spot_key.ensures i)) in
+    c.precedes.ensures ∙ (λ i. precedes (c.of_cell.ensures i) (c.priced_key.ensures i)) in
     c.is_some.ensures
     ∙ ap is_some c.cut_of.ensures
     ∙ cut_record_found _ _
@@ -22,5 +22,5 @@ pub returns-else-precedes : goal.returns-else-precedes
 returns-else-precedes c =
     let a = c.args in
     let compared : c.precedes.result ≡ precedes (cell_key (query_cell a.c)) (priced_key (priced_of a.best)) =
-    c.precedes.ensures ∙ (λ i. precedes (c.of_cell.ensures i) (c.spot_key.ensures i)) in
+    c.precedes.ensures ∙ (λ i. precedes (c.of_cell.ensures i) (c.priced_key.ensures i)) in
     c.if-precedes.false ∙ live_behind _ (priced_of a.best) (query_cell a.c) _ compared c.if-precedes.false

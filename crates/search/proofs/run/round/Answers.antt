@@ -22,8 +22,8 @@ improve-best-requires c =
     let limits = halves_limit c.args.problem.now.objects _ _ _ c.halve-halves.ensures in
     (limit_of _ _ _ c.improve.ensures known (omega (arith, known, limits)), omega (arith, known, limits))
 
-pub spot_key-requires : goal.spot_key-requires
-spot_key-requires c =
+pub priced_key-requires : goal.priced_key-requires
+priced_key-requires c =
     let known = c.requires.cost_limit_lem in
     let limits = halves_limit c.args.problem.now.objects _ _ _ c.halve-halves.ensures in
     let first = limit_of _ _ _ c.improve.ensures known (omega (arith, known, limits)) in
@@ -57,6 +57,6 @@ add-requires-2 c =
 
 pub returns : goal.returns
 returns c =
-    let trimmed = c.trim.ensures ∙ ap (λ (k : Query.Key). leading k c.args.live.now) c.spot_key.ensures in
+    let trimmed = c.trim.ensures ∙ ap (λ (k : Query.Key). leading k c.args.live.now) c.priced_key.ensures in
     rounded _ _ c.args.entry c.args.live.now c.args.st c.requires _ c.halve-halves.ensures _ _ c.improve.ensures c.improve-best.ensures
     _ trimmed _ c.add.ensures _ c.add-2.ensures
