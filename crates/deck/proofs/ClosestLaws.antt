@@ -16,7 +16,7 @@ use Rattle.query.specs.Deck.{AxisCosts, plain}
 use Rattle.query.specs.Travel.{travel, closest}
 use Rattle.deck.specs.DeckOf.{places}
 use Rattle.deck.specs.Objects.{scaled_place}
-use Rattle.deck.specs.Ranges.{CoordinatesInRange, Near180000}
+use Rattle.deck.specs.Ranges.{CoordinatesInRange, ScaledPlaceInRange}
 use Rattle.deck.proofs.TravelLaws.{travel_scaled}
 
 -- ---- two lists side by side
@@ -107,5 +107,5 @@ module _ {px py : List ℤ} {k : ℕ} (gx : CoordinatesInRange px k) (gy : Coord
     places_at px py j (place_at px py 0) (omega (arith, gx.count)) (omega (arith, gy.count)),
   )
 
-  pub post_range : (j : ℕ) → j < k → Near180000 (get_or px j (pos 0)) (get_or py j (pos 0))
+  pub post_range : (j : ℕ) → j < k → ScaledPlaceInRange (get_or px j (pos 0)) (get_or py j (pos 0))
   post_range j h = record { x_range = gx.range j h; y_range = gy.range j h }

@@ -21,7 +21,7 @@ use Rattle.query.specs.Travel.{travel, closest}
 use Rattle.query.specs.Range.{travel_limit}
 use Rattle.deck.specs.DeckOf.{places}
 use Rattle.deck.specs.ClosestSoFar.{closest_so_far, columns_so_far, improved, columns_improved}
-use Rattle.deck.specs.Ranges.{CoordinatesInRange, Near180000, ColumnsFit, StopsInRange, scaled_limit}
+use Rattle.deck.specs.Ranges.{CoordinatesInRange, ScaledPlaceInRange, ColumnsFit, StopsInRange, scaled_limit}
 use Rattle.deck.specs.Columns.{y_column, near_column}
 use Rattle.deck.proofs.WordLaws.{coordinate}
 use Rattle.deck.proofs.TravelLaws.{far, travel_plain, place_word}
@@ -39,7 +39,7 @@ so_far_first : (post p : Place) → closest_so_far (post ∷ []) p ≡ far p.x p
 unfolding closest_so_far
 so_far_first post p = closest_one plain p post ∙ travel_plain p post
 
-so_far_more : (post p : Place) (posts : List Place) → Near180000 p.x p.y → Near180000 post.x post.y →
+so_far_more : (post p : Place) (posts : List Place) → ScaledPlaceInRange p.x p.y → ScaledPlaceInRange post.x post.y →
     closest_so_far (posts ++ post ∷ []) p ≡ cond (ltb (travel plain p post) (closest_so_far posts p)) (travel plain p post) (closest_so_far posts p)
 unfolding closest_so_far
 so_far_more post p [] at new = closest_one plain p post ∙ ap (λ (b : Bool). cond b (travel plain p post) (suc travel_limit)) (sym first)
@@ -58,7 +58,7 @@ picked : (b : Bool) (m n : ℕ) → cond b (pos m) (pos n) ≡ pos (cond b m n)
 picked true m n = refl
 picked false m n = refl
 
-improved_so_far : (post p : Place) (posts : List Place) → Near180000 p.x p.y → Near180000 post.x post.y →
+improved_so_far : (post p : Place) (posts : List Place) → ScaledPlaceInRange p.x p.y → ScaledPlaceInRange post.x post.y →
     improved post p (pos (closest_so_far posts p)) ≡ pos (closest_so_far (posts ++ post ∷ []) p)
 unfolding improved
 improved_so_far post p posts at new =
@@ -68,7 +68,7 @@ improved_so_far post p posts at new =
 abbrev stop : List ℤ → ℕ → Place
 stop columns i = place_at columns (drop y_column columns) i
 
-stop_range : {columns : List ℤ} {n : ℕ} → StopsInRange columns n → (i : ℕ) → i < n → Near180000 (stop columns i).x (stop columns i).y
+stop_range : {columns : List ℤ} {n : ℕ} → StopsInRange columns n → (i : ℕ) → i < n → ScaledPlaceInRange (stop columns i).x (stop columns i).y
 stop_range stops i h = record { x_range = stops.x.range i h; y_range = stops.y.range i h }
 
 -- the figures after some posts, and those improved by one more
@@ -164,7 +164,7 @@ module _ {columns : List ℤ} {n : ℕ} (fit : ColumnsFit columns n) where
 -- ---- the first post, stop by stop
 module _ {columns : List ℤ} {n : ℕ} (stops : StopsInRange columns n) (post : Place) {to : List ℤ} {i : ℕ}
     (so_far : Copied columns near_column (figures columns (post ∷ [])) n to i) where
-  pub first_row : i < n → Near180000 (to_z w32 (of_z w32 (get_or to i (pos 0)))) (to_z w32 (of_z w32 (get_or to (y_column + i) (pos 0))))
+  pub first_row : i < n → ScaledPlaceInRange (to_z w32 (of_z w32 (get_or to i (pos 0)))) (to_z w32 (of_z w32 (get_or to (y_column + i) (pos 0))))
   first_row h = rw (x_kept stops.fit so_far i h, y_kept stops.fit so_far i h) (place_word (stop_range stops i h))
 
   pub first_more : (r : ℤ) → i < n → SFits w32 r →
@@ -183,7 +183,7 @@ module _ {columns : List ℤ} {n : ℕ} (stops : StopsInRange columns n) (post :
 -- ---- one more post, stop by stop
 module _ {columns : List ℤ} {n : ℕ} (stops : StopsInRange columns n) (post : Place) {to : List ℤ} {i : ℕ}
     (so_far : Copied columns near_column (better columns post) n to i) where
-  pub place_row : i < n → Near180000 (to_z w32 (of_z w32 (get_or to i (pos 0)))) (to_z w32 (of_z w32 (get_or to (y_column + i) (pos 0))))
+  pub place_row : i < n → ScaledPlaceInRange (to_z w32 (of_z w32 (get_or to i (pos 0)))) (to_z w32 (of_z w32 (get_or to (y_column + i) (pos 0))))
   place_row h = rw (x_kept stops.fit so_far i h, y_kept stops.fit so_far i h) (place_word (stop_range stops i h))
 
   pub better_more : (r : ℤ) → i < n → SFits w32 r → SFits w32 (get_or to (near_column + i) (pos 0)) →
@@ -231,7 +231,7 @@ module _ {columns : List ℤ} {n : ℕ} (stops : StopsInRange columns n) (posts 
       figures_put stops.fit posts new (figures now new) (figures_count so_far_ranged.fit new) (λ d i h.
       figures_at so_far_ranged.fit new d i h ∙ ap (λ (p : Place). pos (closest_so_far new p)) (stop_kept stops.fit kept i h))
 
-  pub columns_more : (post : Place) → Near180000 post.x post.y → columns_improved now n post ≡ columns_so_far columns n (posts ++ post ∷ [])
+  pub columns_more : (post : Place) → ScaledPlaceInRange post.x post.y → columns_improved now n post ≡ columns_so_far columns n (posts ++ post ∷ [])
   unfolding columns_improved
   columns_more post new =
       figures_put stops.fit posts (posts ++ post ∷ []) (better now post) (better_count so_far_ranged.fit post) (λ d i h.

@@ -12,7 +12,7 @@ use Rattle.query.specs.Place.{Place}
 use Rattle.query.specs.Deck.{AxisCosts, plain}
 use Rattle.query.specs.Travel.{travel}
 use Rattle.deck.specs.Objects.{scaled_place}
-use Rattle.deck.specs.Ranges.{Near180000, scaled_limit}
+use Rattle.deck.specs.Ranges.{ScaledPlaceInRange, scaled_limit}
 use Rattle.deck.proofs.WordLaws.{sum_is, coordinate}
 
 abbrev pub far : ℤ → ℤ → ℤ → ℤ → ℕ
@@ -26,10 +26,10 @@ pub travel_scaled : (c : AxisCosts) (p q : Place) → travel c p q ≡ travel pl
 unfolding travel
 travel_scaled c p q = omega (arith, dist_scale c.a p.x q.x, dist_scale c.b p.y q.y)
 
-pub place_word : {x y : ℤ} → Near180000 x y → Near180000 (to_z w32 (of_z w32 x)) (to_z w32 (of_z w32 y))
+pub place_word : {x y : ℤ} → ScaledPlaceInRange x y → ScaledPlaceInRange (to_z w32 (of_z w32 x)) (to_z w32 (of_z w32 y))
 place_word {x} {y} h = rw (coordinate x h.x_range, coordinate y h.y_range) h
 
-module _ (ux uy vx vy : ℤ) (u : Near180000 ux uy) (v : Near180000 vx vy) where
+module _ (ux uy vx vy : ℤ) (u : ScaledPlaceInRange ux uy) (v : ScaledPlaceInRange vx vy) where
   pub far_small : far ux uy vx vy < 2 ^ 31
   far_small = omega (arith, dist_most scaled_limit ux vx u.x_range v.x_range, dist_most scaled_limit uy vy u.y_range v.y_range)
 

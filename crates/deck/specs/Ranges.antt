@@ -9,7 +9,7 @@ use Rattle.deck.specs.Columns.{y_column, near_column, columns_size}
 abbrev pub scaled_limit : ℕ
 scaled_limit = axis_cost_limit * coordinate_limit
 
-pub record Near180000 (x y : ℤ) : Type 0 where
+pub record ScaledPlaceInRange (x y : ℤ) : Type 0 where
   pub x_range : nat_abs x ≤ scaled_limit
   pub y_range : nat_abs y ≤ scaled_limit
 

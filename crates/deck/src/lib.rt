@@ -15,7 +15,7 @@ ghost use Rattle.deck.specs.Rectangle.{place_of};
 ghost use Rattle.deck.specs.Objects.{scaled_place, stored_pricing};
 ghost use Rattle.deck.specs.ObjectColumns.{columns_of};
 ghost use Rattle.deck.specs.ClosestSoFar.{columns_so_far, columns_improved};
-ghost use Rattle.deck.specs.Ranges.{Near180000, AxisCostInRange, Scaled};
+ghost use Rattle.deck.specs.Ranges.{ScaledPlaceInRange, AxisCostInRange, Scaled};
 ghost use Rattle.deck.specs.Ranges.{CoordinatesUpTo, CoordinatesInRange, NaturalsUpTo, VisitsInRange, NearsInRange};
 ghost use Rattle.deck.specs.Ranges.{CostsInRange, PlacesInRange, StopsInRange, NearColumn};
 ghost use Rattle.deck.specs.StopFigures.{Nears, paid};
@@ -192,7 +192,7 @@ fn copy_naturals(from: &[u64], to: &mut [i32])
 
 // |u − v|
 fn apart(u: i32, v: i32) -> i32
-    requires { Near180000 u v }
+    requires { ScaledPlaceInRange u v }
     ensures { result ≡ pos (dist u v) }
 {
     u.abs_diff(v) as i32
@@ -203,7 +203,7 @@ fn apart(u: i32, v: i32) -> i32
 pub struct ScaledPlace {
     pub x: i32,
     pub y: i32,
-    pub ghost in_range: { Near180000 x y },
+    pub ghost in_range: { ScaledPlaceInRange x y },
 }
 
 impl ScaledPlace {

@@ -13,7 +13,7 @@ use Rattle.numbers.proofs.Integer.{order, dist_nat}
 use Rattle.numbers.proofs.Distance.{dist_sym, dist_most}
 use Rattle.numbers.proofs.Words.{word_fits, gap_above}
 use Rattle.reach.specs.Columns.{EdgesInRange, excess_of}
-use Rattle.deck.specs.Ranges.{Near180000}
+use Rattle.deck.specs.Ranges.{ScaledPlaceInRange}
 use Rattle.deck.proofs.WordLaws.{sum_is, coordinate}
 use Rattle.reach.proofs.NarrowLaws.{word}
 
@@ -52,7 +52,7 @@ clamp_excess lo hi v h =
     (test (lt_z v lo))
 
 -- the same of words
-module _ (v lo hi : ℤ) (g : nat_abs v ≤ 180000) (edges : Near180000 lo hi) (h : lo ≤ℤ hi) where
+module _ (v lo hi : ℤ) (g : nat_abs v ≤ 180000) (edges : ScaledPlaceInRange lo hi) (h : lo ≤ℤ hi) where
   pub outside_most : dist v (clamp lo hi v) ≤ 720000
   outside_most = omega (arith, clamp_excess lo hi v h, excess_most lo v edges.x_range g, excess_most v hi g edges.y_range)
 
@@ -73,11 +73,11 @@ module _ (v lo hi : ℤ) (g : nat_abs v ≤ 180000) (edges : Near180000 lo hi) (
 abbrev pub away : ℤ → ℤ → ℤ → ℤ → ℤ → ℤ → ℕ
 away sx sy xlo ylo xhi yhi = dist sx (clamp xlo xhi sx) + dist sy (clamp ylo yhi sy)
 
-module _ (sx sy xlo ylo xhi yhi : ℤ) (at : Near180000 sx sy) (edges : EdgesInRange xlo ylo xhi yhi) where
-  x_edges : Near180000 xlo xhi
+module _ (sx sy xlo ylo xhi yhi : ℤ) (at : ScaledPlaceInRange sx sy) (edges : EdgesInRange xlo ylo xhi yhi) where
+  x_edges : ScaledPlaceInRange xlo xhi
   x_edges = record { x_range = edges.low.x_range; y_range = edges.high.x_range }
 
-  y_edges : Near180000 ylo yhi
+  y_edges : ScaledPlaceInRange ylo yhi
   y_edges = record { x_range = edges.low.y_range; y_range = edges.high.y_range }
 
   pub away_small : away sx sy xlo ylo xhi yhi < 2 ^ 31

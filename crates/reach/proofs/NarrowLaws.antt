@@ -15,7 +15,7 @@ use Rattle.numbers.proofs.WordTests.{back}
 use Rattle.query.specs.Place.{Place, Rect}
 use Rattle.query.specs.Deck.{AxisCosts}
 use Rattle.query.specs.Range.{PlaceInRange}
-use Rattle.deck.specs.Ranges.{Near180000, CostsInRange, Scaled}
+use Rattle.deck.specs.Ranges.{ScaledPlaceInRange, CostsInRange, Scaled}
 use Rattle.deck.specs.Objects.{scaled_rect}
 use Rattle.deck.proofs.ScaleLaws.{natural_word as cost_word, scaled_word}
 use Rattle.reach.specs.Columns.{ObjectInRange, Ranged, EdgesInRange}
@@ -60,7 +60,7 @@ module _ {k : ℕ} (most : k ≤ 9) where
   scaled_small v h = scale_most k 9 20000 v most h
 
 module _ {axis : AxisCosts} (costs : CostsInRange axis) where
-  pub place_scaled : (p : Place) → PlaceInRange p → Near180000 (times axis.a p.x) (times axis.b p.y)
+  pub place_scaled : (p : Place) → PlaceInRange p → ScaledPlaceInRange (times axis.a p.x) (times axis.b p.y)
   place_scaled p h = record { x_range = scaled_small costs.most.0 p.x h.x_range; y_range = scaled_small costs.most.1 p.y h.y_range }
 
   module _ {r : Rect} (h : Ranged r) {t u v w : ℤ} (et : Scaled (to_z w32 axis.a) (back r.xlo) t) (eu : Scaled (to_z w32 axis.b) (back r.ylo) u)

@@ -4,11 +4,11 @@ use Rattle.std.specs.Int.Signed.{lt_z}
 use Rattle.numbers.specs.Integer.{dist}
 use Rattle.query.specs.Place.{Rect, NonEmpty}
 use Rattle.query.specs.Range.{RectInRange, travel_limit, stops_limit, visits_limit}
-use Rattle.deck.specs.Ranges.{Near180000, AxisCostInRange}
+use Rattle.deck.specs.Ranges.{ScaledPlaceInRange, AxisCostInRange}
 
 -- one row of the columns
 pub record ObjectInRange (x y visits near : ℤ) : Type 0 where
-  pub place : Near180000 x y
+  pub place : ScaledPlaceInRange x y
   pub visits_some : pos 0 ≤ℤ visits
   pub visits_range : nat_abs visits ≤ visits_limit
   pub near_some : pos 0 ≤ℤ near
@@ -35,8 +35,8 @@ pub record Ranged (rectangle : Rect) : Type 0 where
 
 -- the scaled edges of a rectangle as the passes take them
 pub record EdgesInRange (xlo ylo xhi yhi : ℤ) : Type 0 where
-  pub low : Near180000 xlo ylo
-  pub high : Near180000 xhi yhi
+  pub low : ScaledPlaceInRange xlo ylo
+  pub high : ScaledPlaceInRange xhi yhi
   pub across : xlo ≤ℤ xhi
   pub deep : ylo ≤ℤ yhi
 

@@ -2,7 +2,7 @@
 
 ghost use Rattle.std.specs.Prelude.{◌≡◌, ◌+◌, ◌≤◌, ltb, pos, nat_abs, ◌≤ℤ◌};
 ghost use Rattle.numbers.specs.Integer.{dist, clamp};
-ghost use Rattle.deck.specs.Ranges.{Near180000, CostsInRange};
+ghost use Rattle.deck.specs.Ranges.{ScaledPlaceInRange, CostsInRange};
 ghost use Rattle.deck.specs.DeckOf.{held_axis};
 ghost use Rattle.deck.specs.Rectangle.{rect_of};
 ghost use Rattle.reach.specs.Columns.{Ranged, EdgesInRange, excess_of};
@@ -21,7 +21,7 @@ pub struct Edges {
 
 // How far a lies above b; 0 where it does not.
 fn excess(a: i32, b: i32) -> i32
-    requires { Near180000 a b }
+    requires { ScaledPlaceInRange a b }
     ensures { result ≡ pos (excess_of a b) }
 {
     if b < a { a - b } else { 0 }
@@ -29,7 +29,7 @@ fn excess(a: i32, b: i32) -> i32
 
 // The distance of v to the closest number of lo .. hi.
 fn outside(v: i32, lo: i32, hi: i32) -> i32
-    requires { (nat_abs v ≤ 180000) × Near180000 lo hi × (lo ≤ℤ hi) }
+    requires { (nat_abs v ≤ 180000) × ScaledPlaceInRange lo hi × (lo ≤ℤ hi) }
     ensures { result ≡ pos (dist v (clamp lo hi v)) }
 {
     excess(lo, v) + excess(v, hi)
@@ -56,7 +56,7 @@ impl Edges {
     /// Whether an object at the scaled place `x`, `y` is within reach of the rectangle (RULES "Reach"): its travel to the closest point is
     /// less than its near.
     pub fn reached_from(self, x: i32, y: i32, near: i32) -> bool
-        requires { Near180000 x y × (pos 0 ≤ℤ near) }
+        requires { ScaledPlaceInRange x y × (pos 0 ≤ℤ near) }
         ensures { result ≡ ltb (dist x (clamp self.xlo self.xhi x) + dist y (clamp self.ylo self.yhi y)) (nat_abs near) }
     {
         outside(x, self.xlo, self.xhi) + outside(y, self.ylo, self.yhi) < near
