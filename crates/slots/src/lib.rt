@@ -9,7 +9,7 @@ ghost use Rattle.slots.specs.Numbering.{Numbered, slot_numbers, slots_limit};
 ghost use Rattle.slots.specs.Places.{entries_in, at_place, rotated};
 
 use deck::Rect;
-use limits::{CELLS, CORNER_COSTS, SPACE};
+use limits::{CELL_NUMBERS, CELLS, CORNER_COSTS, SPACE};
 use std::array;
 
 /// A cell with its bound (RULES "Bound"). A bound can be negative.
@@ -52,7 +52,7 @@ fn get_cell(cells: &[i64; SPACE], slot: usize) -> Cell
     requires { slot < slots_limit }
     ensures { result ≡ cell_at cells.now slot }
 {
-    let at = slot * 5;
+    let at = slot * CELL_NUMBERS;
     let rect = Rect {
         xlo: cells[at],
         ylo: cells[at + 1],
@@ -84,7 +84,7 @@ pub fn put_cell(numbers: &mut [i64], slot: usize, cell: Cell)
     requires { (slot < slots_limit) × (slot * 5 + 4 < length numbers.old) }
     ensures { CellPut numbers.old slot cell numbers.new }
 {
-    let at = slot * 5;
+    let at = slot * CELL_NUMBERS;
     let rect = cell.rect;
     let xlo = rect.xlo;
     numbers[at] = xlo;
