@@ -15,10 +15,12 @@ use Rattle.numbers.proofs.Truth.{test}
 use Rattle.numbers.proofs.Scaling.{scaled_at}
 use Rattle.numbers.proofs.WordTests.{back}
 use Rattle.query.specs.Place.{Place}
+use Rattle.query.specs.Range.{coordinate_limit, stops_limit, axis_cost_limit}
 use Rattle.deck.specs.Ranges.{Scaled}
 use Rattle.deck.specs.Objects.{Object, scaled_place}
 use Rattle.deck.specs.ObjectColumns.{object_at, axis_in, pricing_in}
 use Rattle.deck.proofs.TravelLaws.{far, travel_plain}
+use Rattle.deck.specs.Columns.{y_column, visits_column, near_column}
 use Rattle.lines.specs.LineRecord.{FirstAtLeast}
 use Rattle.reach.specs.Columns.{ObjectInRange}
 use Rattle.reach.specs.Held.{object_of_row, columns_of_objects, count_of_objects}
@@ -30,7 +32,7 @@ use Rattle.pricing.specs.ObjectFigures.{cost_of, before_of}
 use Rattle.pricing.proofs.ObjectLaws.{paid_by, paid_now, cost_of_sum, before_of_sum}
 use Rattle.pricing.proofs.ColumnLaws.{sum_none, sum_more}
 use Rattle.exhaustive.specs.declared.ramp_sums.ObjectRamps.{ObjectRamps}
-use Rattle.exhaustive.specs.Ramps.{scaled_lines, ObjectLines, LinesFound, prefix_sum, ObjectSums, ObjectAdded, ObjectsAdded}
+use Rattle.exhaustive.specs.Ramps.{scaled_lines, ObjectLines, LinesFound, prefix_sum, ObjectSums, ObjectAdded, ObjectsAdded, height_limit, weight_limit}
 use Rattle.exhaustive.proofs.Prefixes.{prefix_most}
 use Rattle.exhaustive.proofs.ObjectRamps.{sums_more, small_back}
 
@@ -42,7 +44,7 @@ abbrev pub counted : ℤ → ℕ
 counted z = nat_abs (word z)
 
 -- a coordinate that was scaled
-pub scaled_wide : {k : ℕ} {r : ℤ} (v : ℤ) → k ≤ 9 → nat_abs v ≤ 20000 → Scaled (to_z w32 k) (back v) r → widened r ≡ times k v
+pub scaled_wide : {k : ℕ} {r : ℤ} (v : ℤ) → k ≤ axis_cost_limit → nat_abs v ≤ coordinate_limit → Scaled (to_z w32 k) (back v) r → widened r ≡ times k v
 scaled_wide {k} v most h e = ap back (scaled_by most v h e) ∙ small_back (times k v) (omega (arith, scaled_small most v h))
 
 -- ---- a row, as the code reads it
@@ -76,10 +78,10 @@ module _ (columns : List ℤ) where
           before_of_sum (pricing_in columns 0),
           sum_none (paid_by (scaled_place (axis_in columns) p)) columns,
           sum_none paid_now columns,
-          empty r.up.weights 131070 (j + 1) sums.up_sums.weights_most,
-          empty r.up.starts 262140000000 (j + 1) sums.up_sums.starts_most,
-          empty r.down.weights 131070 (j + 1) sums.down_sums.weights_most,
-          empty r.down.starts 262140000000 (j + 1) sums.down_sums.starts_most,
+          empty r.up.weights weight_limit (j + 1) sums.up_sums.weights_most,
+          empty r.up.starts (weight_limit * height_limit) (j + 1) sums.up_sums.starts_most,
+          empty r.down.weights weight_limit (j + 1) sums.down_sums.weights_most,
+          empty r.down.starts (weight_limit * height_limit) (j + 1) sums.down_sums.starts_most,
         )
         (omega arith);
   }
@@ -90,13 +92,13 @@ module _ (columns : List ℤ) where
     x = get_or columns i (pos 0)
 
     abbrev y : ℤ
-    y = get_or columns (512 + i) (pos 0)
+    y = get_or columns (y_column + i) (pos 0)
 
     abbrev visits : ℤ
-    visits = get_or columns (1024 + i) (pos 0)
+    visits = get_or columns (visits_column + i) (pos 0)
 
     abbrev near : ℤ
-    near = get_or columns (1536 + i) (pos 0)
+    near = get_or columns (near_column + i) (pos 0)
 
     cost_more : (p : Place) → let q = scaled_place (axis_in columns) p in
         cost_of (pricing_in columns (i + 1)) p ≡ cost_of (pricing_in columns i) p + nat_abs visits * min (nat_abs near) (far x y q.x q.y)
@@ -110,12 +112,12 @@ module _ (columns : List ℤ) where
 
 -- ---- the first lines that are not below the first i objects
 pub record Finding (o : Objects) (ls : List ℤ) (old rows : List ℕ) (i : ℕ) : Type 0 where
-  pub long : length rows ≡ 512
+  pub long : length rows ≡ stops_limit
   pub first : (j : ℕ) → j < i
       → FirstAtLeast (scaled_lines (axis_in (columns_of_objects o)).b ls) (object_at (columns_of_objects o) j).at.y (get_or rows j 0)
   pub kept : (j : ℕ) → i ≤ j → get_or rows j 0 ≡ get_or old j 0
 
-pub finding_none : (o : Objects) (ls : List ℤ) (rows : List ℕ) → length rows ≡ 512 → Finding o ls rows rows 0
+pub finding_none : (o : Objects) (ls : List ℤ) (rows : List ℕ) → length rows ≡ stops_limit → Finding o ls rows rows 0
 finding_none o ls rows e = record { long = e; first = λ i h. absurd (omega arith); kept = λ i h. refl }
 
 module _ (o : Objects) (ls : List ℤ) {old rows : List ℕ} {i : ℕ} (so_far : Finding o ls old rows i) where
@@ -164,6 +166,6 @@ objects_more columns i ls v u b row old new at eu eb so_far one = record {
       rw (scaled_at c ls j) (omega (arith, cost_more columns i p, before_more columns i, past, paid));
 }
 
--- at most 600 objects
-pub sums_few : {r : ObjectRamps} (m : ℕ) → ObjectSums r m → m ≤ 600 → ObjectSums r 600
-sums_few m s h = record { up_sums = sums_more m 600 s.up_sums h; down_sums = sums_more (2 * m) (2 * 600) s.down_sums (omega arith) }
+-- at most as many objects as a deck has stops
+pub sums_few : {r : ObjectRamps} (m : ℕ) → ObjectSums r m → m ≤ stops_limit → ObjectSums r stops_limit
+sums_few m s h = record { up_sums = sums_more m stops_limit s.up_sums h; down_sums = sums_more (2 * m) (2 * stops_limit) s.down_sums (omega arith) }

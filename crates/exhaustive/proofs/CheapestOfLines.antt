@@ -6,14 +6,14 @@ use native.Mathlib.Omega.{arith}
 use lib.IntN.{ℤ, pos}
 use lib.ListN.{length, get_or, drop, replicate, length-replicate, length-map, drop_of_length-le}
 use Rattle.numbers.specs.Integer.{times}
-use Rattle.query.specs.Range.{cost_limit}
+use Rattle.query.specs.Range.{cost_limit, stops_limit}
 use Rattle.deck.specs.Objects.{Pricing}
 use Rattle.pricing.specs.ObjectFigures.{before_of, Figure}
 use Rattle.priced_place.specs.declared.PricedPlace.{PricedPlace}
 use Rattle.numbers.proofs.WordTests.{back}
 use Rattle.exhaustive.specs.declared.ramp_sums.Ramps.{Ramps}
 use Rattle.exhaustive.specs.declared.ramp_sums.ObjectRamps.{ObjectRamps}
-use Rattle.exhaustive.specs.Ramps.{scaled_lines, LinesInRange, RampSums, ObjectSums, ObjectsAdded, Sweepable}
+use Rattle.exhaustive.specs.Ramps.{scaled_lines, LinesInRange, RampSums, ObjectSums, ObjectsAdded, Sweepable, sums_size}
 use Rattle.exhaustive.specs.Cheapest.{first_cheapest, along, costs_along, Swept}
 use Rattle.exhaustive.proofs.ObjectRamps.{small_back}
 use Rattle.exhaustive.proofs.AllObjects.{sums_few}
@@ -27,21 +27,21 @@ zeros (suc n) zero = refl
 zeros (suc n) (suc k) = zeros n k
 
 abbrev no_ramps : Ramps
-no_ramps = record { weights = replicate 515 0; starts = replicate 515 0 }
+no_ramps = record { weights = replicate sums_size 0; starts = replicate sums_size 0 }
 
 zero_ramps : RampSums no_ramps 0
 zero_ramps = record {
-  weights_long = length-replicate {A = ℕ} 515 0;
-  starts_long = length-replicate {A = ℕ} 515 0;
-  weights_most = λ k. omega (arith, zeros 515 k);
-  starts_most = λ k. omega (arith, zeros 515 k);
+  weights_long = length-replicate {A = ℕ} sums_size 0;
+  starts_long = length-replicate {A = ℕ} sums_size 0;
+  weights_most = λ k. omega (arith, zeros sums_size k);
+  starts_most = λ k. omega (arith, zeros sums_size k);
 }
 
 pub zero_sums : ObjectSums (record { up = no_ramps; down = no_ramps }) 0
 zero_sums = record { up_sums = zero_ramps; down_sums = zero_ramps }
 
 -- ---- the ramps of objects
-module _ (P : Pricing) (m : ℕ) (ls : List ℤ) (v : ℤ) (r : ObjectRamps) (before : ℕ) (few : m ≤ 512) (now : Figure (before_of P) cost_limit before)
+module _ (P : Pricing) (m : ℕ) (ls : List ℤ) (v : ℤ) (r : ObjectRamps) (before : ℕ) (few : m ≤ stops_limit) (now : Figure (before_of P) cost_limit before)
     (added : ObjectsAdded P m ls v r) where
   pub sweepable : (b : ℕ) → b ≡ P.axis.b → Sweepable (scaled_lines b ls) r before
   sweepable b e = rw e (record {

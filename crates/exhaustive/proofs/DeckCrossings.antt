@@ -17,7 +17,7 @@ use Rattle.query.specs.Place.{Place, NonEmpty, Axis, x_axis, y_axis, low_edge, h
 use Rattle.query.specs.Deck as Query
 use Rattle.query.specs.Lines.{lines}
 use Rattle.query.specs.Exhaustive.{exhaustive}
-use Rattle.query.specs.Range.{PlaceInRange, InRange}
+use Rattle.query.specs.Range.{PlaceInRange, InRange, coordinate_limit}
 use Rattle.query.proofs.KeyOrder.{not_earlier}
 use Rattle.query.proofs.LineLaws.{lines_range}
 use Rattle.deck.specs.Rectangle.{rect_of}
@@ -41,7 +41,7 @@ edges_abs : (lo v hi : ℤ) (k : ℕ) → nat_abs lo ≤ k → nat_abs hi ≤ k 
 edges_abs lo v hi k a b g h = (abs_range v k).1 (omega (arith, order, (abs_range lo k).0 a, (abs_range hi k).0 b))
 
 module _ (deck : Query.Deck) (range : InRange deck) (full : NonEmpty deck.area) where
-  edge_range : (axis : Axis) → (nat_abs (low_edge axis deck.area) ≤ 20000) × (nat_abs (high_edge axis deck.area) ≤ 20000)
+  edge_range : (axis : Axis) → (nat_abs (low_edge axis deck.area) ≤ coordinate_limit) × (nat_abs (high_edge axis deck.area) ≤ coordinate_limit)
   edge_range x_axis = (range.area.low_corner_law.x_range, range.area.high_corner_law.x_range)
   edge_range y_axis = (range.area.low_corner_law.y_range, range.area.high_corner_law.y_range)
 
@@ -50,7 +50,7 @@ module _ (deck : Query.Deck) (range : InRange deck) (full : NonEmpty deck.area) 
     in_order = lines_in_order deck axis range.most_stops;
     range = λ j h.
         let m = lines_range deck axis full (get_or (lines deck axis) j (pos 0)) (member_at (pos 0) (lines deck axis) j h) in
-        edges_abs (low_edge axis deck.area) _ (high_edge axis deck.area) 20000 (edge_range axis).0 (edge_range axis).1 m.0 m.1;
+        edges_abs (low_edge axis deck.area) _ (high_edge axis deck.area) coordinate_limit (edge_range axis).0 (edge_range axis).1 m.0 m.1;
   }
 
   -- no crossing is earlier than the area's corner

@@ -13,9 +13,11 @@ use Rattle.numbers.proofs.Integer.{add_nat, sub_nat, sum_abs, sub_abs}
 use Rattle.numbers.proofs.Words.{word_fits}
 use Rattle.reach.specs.Columns.{ObjectInRange}
 use Rattle.numbers.proofs.WordTests.{back}
+use Rattle.query.specs.Range.{travel_limit}
+use Rattle.deck.specs.Ranges.{scaled_limit}
 use Rattle.exhaustive.specs.declared.ramp_sums.Ramps.{Ramps}
 use Rattle.exhaustive.specs.declared.ramp_sums.ObjectRamps.{ObjectRamps}
-use Rattle.exhaustive.specs.Ramps.{height_of, RampSums, RampInRange, RampAdded, ObjectAdded}
+use Rattle.exhaustive.specs.Ramps.{height_of, RampSums, RampInRange, RampAdded, ObjectAdded, start_limit}
 use Rattle.exhaustive.proofs.Heights.{height_nat, height_least, height_dist}
 use Rattle.exhaustive.proofs.ScaledLines.{ScaledInRange}
 
@@ -28,14 +30,14 @@ sums_more m k s h = record {
   starts_most = λ i. omega (arith, s.starts_most i);
 }
 
-pub small_back : (z : ℤ) → nat_abs z ≤ 900000 → back z ≡ z
+pub small_back : (z : ℤ) → nat_abs z ≤ start_limit → back z ≡ z
 small_back z h = to_z-of_z w64 z (word_fits w64 z (omega arith))
 
 -- ---- an object whose near is d + r, and whose height is s
 ramp_sum : (near d r s t : ℕ) → near ≡ d + r → r ≤ s → min near (d + ((s - t) + (t - s))) + (t - (s - r)) + (t - (s + r)) ≡ near + 2 * (t - s)
 ramp_sum near d r s t e h = omega arith
 
-module _ (v sx sy : ℤ) (visits near d : ℕ) (g : nat_abs v ≤ 180000) (object : ObjectInRange sx sy (pos visits) (pos near))
+module _ (v sx sy : ℤ) (visits near d : ℕ) (g : nat_abs v ≤ scaled_limit) (object : ObjectInRange sx sy (pos visits) (pos near))
     (e : d ≡ dist (back sx) (back v)) where
   sx_back : back sx ≡ sx
   sx_back = small_back sx (omega (arith, object.place.x_range))
@@ -58,11 +60,11 @@ module _ (v sx sy : ℤ) (visits near d : ℕ) (g : nat_abs v ≤ 180000) (objec
   high_is : back sy +ℤ to_z w64 r ≡ sy +ℤ pos r
   high_is = rw (sy_back, r_word)
 
-  low_abs : nat_abs (sy -ℤ pos r) ≤ 900000
-  low_abs = omega (arith, sub_abs sy (pos r) 180000 720000 object.place.y_range (omega (arith, object.near_range)))
+  low_abs : nat_abs (sy -ℤ pos r) ≤ start_limit
+  low_abs = omega (arith, sub_abs sy (pos r) scaled_limit travel_limit object.place.y_range (omega (arith, object.near_range)))
 
-  high_abs : nat_abs (sy +ℤ pos r) ≤ 900000
-  high_abs = omega (arith, sum_abs sy (pos r) 180000 720000 object.place.y_range (omega (arith, object.near_range)))
+  high_abs : nat_abs (sy +ℤ pos r) ≤ start_limit
+  high_abs = omega (arith, sum_abs sy (pos r) scaled_limit travel_limit object.place.y_range (omega (arith, object.near_range)))
 
   low_start : back (back sy -ℤ to_z w64 r) ≡ sy -ℤ pos r
   low_start = rw low_is (small_back (sy -ℤ pos r) low_abs)
@@ -83,7 +85,7 @@ module _ (v sx sy : ℤ) (visits near d : ℕ) (g : nat_abs v ≤ 180000) (objec
         height_nat (sy -ℤ pos r) (omega (arith, low_abs)),
         height_nat sy (omega (arith, object.place.y_range)),
         sub_nat sy (pos r),
-        height_least sy 180000 object.place.y_range (omega arith),
+        height_least sy scaled_limit object.place.y_range (omega arith),
         object.near_range,
       )
 
@@ -91,13 +93,13 @@ module _ (v sx sy : ℤ) (visits near d : ℕ) (g : nat_abs v ≤ 180000) (objec
   high_height = omega (arith, height_nat (sy +ℤ pos r) (omega (arith, high_abs)), height_nat sy (omega (arith, object.place.y_range)), add_nat sy (pos r))
 
   -- what the object pays at a line
-  module _ (y : ℤ) (h : nat_abs y ≤ 180000) (l : d < near) where
+  module _ (y : ℤ) (h : nat_abs y ≤ scaled_limit) (l : d < near) where
     paid_ramps : min near (dist sx v + dist sy y) + (height_of y - height_of (sy -ℤ pos r)) + (height_of y - height_of (sy +ℤ pos r)) ≡ near + 2 *
         (height_of y - height_of sy)
     paid_ramps =
         rw (low_height, high_height, height_dist sy y (omega (arith, object.place.y_range)) (omega arith))
         (ramp_sum near (dist sx v) r (height_of sy) (height_of y) (omega (arith, d_is))
-        (omega (arith, height_least sy 180000 object.place.y_range (omega arith), object.near_range)))
+        (omega (arith, height_least sy scaled_limit object.place.y_range (omega arith), object.near_range)))
 
     times : (m a b k : ℕ) → m + a + b ≡ near + 2 * k → visits * m + visits * a + visits * b ≡ visits * near + (2 * visits) * k
     times m a b k q = omega (arith, ap (λ (z : ℕ). visits * z) q)

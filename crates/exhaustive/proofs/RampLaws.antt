@@ -11,6 +11,7 @@ use lib.ListN.{length, get_or, set, length-set}
 use Rattle.numbers.proofs.Truth.{test}
 use Rattle.lines.specs.LineRecord.{FirstAtLeast}
 use Rattle.exhaustive.specs.declared.ramp_sums.Ramps.{Ramps}
+use Rattle.exhaustive.specs.Ramps.{height_base, start_limit, height_limit, weight_limit, ramps_limit}
 use Rattle.exhaustive.specs.Ramps.{height_of, prefix_sum, RampSums, RampInRange, RampPut, RampAdded}
 use Rattle.exhaustive.proofs.Heights.{height_most, height_le, height_lt}
 use Rattle.exhaustive.proofs.ScaledLines.{ScaledInRange}
@@ -20,11 +21,11 @@ use Rattle.exhaustive.proofs.Prefixes.{prefix_before, prefix_behind, set_each}
 abbrev pub raised_by : List ℕ → ℕ → ℕ → List ℕ
 raised_by xs k w = set xs k (get_or xs k 0 + w)
 
-pub ramp_weight : {start : ℤ} {w : ℕ} → RampInRange start w → w * height_of start ≤ 262140000000
-ramp_weight {start} range = omega (arith, mul-le-mul range.weight_range (height_most start 900000 range.start_range (omega arith)))
+pub ramp_weight : {start : ℤ} {w : ℕ} → RampInRange start w → w * height_of start ≤ (weight_limit * height_limit)
+ramp_weight {start} range = omega (arith, mul-le-mul range.weight_range (height_most start start_limit range.start_range (omega arith)))
 
 module _ (ls : List ℤ) (start : ℤ) (w k : ℕ) (old : Ramps) (lines : ScaledInRange ls) (range : RampInRange start w) (first : FirstAtLeast ls start k)
-    (sums : RampSums old 2000) where
+    (sums : RampSums old ramps_limit) where
   abbrev ws : List ℕ
   ws = old.weights
 
@@ -34,7 +35,7 @@ module _ (ls : List ℤ) (start : ℤ) (w k : ℕ) (old : Ramps) (lines : Scaled
   abbrev line : ℕ → ℕ
   line j = height_of (get_or ls j (pos 0))
 
-  line_range : (j : ℕ) → j < length ls → nat_abs (get_or ls j (pos 0)) ≤ 1000000
+  line_range : (j : ℕ) → j < length ls → nat_abs (get_or ls j (pos 0)) ≤ height_base
   line_range j h = omega (arith, lines.range j h)
 
   added : (j : ℕ) → j < length ls
@@ -69,9 +70,10 @@ module _ (ls : List ℤ) (start : ℤ) (w k : ℕ) (old : Ramps) (lines : Scaled
     sums = λ m s. record {
       weights_long = rw p.weights_are (length-set ws k _ ∙ s.weights_long);
       starts_long = rw p.starts_are (length-set us k _ ∙ s.starts_long);
-      weights_most = rw p.weights_are (set_each (λ (z : ℕ). z ≤ (m + 1) * 131070) ws k _ (omega (arith, s.weights_most k, range.weight_range))
+      weights_most = rw p.weights_are (set_each (λ (z : ℕ). z ≤ (m + 1) * weight_limit) ws k _ (omega (arith, s.weights_most k, range.weight_range))
           (λ i. omega (arith, s.weights_most i)));
-      starts_most = rw p.starts_are (set_each (λ (z : ℕ). z ≤ (m + 1) * 262140000000) us k _ (omega (arith, s.starts_most k, ramp_weight range))
+      starts_most = rw p.starts_are
+          (set_each (λ (z : ℕ). z ≤ (m + 1) * (weight_limit * height_limit)) us k _ (omega (arith, s.starts_most k, ramp_weight range))
           (λ i. omega (arith, s.starts_most i)));
     };
     added = λ j h. rw (p.weights_are, p.starts_are) (added j h);

@@ -9,11 +9,14 @@ use Rattle.deck.specs.Objects.{Pricing}
 use Rattle.pricing.specs.ObjectFigures.{cost_of, before_of}
 use Rattle.numbers.specs.Integer.{times}
 use Rattle.numbers.proofs.Scaling.{scaled_at}
+use Rattle.query.specs.Range.{stops_limit, axis_cost_limit}
+use Rattle.deck.specs.Ranges.{scaled_limit}
+use Rattle.lines.specs.LineRecord.{lines_limit}
 use Rattle.exhaustive.specs.declared.ramp_sums.Ramps.{Ramps}
 use Rattle.exhaustive.specs.declared.ramp_sums.ObjectRamps.{ObjectRamps}
 use Rattle.exhaustive.specs.declared.ramp_sums.RunningSums.{RunningSums}
 use Rattle.exhaustive.specs.Ramps.{height_of, prefix_sum, scaled_lines, LinesInRange, RampSums, ObjectSums, raised_at, lowered_at}
-use Rattle.exhaustive.specs.Ramps.{ObjectsAdded, SumsTo, Payable, Sweepable}
+use Rattle.exhaustive.specs.Ramps.{ObjectsAdded, SumsTo, Payable, Sweepable, height_limit, weight_limit, sums_size}
 use Rattle.exhaustive.specs.Cheapest.{Swept}
 use Rattle.exhaustive.proofs.Heights.{height_most}
 use Rattle.exhaustive.proofs.Prefixes.{prefix_none, prefix_more, prefix_most}
@@ -22,12 +25,12 @@ use Rattle.exhaustive.proofs.ScaledLines.{scaled_line}
 use Rattle.exhaustive.proofs.CostsAlong.{costs_to, costs_none, costs_more, costs_all}
 
 -- ---- the sums stay small
-module _ {r : Ramps} (sums : RampSums r 1200) (n : ℕ) (h : n ≤ 515) where
+module _ {r : Ramps} (sums : RampSums r (2 * stops_limit)) (n : ℕ) (h : n ≤ sums_size) where
   pub weights_cap : prefix_sum r.weights n ≤ 2 ^ 40
-  weights_cap = omega (arith, prefix_most r.weights 157284000 (λ k. sums.weights_most k) n)
+  weights_cap = omega (arith, prefix_most r.weights (2 * stops_limit * weight_limit) (λ k. sums.weights_most k) n)
 
   pub starts_cap : prefix_sum r.starts n ≤ 2 ^ 60
-  starts_cap = omega (arith, prefix_most r.starts 314568000000000 (λ k. sums.starts_most k) n)
+  starts_cap = omega (arith, prefix_most r.starts (2 * stops_limit * (weight_limit * height_limit)) (λ k. sums.starts_most k) n)
 
 pub sums_none : (r : ObjectRamps) → SumsTo r 0 (record { up = 0; up_at = 0; down = 0; down_at = 0 })
 sums_none r = record {
@@ -38,7 +41,7 @@ sums_none r = record {
 }
 
 -- one line more
-module _ {r : ObjectRamps} {k : ℕ} {s : RunningSums} (to : SumsTo r k s) (sums : ObjectSums r 600) (few : k < 515) where
+module _ {r : ObjectRamps} {k : ℕ} {s : RunningSums} (to : SumsTo r k s) (sums : ObjectSums r stops_limit) (few : k < sums_size) where
   pub up_next : s.up + get_or r.up.weights k 0 ≡ prefix_sum r.up.weights (k + 1)
   up_next = omega (arith, prefix_more r.up.weights k, to.up_is)
 
@@ -52,10 +55,10 @@ module _ {r : ObjectRamps} {k : ℕ} {s : RunningSums} (to : SumsTo r k s) (sums
   down_at_next = omega (arith, prefix_more r.down.starts k, to.down_at_is)
 
   pub up_small : s.up + get_or r.up.weights k 0 ≤ 2 ^ 40
-  up_small = rw up_next (weights_cap (sums_more 600 1200 sums.up_sums (omega arith)) (k + 1) (omega arith))
+  up_small = rw up_next (weights_cap (sums_more stops_limit (2 * stops_limit) sums.up_sums (omega arith)) (k + 1) (omega arith))
 
   pub up_at_small : s.up_at + get_or r.up.starts k 0 ≤ 2 ^ 60
-  up_at_small = rw up_at_next (starts_cap (sums_more 600 1200 sums.up_sums (omega arith)) (k + 1) (omega arith))
+  up_at_small = rw up_at_next (starts_cap (sums_more stops_limit (2 * stops_limit) sums.up_sums (omega arith)) (k + 1) (omega arith))
 
   pub down_small : s.down + get_or r.down.weights k 0 ≤ 2 ^ 40
   down_small = rw down_next (weights_cap sums.down_sums (k + 1) (omega arith))
@@ -76,18 +79,18 @@ module _ (ls : List ℤ) (cost : ℕ) (r : ObjectRamps) (before : ℕ) (old : Li
   pub sweep_all : {costs : List ℕ} {s : RunningSums} {j : ℕ} → Sweeping ls cost r before old costs s j → j ≡ length ls → Swept ls cost r before old costs
   sweep_all {j = j} s h = record { is = λ P m v q added f. s.written P m v q added f ∙ costs_all P ls v old j h }
 
-  module _ (most : cost ≤ 9) (lines : LinesInRange ls) (ok : Sweepable (scaled_lines cost ls) r before) {j : ℕ} (h : j < length ls) {s : RunningSums}
-      (to : SumsTo r (j + 1) s) where
+  module _ (most : cost ≤ axis_cost_limit) (lines : LinesInRange ls) (ok : Sweepable (scaled_lines cost ls) r before) {j : ℕ} (h : j < length ls)
+      {s : RunningSums} (to : SumsTo r (j + 1) s) where
     abbrev y : ℤ
     y = get_or ls j (pos 0)
 
-    few : j + 1 ≤ 515
+    few : j + 1 ≤ sums_size
     few = omega (arith, lines.in_order.few)
 
     abbrev z : ℤ
     z = times cost y
 
-    pub z_small : nat_abs z ≤ 180000
+    pub z_small : nat_abs z ≤ scaled_limit
     z_small = scaled_line cost most ls lines j h
 
     enough : prefix_sum r.down.weights (j + 1) * height_of z + prefix_sum r.up.starts (j + 1)
@@ -103,11 +106,11 @@ module _ (ls : List ℤ) (cost : ℕ) (r : ObjectRamps) (before : ℕ) (old : Li
       pub payable : Payable before s t
       payable = record {
         before_small = omega (arith, ok.before_most);
-        up_small = rw to.up_is (weights_cap (sums_more 600 1200 ok.sums.up_sums (omega arith)) (j + 1) few);
-        up_at_small = rw to.up_at_is (starts_cap (sums_more 600 1200 ok.sums.up_sums (omega arith)) (j + 1) few);
+        up_small = rw to.up_is (weights_cap (sums_more stops_limit (2 * stops_limit) ok.sums.up_sums (omega arith)) (j + 1) few);
+        up_at_small = rw to.up_at_is (starts_cap (sums_more stops_limit (2 * stops_limit) ok.sums.up_sums (omega arith)) (j + 1) few);
         down_small = rw to.down_is (weights_cap ok.sums.down_sums (j + 1) few);
         down_at_small = rw to.down_at_is (starts_cap ok.sums.down_sums (j + 1) few);
-        height_small = omega (arith, t-is, height_most z 180000 z_small (omega arith));
+        height_small = omega (arith, t-is, height_most z scaled_limit z_small (omega arith));
         enough = rw (t-is, to.up_is, to.up_at_is, to.down_is, to.down_at_is) enough;
       }
 
@@ -120,7 +123,7 @@ module _ (ls : List ℤ) (cost : ℕ) (r : ObjectRamps) (before : ℕ) (old : Li
             price ≡ cost_of P (record { x = v; y = y })
         price_is P m v b added f = omega (arith, balance, at_line P.axis.b _ _ b (added.cost j h), f)
 
-        pub sweep_more : {costs : List ℕ} {s₀ : RunningSums} → Sweeping ls cost r before old costs s₀ j → length old ≡ 514
+        pub sweep_more : {costs : List ℕ} {s₀ : RunningSums} → Sweeping ls cost r before old costs s₀ j → length old ≡ lines_limit
             → Sweeping ls cost r before old (set costs j price) s (j + 1)
         sweep_more {costs} so_far l = record {
           long = simp length-set so_far.long;

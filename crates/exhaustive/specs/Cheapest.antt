@@ -30,8 +30,8 @@ costs_along P ls v old = map (λ h. cost_of P (record { x = v; y = h })) ls ++ d
 
 -- such an array, whatever the objects whose ramps there are, where b is the axis cost of y
 pub record Swept (ls : List ℤ) (b : ℕ) (ramps : ObjectRamps) (before : ℕ) (old costs : List ℕ) : Type 0 where
-  pub is : (P : Pricing) (m : ℕ) (v : ℤ) → P.axis.b ≡ b → ObjectsAdded P m ls v ramps → before ≡ before_of P →
-      costs ≡ costs_along P ls v old
+  pub is : (P : Pricing) (m : ℕ) (v : ℤ) → P.axis.b ≡ b → ObjectsAdded P m ls v ramps → before ≡ before_of P
+      → costs ≡ costs_along P ls v old
 
 -- the cheapest of one place and the crossings of the vertical line at v, whatever the objects whose costs the array holds
 pub record Chosen (ls : List ℤ) (v : ℤ) (costs : List ℕ) (first chosen : PricedPlace) : Type 0 where

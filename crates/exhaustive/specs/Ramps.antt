@@ -5,20 +5,52 @@
 use Rattle.std.specs.Prelude.{ℕ, zero, suc, ◌+◌, ◌*◌, ◌-◌, ◌/◌, ◌≤◌, ◌<◌, min, ◌^◌, ◌≡◌, List, map, ℤ, pos, nat_abs, ◌+ℤ◌, length, get_or}
 use Rattle.std.specs.Prelude.{set}
 use Rattle.numbers.specs.Integer.{dist, times}
-use Rattle.query.specs.Range.{cost_limit, coordinate_limit, axis_cost_limit, stops_limit}
+use Rattle.query.specs.Range.{cost_limit, coordinate_limit, axis_cost_limit, stops_limit, visits_limit, travel_limit}
+use Rattle.deck.specs.Ranges.{scaled_limit}
 use Rattle.deck.specs.Objects.{Pricing}
 use Rattle.deck.specs.ObjectColumns.{axis_in, object_at}
 use Rattle.reach.specs.Held.{columns_of_objects, count_of_objects}
 use Rattle.reach.specs.declared.columns.Objects.{Objects}
 use Rattle.pricing.specs.ObjectFigures.{cost_of, before_of}
-use Rattle.lines.specs.LineRecord.{LinesInOrder, FirstAtLeast}
+use Rattle.lines.specs.LineRecord.{LinesInOrder, FirstAtLeast, lines_limit}
 use Rattle.exhaustive.specs.declared.ramp_sums.Ramps.{Ramps}
 use Rattle.exhaustive.specs.declared.ramp_sums.ObjectRamps.{ObjectRamps}
 use Rattle.exhaustive.specs.declared.ramp_sums.RunningSums.{RunningSums}
 
+-- ---- limits
+-- the height of coordinate 0: no ramp starts as far below it
+abbrev pub height_base : ℕ
+height_base = 1000000
+
+-- the most of a ramp's start, of a height and of a ramp's weight
+abbrev pub start_limit : ℕ
+start_limit = scaled_limit + travel_limit
+
+abbrev pub height_limit : ℕ
+height_limit = 2 * height_base
+
+abbrev pub weight_limit : ℕ
+weight_limit = 2 * visits_limit
+
+-- the most ramps: three of each object
+abbrev pub ramps_limit : ℕ
+ramps_limit = 3 * stops_limit
+
+-- how many sums of ramps there are: one for each line, and one for the ramps that start above all lines
+abbrev pub sums_size : ℕ
+sums_size = lines_limit + 1
+
+-- how many slots the table of lines has, one for each coordinate, and the height of the first
+abbrev pub table_size : ℕ
+table_size = 2 * coordinate_limit + 1
+
+abbrev pub table_base : ℕ
+table_base = height_base - coordinate_limit
+
+-- ---- heights and sums
 -- how far a coordinate lies above −1,000,000
 unfoldable pub height_of : ℤ → ℕ
-height_of y = nat_abs (y +ℤ pos 1000000)
+height_of y = nat_abs (y +ℤ pos height_base)
 
 -- the sum of the first n numbers
 unfoldable pub prefix_sum : List ℕ → ℕ → ℕ
@@ -52,10 +84,10 @@ pub record Parted (ls : List ℤ) (t r : ℕ) : Type 0 where
   pub before : (k : ℕ) → k < r → height_of (get_or ls k (pos 0)) < t
   pub after : (k : ℕ) → r ≤ k → k < length ls → t ≤ height_of (get_or ls k (pos 0))
 
--- a table of how many are, by heights from that of −20,000 to that of 20,000
+-- a table of how many are, by heights from that of the least coordinate to that of the greatest
 pub record LineTable (ls : List ℤ) (table : List ℕ) : Type 0 where
-  pub long : length table ≡ 40001
-  pub parted : (t : ℕ) → t ≤ 40000 → Parted ls (t + 980000) (get_or table t 0)
+  pub long : length table ≡ table_size
+  pub parted : (t : ℕ) → t ≤ 2 * coordinate_limit → Parted ls (t + table_base) (get_or table t 0)
 
 -- for each object the first line that is not below it
 pub record ObjectLines (objects : Objects) (horizontal : List ℤ) (rows : List ℕ) : Type 0 where
@@ -78,14 +110,14 @@ starts_at ramps j = prefix_sum ramps.starts (j + 1)
 
 -- such sums, each of at most m ramps
 pub record RampSums (ramps : Ramps) (m : ℕ) : Type 0 where
-  pub weights_long : length ramps.weights ≡ 515
-  pub starts_long : length ramps.starts ≡ 515
-  pub weights_most : (k : ℕ) → get_or ramps.weights k 0 ≤ m * 131070
-  pub starts_most : (k : ℕ) → get_or ramps.starts k 0 ≤ m * 262140000000
+  pub weights_long : length ramps.weights ≡ sums_size
+  pub starts_long : length ramps.starts ≡ sums_size
+  pub weights_most : (k : ℕ) → get_or ramps.weights k 0 ≤ m * weight_limit
+  pub starts_most : (k : ℕ) → get_or ramps.starts k 0 ≤ m * (weight_limit * height_limit)
 
 pub record RampInRange (start : ℤ) (w : ℕ) : Type 0 where
-  pub start_range : nat_abs start ≤ 900000
-  pub weight_range : w ≤ 131070
+  pub start_range : nat_abs start ≤ start_limit
+  pub weight_range : w ≤ weight_limit
 
 -- a ramp put at index k
 pub record RampPut (k : ℕ) (start : ℤ) (w : ℕ) (old new : Ramps) : Type 0 where
@@ -138,11 +170,11 @@ pub record Payable (before : ℕ) (sums : RunningSums) (t : ℕ) : Type 0 where
   pub up_at_small : sums.up_at ≤ 2 ^ 60
   pub down_small : sums.down ≤ 2 ^ 40
   pub down_at_small : sums.down_at ≤ 2 ^ 60
-  pub height_small : t ≤ 2000000
+  pub height_small : t ≤ height_limit
   pub enough : sums.down * t + sums.up_at ≤ before + (sums.up * t + sums.down_at)
 
 -- what `sweep` asks: at each line not more is taken off than is there
 pub record Sweepable (ls : List ℤ) (ramps : ObjectRamps) (before : ℕ) : Type 0 where
   pub before_most : before ≤ cost_limit
-  pub sums : ObjectSums ramps 600
+  pub sums : ObjectSums ramps stops_limit
   pub enough : (j : ℕ) → j < length ls → lowered_at ls ramps j ≤ before + raised_at ls ramps j

@@ -5,8 +5,9 @@
 
 ghost use Rattle.std.specs.Prelude.{◌≡◌, ◌≤◌, nat_abs, length};
 ghost use mathlib.Core.List.{flat_map};
-ghost use Rattle.query.specs.Range.{cost_limit};
+ghost use Rattle.query.specs.Range.{cost_limit, coordinate_limit, stops_limit};
 ghost use Rattle.query.specs.Exhaustive.{exhaustive};
+ghost use Rattle.lines.specs.LineRecord.{lines_limit};
 ghost use Rattle.reach.specs.Held.{count_of_objects, pricing_of_objects};
 ghost use Rattle.pricing.specs.ObjectFigures.{before_of, Figure};
 ghost use Rattle.priced_place.specs.ObjectProblem.{priced_of};
@@ -20,16 +21,16 @@ mod ramp_sums;
 use deck::{Place, scaled};
 use limits::{LINES, STOPS};
 use line_numbers::{Divisor, ScaledLines};
-pub use line_numbers::{NumberedLines, number_lines};
+pub use line_numbers::{NumberedLines, TABLE, number_lines};
 use prepare::Problem;
 use priced_place::PricedPlace;
-use ramp_sums::{ObjectRamps, Ramps};
+use ramp_sums::{ObjectRamps, Ramps, SUMS};
 use reach::Objects;
 
 /// For each object, in its row, the number of the first of the horizontal lines that, multiplied by the axis cost of y, is not below it, or
 /// the number of lines where all are. The entries of `rows` behind the objects stay as they are.
 pub fn number_objects<'a>(objects: &'a Objects, lines: NumberedLines<'a>, rows: &mut [u16; STOPS])
-    requires { length rows.old ≡ 512 }
+    requires { length rows.old ≡ stops_limit }
     ensures { LinesFound objects.now lines.entry.at.now rows.old rows.new }
 {
     let axis = objects.axis();
@@ -84,7 +85,7 @@ impl<'a> Crossings<'a> {
 
     // The ramps of all objects along the vertical line at `coordinate`, where there was none.
     fn add_objects(&self, coordinate: i64, ramps: &mut ObjectRamps)
-        requires { (nat_abs coordinate ≤ 20000) × ObjectSums ramps.old 0 }
+        requires { (nat_abs coordinate ≤ coordinate_limit) × ObjectSums ramps.old 0 }
         ensures { ObjectsAdded (pricing_of_objects self.now.objects.now) (count_of_objects self.now.objects.now)
             self.now.lines.at.now coordinate ramps.new }
     {
@@ -103,18 +104,18 @@ impl<'a> Crossings<'a> {
     /// Writes the cost of each crossing of the vertical line at `coordinate` with the horizontal lines to the front of `costs`, in the
     /// order of the lines. The entries behind them stay as they are.
     pub fn costs_along(&self, coordinate: i64, costs: &mut [u64; LINES])
-        requires { (nat_abs coordinate ≤ 20000) × (length costs.old ≡ 514) }
+        requires { (nat_abs coordinate ≤ coordinate_limit) × (length costs.old ≡ lines_limit) }
         ensures { costs.new
             ≡ costs_along (pricing_of_objects self.now.objects.now) self.now.lines.at.now coordinate costs.old }
     {
         let mut ramps = ObjectRamps {
             up: Ramps {
-                weights: [0; 515],
-                starts: [0; 515],
+                weights: [0; SUMS],
+                starts: [0; SUMS],
             },
             down: Ramps {
-                weights: [0; 515],
-                starts: [0; 515],
+                weights: [0; SUMS],
+                starts: [0; SUMS],
             },
         };
         self.add_objects(coordinate, &mut ramps);
@@ -130,7 +131,7 @@ impl<'a> Crossings<'a> {
         costs: &mut [u64; LINES],
         first: PricedPlace,
     ) -> PricedPlace
-        requires { (nat_abs coordinate ≤ 20000) × (length costs.old ≡ 514) }
+        requires { (nat_abs coordinate ≤ coordinate_limit) × (length costs.old ≡ lines_limit) }
         ensures chosen { result
             ≡ first_cheapest (pricing_of_objects self.now.objects.now) first
             (along self.now.lines.at.now coordinate) }
@@ -214,7 +215,7 @@ pub fn cheapest(problem: &Problem, before: u64) -> PricedPlace
     let objects = &problem.objects;
     let vertical = problem.vertical.as_slice();
     let horizontal = problem.horizontal.as_slice();
-    let mut table = [0u16; 40001];
+    let mut table = [0u16; TABLE];
     number_lines(horizontal, &mut table);
     let lines = NumberedLines {
         at: horizontal,

@@ -5,7 +5,22 @@ ghost use Rattle.query.specs.Range.{axis_cost_limit};
 ghost use Rattle.lines.specs.LineRecord.{FirstAtLeast};
 ghost use Rattle.std.proofs.Props.{props};
 ghost use mathlib.Core.List.{Pairwise-prop};
+ghost use Rattle.exhaustive.specs.Ramps.{table_size, start_limit, height_limit};
 ghost use Rattle.exhaustive.specs.Ramps.{height_of, scaled_lines, LinesInRange, Dividing, SlotsFilled, LineTable};
+
+use limits::MOST_COORDINATE;
+
+/// How many slots the table of `number_lines` has: one for each coordinate.
+pub const TABLE: usize = 2 * (MOST_COORDINATE as usize) + 1;
+
+// The greatest coordinate, the number of the last slot, and the heights of 0 and of the least coordinate.
+const MOST: u64 = MOST_COORDINATE as u64;
+
+const LAST_SLOT: u64 = 2 * MOST;
+
+const BASE: u64 = 1000000;
+
+const LOWEST: u64 = BASE - MOST;
 
 // A number to divide by, and what is multiplied with instead: 2 ^ 32 / by + 1.
 #[derive(Clone, Copy)]
@@ -28,7 +43,7 @@ impl Divisor {
 
     // n / by. A multiplication is several times faster than a division, of which each object would need two at each vertical line.
     fn divide(self, n: u64) -> u64
-        requires { n ≤ 2000000 }
+        requires { n ≤ height_limit }
         ensures { result ≡ n / self.by }
     {
         n * self.reciprocal / 4294967296
@@ -37,15 +52,15 @@ impl Divisor {
 
 // How far a coordinate lies above −1,000,000, which is below every start of a ramp.
 pub(crate) fn height(y: i64) -> u64
-    requires { nat_abs y ≤ 900000 }
+    requires { nat_abs y ≤ start_limit }
     ensures { result ≡ height_of y }
 {
-    (y + 1000000) as u64
+    (y + BASE as i64) as u64
 }
 
 // Puts `j` into the slots from `from` on that are before `to`.
-fn fill(table: &mut [u16; 40001], from: usize, to: usize, j: u16)
-    requires { (length table.old ≡ 40001) × (from ≤ to) × (to ≤ 40001) }
+fn fill(table: &mut [u16; TABLE], from: usize, to: usize, j: u16)
+    requires { (length table.old ≡ table_size) × (from ≤ to) × (to ≤ table_size) }
     ensures { SlotsFilled table.old from to j table.new }
 {
     table[from..to].fill(j);
@@ -53,17 +68,17 @@ fn fill(table: &mut [u16; 40001], from: usize, to: usize, j: u16)
 
 /// Makes the table of horizontal lines: for each coordinate where lines can be, from the least on, the number of the first line that is
 /// not below it, or the number of lines where all are.
-pub fn number_lines(horizontal: &[i64], table: &mut [u16; 40001])
-    requires { LinesInRange horizontal.now × (length table.old ≡ 40001) }
+pub fn number_lines(horizontal: &[i64], table: &mut [u16; TABLE])
+    requires { LinesInRange horizontal.now × (length table.old ≡ table_size) }
     ensures { LineTable horizontal.now table.new }
 {
     let mut from: usize = 0;
     for (j, y) in horizontal.iter().enumerate() {
-        let to = (height(*y) - 979999) as usize;
+        let to = (height(*y) - (LOWEST - 1)) as usize;
         fill(table, from, to, j as u16);
         from = to;
     }
-    fill(table, from, 40001, horizontal.len() as u16);
+    fill(table, from, TABLE, horizontal.len() as u16);
 }
 
 /// Horizontal lines, with the table that `number_lines` makes of them.
@@ -71,7 +86,7 @@ pub fn number_lines(horizontal: &[i64], table: &mut [u16; 40001])
 pub struct NumberedLines<'a> {
     /// Their coordinates, in increasing order.
     pub at: &'a [i64],
-    pub table: &'a [u16; 40001],
+    pub table: &'a [u16; TABLE],
     pub ghost in_range: { LinesInRange at.now } by { Prim.hlevel (Pairwise-prop {R = ◌<ℤ◌} (λ a b. Prim.hlevel props), props) },
     pub ghost numbered: { LineTable at.now table.now },
 }
@@ -88,17 +103,17 @@ impl ScaledLines<'_> {
     // asked for the least one that is not below `start` when it is scaled. Lines are where the table reaches: below it the answer is 0,
     // above it the number of lines.
     pub(crate) fn first_from(&self, start: i64) -> usize
-        requires { nat_abs start ≤ 900000 }
+        requires { nat_abs start ≤ start_limit }
         ensures { FirstAtLeast (scaled_lines self.now.divisor.by self.now.plain.at.now) start result }
     {
         let t = height(start);
         let d = self.divisor;
-        let lowest = 1000000 - 20000 * d.by;
+        let lowest = BASE - MOST * d.by;
         if t < lowest {
             return 0;
         }
         let slot = d.divide(t - lowest + d.by - 1);
-        if 40000 < slot {
+        if LAST_SLOT < slot {
             return self.plain.at.len();
         }
         self.plain.table[slot as usize] as usize

@@ -1,9 +1,10 @@
 // The ramps of objects along a vertical line, and the costs that follow from their sums.
 
 ghost use Rattle.std.specs.Prelude.{◌≡◌, ◌+◌, ◌*◌, ◌≤◌, ◌<◌, nat_abs, length};
-ghost use Rattle.query.specs.Range.{axis_cost_limit};
-ghost use Rattle.lines.specs.LineRecord.{FirstAtLeast};
-ghost use Rattle.exhaustive.specs.Ramps.{scaled_lines};
+ghost use Rattle.query.specs.Range.{axis_cost_limit, stops_limit};
+ghost use Rattle.deck.specs.Ranges.{scaled_limit};
+ghost use Rattle.lines.specs.LineRecord.{FirstAtLeast, lines_limit};
+ghost use Rattle.exhaustive.specs.Ramps.{scaled_lines, sums_size, ramps_limit};
 ghost use Rattle.exhaustive.specs.Ramps.{
   RampSums,
   RampInRange,
@@ -23,17 +24,20 @@ use limits::LINES;
 use numbers::abs_diff;
 use reach::Row;
 
+// How many sums of ramps there are: one for each line, and one for the ramps that start above all lines.
+pub(crate) const SUMS: usize = LINES + 1;
+
 // Ramps by line: the sum of their weights, and that of their weights times the heights at which they start.
 #[derive(Clone, Copy)]
 pub(crate) struct Ramps {
-    pub(crate) weights: [u64; 515],
-    pub(crate) starts: [u64; 515],
+    pub(crate) weights: [u64; SUMS],
+    pub(crate) starts: [u64; SUMS],
 }
 
 impl Ramps {
     // Puts a ramp of weight `w` from `start` on at line k.
     fn put(&mut self, k: usize, start: i64, w: u64)
-        requires { RampSums self.old 2000 × RampInRange start w × (k ≤ 514) }
+        requires { RampSums self.old ramps_limit × RampInRange start w × (k ≤ lines_limit) }
         ensures { RampPut k start w self.old self.new }
     {
         self.weights[k] += w;
@@ -42,7 +46,7 @@ impl Ramps {
 
     // Adds a ramp of weight `w` from `start` on, at the first line that, scaled, is not below `start`.
     fn add(&mut self, lines: &ScaledLines, start: i64, w: u64)
-        requires { RampSums self.old 2000 × RampInRange start w }
+        requires { RampSums self.old ramps_limit × RampInRange start w }
         ensures { RampAdded (scaled_lines lines.now.divisor.by lines.now.plain.at.now) start w self.old self.new }
     {
         let k = lines.first_from(start);
@@ -61,7 +65,7 @@ impl ObjectRamps {
     // Adds the ramps of an object along the vertical line that is at `v` when it is scaled. An object that is not nearer to the line than
     // to its closest post has none. `line` is the first line that, scaled, is not below the object.
     pub(crate) fn add_object(&mut self, lines: &ScaledLines, v: i64, object: Row, line: usize)
-        requires { (nat_abs v ≤ 180000) × ObjectSums self.old 600
+        requires { (nat_abs v ≤ scaled_limit) × ObjectSums self.old stops_limit
             × FirstAtLeast (scaled_lines lines.now.divisor.by lines.now.plain.at.now) object.y line }
         ensures { ObjectAdded (scaled_lines lines.now.divisor.by lines.now.plain.at.now) v object.x object.y
             (nat_abs object.visits) (nat_abs object.near) self.old self.new }
@@ -81,7 +85,7 @@ impl ObjectRamps {
 
     // Writes the cost of each crossing of the vertical line into `costs`, where b is the axis cost of y.
     pub(crate) fn sweep(&self, lines: &NumberedLines, b: u64, before: u64, costs: &mut [u64; LINES])
-        requires { Sweepable (scaled_lines b lines.now.at.now) self.now before × (length costs.old ≡ 514)
+        requires { Sweepable (scaled_lines b lines.now.at.now) self.now before × (length costs.old ≡ lines_limit)
             × ((1 ≤ b) × (b ≤ axis_cost_limit)) }
         ensures { Swept lines.now.at.now b self.now before costs.old costs.new }
     {
@@ -112,7 +116,7 @@ pub(crate) struct RunningSums {
 impl RunningSums {
     // Adds the ramps of line k to those of the lines before it.
     fn add_line(&mut self, ramps: &ObjectRamps, k: usize)
-        requires { SumsTo ramps.now k self.old × ObjectSums ramps.now 600 × (k < 515) }
+        requires { SumsTo ramps.now k self.old × ObjectSums ramps.now stops_limit × (k < sums_size) }
         ensures { SumsTo ramps.now (k + 1) self.new }
     {
         self.up += ramps.up.weights[k];

@@ -17,6 +17,7 @@ use Rattle.numbers.specs.Padded.{padded}
 use Rattle.lines.specs.LineRecord.{LinesInOrder, Lined, flagged, lines_between}
 use Rattle.lines.proofs.LineRecordLaws.{lines_between_length}
 use Rattle.numbers.proofs.Padded.{padded_front}
+use Rattle.query.specs.Range.{stops_limit}
 
 -- ---- the lines of a deck
 -- the flagged ones of a list of which the test flags some
@@ -57,13 +58,13 @@ module _ (deck : Deck) (axis : Axis) where
         keep_length (reach deck deck.area) deck.stops,
       ))
 
-  pub lines_in_order : length deck.stops ≤ 512 → LinesInOrder (lines deck axis)
+  pub lines_in_order : length deck.stops ≤ stops_limit → LinesInOrder (lines deck axis)
   lines_in_order h = record { few = omega (arith, lines_few); increasing = (lines_law deck axis).increasing }
 
   -- an array that holds the flags in front
-  pub padded_reached : take (length deck.stops) (padded 512 false reached) ≡ reached
-  padded_reached = rw (← length-map deck.stops (reach deck deck.area)) (padded_front 512 false reached)
+  pub padded_reached : take (length deck.stops) (padded stops_limit false reached) ≡ reached
+  padded_reached = rw (← length-map deck.stops (reach deck deck.area)) (padded_front stops_limit false reached)
 
 -- those of both axes
-pub deck_lined : (deck : Deck) → length deck.stops ≤ 512 → Lined (lines deck x_axis) (lines deck y_axis)
+pub deck_lined : (deck : Deck) → length deck.stops ≤ stops_limit → Lined (lines deck x_axis) (lines deck y_axis)
 deck_lined deck h = record { across = lines_in_order deck x_axis h; deep = lines_in_order deck y_axis h }

@@ -8,9 +8,9 @@ use mir.ValLaws.{to_z-of_z}
 use Rattle.numbers.proofs.Words.{word_fits}
 use Rattle.numbers.proofs.WordTests.{back}
 use Rattle.query.specs.Place.{Rect}
-use Rattle.query.specs.Range.{RectInRange}
+use Rattle.query.specs.Range.{RectInRange, coordinate_limit}
 
-pub near_back : (z : ℤ) → nat_abs z ≤ 20000 → back z ≡ z
+pub near_back : (z : ℤ) → nat_abs z ≤ coordinate_limit → back z ≡ z
 near_back z h = to_z-of_z w64 z (word_fits w64 z (omega arith))
 
 pub rect_back : (r : Rect) → RectInRange r →

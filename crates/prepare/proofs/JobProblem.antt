@@ -6,6 +6,7 @@ use native.Mathlib.Omega.{arith}
 use Rattle.std.specs.Prelude.{Ok, Err}
 use Rattle.std.specs.Prelude as Std
 use Rattle.query.specs.Cost.{before}
+use Rattle.query.specs.Range.{rounds_limit}
 use Rattle.refusal.specs.declared.Refusal.{Refusal}
 use Rattle.job.specs.Format.{Result, refused, accepted, read_job}
 use Rattle.job.specs.JobRecord.{job_result}
@@ -73,7 +74,7 @@ module _ (bytes : List ℕ) (g : PreparedJob) (e : Ok (record { rounds = g.round
   pub rounds_same : g.rounds ≡ spelt.job.rounds
   rounds_same = ap (λ (k : GivenParts). k.rounds) given_is
 
-  pub rounds_limit_lem : g.rounds ≤ 1000
+  pub rounds_limit_lem : g.rounds ≤ rounds_limit
   rounds_limit_lem = omega (arith, rounds_same, most_rounds spelt.allowed.writable)
 
   pub before_same : g.before ≡ before spelt.job.deck

@@ -26,6 +26,7 @@ use Rattle.reach.proofs.RecordLaws.{made_pricing}
 use Rattle.lines.specs.LineRecord.{flagged, lines_between}
 use Rattle.lines.proofs.DeckLines.{coordinates, reached, lines_flagged, padded_reached}
 use Rattle.numbers.proofs.WordTests.{back}
+use Rattle.query.specs.Range.{stops_limit}
 use Rattle.prepare.specs.ProblemRecord.{Parts, problem_record}
 use Rattle.prepare.proofs.Coordinates.{near_back}
 
@@ -62,7 +63,7 @@ module _ (deck : Deck) (h : Sound deck) (a : Rect) (ea : a ≡ record { xlo = de
   -- its objects, and which of them reach the area
   module _ (objects : Objects) (e : columns_of_objects objects ≡ columns_of (pricing_of (deck_of deck)))
       (n : count_of_objects objects ≡ deck.stops) (flags : List Bool) (f : flags ≡ flags_of (pricing_of_objects objects) (rect_of a)) where
-    flags_are : flags ≡ padded 512 false (reached (deck_of deck) x_axis)
+    flags_are : flags ≡ padded stops_limit false (reached (deck_of deck) x_axis)
     unfolding deck_of
     flags_are =
         f ∙ ap (flags_of (pricing_of_objects objects)) area_is

@@ -15,8 +15,7 @@ use Rattle.priced_place.specs.ObjectProblem.{object_problem}
 
 -- the problem of the objects, the lines and the area that a record holds
 abbrev pub problem_of : Problem → QueryProblem.Problem
-problem_of problem =
-    object_problem (pricing_of_objects problem.objects) (grid_of problem.vertical problem.horizontal) (rect_of problem.area)
+problem_of p = object_problem (pricing_of_objects p.objects) (grid_of p.vertical p.horizontal) (rect_of p.area)
 
 -- the problem of some deck in range that has an area
 pub record Prepared (problem : Problem) : Type 0 where

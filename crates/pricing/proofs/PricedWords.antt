@@ -18,6 +18,7 @@ use Rattle.query.specs.Place.{Rect}
 use Rattle.query.specs.Deck.{AxisCosts}
 use Rattle.query.specs.Bound.{span}
 use Rattle.query.specs.Range.{travel_limit}
+use Rattle.deck.specs.Ranges.{scaled_limit}
 use Rattle.reach.specs.Columns.{ObjectInRange}
 use Rattle.reach.specs.Held.{EdgesOf}
 use Rattle.reach.specs.declared.rectangle.Edges.{Edges}
@@ -36,7 +37,7 @@ module _ {x y visits near : ℤ} (row : ObjectInRange x y visits near) where
 least : (a b : ℕ) → int_min (pos a) (pos b) ≡ pos (min b a)
 least a b = omega (arith, ints, clamps)
 
-pub smaller : (near t m : ℤ) (k : ℕ) → pos 0 ≤ℤ near → nat_abs near ≤ 720000 → k ≤ 720000 → t ≡ pos k → m ≡ int_min (word t) (word near)
+pub smaller : (near t m : ℤ) (k : ℕ) → pos 0 ≤ℤ near → nat_abs near ≤ travel_limit → k ≤ travel_limit → t ≡ pos k → m ≡ int_min (word t) (word near)
     → nat_abs (word m) ≡ min (nat_abs near) k
 smaller near t m k some most small et em =
     let t_is : word t ≡ pos k = ap word et ∙ number_word (pos k) small in
@@ -45,12 +46,12 @@ smaller near t m k some most small et em =
     rw m_is (ap nat_abs (number_word (pos (min (nat_abs near) k)) (omega arith)))
 
 -- ---- a side of a scaled rectangle, and both
-module _ (lo hi : ℤ) (g : nat_abs lo ≤ 180000) (h : nat_abs hi ≤ 180000) (k : lo ≤ℤ hi) where
+module _ (lo hi : ℤ) (g : nat_abs lo ≤ scaled_limit) (h : nat_abs hi ≤ scaled_limit) (k : lo ≤ℤ hi) where
   side_is : word hi -ℤ word lo ≡ pos (dist lo hi)
   side_is = rw (number_word hi (omega arith), number_word lo (omega arith)) (omega (arith, order, sub_nat hi lo, dist_nat lo hi))
 
-  side_most : dist lo hi ≤ 360000
-  side_most = omega (arith, dist_most 180000 lo hi g h)
+  side_most : dist lo hi ≤ 2 * scaled_limit
+  side_most = omega (arith, dist_most scaled_limit lo hi g h)
 
   side_value : nat_abs (word (word hi -ℤ word lo)) ≡ dist lo hi
   side_value = natural_is w32 (word hi -ℤ word lo) (dist lo hi) side_is (omega (arith, side_most))

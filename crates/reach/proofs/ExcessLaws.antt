@@ -2,7 +2,7 @@
 use mathlib.Core.Path.{◌≡◌, ap, ◌∙◌}
 use mathlib.Core.Bool.{true, false}
 use mathlib.Core.Logic.{⊎_elim}
-use Prim.Native.Nat.{ℕ, ◌+◌, ◌^◌, ◌≤◌, ◌<◌}
+use Prim.Native.Nat.{ℕ, ◌+◌, ◌*◌, ◌^◌, ◌≤◌, ◌<◌}
 use native.Mathlib.Omega.{arith}
 use lib.IntN.{ℤ, pos, nat_abs, ◌+ℤ◌, ◌-ℤ◌}
 use lib.Signed.{lt_z, ◌≤ℤ◌}
@@ -12,8 +12,9 @@ use Rattle.numbers.proofs.Truth.{test, holds, fails, cond_ind}
 use Rattle.numbers.proofs.Integer.{order, dist_nat}
 use Rattle.numbers.proofs.Distance.{dist_sym, dist_most}
 use Rattle.numbers.proofs.Words.{word_fits, gap_above}
+use Rattle.query.specs.Range.{travel_limit}
 use Rattle.reach.specs.Columns.{EdgesInRange, excess_of}
-use Rattle.deck.specs.Ranges.{ScaledPlaceInRange}
+use Rattle.deck.specs.Ranges.{ScaledPlaceInRange, scaled_limit}
 use Rattle.deck.proofs.WordLaws.{sum_is, coordinate}
 use Rattle.reach.proofs.NarrowLaws.{word}
 
@@ -25,12 +26,12 @@ excess_no : (a b : ℤ) → lt_z b a ≡ false → excess_of a b ≡ 0
 unfolding excess_of
 excess_no a b e = rw e
 
-pub excess_most : (a b : ℤ) → nat_abs a ≤ 180000 → nat_abs b ≤ 180000 → excess_of a b ≤ 360000
+pub excess_most : (a b : ℤ) → nat_abs a ≤ scaled_limit → nat_abs b ≤ scaled_limit → excess_of a b ≤ 2 * scaled_limit
 unfolding excess_of
-excess_most a b g h = cond_ind (λ (n : ℕ). n ≤ 360000) (lt_z b a) (λ t. dist_most 180000 a b g h) (λ t. omega arith)
+excess_most a b g h = cond_ind (λ (n : ℕ). n ≤ 2 * scaled_limit) (lt_z b a) (λ t. dist_most scaled_limit a b g h) (λ t. omega arith)
 
 -- by the code's test
-module _ (a b : ℤ) (g : nat_abs a ≤ 180000) (h : nat_abs b ≤ 180000) where
+module _ (a b : ℤ) (g : nat_abs a ≤ scaled_limit) (h : nat_abs b ≤ scaled_limit) where
   pub excess_above : lt_z (word b) (word a) ≡ true → word a -ℤ word b ≡ pos (excess_of a b)
   excess_above e =
       gap_above w32 b a (word_fits w32 b (omega arith)) (word_fits w32 a (omega arith)) e
@@ -52,8 +53,8 @@ clamp_excess lo hi v h =
     (test (lt_z v lo))
 
 -- the same of words
-module _ (v lo hi : ℤ) (g : nat_abs v ≤ 180000) (edges : ScaledPlaceInRange lo hi) (h : lo ≤ℤ hi) where
-  pub outside_most : dist v (clamp lo hi v) ≤ 720000
+module _ (v lo hi : ℤ) (g : nat_abs v ≤ scaled_limit) (edges : ScaledPlaceInRange lo hi) (h : lo ≤ℤ hi) where
+  pub outside_most : dist v (clamp lo hi v) ≤ travel_limit
   outside_most = omega (arith, clamp_excess lo hi v h, excess_most lo v edges.x_range g, excess_most v hi g edges.y_range)
 
   pub outside_sum : (a b : ℤ) → a ≡ pos (excess_of (word lo) (word v)) → b ≡ pos (excess_of (word v) (word hi))
@@ -63,7 +64,7 @@ module _ (v lo hi : ℤ) (g : nat_abs v ≤ 180000) (edges : ScaledPlaceInRange 
       (small lo v edges.x_range g) (small v hi g edges.y_range)
       ∙ rw (clamp_excess lo hi v h)
     where
-      small : (k l : ℤ) → nat_abs k ≤ 180000 → nat_abs l ≤ 180000 → excess_of k l < 2 ^ 31
+      small : (k l : ℤ) → nat_abs k ≤ scaled_limit → nat_abs l ≤ scaled_limit → excess_of k l < 2 ^ 31
       small k l i j = omega (arith, excess_most k l i j)
 
   pub outside_word : dist (word v) (clamp (word lo) (word hi) (word v)) ≡ dist v (clamp lo hi v)
@@ -90,5 +91,5 @@ module _ (sx sy xlo ylo xhi yhi : ℤ) (at : ScaledPlaceInRange sx sy) (edges : 
       (q ∙ ap pos (outside_word sy ylo yhi at.y_range y_edges edges.deep))
       (small _ (outside_most sx xlo xhi at.x_range x_edges edges.across)) (small _ (outside_most sy ylo yhi at.y_range y_edges edges.deep))
     where
-      small : (n : ℕ) → n ≤ 720000 → n < 2 ^ 31
+      small : (n : ℕ) → n ≤ travel_limit → n < 2 ^ 31
       small n h = omega arith

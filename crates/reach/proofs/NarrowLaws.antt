@@ -14,8 +14,8 @@ use Rattle.numbers.proofs.Words.{word_fits}
 use Rattle.numbers.proofs.WordTests.{back}
 use Rattle.query.specs.Place.{Place, Rect}
 use Rattle.query.specs.Deck.{AxisCosts}
-use Rattle.query.specs.Range.{PlaceInRange}
-use Rattle.deck.specs.Ranges.{ScaledPlaceInRange, CostsInRange, Scaled}
+use Rattle.query.specs.Range.{PlaceInRange, coordinate_limit, axis_cost_limit, travel_limit}
+use Rattle.deck.specs.Ranges.{ScaledPlaceInRange, CostsInRange, Scaled, scaled_limit}
 use Rattle.deck.specs.Objects.{scaled_rect}
 use Rattle.deck.proofs.ScaleLaws.{natural_word as cost_word, scaled_word}
 use Rattle.reach.specs.Columns.{ObjectInRange, Ranged, EdgesInRange}
@@ -41,7 +41,7 @@ pub less_test : (z : ℤ) (t n : ℕ) → z ≡ pos t → t < 2 ^ 31 → n < 2 ^
 less_test z t n e g h = rw (e, to_z_pos w32 t g, to_z_pos w32 n h)
 
 -- ---- a row
-pub number_word : (z : ℤ) → nat_abs z ≤ 720000 → word z ≡ z
+pub number_word : (z : ℤ) → nat_abs z ≤ travel_limit → word z ≡ z
 number_word z h = to_z-of_z w32 z (word_fits w32 z (omega arith))
 
 module _ {x y visits near : ℤ} (row : ObjectInRange x y visits near) where
@@ -52,12 +52,12 @@ module _ {x y visits near : ℤ} (row : ObjectInRange x y visits near) where
   near_word = number_word near row.near_range
 
 -- ---- a place and a rectangle, scaled
-module _ {k : ℕ} (most : k ≤ 9) where
-  pub scaled_by : {r : ℤ} (v : ℤ) → nat_abs v ≤ 20000 → Scaled (to_z w32 k) (back v) r → word r ≡ times k v
+module _ {k : ℕ} (most : k ≤ axis_cost_limit) where
+  pub scaled_by : {r : ℤ} (v : ℤ) → nat_abs v ≤ coordinate_limit → Scaled (to_z w32 k) (back v) r → word r ≡ times k v
   scaled_by {r} v h e = scaled_word v h e ∙ ap (λ (z : ℤ). times (nat_abs z) v) (cost_word k most)
 
-  pub scaled_small : (v : ℤ) → nat_abs v ≤ 20000 → nat_abs (times k v) ≤ 180000
-  scaled_small v h = scale_most k 9 20000 v most h
+  pub scaled_small : (v : ℤ) → nat_abs v ≤ coordinate_limit → nat_abs (times k v) ≤ scaled_limit
+  scaled_small v h = scale_most k axis_cost_limit coordinate_limit v most h
 
 module _ {axis : AxisCosts} (costs : CostsInRange axis) where
   pub place_scaled : (p : Place) → PlaceInRange p → ScaledPlaceInRange (times axis.a p.x) (times axis.b p.y)

@@ -10,6 +10,7 @@ use Rattle.query.specs.Place.{Rect}
 use Rattle.query.specs.Deck.{Stop, Deck, plain}
 use Rattle.query.specs.Travel.{travel, near}
 use Rattle.query.specs.Reach.{closest_point, travel_to, reach}
+use Rattle.query.specs.Range.{stops_limit}
 use Rattle.deck.specs.Objects.{scaled_place, scaled_rect, Object, objects_of, Pricing, pricing_of}
 use Rattle.deck.proofs.TravelLaws.{travel_scaled}
 use Rattle.reach.specs.ObjectReach.{reaches, flags_of}
@@ -19,7 +20,7 @@ abbrev pub reaches_to : Rect → Object → Bool
 reaches_to r s = ltb (travel plain s.at (closest_point r s.at)) s.near
 
 module _ (P : Pricing) where
-  pub flags_of_map : (r : Rect) → flags_of P r ≡ padded 512 false (map (reaches_to (scaled_rect P.axis r)) P.objects)
+  pub flags_of_map : (r : Rect) → flags_of P r ≡ padded stops_limit false (map (reaches_to (scaled_rect P.axis r)) P.objects)
   unfolding flags_of reaches
   flags_of_map r = refl
 
@@ -40,6 +41,6 @@ module _ (deck : Deck) where
     travel_scaled deck.axis stop.at (closest_point r stop.at),
   )
 
-  pub flags_law : (r : Rect) → flags_of (pricing_of deck) r ≡ padded 512 false (map (reach deck r) deck.stops)
+  pub flags_law : (r : Rect) → flags_of (pricing_of deck) r ≡ padded stops_limit false (map (reach deck r) deck.stops)
   flags_law r = flags_of_map (pricing_of deck) r
-      ∙ rw objects_of_map (rw map-map (ap (padded 512 false) (map_each _ _ deck.stops (λ stop m. reach_law r stop))))
+      ∙ rw objects_of_map (rw map-map (ap (padded stops_limit false) (map_each _ _ deck.stops (λ stop m. reach_law r stop))))

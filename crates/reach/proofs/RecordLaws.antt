@@ -12,9 +12,9 @@ use Rattle.numbers.proofs.Integer.{order}
 use Rattle.numbers.proofs.Scaling.{scale_most}
 use Rattle.numbers.proofs.Padded.{padded_each}
 use Rattle.query.specs.Deck.{AxisCosts, Stop, Deck}
-use Rattle.query.specs.Range.{InRange}
+use Rattle.query.specs.Range.{InRange, coordinate_limit, stops_limit, visits_limit, axis_cost_limit, travel_limit}
 use Rattle.deck.specs.Objects.{Object, objects_of, Pricing, pricing_of, stored_objects, stored_pricing}
-use Rattle.deck.specs.Ranges.{CostsInRange, PlacesInRange, VisitsInRange, NearsInRange}
+use Rattle.deck.specs.Ranges.{CostsInRange, PlacesInRange, VisitsInRange, NearsInRange, scaled_limit}
 use Rattle.deck.proofs.ClosestLaws.{zip_at}
 use Rattle.deck.proofs.DeckLaws.{stop_in, stops_in}
 use Rattle.deck.proofs.StoredLaws.{object_of as object_stored, stops_count, stored, stored_count}
@@ -28,27 +28,27 @@ column_each : (P : ℤ → Type 0) → P (pos 0) → (objects : List Object) (nu
     → ((s : Object) → Memᴰ s objects → P (number s)) → (i : ℕ) → P (get_or (column number objects) i (pos 0))
 unfolding column
 column_each P h objects number each =
-    padded_each P (pos 0) h 512 (map number objects) (λ a m. let r = Memᴰ.of_map number objects m in subst P r.2 (each r.0 r.1))
+    padded_each P (pos 0) h stops_limit (map number objects) (λ a m. let r = Memᴰ.of_map number objects m in subst P r.2 (each r.0 r.1))
 
 -- a natural number in a column, up to k
 abbrev UpTo : ℕ → ℤ → Type 0
 UpTo k z = (pos 0 ≤ℤ z) × (nat_abs z ≤ k)
 
-priceable : (P : Pricing) → length P.objects ≤ 512 → (1 ≤ P.axis.a) × (1 ≤ P.axis.b) → (P.axis.a ≤ 9) × (P.axis.b ≤ 9)
+priceable : (P : Pricing) → length P.objects ≤ stops_limit → (1 ≤ P.axis.a) × (1 ≤ P.axis.b) → (P.axis.a ≤ axis_cost_limit) × (P.axis.b ≤ axis_cost_limit)
     → ((s : Object) → Memᴰ s P.objects → ObjectInRange s.at.x s.at.y (pos s.visits) (pos s.near))
     → Priceable (columns_of P) (length P.objects)
 priceable P few some most each = record {
   count = few;
   row = λ i h.
-      let visits = column_each (UpTo 65535) (omega (arith, order), omega arith) P.objects (λ s. pos s.visits)
+      let visits = column_each (UpTo visits_limit) (omega (arith, order), omega arith) P.objects (λ s. pos s.visits)
       (λ s m. ((each s m).visits_some, (each s m).visits_range)) i in
-      let near = column_each (UpTo 720000) (omega (arith, order), omega arith) P.objects (λ s. pos s.near)
+      let near = column_each (UpTo travel_limit) (omega (arith, order), omega arith) P.objects (λ s. pos s.near)
       (λ s m. ((each s m).near_some, (each s m).near_range)) i in
       rw (x_row P few i h, y_row P few i h, visits_row P few i h, near_row P few i h)
       (record {
         place = record {
-          x_range = column_each (λ z. nat_abs z ≤ 180000) (omega arith) P.objects (λ s. s.at.x) (λ s m. (each s m).place.x_range) i;
-          y_range = column_each (λ z. nat_abs z ≤ 180000) (omega arith) P.objects (λ s. s.at.y) (λ s m. (each s m).place.y_range) i;
+          x_range = column_each (λ z. nat_abs z ≤ scaled_limit) (omega arith) P.objects (λ s. s.at.x) (λ s m. (each s m).place.x_range) i;
+          y_range = column_each (λ z. nat_abs z ≤ scaled_limit) (omega arith) P.objects (λ s. s.at.y) (λ s m. (each s m).place.y_range) i;
         };
         visits_some = visits.0;
         visits_range = visits.1;
@@ -68,7 +68,7 @@ each_at Q d [] f x m = elim m [ ]
 each_at Q d (y ∷ ys) f x (Memᴰ.head e) = subst Q (sym e) (f 0 (omega arith))
 each_at Q d (y ∷ ys) f x (Memᴰ.tail m) = each_at Q d ys (λ i h. f (suc i) (omega arith)) x m
 
-module _ (axis : AxisCosts) {xs ys : List ℤ} {vs ns : List ℕ} {n : ℕ} (costs : CostsInRange axis) (places : PlacesInRange 512 xs ys n)
+module _ (axis : AxisCosts) {xs ys : List ℤ} {vs ns : List ℕ} {n : ℕ} (costs : CostsInRange axis) (places : PlacesInRange stops_limit xs ys n)
     (visits : VisitsInRange vs n) (nears : NearsInRange ns n) where
   abbrev objects : List Object
   objects = stored axis places visits nears
@@ -91,8 +91,8 @@ module _ (axis : AxisCosts) {xs ys : List ℤ} {vs ns : List ℕ} {n : ℕ} (cos
       subst (λ (s : Object). ObjectInRange s.at.x s.at.y (pos s.visits) (pos s.near)) (sym (is_stored i k))
       (record {
         place = record {
-          x_range = scale_most axis.a 9 20000 (get_or xs i (pos 0)) costs.most.0 (places.x.range i k);
-          y_range = scale_most axis.b 9 20000 (get_or ys i (pos 0)) costs.most.1 (places.y.range i k);
+          x_range = scale_most axis.a axis_cost_limit coordinate_limit (get_or xs i (pos 0)) costs.most.0 (places.x.range i k);
+          y_range = scale_most axis.b axis_cost_limit coordinate_limit (get_or ys i (pos 0)) costs.most.1 (places.y.range i k);
         };
         visits_some = omega (arith, order);
         visits_range = visits.range i k;
@@ -111,7 +111,7 @@ module _ (deck : Deck) (range : InRange deck) where
   objects_count : length (objects_of deck) ≡ length deck.stops
   objects_count = rw objects_of_map (length-map deck.stops (object_of deck))
 
-  few : length (objects_of deck) ≤ 512
+  few : length (objects_of deck) ≤ stops_limit
   few = omega (arith, objects_count, range.most_stops)
 
   pub made_objects : objects_in (columns_of (pricing_of deck)) (length deck.stops) ≡ objects_of deck

@@ -11,6 +11,7 @@ use Rattle.numbers.specs.Padded.{padded}
 use Rattle.numbers.proofs.Padded.{padded_none, padded_map}
 use Rattle.query.specs.Place.{Rect}
 use Rattle.query.specs.Reach.{closest_point}
+use Rattle.query.specs.Range.{stops_limit}
 use Rattle.deck.specs.Objects.{Object}
 use Rattle.deck.specs.ObjectColumns.{object_at, objects_in}
 use Rattle.deck.proofs.TravelLaws.{travel_plain}
@@ -42,18 +43,18 @@ row_reaches row r e = rw (x_word row, y_word row, near_word row.in_range) (sym (
 
 -- ---- which rows reach a rectangle: the flags of the first i rows
 pub record Flagged (columns : List ℤ) (r : Rect) (flags : List Bool) (i : ℕ) : Type 0 where
-  pub are : flags ≡ padded 512 false (map (reaches_to r) (objects_in columns i))
+  pub are : flags ≡ padded stops_limit false (map (reaches_to r) (objects_in columns i))
 
 module _ (columns : List ℤ) (r : Rect) where
-  pub flagged_none : Flagged columns r (replicate 512 false) 0
+  pub flagged_none : Flagged columns r (replicate stops_limit false) 0
   flagged_none = record { are = rw (objects_in_none, padded_none) }
 
-  pub flagged_more : {flags : List Bool} {i : ℕ} (v : Bool) → Flagged columns r flags i → i < 512 → v ≡ reaches_to r (object_at columns i)
+  pub flagged_more : {flags : List Bool} {i : ℕ} (v : Bool) → Flagged columns r flags i → i < stops_limit → v ≡ reaches_to r (object_at columns i)
       → Flagged columns r (set flags i v) (i + 1)
   flagged_more {flags} {i} v so_far h e =
       record {
         are =
             rw (e, objects_in_more columns i)
-            (padded_map 512 false (reaches_to r) (objects_in columns i) (object_at columns i) (omega (arith, objects_in_length columns i)) h
+            (padded_map stops_limit false (reaches_to r) (objects_in columns i) (object_at columns i) (omega (arith, objects_in_length columns i)) h
             so_far.are);
       }

@@ -4,6 +4,7 @@ use Rattle.std.specs.Int.Signed.{lt_z}
 use Rattle.numbers.specs.Integer.{dist}
 use Rattle.query.specs.Place.{Rect, NonEmpty}
 use Rattle.query.specs.Range.{RectInRange, travel_limit, stops_limit, visits_limit}
+use Rattle.deck.specs.Columns.{y_column, visits_column, near_column, x_cost_place, y_cost_place, columns_size}
 use Rattle.deck.specs.Ranges.{ScaledPlaceInRange, AxisCostInRange}
 
 -- one row of the columns
@@ -14,18 +15,18 @@ pub record ObjectInRange (x y visits near : ℤ) : Type 0 where
   pub near_some : pos 0 ≤ℤ near
   pub near_range : nat_abs near ≤ travel_limit
 
--- two axis costs behind columns of 512 rows each
+-- two axis costs behind the columns
 pub record AxisCostsInRange (columns : List ℤ) : Type 0 where
-  pub long : length columns ≡ 2050
-  pub x_cost : AxisCostInRange (get_or columns 2048 (pos 0))
-  pub y_cost : AxisCostInRange (get_or columns 2049 (pos 0))
+  pub long : length columns ≡ columns_size
+  pub x_cost : AxisCostInRange (get_or columns x_cost_place (pos 0))
+  pub y_cost : AxisCostInRange (get_or columns y_cost_place (pos 0))
 
 -- and the columns, of which the first n rows count
 pub record Priceable (columns : List ℤ) (n : ℕ) : Type 0 where
   pub count : n ≤ stops_limit
   pub row : (i : ℕ) → i < stops_limit
-      → ObjectInRange (get_or columns i (pos 0)) (get_or columns (512 + i) (pos 0)) (get_or columns (1024 + i) (pos 0))
-      (get_or columns (1536 + i) (pos 0))
+      → ObjectInRange (get_or columns i (pos 0)) (get_or columns (y_column + i) (pos 0)) (get_or columns (visits_column + i) (pos 0))
+      (get_or columns (near_column + i) (pos 0))
   pub costs : AxisCostsInRange columns
 
 -- a rectangle in range that has a point

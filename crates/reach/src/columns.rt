@@ -1,6 +1,7 @@
 // The objects of a deck in columns, with the axis costs behind them (RULES "Deck", "Travel").
 
 ghost use Rattle.std.specs.Prelude.{◌≡◌, ◌<◌, length};
+ghost use Rattle.query.specs.Range.{stops_limit};
 ghost use Rattle.deck.specs.DeckOf.{held_axis};
 ghost use Rattle.deck.specs.Objects.{stored_pricing};
 ghost use Rattle.deck.specs.ObjectColumns.{object_at, axis_in, columns_of};
@@ -36,7 +37,7 @@ impl Objects {
     // Not inlined, so that a caller's frame has no second array of columns.
     #[inline(never)]
     pub fn of_stops(axis: AxisCosts, stops: Stops<'_>) -> Objects
-        requires { CostsInRange (held_axis axis) × PlacesInRange 512 stops.at.x.now stops.at.y.now (length stops.at.x.now)
+        requires { CostsInRange (held_axis axis) × PlacesInRange stops_limit stops.at.x.now stops.at.y.now (length stops.at.x.now)
             × VisitsInRange stops.visits.now (length stops.at.x.now) × NearsInRange stops.near.now (length stops.at.x.now) }
         ensures { (columns_of_objects result
             ≡ columns_of (stored_pricing (held_axis axis) stops.entry.at.x.now stops.entry.at.y.now stops.entry.visits.now

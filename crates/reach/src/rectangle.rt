@@ -2,7 +2,7 @@
 
 ghost use Rattle.std.specs.Prelude.{◌≡◌, ◌+◌, ◌≤◌, ltb, pos, nat_abs, ◌≤ℤ◌};
 ghost use Rattle.numbers.specs.Integer.{dist, clamp};
-ghost use Rattle.deck.specs.Ranges.{ScaledPlaceInRange, CostsInRange};
+ghost use Rattle.deck.specs.Ranges.{scaled_limit, ScaledPlaceInRange, CostsInRange};
 ghost use Rattle.deck.specs.DeckOf.{held_axis};
 ghost use Rattle.deck.specs.Rectangle.{rect_of};
 ghost use Rattle.reach.specs.Columns.{Ranged, EdgesInRange, excess_of};
@@ -29,7 +29,7 @@ fn excess(a: i32, b: i32) -> i32
 
 // The distance of v to the closest number of lo .. hi.
 fn outside(v: i32, lo: i32, hi: i32) -> i32
-    requires { (nat_abs v ≤ 180000) × ScaledPlaceInRange lo hi × (lo ≤ℤ hi) }
+    requires { (nat_abs v ≤ scaled_limit) × ScaledPlaceInRange lo hi × (lo ≤ℤ hi) }
     ensures { result ≡ pos (dist v (clamp lo hi v)) }
 {
     excess(lo, v) + excess(v, hi)

@@ -11,7 +11,7 @@ use Rattle.numbers.proofs.Integer.{order, abs_range}
 use Rattle.query.specs.Place.{Place, Rect, corner, Axis, x_axis, y_axis, low_edge, high_edge}
 use Rattle.query.specs.Grid.{Grid}
 use Rattle.query.specs.Cut.{Line, can_cut, cut_line, cut_before, cut_after, low_corner, high_corner}
-use Rattle.query.specs.Range.{PlaceInRange, RectInRange}
+use Rattle.query.specs.Range.{PlaceInRange, RectInRange, coordinate_limit}
 use Rattle.query.proofs.CutLaws.{cut_law}
 use Rattle.deck.specs.declared.Place as Code
 use Rattle.deck.specs.declared.Rect as Deck
@@ -33,14 +33,17 @@ use Rattle.search.specs.Corners.{corner_costs, entry_for}
 use Rattle.search.specs.CutCell.{cut_part, part_costs, halves_of, Cutting}
 
 -- ---- ranges
-middle_range : (lo v hi : ℤ) → nat_abs lo ≤ 20000 → nat_abs hi ≤ 20000 → lo <ℤ v → v <ℤ hi → nat_abs v ≤ 20000
-middle_range lo v hi a b h g = let p = (abs_range lo 20000).0 a in let q = (abs_range hi 20000).0 b in (abs_range v 20000).1 (omega (arith, order))
+middle_range : (lo v hi : ℤ) → nat_abs lo ≤ coordinate_limit → nat_abs hi ≤ coordinate_limit → lo <ℤ v → v <ℤ hi → nat_abs v ≤ coordinate_limit
+middle_range lo v hi a b h g =
+    let p = (abs_range lo coordinate_limit).0 a in
+    let q = (abs_range hi coordinate_limit).0 b in
+    (abs_range v coordinate_limit).1 (omega (arith, order))
 
-line_range : (axis : Axis) (v : ℤ) (r : Rect) → RectInRange r → low_edge axis r <ℤ v → v <ℤ high_edge axis r → nat_abs v ≤ 20000
+line_range : (axis : Axis) (v : ℤ) (r : Rect) → RectInRange r → low_edge axis r <ℤ v → v <ℤ high_edge axis r → nat_abs v ≤ coordinate_limit
 line_range x_axis v r h = middle_range r.xlo v r.xhi h.low_corner_law.x_range h.high_corner_law.x_range
 line_range y_axis v r h = middle_range r.ylo v r.yhi h.low_corner_law.y_range h.high_corner_law.y_range
 
-parts_range : (axis : Axis) (v : ℤ) (r : Rect) → Ranged r → nat_abs v ≤ 20000 → low_edge axis r <ℤ v → v <ℤ high_edge axis r
+parts_range : (axis : Axis) (v : ℤ) (r : Rect) → Ranged r → nat_abs v ≤ coordinate_limit → low_edge axis r <ℤ v → v <ℤ high_edge axis r
     → Ranged (cut_before axis v r) × Ranged (cut_after axis v r)
 parts_range x_axis v r h n lo hi =
     let k = h.range in (

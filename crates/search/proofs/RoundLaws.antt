@@ -17,7 +17,7 @@ use Rattle.query.specs.Problem.{Rules, Problem}
 use Rattle.query.specs.Cut.{can_cut, Line, cut_line, cut_before, cut_after, low_corner, high_corner, new_corners}
 use Rattle.query.specs.Order as Query
 use Rattle.query.specs.Order.{Priced, precedes, priced_key, cell_key}
-use Rattle.query.specs.Range.{RectInRange, cost_limit}
+use Rattle.query.specs.Range.{RectInRange, cost_limit, rounds_limit}
 use Rattle.query.specs.Search.{Search, is_live, cell_of, best_of, start_best, start, cells_after, best_after, round_on, round}
 use Rattle.query.proofs.CellsAfter.{after_is}
 use Rattle.deck.specs.Objects.{Pricing}
@@ -58,7 +58,7 @@ start_is Q = refl
 
 pub started : (P : Pricing) (G : Grid) (e : Entry) (area : Rect) (k : Corners) (best : PricedPlace) (l : Live) → k ≡ priced_corners P area
     → best ≡ best_corner k → e ≡ entry_for P area → Added G (priced_of best) e none_live l
-    → Holds P (start (object_problem P G area)) 1000 l (record { best = best; cuts = 0 })
+    → Holds P (start (object_problem P G area)) rounds_limit l (record { best = best; cuts = 0 })
 started P G e area k best l corners best-is entry added = record {
   is = is;
   costed = record { each = costed };

@@ -22,7 +22,7 @@ use Rattle.query.specs.Order as Query
 use Rattle.query.specs.Order.{precedes, priced_key, cell_key, cell_before}
 use Rattle.query.specs.Search.{Search, is_live, start, round_on, round, run}
 use Rattle.query.specs.Figures as Figures
-use Rattle.query.specs.Range.{cost_limit}
+use Rattle.query.specs.Range.{cost_limit, rounds_limit}
 use Rattle.query.proofs.SearchLaws.{run_in_order, partition_law}
 use Rattle.query.proofs.Counts.{cuts_most}
 use Rattle.deck.specs.Objects.{Pricing}
@@ -82,12 +82,13 @@ pub popped : (l l' : Live) (e : Entry) → Some e ≡ first_of l.entries → l' 
 popped l l' e p q = popped_rest l.free l.entries e l' p q
 
 module _ (P : Pricing) (R : Rules) where
-  pub holds_first : (x : Search) (l : Live) (st : Running) → Holds P x 1000 l st → Holds P (rounds_from R 0 (search_of l.entries st)) (1000 - 0) l st
+  pub holds_first : (x : Search) (l : Live) (st : Running) → Holds P x rounds_limit l st
+      → Holds P (rounds_from R 0 (search_of l.entries st)) (rounds_limit - 0) l st
   holds_first x l st h = holds_as h (sym h.is ∙ sym (rounds_none R (search_of l.entries st))) (omega arith)
 
-  pub holds_more : (k : ℕ) (x : Search) (l l₁ l' : Live) (e : Entry) (st st' : Running) → Holds P (rounds_from R k x) (1000 - k) l st
+  pub holds_more : (k : ℕ) (x : Search) (l l₁ l' : Live) (e : Entry) (st st' : Running) → Holds P (rounds_from R k x) (rounds_limit - k) l st
       → Some e ≡ first_of l.entries → l₁ ≡ without_first l → Holds P (round R (search_of (e ∷ l₁.entries) st)) (l₁.free - 2) l' st'
-      → Holds P (rounds_from R (k + 1) x) (1000 - (k + 1)) l' st'
+      → Holds P (rounds_from R (k + 1) x) (rounds_limit - (k + 1)) l' st'
   holds_more k x l l₁ l' e st st' h p q g =
       let taken = popped l l₁ e p q in
       holds_as g (ap (λ (es : List Entry). round R (search_of es st)) (sym taken.0) ∙ ap (round R) h.is ∙ sym (rounds_more R k x))
@@ -145,7 +146,7 @@ module _ (Q : Problem) (P : Pricing) (n lowest : ℕ) (l : Live) (st : Running) 
   answerable steady = record { cost_limit_lem = omega (arith, best_cost, steady.cost_limit_lem n); in_order = ordered }
 
   -- what a round asks
-  pub takeable : Steady Q → n < 1000 → 1 ≤ lowest → (e : Entry) (l' : Live) → Some e ≡ first_of l.entries → l' ≡ without_first l
+  pub takeable : Steady Q → n < rounds_limit → 1 ≤ lowest → (e : Entry) (l' : Live) → Some e ≡ first_of l.entries → l' ≡ without_first l
       → Takeable P Q.rules.grid e l' st
   unfolding is_live
   takeable steady few low e l' p q =

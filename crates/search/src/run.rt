@@ -127,7 +127,7 @@ fn round(problem: &Problem, live: &mut LiveCells, entry: Entry, st: Running) -> 
 // The start of a search.
 fn start(problem: &Problem, live: &mut LiveCells) -> Running
     requires { Prepared problem.now × (live.old ≡ none_live) }
-    ensures { Holds (pricing_of_objects problem.now.objects) (Search.start (problem_of problem.now)) 1000
+    ensures { Holds (pricing_of_objects problem.now.objects) (Search.start (problem_of problem.now)) rounds_limit
         live.new result }
 {
     let corners = Corners::of(&problem.objects, problem.area);

@@ -4,12 +4,12 @@
 #![tactic(auto)]
 
 ghost use Rattle.std.specs.Prelude.{◌≡◌, ◌+◌, ◌*◌, ◌≤◌, ◌<◌, pos, length, get_or, replicate};
-ghost use Rattle.slots.specs.Slot.{cell_at, costs_at, CellPut, CostsPut, EntryPut};
-ghost use Rattle.slots.specs.Numbering.{Numbered, slot_numbers};
+ghost use Rattle.slots.specs.Slot.{cell_at, costs_at, CellPut, CostsPut, EntryPut, cells_size, costs_size};
+ghost use Rattle.slots.specs.Numbering.{Numbered, slot_numbers, slots_limit};
 ghost use Rattle.slots.specs.Places.{entries_in, at_place, rotated};
 
 use deck::Rect;
-use limits::{CELLS, CORNER_COSTS, SPACE};
+use limits::{CELL_NUMBERS, CELLS, CORNER_COSTS, SPACE};
 use std::array;
 
 /// A cell with its bound (RULES "Bound"). A bound can be negative.
@@ -49,10 +49,10 @@ pub struct Arrays {
 
 // The cell in a slot.
 fn get_cell(cells: &[i64; SPACE], slot: usize) -> Cell
-    requires { slot < 1001 }
+    requires { slot < slots_limit }
     ensures { result ≡ cell_at cells.now slot }
 {
-    let at = slot * 5;
+    let at = slot * CELL_NUMBERS;
     let rect = Rect {
         xlo: cells[at],
         ylo: cells[at + 1],
@@ -67,7 +67,7 @@ fn get_cell(cells: &[i64; SPACE], slot: usize) -> Cell
 
 // The costs of the corners of the cell in a slot.
 fn get_costs(costs: &[u64; CORNER_COSTS], slot: usize) -> Costs
-    requires { slot < 1001 }
+    requires { slot < slots_limit }
     ensures { result ≡ costs_at costs.now slot }
 {
     let at = slot * 4;
@@ -81,10 +81,10 @@ fn get_costs(costs: &[u64; CORNER_COSTS], slot: usize) -> Costs
 
 /// Stores a cell in a slot of `numbers`, its edges and its bound as five numbers. All other numbers stay as they are.
 pub fn put_cell(numbers: &mut [i64], slot: usize, cell: Cell)
-    requires { (slot < 1001) × (slot * 5 + 4 < length numbers.old) }
+    requires { (slot < slots_limit) × (slot * 5 + 4 < length numbers.old) }
     ensures { CellPut numbers.old slot cell numbers.new }
 {
-    let at = slot * 5;
+    let at = slot * CELL_NUMBERS;
     let rect = cell.rect;
     let xlo = rect.xlo;
     numbers[at] = xlo;
@@ -100,7 +100,7 @@ pub fn put_cell(numbers: &mut [i64], slot: usize, cell: Cell)
 
 // Stores the costs of a cell's corners in a slot. The numbers are written through a slice, which tells how many they are.
 fn put_costs(costs: &mut [u64; CORNER_COSTS], slot: usize, corners: Costs)
-    requires { slot < 1001 }
+    requires { slot < slots_limit }
     ensures { CostsPut costs.old slot corners costs.new }
 {
     let numbers: &mut [u64] = costs;
@@ -118,7 +118,7 @@ pub fn put_entry(
     slot: usize,
     entry: Entry,
 )
-    requires { slot < 1001 }
+    requires { slot < slots_limit }
     ensures { EntryPut cells.old costs.old slot entry cells.new costs.new }
 {
     let numbers: &mut [i64] = cells;
@@ -136,7 +136,8 @@ pub fn numbers() -> [u16; CELLS]
 impl Arrays {
     /// Arrays of zeros. The order is made by `number`: so the compiler clears the arrays where the caller keeps them.
     pub fn new() -> Self
-        ensures { result ≡ record { cells = replicate 5005 (pos 0); costs = replicate 4004 0; order = replicate 1001 0 } }
+        ensures { result
+            ≡ record { cells = replicate cells_size (pos 0); costs = replicate costs_size 0; order = replicate slots_limit 0 } }
     {
         Arrays {
             cells: [0; SPACE],
@@ -154,15 +155,15 @@ impl Arrays {
 
     // The slot at a place of the order.
     fn slot_at(&self, place: usize) -> usize
-        requires { Numbered self.now.order × (place < 1001) }
-        ensures { (result ≡ get_or self.now.order place 0) × (result < 1001) }
+        requires { Numbered self.now.order × (place < slots_limit) }
+        ensures { (result ≡ get_or self.now.order place 0) × (result < slots_limit) }
     {
         self.order[place] as usize
     }
 
     /// The cell at a place of the order, counted from 0.
     pub fn cell_at(&self, place: usize) -> Cell
-        requires { Numbered self.now.order × (place < 1001) }
+        requires { Numbered self.now.order × (place < slots_limit) }
         ensures { result ≡ (at_place (entries_in self.now.cells self.now.costs self.now.order) place).cell }
     {
         get_cell(&self.cells, self.slot_at(place))
@@ -170,7 +171,7 @@ impl Arrays {
 
     /// The costs of the corners of the cell at a place of the order.
     pub fn costs_at(&self, place: usize) -> Costs
-        requires { Numbered self.now.order × (place < 1001) }
+        requires { Numbered self.now.order × (place < slots_limit) }
         ensures { result ≡ (at_place (entries_in self.now.cells self.now.costs self.now.order) place).costs }
     {
         get_costs(&self.costs, self.slot_at(place))
@@ -178,7 +179,7 @@ impl Arrays {
 
     /// The cell at a place of the order, with the costs of its corners.
     pub fn get(&self, place: usize) -> Entry
-        requires { Numbered self.now.order × (place < 1001) }
+        requires { Numbered self.now.order × (place < slots_limit) }
         ensures { result ≡ at_place (entries_in self.now.cells self.now.costs self.now.order) place }
     {
         Entry {
@@ -189,7 +190,7 @@ impl Arrays {
 
     /// Stores an entry in the slot at a place of the order. The order, and every other slot, stay as they are.
     pub fn store(&mut self, place: usize, entry: Entry)
-        requires { Numbered self.old.order × (place < 1001) }
+        requires { Numbered self.old.order × (place < slots_limit) }
         ensures put { EntryPut self.old.cells self.old.costs (get_or self.old.order place 0) entry self.new.cells self.new.costs }
         ensures order { self.new.order ≡ self.old.order }
     {
@@ -200,7 +201,7 @@ impl Arrays {
     /// Moves the slots from the place `head` up to `to` each one place to the left in the order, and the one before `head` behind them.
     /// Cells and costs stay where they are.
     pub fn rotate(&mut self, head: usize, to: usize)
-        requires { (1 ≤ head) × (head ≤ to) × (to ≤ 1001) }
+        requires { (1 ≤ head) × (head ≤ to) × (to ≤ slots_limit) }
         ensures order { self.new.order ≡ rotated 0 self.old.order head to }
         ensures cells { self.new.cells ≡ self.old.cells }
         ensures costs { self.new.costs ≡ self.old.costs }

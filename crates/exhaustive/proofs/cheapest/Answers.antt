@@ -2,15 +2,16 @@
 use mathlib.Core.Path.{sym, subst}
 use Prim.Native.Nat.{ℕ}
 use lib.ListN.{length-replicate}
-use Rattle.exhaustive.specs.Ramps.{LinesInRange}
+use Rattle.query.specs.Range.{stops_limit}
+use Rattle.exhaustive.specs.Ramps.{LinesInRange, table_size}
 use Rattle.exhaustive.proofs.DeckCrossings.{vertical_lines, horizontal_lines, corner_near, answers}
 use Rattle.exhaustive.proofs.cheapest.Goals as goal
 
 pub number_lines-requires : goal.number_lines-requires
-number_lines-requires c = (subst LinesInRange (sym c.as_slice-horizontal.ensures.lines) (horizontal_lines c.requires.0), length-replicate {A = ℕ} 40001 0)
+number_lines-requires c = (subst LinesInRange (sym c.as_slice-horizontal.ensures.lines) (horizontal_lines c.requires.0), length-replicate {A = ℕ} table_size 0)
 
 pub number_objects-requires : goal.number_objects-requires
-number_objects-requires c = length-replicate {A = ℕ} 512 0
+number_objects-requires c = length-replicate {A = ℕ} stops_limit 0
 
 pub priced-first-requires : goal.priced-first-requires
 priced-first-requires c = corner_near c.requires.0

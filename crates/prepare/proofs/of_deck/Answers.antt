@@ -4,6 +4,7 @@ use native.Mathlib.Omega.{arith}
 use borrow.Author.Rules.{rules}
 use lib.ListN.{length}
 use lib.Seq.{length-take-le}
+use Rattle.query.specs.Range.{stops_limit}
 use Rattle.deck.specs.ObjectColumns.{columns_of}
 use Rattle.deck.proofs.DeckLaws.{costs_range, stops_range, visits_range}
 use Rattle.deck.proofs.Fronts.{given_range, given_naturals, given_count, stored_given}
@@ -32,20 +33,20 @@ reach_flags-flags-requires c = area_ranged _ c.requires _ c.area-area.ensures
 
 pub slice_bounds-flags-end : goal.slice_bounds-flags-end
 slice_bounds-flags-end c =
-    let long : length c.reach_flags-flags.result ≡ 512 = search rules in omega (arith, long, (sound_columns c.requires).stops)
+    let long : length c.reach_flags-flags.result ≡ stops_limit = search rules in omega (arith, long, (sound_columns c.requires).stops)
 
 pub slice_bounds-find_lines-end : goal.slice_bounds-find_lines-end
 slice_bounds-find_lines-end c =
-    let long : length c.reach_flags-flags.result ≡ 512 = search rules in
+    let long : length c.reach_flags-flags.result ≡ stops_limit = search rules in
     sym (length-take-le _ c.reach_flags-flags.result (omega (arith, long, (sound_columns c.requires).stops)))
 
 pub slice_bounds-flags-end-2 : goal.slice_bounds-flags-end-2
 slice_bounds-flags-end-2 c =
-    let long : length c.reach_flags-flags.result ≡ 512 = search rules in omega (arith, long, (sound_columns c.requires).stops)
+    let long : length c.reach_flags-flags.result ≡ stops_limit = search rules in omega (arith, long, (sound_columns c.requires).stops)
 
 pub slice_bounds-find_lines-end-2 : goal.slice_bounds-find_lines-end-2
 slice_bounds-find_lines-end-2 c =
-    let long : length c.reach_flags-flags.result ≡ 512 = search rules in
+    let long : length c.reach_flags-flags.result ≡ stops_limit = search rules in
     sym (length-take-le _ c.reach_flags-flags.result (omega (arith, long, (sound_columns c.requires).stops)))
 
 pub returns : goal.returns

@@ -1,7 +1,7 @@
 -- What `cuts::Side::middle` owes.
 use native.Mathlib.Omega.{arith}
 use mathlib.Core.Path.{◌≡◌}
-use Prim.Native.Nat.{◌≤◌}
+use Prim.Native.Nat.{◌+◌, ◌*◌, ◌≤◌}
 use lib.IntN.{ℤ, pos, nat_abs, ◌+ℤ◌}
 use lib.Signed.{shr_z}
 use mir.Syntax.{w64}
@@ -9,16 +9,18 @@ use Rattle.numbers.specs.Integer.{half_up}
 use Rattle.numbers.proofs.Integer.{abs_range, half_nat, sum_abs, half_shift}
 use Rattle.numbers.proofs.Words.{word_fits}
 use Rattle.numbers.proofs.WordTests.{back, back_is}
+use Rattle.query.specs.Range.{coordinate_limit}
 use Rattle.cuts.specs.CutRecord.{Edges}
 use Rattle.cuts.proofs.CutRecordLaws.{back_low, back_high}
 use Rattle.cuts.proofs.Side.middle.Goals as goal
 
 half_sum : (lo hi : ℤ) → Edges lo hi → back (shr_z (back (back (back lo +ℤ back hi) +ℤ pos 1)) 2) ≡ half_up (lo +ℤ hi)
 half_sum lo hi e =
-    let small : nat_abs (lo +ℤ hi) ≤ 40000 = sum_abs lo hi 20000 20000 e.lo_range e.hi_range in
-    let more : nat_abs ((lo +ℤ hi) +ℤ pos 1) ≤ 40001 = sum_abs (lo +ℤ hi) (pos 1) 40000 1 small (omega arith) in
+    let small : nat_abs (lo +ℤ hi) ≤ 2 * coordinate_limit = sum_abs lo hi coordinate_limit coordinate_limit e.lo_range e.hi_range in
+    let more : nat_abs ((lo +ℤ hi) +ℤ pos 1) ≤ 2 * coordinate_limit + 1 = sum_abs (lo +ℤ hi) (pos 1) (2 * coordinate_limit) 1 small (omega arith) in
     let h = half_up (lo +ℤ hi) in
-    let h-range : nat_abs h ≤ 100000 = (abs_range h 100000).1 (omega (arith, half_nat (lo +ℤ hi), (abs_range (lo +ℤ hi) 40000).0 small)) in
+    let h-range : nat_abs h ≤ 2 * coordinate_limit =
+    (abs_range h (2 * coordinate_limit)).1 (omega (arith, half_nat (lo +ℤ hi), (abs_range (lo +ℤ hi) (2 * coordinate_limit)).0 small)) in
     rw (
       back_low e,
       back_high e,

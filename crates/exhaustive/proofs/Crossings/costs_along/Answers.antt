@@ -5,12 +5,13 @@ use native.Mathlib.Omega.{arith}
 use lib.IntN.{nat_abs}
 use Rattle.query.specs.Deck.{AxisCosts}
 use Rattle.numbers.proofs.WordTests.{back, back_is}
+use Rattle.query.specs.Range.{coordinate_limit}
 use Rattle.exhaustive.proofs.CheapestOfLines.{zero_sums, sweepable, swept_line}
 use Rattle.exhaustive.proofs.Crossings.costs_along.Goals as goal
 
 pub add_objects-requires : goal.add_objects-requires
 add_objects-requires c =
-    let near : nat_abs (back c.args.coordinate) ≤ 20000 = rw (back_is c.ranges.coordinate) c.requires.0 in
+    let near : nat_abs (back c.args.coordinate) ≤ coordinate_limit = rw (back_is c.ranges.coordinate) c.requires.0 in
     (omega (arith, near), zero_sums)
 
 pub sweep-requires : goal.sweep-requires
