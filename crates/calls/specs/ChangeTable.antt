@@ -1,5 +1,5 @@
--- Rows of changes of a deck's record (RULES "Change 6"), worked out by hand: from a job's bytes or a record's numbers, and some changes, to
--- the answers, to all numbers of the record, or to near and before.
+-- Rows of changes of a deck's record (RULES "Change 6"): from a job's bytes or a record's numbers, and some changes, to the answers, to all
+-- numbers of the record, or to near and before.
 use Rattle.std.specs.Prelude.{ℕ, ◌≡◌, List, [], ◌∷◌, ◌++◌, map, ℤ, pos, negsuc, replicate, set}
 use Prim.Native.String.{String}
 use Rattle.numbers.specs.Padded.{padded}

@@ -17,7 +17,7 @@ use Rattle.calls.specs.Answers.{gives, refuses, refusal}
 use Rattle.calls.specs.Call.{job_figures, report_call}
 use Rattle.query.specs.Range.{rounds_limit}
 
--- a job is accepted with what is lent (RULES "Calls"): its bytes are read as j, and enough is lent for it
+-- a job is accepted with what is lent (RULES "Job"): its bytes are read as j, and enough is lent for it
 pub record Accepted (job : List ℕ) (cells : List ℤ) (out : List ℕ) (j : Job) : Type 0 where
   pub read : read_job job ≡ accepted j
   pub space : space_needed j.deck j.rounds ≤ length cells

@@ -39,7 +39,7 @@ pub record Theorems : Type 0 where
   -- reading a job, and writing every record that the code can hold (RULES "Change 1")
   pub read : (job : List ℕ) → ReadLaw job
   pub write : (deck : Deck) (rounds : ℕ) (out : List ℕ) → Sized deck → WriteLaw deck rounds out
-  -- what is read, where a missing axis line means any costs in range, and what is refused, whatever it means (RULES "Change 2")
+  -- what is read, where a missing axis line means any costs in range, and what is refused, whatever it means (RULES "Job")
   pub reading : (missing : AxisCosts) (job : List ℕ) (j : Job) → AcceptedLaw missing job j
   pub refusing : (missing : AxisCosts) (job : List ℕ) (why : Refusal) → RefusedLaw missing job why
   -- the records that reading and changes make (RULES "Change 5")

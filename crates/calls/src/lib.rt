@@ -13,15 +13,18 @@ use std::marker::Model;
 /// What `siting::report` answers (RULES "Forms"): a report, whose state says how the search ended, or the refusal that applies first.
 #[derive(Clone, Copy, PartialEq, Eq)]
 pub enum Answer {
+    /// The job is accepted, with what is lent.
     Report(Report),
+    /// It is not, for this reason.
     Refused(Refusal),
 }
 
 /// What a job needs (RULES "Change 3").
 #[derive(Clone, Copy)]
 pub struct Estimate {
-    /// The gaps between lines, in x and in y.
+    /// The gaps between vertical lines, at least 1.
     pub across: u64,
+    /// The gaps between horizontal lines, at least 1.
     pub deep: u64,
     /// The most cuts that a search can make.
     pub limit: u64,

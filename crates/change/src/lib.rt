@@ -31,7 +31,7 @@ fn all_travels(near: &[u64]) -> bool
     near.iter().all(|n| *n <= MOST_TRAVEL)
 }
 
-// Whether a record can be changed: its file is one that the reader accepts, and its near are travels.
+// Whether a record can be changed: its file is one that the reader accepts, and no stop's near is above the longest travel.
 fn usable(deck: &Deck) -> bool
     ensures { result ≡ usable deck.now }
 {

@@ -1,4 +1,4 @@
--- The ranges (RULES "Deck", "Travel") of the numbers that objects are made of.
+-- The ranges of the numbers that objects are made of: those of RULES "Deck", scaled by the axis costs.
 use Rattle.std.specs.Prelude.{ℕ, ◌+◌, ◌*◌, ◌≤◌, ◌<◌, ◌≡◌, List, ℤ, pos, nat_abs, length, drop, get_or, ◌≤ℤ◌}
 use Rattle.numbers.specs.Integer.{times}
 use Rattle.query.specs.Deck.{AxisCosts}

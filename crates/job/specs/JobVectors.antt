@@ -1,6 +1,6 @@
 -- Rows: the bytes of cases A and B and what they are read as (RULES "Worked cases"), and a job with the axis line and without it (RULES
 -- "Change 2"). The other rows of what is refused are in calls/specs/RefusalTable and AxisTable; the three here are checked with this crate,
--- so that a wrong edit of it alone is refused.
+-- so that its must-fail edits meet them.
 use Rattle.std.specs.Prelude.{ℕ, ◌≡◌, List, [], ◌∷◌, ◌++◌, pos, negsuc}
 use Prim.Native.String.{String}
 use Rattle.query.specs.Marked.{at, stop, deck_a, deck_b}

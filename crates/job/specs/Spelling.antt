@@ -75,7 +75,7 @@ pub data Spells (missing : AxisCosts) (bs : List ℕ) (job : Job) : Type 0 where
 pub record Writable (carried : Bool) (job : Job) : Type 0 where
   pub in_ranges_law : (l : JobLine) → Memᴰ l (lines_of carried job) → T (in_ranges (row l.kind).ranges l.numbers)
 
--- those that are accepted (RULES "Deck", "Calls"): with their axis costs in range too, an area that has a point, and a post and a stop
+-- those that are accepted (RULES "Deck", "Job"): with their axis costs in range too, an area that has a point, and a post and a stop
 pub record Allowed (job : Job) : Type 0 where
   pub writable : Writable true job
   pub area_full : NonEmpty job.deck.area

@@ -19,11 +19,13 @@ use refusal::Refusal;
 /// What an accepted job's bytes spell: the rounds, and the deck's record, which is sound (deck/specs/Sound.antt).
 #[derive(Drop)]
 pub struct Job {
+    /// How many rounds a search may take, 0 to 1,000.
     pub rounds: u64,
+    /// The record, with near and before.
     pub deck: Deck,
 }
 
-// ---- parts
+// ---- parts; the line that is due is at most 900, any number above all lines of a job that leaves the sums in range
 
 // The line `axis=a,b`, which is there where the text goes on with its key. Where it is missing, `missing` stands for it.
 fn read_axis(unread: Unread<'_>, missing: AxisCosts) -> Result<(AxisCosts, Unread<'_>), Refusal>
@@ -140,7 +142,7 @@ fn read_rest(unread: Unread<'_>, area: Rect, axis: AxisCosts) -> Result<Job, Ref
 }
 
 /// Reads a job's bytes: the rounds and the deck's record that they spell, or the refusal, of 1 to 6, that comes first (RULES "Refusals"). A
-/// job without an axis line has the axis costs `missing`.
+/// job without an axis line has the axis costs `missing`, each from 1 to 9.
 pub fn read_with(bytes: &[u8], missing: AxisCosts) -> Result<Job, Refusal>
     requires { CostsInRange (held_axis missing) }
     ensures { result ≡ job_result (read_with (held_axis missing) bytes.now) }
@@ -157,14 +159,14 @@ pub fn read_with(bytes: &[u8], missing: AxisCosts) -> Result<Job, Refusal>
     read_rest(unread, area, costs)
 }
 
-/// Reads a job's bytes as every call does: without an axis line the axis costs are 1 and 1 (RULES "Change 2").
+/// Reads a job's bytes as every call does: without an axis line the axis costs are 1 and 1 (RULES "Job").
 pub fn read(bytes: &[u8]) -> Result<Job, Refusal>
     ensures { result ≡ job_result (read_job bytes.now) }
 {
     read_with(bytes, AxisCosts { a: 1, b: 1 })
 }
 
-/// Whether the file of a record with these axis costs has a line for them: costs of 1 and 1 have none (RULES "Change 2").
+/// Whether the file of a record with these axis costs has a line for them: costs of 1 and 1 have none (RULES "Change 1").
 pub fn writes_axis(costs: AxisCosts) -> bool
     ensures { result ≡ writes_axis (held_axis costs) }
 {

@@ -15,7 +15,7 @@ pub record Range : Type 0 where
   pub low : ℤ
   pub high : ℤ
 
--- the ranges of RULES "Deck" and "Travel"
+-- the ranges of RULES "Deck" and "Job"
 abbrev pub coordinates : Range
 coordinates = record { low = neg_ℤ (pos coordinate_limit); high = pos coordinate_limit }
 

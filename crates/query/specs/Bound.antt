@@ -17,7 +17,7 @@ unfolding cost
 corner_sum deck r = max (cost deck (record { x = r.xlo; y = r.ylo }) + cost deck (record { x = r.xhi; y = r.yhi }))
     (cost deck (record { x = r.xlo; y = r.yhi }) + cost deck (record { x = r.xhi; y = r.ylo }))
 
--- the bound: the paper's data-dependent lower bound LB(C), of its Theorem 4, times the total weight and halved towards plus infinity
+-- the bound: the paper's data-dependent lower bound LB(C), of its Theorem 4, times the total weight and rounded towards plus infinity
 unfoldable pub bound : Deck → Rect → ℤ
 unfolding half_up corner_sum span load
 bound deck r = half_up (pos (corner_sum deck r) -ℤ pos (span deck.axis r * load deck r))

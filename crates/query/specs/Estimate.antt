@@ -8,7 +8,7 @@ use Rattle.query.specs.Lines.{gaps}
 abbrev pub gap_product : Deck → ℕ
 gap_product deck = gaps deck x_axis * gaps deck y_axis
 
--- the cut limit (RULES "Promise 3")
+-- the limit of cuts (RULES "Lines")
 unfoldable pub cut_limit : Deck → ℕ
 unfolding gaps
 cut_limit deck = gap_product deck - 1

@@ -31,7 +31,7 @@ pub record NearLaw (deck : Deck) (stop : Stop) : Type 0 where
       × (near deck stop ≡ travel deck.axis stop.at post)
   pub every_post : (post : Place) → Memᴰ post deck.posts → near deck stop ≤ travel deck.axis stop.at post
 
--- RULES "Travel": the travel to a rectangle is the least travel to its points
+-- what follows from RULES "Travel": the travel to a rectangle is the least travel to its points
 pub record TravelToLaw (deck : Deck) (r : Rect) (stop : Stop) : Type 0 where
   pub some_point : NonEmpty r → (p : Place) × In r p × (travel_to deck r stop ≡ travel deck.axis stop.at p)
   pub every_point : (p : Place) → In r p → travel_to deck r stop ≤ travel deck.axis stop.at p
@@ -54,7 +54,7 @@ pub record LinesLaw (deck : Deck) (axis : Axis) : Type 0 where
   pub increasing : Pairwise ◌<ℤ◌ (lines deck axis)
   pub named : (v : ℤ) → Memᴰ v (lines deck axis) ↔ Named deck axis v
 
--- RULES "Lines": gaps are the lines strictly inside the area and one more
+-- what follows from RULES "Lines": gaps are the lines strictly inside the area and one more
 pub record GapsLaw (deck : Deck) (axis : Axis) : Type 0 where
   pub at_least_one : 1 ≤ gaps deck axis
   pub inside_and_one : NonEmpty deck.area → gaps deck axis ≡ length (inside (grid deck) axis deck.area) + 1
@@ -101,8 +101,8 @@ pub record TakenLaw (P : Problem) (n : ℕ) (c : Cell) : Type 0 where
   pub is_live_holds : T (is_live P.rules.grid (run P n).best c)
   pub is_first : (d : Cell) → Memᴰ d (run P n).live → T (not (cell_before d c))
 
--- RULES "Live cells": the cells that a search keeps are those of the partition that are live, so none that it dropped would be live again.
--- The partition covers the area
+-- what follows from RULES "Rounds": the cells that a search keeps are those of the partition that are live, so none that it dropped would
+-- be live again. The partition covers the area
 pub record PartitionLaw (P : Problem) (n : ℕ) : Type 0 where
   pub live_are_live : (c : Cell) → Memᴰ c (run P n).live → T (is_live P.rules.grid (run P n).best c)
   pub dead_are_not : (c : Cell) → Memᴰ c (dead P n) → T (not (is_live P.rules.grid (run P n).best c))

@@ -13,14 +13,14 @@ unfolding between keep reach
 stop_coordinates deck axis = keep (between (low_edge axis deck.area) (high_edge axis deck.area))
     (map (λ stop. coordinate axis stop.at) (keep (reach deck deck.area) deck.stops))
 
--- lines stand at the area's edges and at these coordinates, each once and in increasing order: vertical ones along x, horizontal ones
--- along y. Where they cross are the paper's candidate locations
+-- lines stand at the area's edges and at these coordinates, each once and in increasing order: for x the vertical ones, for y the
+-- horizontal ones. Where they cross are the paper's candidate locations
 unfoldable pub lines : Deck → Axis → List ℤ
 unfolding stop_coordinates insert_once
 lines deck axis =
     insert_once (low_edge axis deck.area) (insert_once (high_edge axis deck.area) (foldr insert_once [] (stop_coordinates deck axis)))
 
--- how many gaps the lines leave, gaps across along x and gaps deep along y: a single line leaves one too
+-- how many gaps the lines leave, for x gaps across and for y gaps deep: a single line leaves one too
 unfoldable pub gaps : Deck → Axis → ℕ
 unfolding lines
 gaps deck axis = max 1 (length (lines deck axis) - 1)

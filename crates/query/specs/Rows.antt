@@ -1,5 +1,5 @@
 -- Rows beside the worked cases: figures of small decks, each chosen so that a rule told wrongly (RULES "Wrong readings") gives another
--- figure. The figures come from a program apart from the definitions; `proofs/Rows.antt` proves that the definitions give them.
+-- figure. `proofs/Rows.antt` proves that the definitions give them.
 use Rattle.std.specs.Prelude.{ℕ, ◌<◌, ◌≡◌, [], ◌∷◌, ◌++◌, map, pos, negsuc, length, replicate, ◌<ℤ◌}
 use Rattle.numbers.specs.Integer.{half_up}
 use Rattle.query.specs.Place.{Place, x_axis, y_axis}
@@ -130,7 +130,7 @@ pub record Rows : Type 0 where
   pub gaps_a_deep : gaps deck_a y_axis ≡ 2
   pub gaps_b_across : gaps deck_b x_axis ≡ 1
   pub gaps_c_across : gaps deck_c x_axis ≡ 1
-  -- RULES "Promise 3" says no more than holds: the cut limit is reached, a high falls, a low rises, and of two places of equal cost the
+  -- the limits of RULES "Promise 3" are reached: that of cuts is, a high falls, a low rises, and of two places of equal cost the
   -- right one is beaten
   pub limit_reached : (figures deck_a 3).rounds ≡ cut_limit deck_a
   pub high_falls : (figures deck_a 1).high < (figures deck_a 0).high
@@ -160,7 +160,7 @@ pub record Rows : Type 0 where
   -- when a cell is live
   pub equal : figures deck_equal 10 ≡ report done (at 0 3) 5 (pos 5) 9 4
   pub level : figures deck_level 10 ≡ report done (at 1 1) 11 (pos 11) 32 1
-  -- refused: at equal figures a cell is live where its corner is the best place (then 3 rounds)
+  -- excluded: at equal figures a cell is live where its corner is the best place (then 3 rounds)
   pub best_corner : figures deck_corner 10 ≡ report done (at 1 0) 1 (pos 1) 7 2
   -- what is within reach
   pub reach : figures deck_reach 10 ≡ report done (at 0 0) 8 (pos 8) 8 0
@@ -170,7 +170,7 @@ pub record Rows : Type 0 where
   pub tie_1 : figures deck_tie 1 ≡ report stopped (at 1 0) 2 (pos 0) 10 1
   pub square_1 : figures deck_square 1 ≡ report stopped (at 1 2) 1 (pos 0) 5 1
   pub long_1 : figures deck_long 1 ≡ report stopped (at 0 1) 1 (pos 0) 4 1
-  -- refused: the middle rounded down, so that line 1 is as close to it as line 3 (then at 1,0, high 4)
+  -- excluded: the middle rounded down, so that line 1 is as close to it as line 3 (then at 1,0, high 4)
   pub middle_1 : figures deck_middle 1 ≡ report stopped (at 3 0) 6 (pos 0) 35 1
   -- which place is the best, and which cell is next
   pub first : figures deck_first 10 ≡ report done (at 0 1) 6 (pos 6) 22 1
@@ -201,7 +201,7 @@ pub record Rows : Type 0 where
   pub space_a_3 : space deck_a 3 22 ≡ replicate 22 (pos 0)
   pub space_d_0 : space deck_d 0 7 ≡ pos 0 ∷ pos 0 ∷ pos 9 ∷ pos 0 ∷ negsuc 2 ∷ pos 0 ∷ pos 0 ∷ []
   pub space_order_2 : space deck_order 2 17 ≡ map pos (1 ∷ 0 ∷ 2 ∷ 2 ∷ 0 ∷ 2 ∷ 0 ∷ 5 ∷ 2 ∷ 0 ∷ 0 ∷ 0 ∷ 1 ∷ 2 ∷ 1 ∷ 0 ∷ 0 ∷ [])
-  -- refused: cells of equal bound go by y before x, by x alone, or by x and then the larger y
+  -- excluded: cells of equal bound go by y before x, by x alone, or by x and then the larger y
   pub space_columns_2 : space deck_columns 2 17
       ≡ map pos (0 ∷ 2 ∷ 3 ∷ 4 ∷ 0 ∷ 1 ∷ 0 ∷ 3 ∷ 2 ∷ 0 ∷ 0 ∷ 0 ∷ 1 ∷ 2 ∷ 1 ∷ 0 ∷ 0 ∷ [])
   -- the exhaustive search

@@ -13,7 +13,7 @@ pub record Search : Type 0 where
   pub live : List Cell
   pub cuts : ℕ
 
--- a live cell, one that the paper does not prune: it can be cut, and its bound and corner come before the best cost and place
+-- a live cell: it can be cut, and its bound and corner come before the best cost and place. The paper prunes at equal figures too
 unfoldable pub is_live : Grid → Priced → Cell → Bool
 unfolding can_cut precedes
 is_live G best c = can_cut G c.rect && precedes (cell_key c) (priced_key best)

@@ -19,7 +19,7 @@ pub enum Refusal {
     NoPosts,
     /// There are no stops, or a change would leave none.
     NoStops,
-    /// The cell space has too few numbers for the live cells.
+    /// The cell space has fewer than five numbers for each of the cells that the job needs (RULES "Change 3").
     SmallSpace,
     /// The output has too few bytes for a report, or for the job that is written.
     ShortOutput,

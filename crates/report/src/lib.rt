@@ -14,7 +14,7 @@ ghost use Rattle.query.specs.Range.{rounds_limit, FiguresInRange};
 use refusal::Refusal;
 use write::{Decimal, Writer};
 
-/// How a search ended (RULES "Rounds").
+/// How a search ended (RULES "Figures").
 #[derive(Clone, Copy, PartialEq, Eq)]
 pub enum State {
     /// No cell is live: the place is the best of the area.

@@ -21,8 +21,8 @@ use priced_place::PricedPlace;
 use reach::Objects;
 use slots::{Cell, Costs, Entry};
 
-/// What a cut makes of a cell: the two new corners with their costs, `low` at the smaller coordinate of the cut line and `high` at the
-/// larger, and the two parts, `first` up to the line and `second` from it on.
+/// What a cut makes of a cell: the two new corners with their costs, `low` at the end of the cut line on the cell's low edge and `high`
+/// on its high edge, and the two parts, `first` up to the line and `second` from it on.
 #[derive(Clone, Copy)]
 pub struct Halves {
     pub low: PricedPlace,

@@ -180,7 +180,7 @@ fn answer(live: &LiveCells, st: Running) -> Found
 }
 
 /// Searches the problem of a deck for at most `rounds` rounds (RULES "Rounds"), and gives what it found. `live` is lent with no live cell,
-/// and holds those that are live at the end.
+/// and at the end holds those that are live, in their order.
 pub fn search(problem: &Problem, rounds: u64, live: &mut LiveCells) -> Found
     requires { Prepared problem.now × (rounds ≤ rounds_limit) × (live.old ≡ none_live) }
     ensures { Searched (problem_of problem.now) rounds live.new result }

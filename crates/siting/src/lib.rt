@@ -64,7 +64,7 @@ fn solve(problem: &Problem, before: u64, rounds: u64, live: &mut LiveCells) -> R
 }
 
 // The report of what a job gives, with its text in the output, or refusal 8, which comes before any place is priced.
-// Not inlined: a report of many rounds takes 2 % longer where it is. `OfJob`, here and below, names the job that `given` comes from.
+// Not inlined, for speed (docs/PERFORMANCE.md). `OfJob`, here and below, names the job that `given` comes from.
 #[inline(never)]
 fn respond_to(
     given: &PreparedJob,
@@ -105,8 +105,8 @@ fn respond_without_cells(given: &PreparedJob, out: &mut [u8]) -> Result<Response
     respond_to(given, &mut LiveCells::new(&mut arrays), out)
 }
 
-// What the call below answers. Refusals 7 and 8 come before any place is priced. A refusal leaves the cell space and the output as they
-// were.
+// What the public call `report` answers. Refusals 7 and 8 come before any place is priced. A refusal leaves the cell space and the output
+// as they were.
 fn respond(job: &[u8], cells: &mut [i64], out: &mut [u8]) -> Result<Response, Refusal>
     ensures { Responded (report_call job.now cells.old out.old) out.old cells.new
         out.new result }
@@ -140,8 +140,8 @@ pub fn report(job: &[u8], cells: &mut [i64], out: &mut [u8]) -> Answer
     }
 }
 
-/// The entry for C, which `siting_c` exports (RULES "Calls"): writes the report's text as `report` does, with cell space of its own, and
-/// gives the bytes written, or minus the number of the refusal, and leaves the output as it was. It never gives -7.
+/// The entry for C, which `siting_c` exports (RULES "Calls"): writes the report's text as `report` does where it is lent enough cell
+/// space, and gives how many bytes it has written; or minus the number of the refusal, 1 to 6 or 8, and leaves the output as it was.
 pub fn siting_report(job: &[u8], out: &mut [u8]) -> i64
     ensures { record { result = result; out = out.new } ≡ entry job.now out.old }
 {
@@ -151,8 +151,8 @@ pub fn siting_report(job: &[u8], out: &mut [u8]) -> i64
     }
 }
 
-/// The cheapest crossing of lines, the earliest of equals (RULES "Exhaustive search"), or the job's refusal, 1 to 6. The rounds of the job
-/// play no part.
+/// The cheapest crossing of lines, the earliest of equals, with its cost (RULES "Exhaustive search"), or the job's refusal, 1 to 6. No
+/// place of the area is better. The rounds of the job play no part.
 pub fn exhaustive(job: &[u8]) -> Result<PricedPlace, Refusal>
     ensures { cheapest_answer result ≡ exhaustive_call job.now }
 {
@@ -174,9 +174,9 @@ pub fn read(job: &[u8]) -> Result<Job, Refusal>
     job::read(job)
 }
 
-/// Writes the job of a record and rounds (RULES "Change 1") to the start of the output, and gives its bytes; or the first refusal that
-/// applies: the number and line that this file would get, 2 to 6, or 8 where it does not fit. Bytes behind the job stay, and all after a
-/// refusal. Near and before of the record do not count.
+/// Writes the job of a record and rounds (RULES "Change 1") to the start of the output, and gives how many bytes it has; or the first
+/// refusal that applies: the number and line that this file would get, 2 to 6, or 8 where it does not fit. Bytes behind the job stay; after
+/// a refusal every byte does. Near and before of the record do not count.
 pub fn write(deck: Deck, rounds: u64, out: &mut [u8]) -> Result<usize, Refusal>
     ensures { record { answer = written_answer result; out = out.new } ≡ write_call deck rounds out.old }
 {
@@ -187,32 +187,33 @@ pub fn write(deck: Deck, rounds: u64, out: &mut [u8]) -> Result<usize, Refusal>
     Ok(job_file::put_file(&deck, rounds, out))
 }
 
-/// Puts a post behind the last (RULES "Change 6"), and brings near and before up to date; or the first refusal that applies, 3 or 10, and
-/// the record as it was.
+/// Adds a post behind the last (RULES "Change 6"); near and before follow. Refusal 3 where the place is out of range or the record cannot
+/// be changed, 10 where it has 64 posts; each leaves the record as it was.
 pub fn add_post(deck: &mut Deck, post: Place) -> Result<(), Refusal>
     ensures { record { answer = change_answer result; deck = deck.new } ≡ change_call deck.old (add_post (place_of post)) }
 {
     change::add_post(deck, post)
 }
 
-/// Removes the first post at a place (RULES "Change 6"), and brings near and before up to date; or the first refusal that applies, 3, 9 or
-/// 5, and the record as it was.
+/// Removes the first post at this place (RULES "Change 6"): the later ones move up; near and before follow. Refusal 3 where the place is
+/// out of range or the record cannot be changed, 9 where no post is there, 5 where it is the only post; each leaves the record as it was.
 pub fn remove_post(deck: &mut Deck, post: Place) -> Result<(), Refusal>
     ensures { record { answer = change_answer result; deck = deck.new } ≡ change_call deck.old (remove_post (place_of post)) }
 {
     change::remove_post(deck, post)
 }
 
-/// Puts a stop behind the last (RULES "Change 6"), with its near, and brings before up to date; or the first refusal that applies, 3 or 10,
-/// and the record as it was.
+/// Adds a stop behind the last, with its near (RULES "Change 6"); before follows. Refusal 3 where a value of it is out of range or the
+/// record cannot be changed, 10 where it has 512 stops; each leaves the record as it was.
 pub fn add_stop(deck: &mut Deck, stop: Stop) -> Result<(), Refusal>
     ensures { record { answer = change_answer result; deck = deck.new } ≡ change_call deck.old (add_stop (stop_of stop)) }
 {
     change::add_stop(deck, stop)
 }
 
-/// Removes the first stop with this place and these visits (RULES "Change 6"), and brings before up to date; or the first refusal that
-/// applies, 3, 9 or 6, and the record as it was.
+/// Removes the first stop with this place and these visits (RULES "Change 6"): the later ones move up with their near; before follows.
+/// Refusal 3 where a value is out of range or the record cannot be changed, 9 where no stop has these values, 6 where it is the only stop;
+/// each leaves the record as it was.
 pub fn remove_stop(deck: &mut Deck, stop: Stop) -> Result<(), Refusal>
     ensures { record { answer = change_answer result; deck = deck.new } ≡ change_call deck.old (remove_stop (stop_of stop)) }
 {
