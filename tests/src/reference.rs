@@ -185,7 +185,7 @@ pub struct Record {
 }
 
 impl Record {
-    /// That of a refused job.
+    /// All numbers 0: as `trial_read` leaves its lists where a job is refused.
     pub const ZEROS: Record = Record {
         area: [0; 4],
         axis: [0; 2],
@@ -733,10 +733,10 @@ mod tests {
         }
         assert_eq!(exhaustive(&job), (13, (4, 3)));
         assert_eq!(brute_force(&job), (13, (4, 3)));
-        let quote = estimate(&job);
-        assert_eq!(quote, Estimate { across: 2, deep: 2, cut_limit: 3, cells: 4 });
+        let needs = estimate(&job);
+        assert_eq!(needs, Estimate { across: 2, deep: 2, cut_limit: 3, cells: 4 });
         for (cells, out, refused) in [(20, 128, 0), (19, 128, 7), (19, 127, 7), (20, 127, 8)] {
-            assert_eq!(lent_enough(&quote, cells, out).map_or_else(|why| why.number, |()| 0), refused);
+            assert_eq!(lent_enough(&needs, cells, out).map_or_else(|why| why.number, |()| 0), refused);
         }
         assert_eq!(spell(&job), A.as_bytes());
         let record = Record::of(&job);

@@ -76,23 +76,27 @@ fn only(xlo: i64, ylo: i64) -> Rect {
     Rect { xlo, ylo, xhi: i64::MIN, yhi: i64::MIN }
 }
 
+/// The job's before, or i64::MIN where the job is refused; so of the figures below.
 pub fn before(job: &[u8]) -> i64 {
     figure(job, 0, only(i64::MIN, i64::MIN))
 }
 
-/// Behind the greatest i64 the number is a negative one.
+/// The near of stop i, counted from 0; i64::MIN where there is none.
 pub fn near(job: &[u8], i: usize) -> i64 {
     figure(job, 1, only(i as i64, i64::MIN))
 }
 
+/// The cost of a place.
 pub fn cost(job: &[u8], p: Place) -> i64 {
     figure(job, 2, only(p.0, p.1))
 }
 
+/// The load of a rectangle.
 pub fn load(job: &[u8], r: Rect) -> i64 {
     figure(job, 3, r)
 }
 
+/// The bound of a rectangle as a cell.
 pub fn bound(job: &[u8], r: Rect) -> i64 {
     figure(job, 4, r)
 }
@@ -102,6 +106,7 @@ pub fn cut(job: &[u8], r: Rect) -> (i64, i64) {
     (figure(job, 5, r), figure(job, 6, r))
 }
 
+/// The lines of an axis at the front of `out`, and how many they are.
 pub fn lines(job: &[u8], across: bool, out: &mut [i64]) -> i64 {
     unsafe { trial_lines(job.as_ptr(), job.len(), across, out.as_mut_ptr(), out.len()) }
 }

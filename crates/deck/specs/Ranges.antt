@@ -42,17 +42,18 @@ VisitsInRange = NaturalsUpTo visits_limit
 abbrev pub NearsInRange : List ℕ → ℕ → Type 0
 NearsInRange = NaturalsUpTo travel_limit
 
--- all columns, of which the first n rows have their scaled places in the first two
+-- all columns, with room for n rows
 pub record ColumnsFit (columns : List ℤ) (n : ℕ) : Type 0 where
   pub few : n ≤ stops_limit
   pub long : length columns ≡ columns_size
 
+-- the first n rows have their scaled places in the first two columns
 pub record StopsInRange (columns : List ℤ) (n : ℕ) : Type 0 where
   pub fit : ColumnsFit columns n
   pub x : CoordinatesInRange columns n
   pub y : CoordinatesInRange (drop y_column columns) n
 
--- the first n rows of the column of near in all columns
+-- of all columns, that of near has numbers from 0 up in its first n rows
 pub record NearColumn (columns : List ℤ) (n : ℕ) : Type 0 where
   pub long : length columns ≡ columns_size
   pub some : (i : ℕ) → i < n → pos 0 ≤ℤ get_or columns (near_column + i) (pos 0)

@@ -1,5 +1,5 @@
-// What a job needs (RULES "Change 3"), from the lines of its deck and its rounds. No place is priced for it: crates.txt lets this crate use
-// none that prices.
+// What a job needs (RULES "Change 3"), from the lines of its deck and its rounds. No place is priced for it: of the crates that
+// crates.txt lets this one use, `calls` gives a type and definitions, and no other prices.
 #![tactic(auto)]
 
 ghost use Rattle.std.specs.Prelude.{◌≡◌};
@@ -29,7 +29,7 @@ pub fn of_lines(vertical_lines: usize, horizontal_lines: usize, rounds: u64) -> 
     }
 }
 
-/// The estimate of a job that is prepared for pricing.
+/// The estimate of a prepared job (`prepare::of_job`).
 pub fn of_given(given: &PreparedJob) -> Estimate
     requires { GivenCounts given.now }
     ensures { estimate_numbers result ≡ given_estimate given.now }

@@ -205,7 +205,7 @@ fn choose(
 
 /// The cheapest crossing of the lines of a deck's problem, the earliest among equals, with its cost (RULES "Exhaustive search"). `before`
 /// is what the objects pay without a new post (RULES "Cost").
-// Not inlined: within a caller its loops can lie where they take up to 1.14 times as long.
+// Not inlined: within a caller its loops can lie where they take longer (docs/PERFORMANCE.md).
 #[inline(never)]
 pub fn cheapest(problem: &Problem, before: u64) -> PricedPlace
     requires { Prepared problem.now

@@ -30,8 +30,9 @@ pub struct Report {
     /// The place found, in tenths of a millimetre.
     pub x: i64,
     pub y: i64,
-    /// Its cost, and what every place of the area costs at least.
+    /// The cost of that place.
     pub high: u64,
+    /// What every place of the area costs at least. It can be negative.
     pub low: i64,
     /// The cost without a new post.
     pub before: u64,
@@ -78,7 +79,7 @@ fn put_costs(w: &mut Writer, high: u64, low: i64, before: u64)
     put_key(w, b"\nbefore=", before);
 }
 
-/// Writes a report's lines (RULES "Report") to the start of the output, and gives the bytes written. Bytes behind them stay.
+/// Writes a report's lines (RULES "Report") to the start of the output, and gives how many bytes they have. Bytes behind them stay.
 pub fn write_report(out: &mut [u8], report: Report) -> usize
     requires in_bounds { output_size ≤ length out.old }
     requires figures_in_range { FiguresInRange rounds_limit (report_figures report) }
@@ -93,7 +94,8 @@ pub fn write_report(out: &mut [u8], report: Report) -> usize
     w.len()
 }
 
-/// Writes the two lines of a refusal (RULES "Report") to the start of the output, and gives the bytes written. Bytes behind them stay.
+/// Writes the two lines of a refusal (RULES "Report") to the start of an output of at least 64 bytes, and gives how many bytes they
+/// have. Bytes behind them stay.
 pub fn write_refusal(out: &mut [u8], why: Refusal) -> usize
     requires { 64 ≤ length out.old }
     ensures { Overwrote out.old (refusal_text (number_of why) (line_of why)) out.new result }

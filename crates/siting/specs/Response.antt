@@ -35,7 +35,7 @@ pub record Solved (problem : Problem) (paid rounds : ℕ) (live : Live) (solutio
   pub report : report_figures solution ≡ figures_of paid (run problem rounds)
   pub cells : map entry_cell live.entries ≡ (run problem rounds).live
 
--- what some job gives
+-- prepared from some job's bytes
 pub record OfJob (prepared : PreparedJob) : Type 0 where
   pub job : List ℕ
   pub given : given_by (Ok prepared) ≡ given_for (read_job job)

@@ -88,7 +88,7 @@ impl Decimal for u64 {
         if n < 100000 {
             return 1 + at_least(n, 10) + at_least(n, 100) + at_least(n, 1000) + at_least(n, 10000);
         }
-        // by this loop the largest job is written in 19.2 µs; by `ilog10` in its place in 20.8, and by `ilog10` of all numbers in 22.4
+        // this loop is faster than `ilog10` in its place, and than `ilog10` of all numbers
         let mut rest = n / 100000;
         let mut len = 6;
         while 10 <= rest {
