@@ -2,6 +2,7 @@
 use Rattle.query.proofs.QueryTheorems.{query_theorems}
 use Rattle.job.proofs.Meaning.{accepted_law, refused_law, spelling_law}
 use Rattle.job.proofs.JobVectors as JobVectors
+use Rattle.text.proofs.DecimalRows as DecimalRows
 use Rattle.report.proofs.Fits.{report_fits}
 use Rattle.report.proofs.ReportVectors as ReportVectors
 use Rattle.calls.specs.Theorems.{Theorems}
@@ -46,6 +47,7 @@ theorems = record {
   change_table = change_table;
   axis_table = axis_table;
   estimate_table = estimate_table;
+  decimal_rows = DecimalRows.rows;
   answer_rows = answer_rows;
   job_vectors = JobVectors.vectors;
   report_vectors = ReportVectors.vectors;

@@ -9,6 +9,7 @@ use Rattle.change.specs.Change.{Change}
 use Rattle.job.specs.Format.{Job, accepted, read_job}
 use Rattle.job.specs.Meaning.{AcceptedLaw, RefusedLaw, SpellingLaw}
 use Rattle.job.specs.JobVectors.{JobVectors}
+use Rattle.text.specs.DecimalRows.{DecimalRows}
 use Rattle.report.specs.Limits.{ReportFits}
 use Rattle.report.specs.ReportVectors.{ReportVectors}
 use Rattle.calls.specs.Promises.{Promises}
@@ -63,7 +64,8 @@ pub record Theorems : Type 0 where
   pub change_table : ChangeTable
   pub axis_table : AxisTable
   pub estimate_table : EstimateTable
-  -- rows of which number in the code's answers is which
+  -- rows of numbers as they are written, and which number in the code's answers is which
+  pub decimal_rows : DecimalRows
   pub answer_rows : AnswerRows
   -- the laws of the rules, for every deck and every number of rounds
   pub rules : QueryTheorems
