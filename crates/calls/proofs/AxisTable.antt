@@ -26,6 +26,7 @@ axis_table = record {
   entry_done = refl;
   program_done = refl;
   program_refused = refl;
+  program_largest = refl;
   exhaustive_done = refl;
   spelled_out = refl;
 }

@@ -60,6 +60,10 @@ pub record AxisTable : Type 0 where
   pub entry_done : entry (narrow "rounds=1000") (replicate 128 7) ≡ record { result = pos 50; out = printed ++ replicate 78 7 }
   pub program_done : answer_text (narrow "rounds=1000") ≡ printed
   pub program_refused : answer_text (ended (behind 1 ("axis=10,1" ∷ []))) ≡ bytes "refused=3\nline=2\n"
+  -- the most stops with the most visits, as far from the only post as can be under 9,9: the largest cost
+  pub program_largest : answer_text (ended ("area=-20000,-20000,-20000,-20000" ∷ "axis=9,9" ∷ "posts=1" ∷ "post=-20000,-20000" ∷ "stops=512"
+      ∷ (replicate 512 "stop=20000,20000,65535" ++ ("rounds=0" ∷ []))))
+      ≡ bytes "state=done\nat=-20000,-20000\nhigh=24158822400000\nlow=24158822400000\nbefore=24158822400000\nrounds=0\n"
   pub exhaustive_done : exhaustive_call (narrow "rounds=0") ≡ gives (record { at = at 2 4; cost = 9 })
   -- `axis=1,1` says what a missing line says
   pub spelled_out : report_call (ended (behind 1 ("axis=1,1" ∷ []))) (replicate 55 (pos 9)) (replicate 130 7)
