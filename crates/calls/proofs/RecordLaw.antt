@@ -21,7 +21,8 @@ use Rattle.job.proofs.Meaning.{allowed_in_range}
 use Rattle.job.proofs.AllowedLaws.{in_range_allowed}
 use Rattle.job_check.proofs.AxisLaws.{saved_spells}
 use Rattle.calls.specs.Answers.{gives}
-use Rattle.calls.specs.ReadCall.{job_record, read_call}
+use Rattle.job.specs.JobRecord.{job_record}
+use Rattle.calls.specs.ReadCall.{read_call}
 use Rattle.calls.specs.RecordLaw.{Made, by_reading, by_change, stop_in, RecordLaw}
 use Rattle.calls.proofs.ChangeLaw.{change_law}
 use Rattle.calls.proofs.Promises.{read_exactly}

@@ -27,7 +27,8 @@ use Rattle.job.proofs.AllowedLaws.{in_range_allowed}
 use Rattle.job_check.proofs.AxisLaws.{saved_spells}
 use Rattle.write.specs.Written.{overwritten}
 use Rattle.calls.specs.Answers.{AnswerOf, gives}
-use Rattle.calls.specs.ReadCall.{job_record, read_call}
+use Rattle.job.specs.JobRecord.{job_record}
+use Rattle.calls.specs.ReadCall.{read_call}
 use Rattle.calls.specs.WriteCall.{write_call}
 use Rattle.calls.specs.SavingLaw.{SpellsOut}
 use Rattle.calls.specs.RunLaw.{changed_job, RunLaw}

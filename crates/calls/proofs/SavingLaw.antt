@@ -34,7 +34,8 @@ use Rattle.job_check.proofs.AxisLaws.{left_out, saved_spells}
 use Rattle.job_check.proofs.FileFaults.{file_is, file_spelled, file_line}
 use Rattle.write.specs.Written.{overwritten}
 use Rattle.calls.specs.Answers.{gives, refuses, refusal}
-use Rattle.calls.specs.ReadCall.{job_record, read_call}
+use Rattle.job.specs.JobRecord.{job_record}
+use Rattle.calls.specs.ReadCall.{read_call}
 use Rattle.calls.specs.WriteCall.{Saved, not_saved, saved_as, write_call}
 use Rattle.calls.specs.SavingLaw.{SpellsOut, ReadLaw, Saveable, WriteApplies, in_file, short_output, WrittenLaw, WriteLaw}
 use Rattle.calls.proofs.AcceptedCall as Call

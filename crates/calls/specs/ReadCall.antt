@@ -1,13 +1,10 @@
 -- What the call `read` answers (RULES "Calls", "Change 1"): a job's bytes as the code holds the job that they spell.
 use Rattle.std.specs.Prelude.{List, ℕ}
 use Rattle.deck.specs.DeckOf.{deck_record}
-use Rattle.job.specs.Format.{Job, read_job}
+use Rattle.job.specs.Format.{read_job}
+use Rattle.job.specs.JobRecord.{job_record}
 use Rattle.job.specs.declared.Job as Held
 use Rattle.calls.specs.Answers.{AnswerOf, for_accepted}
-
--- a job as the code holds it: its rounds, and the record of its deck
-abbrev pub job_record : Job → Held.Job
-job_record job = record { rounds = job.rounds; deck = deck_record job.deck }
 
 -- that of an accepted job, or a refusal
 unfoldable pub read_call : List ℕ → AnswerOf Held.Job

@@ -8,7 +8,8 @@ use Rattle.job.specs.Spelling.{spell, Spells}
 use Rattle.job.specs.File.{saved_spelling}
 use Rattle.write.specs.Written.{overwritten}
 use Rattle.calls.specs.Answers.{gives}
-use Rattle.calls.specs.ReadCall.{job_record, read_call}
+use Rattle.job.specs.JobRecord.{job_record}
+use Rattle.calls.specs.ReadCall.{read_call}
 use Rattle.calls.specs.WriteCall.{write_call}
 use Rattle.calls.specs.SavingLaw.{SpellsOut}
 

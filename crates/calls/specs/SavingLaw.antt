@@ -15,7 +15,8 @@ use Rattle.job.specs.File.{held_job, saved_spelling, file_text}
 use Rattle.job.specs.declared.Job as Held
 use Rattle.write.specs.Written.{overwritten}
 use Rattle.calls.specs.Answers.{gives, refuses, refusal}
-use Rattle.calls.specs.ReadCall.{job_record, read_call}
+use Rattle.job.specs.JobRecord.{job_record}
+use Rattle.calls.specs.ReadCall.{read_call}
 use Rattle.calls.specs.WriteCall.{write_call}
 
 -- ---- reading

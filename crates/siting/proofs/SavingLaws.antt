@@ -10,7 +10,7 @@ use Rattle.deck.specs.declared.Deck.{Deck}
 use Rattle.refusal.specs.declared.Refusal.{Refusal}
 use Rattle.refusal.specs.declared.Refusal.TheVariants.{ShortOutput}
 use Rattle.job.specs.Format.{Result, refused, accepted, read_text, read_job}
-use Rattle.job.specs.JobRecord.{job_result}
+use Rattle.job.specs.JobRecord.{job_result, job_record}
 use Rattle.job.specs.declared.Job as Held
 use Rattle.std.specs.Prelude as Std
 use Rattle.job.specs.File.{file_text}
@@ -19,7 +19,7 @@ use Rattle.std.specs.Prelude.{Ok, Err}
 use Rattle.job_check.proofs.FileFaults.{FileIs, file_is}
 use Rattle.write.specs.Written.{Overwrote}
 use Rattle.calls.specs.Answers.{AnswerOf, gives, refusal, for_accepted, read_answer}
-use Rattle.calls.specs.ReadCall.{job_record, read_call}
+use Rattle.calls.specs.ReadCall.{read_call}
 use Rattle.calls.specs.WriteCall.{write_call}
 use Rattle.calls.proofs.SavingLaw.{file_refused, file_short, file_written}
 
