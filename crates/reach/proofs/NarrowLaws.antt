@@ -2,12 +2,11 @@
 use mathlib.Core.Path.{◌≡◌, refl, sym, ap, subst, ◌∙◌}
 use Prim.Native.Nat.{ℕ, ◌^◌, ◌≤◌, ◌<◌}
 use native.Mathlib.Omega.{arith}
-use lib.Dec.{ltb}
 use lib.IntN.{ℤ, pos, negsuc, nat_abs}
-use lib.Signed.{lt_z, ◌≤ℤ◌}
+use lib.Signed.{◌≤ℤ◌}
 use mir.Syntax.{w32}
 use mir.Val.{SFits, to_z, of_z}
-use mir.ValLaws.{to_z-of_z, to_z_pos}
+use mir.ValLaws.{to_z-of_z}
 use Rattle.numbers.specs.Integer.{times}
 use Rattle.numbers.proofs.Scaling.{scale_most, scale_le}
 use Rattle.numbers.proofs.Words.{word_fits}
@@ -35,10 +34,6 @@ natural_word z h = rw (natural z h)
 pub natural_small : (z : ℤ) → SFits w32 z → pos 0 ≤ℤ z → nat_abs z < 2 ^ 31
 natural_small (pos n) f h = f.sfits
 natural_small (negsuc n) f h = absurd h.le
-
--- the code's test of two of them
-pub less_test : (z : ℤ) (t n : ℕ) → z ≡ pos t → t < 2 ^ 31 → n < 2 ^ 31 → lt_z (word z) (to_z w32 n) ≡ ltb t n
-less_test z t n e g h = rw (e, to_z_pos w32 t g, to_z_pos w32 n h)
 
 -- ---- a row
 pub number_word : (z : ℤ) → nat_abs z ≤ travel_limit → word z ≡ z
