@@ -34,10 +34,13 @@ extern "C" {
  *
  *     state=done              or state=stopped, where the rounds ran out
  *     at=x,y                  the place
- *     high=n                  the travel with a post at that place
+ *     high=n                  the travel with a post at that place: the sum over the stops of visits times the travel to the closest post
  *     low=n                   no place of the area has less travel than this; once done it equals high
  *     before=n                the travel without the new post
  *     rounds=n                the rounds taken
+ *
+ * Travel is in tenths of a millimetre where a and b are 1. Once done, every other place of the area has more travel, or as much and a
+ * larger x, or as much, the same x and a larger y.
  *
  * Result: the number of bytes written, 1 to 128, or a negative number where the job is refused:
  *

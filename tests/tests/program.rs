@@ -7,6 +7,8 @@ use siting_tests::reference::answer_text;
 use siting_tests::vectors::{refusals, reports};
 use std::fs::File;
 use std::io::{ErrorKind, Read, Write};
+use std::os::fd::OwnedFd;
+use std::os::unix::net::UnixStream;
 use std::process::Stdio;
 use std::thread::sleep;
 use std::time::Duration;
@@ -90,6 +92,20 @@ fn no_input_is_an_empty_job() {
     assert_eq!(printed(redirected("<&-").spawn().unwrap()), NO_INPUT);
     // a read that fails
     assert_eq!(printed(redirected("</").spawn().unwrap()), NO_INPUT);
+}
+
+/// Standard input is a socket that does not wait: behind the bytes that it holds a read fails.
+#[test]
+fn a_read_that_fails_ends_the_input() {
+    let whole = CASE_A.as_bytes();
+    for length in [0, 1, 20, whole.len() - 1, whole.len()] {
+        let (mut to, from) = UnixStream::pair().unwrap();
+        from.set_nonblocking(true).unwrap();
+        put(&mut to, &whole[..length]);
+        let child = command().stdin(OwnedFd::from(from)).spawn().unwrap();
+        assert_eq!(printed(child), answer_text(&whole[..length]), "the first {length} bytes");
+        drop(to);
+    }
 }
 
 #[test]
