@@ -1,23 +1,12 @@
 -- The bound of a cell (RULES "Bound").
-use Rattle.std.specs.Prelude.{ℕ, ◌+◌, ◌*◌, max, ℤ, pos, ◌-ℤ◌}
-use Rattle.numbers.specs.Integer.{dist, half_up}
+use Rattle.std.specs.Prelude.{ℕ, ◌*◌, min}
+use Rattle.numbers.specs.Lists.{sum_of}
 use Rattle.query.specs.Place.{Rect}
-use Rattle.query.specs.Deck.{AxisCosts, Deck}
-use Rattle.query.specs.Cost.{cost}
-use Rattle.query.specs.Reach.{load}
+use Rattle.query.specs.Deck.{Deck}
+use Rattle.query.specs.Travel.{near}
+use Rattle.query.specs.Reach.{travel_to}
 
--- the span: width and height, each by its axis cost
-unfoldable pub span : AxisCosts → Rect → ℕ
-unfolding dist
-span axis r = axis.a * dist r.xlo r.xhi + axis.b * dist r.ylo r.yhi
-
--- the costs of two opposite corners together, of the dearer diagonal
-unfoldable pub corner_sum : Deck → Rect → ℕ
-unfolding cost
-corner_sum deck r = max (cost deck (record { x = r.xlo; y = r.ylo }) + cost deck (record { x = r.xhi; y = r.yhi }))
-    (cost deck (record { x = r.xlo; y = r.yhi }) + cost deck (record { x = r.xhi; y = r.ylo }))
-
--- the bound: the paper's data-dependent lower bound LB(C), of its Theorem 4, times the total weight and rounded towards plus infinity
-unfoldable pub bound : Deck → Rect → ℤ
-unfolding half_up corner_sum span load
-bound deck r = half_up (pos (corner_sum deck r) -ℤ pos (span deck.axis r * load deck r))
+-- the bound of a rectangle, stop by stop: what all stops would pay if each had a post at its closest point of the rectangle
+unfoldable pub bound : Deck → Rect → ℕ
+unfolding sum_of near travel_to
+bound deck r = sum_of (λ stop. stop.visits * min (near deck stop) (travel_to deck r stop)) deck.stops

@@ -6,13 +6,14 @@ use Rattle.numbers.specs.Lists.{non_empty}
 use Rattle.query.specs.Place.{Place, Rect, In, NonEmpty, Axis, x_axis, y_axis, coordinate, low_edge, high_edge, corner}
 use Rattle.query.specs.Deck.{Stop, Deck}
 use Rattle.query.specs.Travel.{travel, near}
-use Rattle.query.specs.Cost.{cost}
+use Rattle.query.specs.Cost.{cost, before}
 use Rattle.query.specs.Reach.{travel_to, reach}
 use Rattle.query.specs.Lines.{lines, gaps}
 use Rattle.query.specs.Bound.{bound}
+use Rattle.query.specs.CornerBound.{corner_bound}
 use Rattle.query.specs.Grid.{Grid, lines_along, grid}
 use Rattle.query.specs.Problem.{Problem, problem}
-use Rattle.query.specs.Cut.{inside, can_cut, side, off_middle, cut_line}
+use Rattle.query.specs.Cut.{inside, can_cut, side, off_middle, cut_line, cut_before, cut_after}
 use Rattle.query.specs.Order.{Cell, better, cell_before, CellsInOrder}
 use Rattle.query.specs.Search.{is_live, run}
 use Rattle.query.specs.Estimate.{cells_needed, estimate}
@@ -20,7 +21,7 @@ use Rattle.query.specs.Space.{all_numbers, space, space_needed}
 use Rattle.query.specs.Partition.{dead, partition}
 use Rattle.query.specs.History.{cell_cut, cuts_made}
 
--- halving towards plus infinity (RULES "Bound"): twice the half of z is z or one more
+-- halving towards plus infinity (RULES "Corner bound"): twice the half of z is z or one more
 pub record HalfLaw (z : ℤ) : Type 0 where
   pub enough : z ≤ℤ (half_up z +ℤ half_up z)
   pub at_most_one_more : (half_up z +ℤ half_up z) ≤ℤ (z +ℤ pos 1)
@@ -36,11 +37,21 @@ pub record TravelToLaw (deck : Deck) (r : Rect) (stop : Stop) : Type 0 where
   pub some_point : NonEmpty r → (p : Place) × In r p × (travel_to deck r stop ≡ travel deck.axis stop.at p)
   pub every_point : (p : Place) → In r p → travel_to deck r stop ≤ travel deck.axis stop.at p
 
--- RULES "Bound": the bound of a rectangle is at most the cost of each of its points (the paper's Theorem 4), and at most the bound of each
--- rectangle in it
+-- RULES "Bound": what the bound of a rectangle is held to. r is any rectangle, whether or not a search makes it
 pub record BoundLaw (deck : Deck) (r : Rect) : Type 0 where
-  pub below : (p : Place) → In r p → bound deck r ≤ℤ pos (cost deck p)
-  pub part : (q : Rect) → NonEmpty q → In r (corner q) → In r (record { x = q.xhi; y = q.yhi }) → bound deck r ≤ℤ bound deck q
+  -- at most the cost of each of its points
+  pub below : (p : Place) → In r p → bound deck r ≤ cost deck p
+  -- at most what is paid before
+  pub most : bound deck r ≤ before deck
+  -- of a rectangle of one point just its cost
+  pub point : r.xlo ≡ r.xhi → r.ylo ≡ r.yhi → bound deck r ≡ cost deck (corner r)
+  -- at most the bound of each rectangle in it
+  pub part : (q : Rect) → NonEmpty q → In r (corner q) → In r (record { x = q.xhi; y = q.yhi }) → bound deck r ≤ bound deck q
+  -- so at most those of both parts of a cut, at any number between its edges
+  pub parts : NonEmpty r → (axis : Axis) (v : ℤ) → low_edge axis r ≤ℤ v → v ≤ℤ high_edge axis r
+      → (bound deck r ≤ bound deck (cut_before axis v r)) × (bound deck r ≤ bound deck (cut_after axis v r))
+  -- never below the corner bound
+  pub above_corner_bound : NonEmpty r → corner_bound deck r ≤ℤ pos (bound deck r)
 
 -- v is a coordinate at which a line must stand: that of an edge of the area, or of a stop that is within reach of it and in its range
 pub data Named (deck : Deck) (axis : Axis) (v : ℤ) : Type 0 where

@@ -5,6 +5,7 @@ pub mod Cost
 pub mod Reach
 pub mod Lines
 pub mod Bound
+pub mod CornerBound
 pub mod Grid
 pub mod Problem
 pub mod Cut

@@ -1,5 +1,5 @@
 -- What a search sees of a deck: its area, and for each round the lines, the cost of a place and the bound of a cell (RULES "Rounds").
-use Rattle.std.specs.Prelude.{ℕ, ℤ}
+use Rattle.std.specs.Prelude.{ℕ, ℤ, pos}
 use Rattle.query.specs.Place.{Place, Rect}
 use Rattle.query.specs.Deck.{Deck}
 use Rattle.query.specs.Cost.{cost}
@@ -18,4 +18,4 @@ pub record Problem : Type 0 where
 
 unfoldable pub problem : Deck → Problem
 unfolding grid cost bound
-problem deck = record { area = deck.area; rules = record { grid = grid deck; price = cost deck; bound = bound deck } }
+problem deck = record { area = deck.area; rules = record { grid = grid deck; price = cost deck; bound = λ r. pos (bound deck r) } }

@@ -1,12 +1,12 @@
 -- The ranges of a deck's values (RULES "Deck", "Change 2"), and the limits that they put on its figures.
-use Rattle.std.specs.Prelude.{ℕ, ◌≤◌, nat_abs, length}
+use Rattle.std.specs.Prelude.{ℕ, ◌≤◌, pos, nat_abs, ◌≤ℤ◌, length}
 use mathlib.Core.List.{Memᴰ}
 use Rattle.query.specs.Place.{Place, Rect, corner}
 use Rattle.query.specs.Deck.{Stop, Deck}
 use Rattle.query.specs.Travel.{travel, near}
 use Rattle.query.specs.Cost.{cost, before}
-use Rattle.query.specs.Reach.{load}
-use Rattle.query.specs.Bound.{span, bound}
+use Rattle.query.specs.Bound.{bound}
+use Rattle.query.specs.CornerBound.{span, load, corner_bound}
 use Rattle.query.specs.Problem.{problem}
 use Rattle.query.specs.Order.{Cell}
 use Rattle.query.specs.Search.{run}
@@ -76,15 +76,17 @@ pub record FigureLimits (deck : Deck) : Type 0 where
   pub near_limit : (stop : Stop) → Memᴰ stop deck.stops → near deck stop ≤ travel_limit
   pub cost_limit_lem : (p : Place) → cost deck p ≤ cost_limit
   pub before_limit : before deck ≤ cost_limit
+  pub bound_limit : (r : Rect) → bound deck r ≤ cost_limit
   pub load_limit_lem : (r : Rect) → load deck r ≤ load_limit
   pub span_limit : (r : Rect) → RectInRange r → span deck.axis r ≤ travel_limit
-  pub bound_limit : (r : Rect) → RectInRange r → nat_abs (bound deck r) ≤ cost_limit
+  pub corner_bound_limit : (r : Rect) → RectInRange r → nat_abs (corner_bound deck r) ≤ cost_limit
 
 -- nor does a figure of a report, where so many rounds are allowed
 pub record FiguresInRange (rounds : ℕ) (f : Figures) : Type 0 where
   pub place : PlaceInRange f.at
   pub high_limit : f.high ≤ cost_limit
-  pub low_limit : nat_abs f.low ≤ cost_limit
+  pub low_some : pos 0 ≤ℤ f.low
+  pub low_limit : f.low ≤ℤ pos cost_limit
   pub before_limit : f.before ≤ cost_limit
   pub rounds_limit_lem : f.rounds ≤ rounds
 
@@ -92,4 +94,5 @@ pub record FiguresInRange (rounds : ℕ) (f : Figures) : Type 0 where
 pub record RunInRange (deck : Deck) (n : ℕ) : Type 0 where
   pub figures_range : FiguresInRange n (figures deck n)
   pub cells_range : (c : Cell) → Memᴰ c (run (problem deck) n).live → RectInRange c.rect
-  pub bounds_limit : (c : Cell) → Memᴰ c (run (problem deck) n).live → nat_abs c.bound ≤ cost_limit
+  pub bounds_some : (c : Cell) → Memᴰ c (run (problem deck) n).live → pos 0 ≤ℤ c.bound
+  pub bounds_limit : (c : Cell) → Memᴰ c (run (problem deck) n).live → c.bound ≤ℤ pos cost_limit

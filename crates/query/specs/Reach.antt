@@ -1,7 +1,6 @@
--- Within reach of a rectangle, and load (RULES "Travel", "Reach").
+-- Within reach of a rectangle (RULES "Travel", "Reach").
 use Rattle.std.specs.Prelude.{ℕ, Bool, ltb}
 use Rattle.numbers.specs.Integer.{clamp}
-use Rattle.numbers.specs.Lists.{sum_of, keep}
 use Rattle.query.specs.Place.{Place, Rect}
 use Rattle.query.specs.Deck.{Stop, Deck}
 use Rattle.query.specs.Travel.{travel, near}
@@ -20,8 +19,3 @@ travel_to deck r stop = travel deck.axis stop.at (closest_point r stop.at)
 unfoldable pub reach : Deck → Rect → Stop → Bool
 unfolding travel_to near
 reach deck r stop = ltb (travel_to deck r stop) (near deck stop)
-
--- the load of a rectangle: the weight of the paper's VCU(R)
-unfoldable pub load : Deck → Rect → ℕ
-unfolding sum_of keep reach
-load deck r = sum_of (λ stop. stop.visits) (keep (reach deck r) deck.stops)
