@@ -5,7 +5,6 @@ use native.Mathlib.Nat.{mul-le-mul_left}
 use native.Mathlib.Omega.{arith}
 use lib.IntN.{ℤ}
 use lib.Signed.{◌≤ℤ◌}
-use Rattle.numbers.specs.Lists.{sum_of}
 use Rattle.numbers.proofs.Integer.{order}
 use Rattle.numbers.proofs.Sums.{sum_of_le}
 use Rattle.query.specs.Place.{Place, Rect, In, NonEmpty, Axis, x_axis, y_axis, low_edge, high_edge, corner}

@@ -8,6 +8,7 @@ use borrow.Author.Rules.{rules}
 use mir.Syntax.{w64}
 use mir.Val.{to_z, of_z}
 use mir.ValLaws.{to_z-of_z}
+use Rattle.numbers.proofs.Integer.{order}
 use Rattle.text.specs.Ascii.{bytes}
 use Rattle.write.specs.declared.Writer.{Writer}
 use Rattle.write.specs.Written.{Wrote}
@@ -29,7 +30,7 @@ place-wrote r h w = rw (back r.x (omega (arith, h.place.x_range)), back r.y (ome
 
 costs-wrote : {before after : Writer} (r : Report) → FiguresInRange rounds_limit (report_figures r) →
     Wrote before (costs_part r.high (to_z w64 (of_z w64 r.low)) r.before) after → Wrote before (costs_part r.high r.low r.before) after
-costs-wrote r h w = rw (back r.low (omega (arith, h.low_limit))) at w
+costs-wrote r h w = rw (back r.low (omega (arith, order, h.low_some, h.low_limit))) at w
 
 pub put_place-requires : goal.put_place-requires
 unfolding bytes
@@ -80,7 +81,7 @@ put_key-requires c =
       length_place c.args.report.x c.args.report.y range.place.x_range range.place.y_range,
       costs.next,
       costs.size,
-      length_costs c.args.report.high c.args.report.low c.args.report.before range.high_limit range.low_limit range.before_limit,
+      length_costs c.args.report.high c.args.report.low c.args.report.before range.high_limit range.low_some range.low_limit range.before_limit,
       length_rounds c.args.report.rounds range.rounds_limit_lem,
     )
 
@@ -103,7 +104,7 @@ put-requires c =
       length_place c.args.report.x c.args.report.y range.place.x_range range.place.y_range,
       costs.next,
       costs.size,
-      length_costs c.args.report.high c.args.report.low c.args.report.before range.high_limit range.low_limit range.before_limit,
+      length_costs c.args.report.high c.args.report.low c.args.report.before range.high_limit range.low_some range.low_limit range.before_limit,
       c.put_key.ensures.next,
       c.put_key.ensures.size,
       length_rounds c.args.report.rounds range.rounds_limit_lem,
