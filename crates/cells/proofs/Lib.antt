@@ -1,1 +1,4 @@
+pub mod Keys
 pub mod HeldLaws
+pub mod RangeLaws
+pub mod SlotLaws
