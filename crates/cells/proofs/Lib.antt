@@ -2,3 +2,4 @@ pub mod Keys
 pub mod HeldLaws
 pub mod RangeLaws
 pub mod SlotLaws
+pub mod PlaceLaws
