@@ -3,3 +3,4 @@ pub mod HeldLaws
 pub mod RangeLaws
 pub mod SlotLaws
 pub mod PlaceLaws
+pub mod WriteLaws
