@@ -1,8 +1,1 @@
-pub mod Keys
-pub mod Listing
-pub mod Entries
-pub mod Trims
-pub mod Numbers
-pub mod SpaceLaws
-pub mod Inserts
-pub mod LiveLaws
+pub mod HeldLaws
