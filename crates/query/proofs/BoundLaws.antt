@@ -1,10 +1,12 @@
 -- What the bound of a rectangle is held to: each comparison of bounds and costs goes stop by stop.
-use mathlib.Core.Path.{◌≡◌, sym, subst}
-use Prim.Native.Nat.{ℕ, ◌*◌, ◌≤◌, min}
+use mathlib.Core.Path.{◌≡◌, refl, sym, subst}
+use mathlib.Core.List.{List, [], ◌∷◌}
+use Prim.Native.Nat.{ℕ, ◌+◌, ◌*◌, ◌≤◌, min}
 use native.Mathlib.Nat.{mul-le-mul_left}
 use native.Mathlib.Omega.{arith}
 use lib.IntN.{ℤ}
 use lib.Signed.{◌≤ℤ◌}
+use Rattle.numbers.specs.Lists.{sum_of}
 use Rattle.numbers.proofs.Integer.{order}
 use Rattle.numbers.proofs.Sums.{sum_of_le}
 use Rattle.query.specs.Place.{Place, Rect, In, NonEmpty, Axis, x_axis, y_axis, low_edge, high_edge, corner}
@@ -14,7 +16,7 @@ use Rattle.query.specs.Cost.{cost, before}
 use Rattle.query.specs.Reach.{closest_point, travel_to}
 use Rattle.query.specs.Bound.{bound}
 use Rattle.query.specs.Cut.{cut_before, cut_after}
-use Rattle.query.specs.Laws.{BoundLaw}
+use Rattle.query.specs.Laws.{with_stops, BoundLaw}
 use Rattle.query.proofs.Axes.{for_both, place_eq}
 use Rattle.query.proofs.CostLaws.{paid, least_paid, cost_sum, bound_sum}
 use Rattle.query.proofs.CornerBoundLaws.{above_corner_bound}
@@ -70,6 +72,17 @@ point deck r g h = omega (arith, below deck r (corner r) (omega (arith, order)),
     above = rw (bound_sum deck r, cost_sum deck (corner r)) (sum_of_le (paid deck (corner r)) (least_paid deck r) deck.stops
         (λ stop m. paid_mono stop.visits (near deck stop) _ _ (at_corner deck r stop g h)))
 
+-- the closest point costs a stop alone just its part
+one_stop : (deck : Deck) (r : Rect) → NonEmpty r → (stop : Stop)
+    → (p : Place) × In r p × (bound (with_stops deck (stop ∷ [])) r ≡ cost (with_stops deck (stop ∷ [])) p)
+unfolding bound cost travel_to
+one_stop deck r n stop = (closest_point r stop.at, closest_point_in r stop.at n, refl)
+
+stop_by_stop : (deck : Deck) (r : Rect) (stop : Stop) (stops : List Stop)
+    → bound (with_stops deck (stop ∷ stops)) r ≡ bound (with_stops deck (stop ∷ [])) r + bound (with_stops deck stops) r
+unfolding bound sum_of near travel_to
+stop_by_stop deck r stop stops = omega arith
+
 pub bound_law : (deck : Deck) (r : Rect) → BoundLaw deck r
 bound_law deck r = record {
   below = below deck r;
@@ -77,5 +90,7 @@ bound_law deck r = record {
   point = point deck r;
   part = part deck r;
   parts = parts deck r;
+  one_stop = one_stop deck r;
+  stop_by_stop = stop_by_stop deck r;
   above_corner_bound = above_corner_bound deck r;
 }
