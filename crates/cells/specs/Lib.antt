@@ -1,5 +1,5 @@
 pub mod Held
 pub mod Numbering
-pub mod Places
+pub mod Slots
 pub mod Live
 pub mod Steps
