@@ -1,5 +1,5 @@
 -- What `search::halves::improve` owes.
-use Rattle.search.proofs.StepLaws.{priced_better, improve_taken, improve_left}
+use Rattle.search.proofs.BestLaws.{priced_better, improve_taken, improve_left}
 use Rattle.search.proofs.halves.improve.Goals as goal
 
 pub returns-then-precedes : goal.returns-then-precedes
