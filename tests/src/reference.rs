@@ -443,7 +443,7 @@ impl Record {
     }
 }
 
-// ---- pricing: RULES "Travel", "Near", "Cost", "Reach", "Lines", "Bound", "Cuts"
+// ---- pricing: RULES "Travel", "Near", "Cost", "Reach", "Lines", "Bound", "Corner bound", "Cuts"
 
 pub fn travel(axis: Axis, p: Place, q: Place) -> i64 {
     axis.a * (p.0 - q.0).abs() + axis.b * (p.1 - q.1).abs()
@@ -481,13 +481,13 @@ impl Deck<'_> {
         self.stops().map(|(s, near)| s.visits * near).sum()
     }
 
+    /// The travel from a stop to the closest point of a rectangle.
+    fn travel_to(&self, s: &Stop, r: Rect) -> i64 {
+        self.travel(s.at, (s.at.0.clamp(r.xlo, r.xhi), s.at.1.clamp(r.ylo, r.yhi)))
+    }
+
     fn within_reach(&self, r: Rect) -> impl Iterator<Item = &Stop> {
-        self.stops()
-            .filter(move |(s, near)| {
-                let closest = (s.at.0.clamp(r.xlo, r.xhi), s.at.1.clamp(r.ylo, r.yhi));
-                self.travel(s.at, closest) < *near
-            })
-            .map(|(s, _)| s)
+        self.stops().filter(move |(s, near)| self.travel_to(s, r) < *near).map(|(s, _)| s)
     }
 
     pub fn load(&self, r: Rect) -> i64 {
@@ -506,7 +506,13 @@ impl Deck<'_> {
         sorted(ys.chain([a.ylo, a.yhi]).collect())
     }
 
+    /// Stop by stop: what each pays if it has a post at its own closest point of the rectangle.
     pub fn bound(&self, r: Rect) -> i64 {
+        self.stops().map(|(s, near)| s.visits * near.min(self.travel_to(s, r))).sum()
+    }
+
+    /// By the costs of the corners. No search goes by it.
+    pub fn corner_bound(&self, r: Rect) -> i64 {
         let first = self.cost((r.xlo, r.ylo)) + self.cost((r.xhi, r.yhi));
         let second = self.cost((r.xlo, r.yhi)) + self.cost((r.xhi, r.ylo));
         let Axis { a, b } = self.job.axis;
@@ -627,9 +633,14 @@ impl Cell {
 }
 
 pub fn search(job: &Job) -> Found {
+    search_by(job, |deck, r| deck.bound(r))
+}
+
+/// The search with any bound of cells, for a comparison of bounds.
+pub fn search_by(job: &Job, bound: impl Fn(&Deck, Rect) -> i64) -> Found {
     let deck = Deck::new(job);
     let (vertical, horizontal) = (deck.vertical(), deck.horizontal());
-    let cell = |r: Rect| Cell { bound: deck.bound(r), r, cut: cut(&vertical, &horizontal, r) };
+    let cell = |r: Rect| Cell { bound: bound(&deck, r), r, cut: cut(&vertical, &horizontal, r) };
     let a = job.area;
     let mut best = [(a.xlo, a.ylo), (a.xlo, a.yhi), (a.xhi, a.ylo), (a.xhi, a.yhi)]
         .map(|p| deck.priced(p))
