@@ -757,9 +757,13 @@ mod tests {
     }
 
     #[test]
-    fn halves_go_towards_plus_infinity() {
-        for (twice, half) in [(3, 2), (-3, -1), (-4, -2), (-7, -3)] {
-            assert_eq!(-((-twice as i64).div_euclid(2)), half);
-        }
+    fn case_d_has_its_bounds() {
+        let job = read(b"area=0,0,9,0\nposts=1\npost=5,1\nstops=1\nstop=5,0,1\nrounds=0\n").unwrap();
+        let deck = Deck::new(&job);
+        // -7 and -3 halved, towards plus infinity
+        assert_eq!((deck.bound(job.area), deck.corner_bound(job.area)), (0, -3));
+        let part = Rect { xlo: 3, xhi: 8, ..job.area };
+        assert_eq!((deck.bound(part), deck.corner_bound(part)), (0, -1));
+        assert_eq!((search(&job).low, search_by(&job, |deck, r| deck.corner_bound(r)).low), (0, -3));
     }
 }
