@@ -757,13 +757,18 @@ mod tests {
     }
 
     #[test]
-    fn case_d_has_its_bounds() {
-        let job = read(b"area=0,0,9,0\nposts=1\npost=5,1\nstops=1\nstop=5,0,1\nrounds=0\n").unwrap();
-        let deck = Deck::new(&job);
-        // -7 and -3 halved, towards plus infinity
-        assert_eq!((deck.bound(job.area), deck.corner_bound(job.area)), (0, -3));
-        let part = Rect { xlo: 3, xhi: 8, ..job.area };
-        assert_eq!((deck.bound(part), deck.corner_bound(part)), (0, -1));
-        assert_eq!((search(&job).low, search_by(&job, |deck, r| deck.corner_bound(r)).low), (0, -3));
+    fn halves_go_towards_plus_infinity() {
+        let of = |stops: &str, xlo: i64, xhi: i64| {
+            let job = read(format!("area={xlo},0,{xhi},0\nposts=1\npost=5,1\n{stops}rounds=0\n").as_bytes()).unwrap();
+            let deck = Deck::new(&job);
+            let lows = (search(&job).low, search_by(&job, |deck, r| deck.corner_bound(r)).low);
+            assert_eq!((deck.bound(job.area), deck.corner_bound(job.area)), lows);
+            lows
+        };
+        // case D: 1 + 1 - 9, 1 + 1 - 5
+        assert_eq!(of("stops=1\nstop=5,0,1\n", 0, 9), (0, -3));
+        assert_eq!(of("stops=1\nstop=5,0,1\n", 3, 8), (0, -1));
+        // 17 + 12 - 2 * 9
+        assert_eq!(of("stops=2\nstop=5,0,1\nstop=20,0,1\n", 0, 9), (11, 6));
     }
 }
