@@ -391,8 +391,7 @@ fn kernels(deck: &twin::Deck, suffix: &str) {
     row("the same, twin post by post", 400, Kernel::Near, &|k| twin::near_many(deck, k, read::near_by_posts));
     row("cost of a place, 512 stops", 20_000, Kernel::Cost, &|k| twin::cost_many(&s, k));
     row("load of a rectangle, 512 stops", 20_000, Kernel::Load, &|k| twin::load_many(&s, k));
-    row("bound of a cell, 512 stops (4 costs, load)", 5_000, Kernel::Bound, &|k| twin::bound_many(&s, k, twin::bound));
-    row("the same, twin with one pass for all five", 5_000, Kernel::Bound, &|k| twin::bound_many(&s, k, twin::bound_in_one_pass));
+    row("bound of a cell, 512 stops", 20_000, Kernel::Bound, &|k| twin::bound_many(&s, k));
 }
 
 fn main() {
