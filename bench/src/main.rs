@@ -375,7 +375,7 @@ fn exhaustive_calls() {
     let twins: [(&str, fn(&[u8]) -> exhaustive::PricedPlace); 3] = [("ramps by search", exhaustive::searched), ("ramps by table", exhaustive::looked_up), ("every crossing", exhaustive::every_crossing)];
     let job = |deck: Sizes| Sizes { rounds: 0, ..deck }.job();
     compare_exhaustive("largest", &job(LARGEST), 1, &twins);
-    compare_exhaustive("a post in a corner", &exhaustive::cornered(job(Sizes { posts: 1, ..LARGEST })), 1, &twins);
+    compare_exhaustive("a post in a corner", &read::cornered(job(Sizes { posts: 1, ..LARGEST })), 1, &twins);
     compare_exhaustive("typical", &job(TYPICAL), 20, &twins);
     for (name, deck) in slower() {
         compare_exhaustive(name, &job(deck), if deck.stops == 512 { 1 } else { 20 }, &twins);
