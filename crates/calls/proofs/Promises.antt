@@ -39,6 +39,7 @@ pub more_rounds : {n : ℕ} {f : Figures} → FiguresInRange n f → n ≤ round
 more_rounds range h = record {
   place = range.place;
   high_limit = range.high_limit;
+  low_some = range.low_some;
   low_limit = range.low_limit;
   before_limit = range.before_limit;
   rounds_limit_lem = omega (arith, range.rounds_limit_lem);

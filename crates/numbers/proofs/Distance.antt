@@ -40,3 +40,13 @@ unfolding clamp
 clamp_closest lo hi v w h k =
     cond_ind (λ (z : ℤ). dist v z ≤ dist v w) (lt_z v lo) (λ t. omega (arith, order, dist_nat v lo, dist_nat v w))
     (λ t. cond_ind (λ (z : ℤ). dist v z ≤ dist v w) (lt_z hi v) (λ u. omega (arith, order, dist_nat v hi, dist_nat v w)) (λ u. omega (arith, dist_nat v v)))
+
+-- the distances to both ends together
+pub clamp_both : (lo hi v : ℤ) → lo ≤ℤ hi → dist v lo + dist v hi ≡ 2 * dist v (clamp lo hi v) + dist lo hi
+unfolding clamp
+clamp_both lo hi v h =
+    cond_ind (λ (z : ℤ). dist v lo + dist v hi ≡ 2 * dist v z + dist lo hi) (lt_z v lo)
+    (λ t. omega (arith, order, dist_nat v lo, dist_nat v hi, dist_nat lo hi))
+    (λ t. cond_ind (λ (z : ℤ). dist v lo + dist v hi ≡ 2 * dist v z + dist lo hi) (lt_z hi v)
+    (λ u. omega (arith, order, dist_nat v lo, dist_nat v hi, dist_nat lo hi))
+    (λ u. omega (arith, order, dist_nat v lo, dist_nat v hi, dist_nat v v, dist_nat lo hi)))

@@ -183,13 +183,7 @@ shift_floor (negsuc n) = record { low = omega arith; high = omega arith }
 pub half_shift : (z : ℤ) → shr_z (z +ℤ pos 1) 2 ≡ half_up z
 half_shift z = omega (arith, order, shift_floor (z +ℤ pos 1), add_nat z (pos 1), half_nat z)
 
-pub half_mono : (y z : ℤ) → y ≤ℤ z → half_up y ≤ℤ half_up z
-half_mono y z h = omega (arith, order, half_nat y, half_nat z)
-
--- halves of differences m − s and m' − s' of natural numbers, and of one such difference that is at most 2 n
-pub half_sub_mono : (m s m' s' : ℕ) → m + s' ≤ m' + s → half_up (pos m -ℤ pos s) ≤ℤ half_up (pos m' -ℤ pos s')
-half_sub_mono m s m' s' h = half_mono _ _ (omega (arith, order, sub_nat (pos m) (pos s), sub_nat (pos m') (pos s')))
-
+-- half of a difference m − s that is at most 2 n
 pub half_sub_le : (m s n : ℕ) → m ≤ 2 * n + s → half_up (pos m -ℤ pos s) ≤ℤ pos n
 half_sub_le m s n h = omega (arith, order, half_nat (pos m -ℤ pos s), sub_nat (pos m) (pos s))
 

@@ -29,7 +29,7 @@ strictly_between lo hi v = lt_z lo v && lt_z v hi
 unfoldable pub clamp : ℤ → ℤ → ℤ → ℤ
 clamp lo hi v = cond (lt_z v lo) lo (cond (lt_z hi v) hi v)
 
--- half of z, rounded towards plus infinity (RULES "Bound")
+-- half of z, rounded towards plus infinity (RULES "Corner bound")
 unfoldable pub half_up : ℤ → ℤ
 half_up (pos n) = pos ((n + 1) / 2)
 half_up (negsuc n) = neg_ℤ (pos (suc n / 2))

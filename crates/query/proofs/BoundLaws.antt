@@ -1,114 +1,96 @@
--- The bound of a rectangle is at most the cost of each of its points, and at most the bound of each rectangle within it.
--- Halves are upwards.
-use mathlib.Core.Path.{◌≡◌, refl}
-use Prim.Native.Nat.{ℕ, ◌+◌, ◌*◌, ◌≤◌, max}
+-- What the bound of a rectangle is held to: each comparison of bounds and costs goes stop by stop.
+use mathlib.Core.Path.{◌≡◌, refl, sym, subst}
+use mathlib.Core.List.{List, [], ◌∷◌}
+use Prim.Native.Nat.{ℕ, ◌+◌, ◌*◌, ◌≤◌, min}
 use native.Mathlib.Nat.{mul-le-mul_left}
 use native.Mathlib.Omega.{arith}
-use lib.IntN.{ℤ, pos, ◌-ℤ◌}
+use lib.IntN.{ℤ}
 use lib.Signed.{◌≤ℤ◌}
-use Rattle.numbers.specs.Integer.{dist, half_up}
-use Rattle.numbers.proofs.Integer.{order, add_nat, half_nat, half_sub_mono, half_sub_le}
-use Rattle.numbers.proofs.Distance.{dist_sym, dist_split}
-use Rattle.query.specs.Place.{Place, Rect, In, NonEmpty}
-use Rattle.query.specs.Deck.{AxisCosts, Deck}
-use Rattle.query.specs.Travel.{travel}
-use Rattle.query.specs.Cost.{cost}
-use Rattle.query.specs.Reach.{load}
-use Rattle.query.specs.Bound.{span, corner_sum, bound}
-use Rattle.query.specs.Laws.{HalfLaw, BoundLaw}
-use Rattle.query.proofs.Lipschitz.{lipschitz, load_mono}
+use Rattle.numbers.specs.Lists.{sum_of}
+use Rattle.numbers.proofs.Integer.{order}
+use Rattle.numbers.proofs.Sums.{sum_of_le}
+use Rattle.query.specs.Place.{Place, Rect, In, NonEmpty, Axis, x_axis, y_axis, low_edge, high_edge, corner}
+use Rattle.query.specs.Deck.{Stop, Deck}
+use Rattle.query.specs.Travel.{travel, near}
+use Rattle.query.specs.Cost.{cost, before}
+use Rattle.query.specs.Reach.{closest_point, travel_to}
+use Rattle.query.specs.Bound.{bound}
+use Rattle.query.specs.Cut.{cut_before, cut_after}
+use Rattle.query.specs.Laws.{with_stops, BoundLaw}
+use Rattle.query.proofs.Axes.{for_both, place_eq}
+use Rattle.query.proofs.CostLaws.{paid, least_paid, cost_sum, bound_sum}
+use Rattle.query.proofs.CornerBoundLaws.{above_corner_bound}
+use Rattle.query.proofs.Travel.{closest_point_in, travel_to_least}
 
--- a rectangle's corners: left or right, and front or back
-abbrev lf : Rect → Place
-lf r = record { x = r.xlo; y = r.ylo }
+-- what is paid with the smaller of near and a travel does not fall with the travel
+paid_mono : (v n t u : ℕ) → t ≤ u → v * min n t ≤ v * min n u
+paid_mono v n t u h = mul-le-mul_left v (omega arith)
 
-abbrev rb : Rect → Place
-rb r = record { x = r.xhi; y = r.yhi }
+pub below : (deck : Deck) (r : Rect) (p : Place) → In r p → bound deck r ≤ cost deck p
+below deck r p h = rw (bound_sum deck r, cost_sum deck p) (sum_of_le (least_paid deck r) (paid deck p) deck.stops
+    (λ stop m. paid_mono stop.visits (near deck stop) _ _ (travel_to_least deck r stop p h)))
 
-abbrev lb : Rect → Place
-lb r = record { x = r.xlo; y = r.yhi }
+pub most : (deck : Deck) (r : Rect) → bound deck r ≤ before deck
+unfolding before
+most deck r = rw (bound_sum deck r) (sum_of_le (least_paid deck r) (λ stop. stop.visits * near deck stop) deck.stops
+    (λ stop m. mul-le-mul_left stop.visits (omega arith)))
 
-abbrev rf : Rect → Place
-rf r = record { x = r.xhi; y = r.ylo }
+-- no stop is closer to a rectangle in r than to r
+closer : (deck : Deck) (r q : Rect) → NonEmpty q → ((p : Place) → In q p → In r p) → (stop : Stop) → travel_to deck r stop ≤ travel_to deck q stop
+unfolding travel_to
+closer deck r q n sub stop = travel_to_least deck r stop (closest_point q stop.at) (sub _ (closest_point_in q stop.at n))
 
--- span × load
-abbrev slack : Deck → Rect → ℕ
-slack deck r = span deck.axis r * load deck r
+pub part : (deck : Deck) (r q : Rect) → NonEmpty q → In r (corner q) → In r (record { x = q.xhi; y = q.yhi }) → bound deck r ≤ bound deck q
+part deck r q n h k = rw (bound_sum deck r, bound_sum deck q) (sum_of_le (least_paid deck r) (least_paid deck q) deck.stops
+    (λ stop m. paid_mono stop.visits (near deck stop) _ _ (closer deck r q n (λ p i. omega (arith, order)) stop)))
 
--- the definitions one step at a time
-pub bound_is : (deck : Deck) (r : Rect) → bound deck r ≡ half_up (pos (corner_sum deck r) -ℤ pos (slack deck r))
-unfolding bound
-bound_is deck r = refl
-
-pub corner_sum_is : (deck : Deck) (r : Rect) → corner_sum deck r ≡ max (cost deck (lf r) + cost deck (rb r)) (cost deck (lb r) + cost deck (rf r))
-unfolding corner_sum
-corner_sum_is deck r = refl
-
--- a side in three pieces
-pieces : (u a b w : ℤ) → u ≤ℤ a → a ≤ℤ b → b ≤ℤ w → dist a u + dist a b + dist b w ≤ dist u w
-pieces u a b w h k l = omega (arith, dist_sym a u, dist_split u a b h k, dist_split u b w (omega (arith, order)) l)
-
--- the ways from the inner corners to the outer ones, on both diagonals
-record Ways (axis : AxisCosts) (r r' : Rect) : Type 0 where
-  first : travel axis (lf r') (lf r) + span axis r' + travel axis (rb r') (rb r) ≤ span axis r
-  second : travel axis (lb r') (lb r) + span axis r' + travel axis (rf r') (rf r) ≤ span axis r
-
-ways : (axis : AxisCosts) (r r' : Rect) → NonEmpty r' → In r (lf r') → In r (rb r') → Ways axis r r'
-unfolding travel span
-ways axis r r' n h k = omega (
-  arith,
-  mul-le-mul_left axis.a (pieces r.xlo r'.xlo r'.xhi r.xhi h.left n.across k.right),
-  mul-le-mul_left axis.b (pieces r.ylo r'.ylo r'.yhi r.yhi h.front n.deep k.back),
+parts : (deck : Deck) (r : Rect) → NonEmpty r → (axis : Axis) (v : ℤ) → low_edge axis r ≤ℤ v → v ≤ℤ high_edge axis r
+    → (bound deck r ≤ bound deck (cut_before axis v r)) × (bound deck r ≤ bound deck (cut_after axis v r))
+parts deck r n x_axis v g h = (
+  part deck r (cut_before x_axis v r) (omega (arith, order)) (omega (arith, order)) (omega (arith, order)),
+  part deck r (cut_after x_axis v r) (omega (arith, order)) (omega (arith, order)) (omega (arith, order)),
+)
+parts deck r n y_axis v g h = (
+  part deck r (cut_before y_axis v r) (omega (arith, order)) (omega (arith, order)) (omega (arith, order)),
+  part deck r (cut_after y_axis v r) (omega (arith, order)) (omega (arith, order)) (omega (arith, order)),
 )
 
--- one diagonal: outer corners p, q and inner corners p', q'
-diagonal : (deck : Deck) (r r' : Rect) (p q p' q' : Place) → In r p' → In r q' → load deck r' ≤ load deck r
-    → travel deck.axis p' p + span deck.axis r' + travel deck.axis q' q ≤ span deck.axis r
-    → cost deck p + cost deck q + slack deck r' ≤ cost deck p' + cost deck q' + slack deck r
-diagonal deck r r' p q p' q' h k l w = omega (
-  arith,
-  lipschitz deck r p p' h,
-  lipschitz deck r q q' k,
-  mul-le-mul_left (load deck r) w,
-  mul-le-mul_left (span deck.axis r') l,
-)
+-- the closest point of a rectangle of one point is that point
+closest_is : (r : Rect) (p : Place) → r.xlo ≡ r.xhi → r.ylo ≡ r.yhi → closest_point r p ≡ corner r
+closest_is r p g h = let i = closest_point_in r p (omega (arith, order)) in
+    place_eq (closest_point r p) (corner r) (for_both _ (omega (arith, order)) (omega (arith, order)))
 
--- the paper's Theorem 4 between rectangles: a part has no smaller bound
-pub part : (deck : Deck) (r r' : Rect) → NonEmpty r' → In r (record { x = r'.xlo; y = r'.ylo }) → In r (record { x = r'.xhi; y = r'.yhi }) →
-    bound deck r ≤ℤ bound deck r'
-part deck r r' n h k = rw (bound_is deck r, bound_is deck r')
-    (half_sub_mono (corner_sum deck r) (slack deck r) (corner_sum deck r') (slack deck r')
-    (omega (
-      arith,
-      corner_sum_is deck r,
-      corner_sum_is deck r',
-      diagonal deck r r' (lf r) (rb r) (lf r') (rb r') h k less w.first,
-      diagonal deck r r' (lb r) (rf r) (lb r') (rf r') (omega (arith, order)) (omega (arith, order)) less w.second,
-    )))
+at_corner : (deck : Deck) (r : Rect) (stop : Stop) → r.xlo ≡ r.xhi → r.ylo ≡ r.yhi → travel deck.axis stop.at (corner r) ≤ travel_to deck r stop
+unfolding travel_to
+at_corner deck r stop g h =
+    subst (λ (q : Place). travel deck.axis stop.at (corner r) ≤ travel deck.axis stop.at q) (sym (closest_is r stop.at g h)) (omega arith)
+
+point : (deck : Deck) (r : Rect) → r.xlo ≡ r.xhi → r.ylo ≡ r.yhi → bound deck r ≡ cost deck (corner r)
+point deck r g h = omega (arith, below deck r (corner r) (omega (arith, order)), above)
   where
-    less : load deck r' ≤ load deck r
-    less = load_mono deck r r' (λ p i. omega (arith, order)) n
+    above : cost deck (corner r) ≤ bound deck r
+    above = rw (bound_sum deck r, cost_sum deck (corner r)) (sum_of_le (paid deck (corner r)) (least_paid deck r) deck.stops
+        (λ stop m. paid_mono stop.visits (near deck stop) _ _ (at_corner deck r stop g h)))
 
-    w : Ways deck.axis r r'
-    w = ways deck.axis r r' n h k
+-- the closest point costs a stop alone just its part
+one_stop : (deck : Deck) (r : Rect) → NonEmpty r → (stop : Stop)
+    → (p : Place) × In r p × (bound (with_stops deck (stop ∷ [])) r ≡ cost (with_stops deck (stop ∷ [])) p)
+unfolding bound cost travel_to
+one_stop deck r n stop = (closest_point r stop.at, closest_point_in r stop.at n, refl)
 
--- the rectangle of one point
-abbrev point : Place → Rect
-point p = record { xlo = p.x; ylo = p.y; xhi = p.x; yhi = p.y }
-
--- the paper's Theorem 4: no point of a rectangle costs less than its bound. The point is itself a part, whose corners all have its cost
-pub below : (deck : Deck) (r : Rect) (p : Place) → In r p → bound deck r ≤ℤ pos (cost deck p)
-below deck r p h = omega (arith, order, part deck r (point p) (omega (arith, order)) h h, at_point)
-  where
-    at_point : bound deck (point p) ≤ℤ pos (cost deck p)
-    at_point = rw (bound_is deck (point p)) (half_sub_le (corner_sum deck (point p)) (slack deck (point p)) (cost deck p)
-        (omega (arith, corner_sum_is deck (point p))))
+stop_by_stop : (deck : Deck) (r : Rect) (stop : Stop) (stops : List Stop)
+    → bound (with_stops deck (stop ∷ stops)) r ≡ bound (with_stops deck (stop ∷ [])) r + bound (with_stops deck stops) r
+unfolding bound sum_of near travel_to
+stop_by_stop deck r stop stops = omega arith
 
 pub bound_law : (deck : Deck) (r : Rect) → BoundLaw deck r
-bound_law deck r = record { below = below deck r; part = part deck r }
-
-pub half_law : (z : ℤ) → HalfLaw z
-half_law z = record {
-  enough = omega (arith, order, add_nat (half_up z) (half_up z), half_nat z);
-  at_most_one_more = omega (arith, order, add_nat (half_up z) (half_up z), add_nat z (pos 1), half_nat z);
+bound_law deck r = record {
+  below = below deck r;
+  most = most deck r;
+  point = point deck r;
+  part = part deck r;
+  parts = parts deck r;
+  one_stop = one_stop deck r;
+  stop_by_stop = stop_by_stop deck r;
+  above_corner_bound = above_corner_bound deck r;
 }

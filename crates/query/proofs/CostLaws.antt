@@ -1,15 +1,15 @@
--- Reach in numbers, and cost and load as sums over the stops, so that proofs need not open `near`.
+-- Reach in numbers, and cost and bound as sums over the stops, so that proofs need not open `near`.
 use mathlib.Core.Path.{◌≡◌, refl}
-use mathlib.Core.Bool.{not, cond}
+use mathlib.Core.Bool.{not}
 use Prim.Native.Nat.{ℕ, ◌*◌, ◌≤◌, ◌<◌, min}
 use lib.Dec.{T, ltb→lt, lt→ltb, nltb→le}
 use Rattle.numbers.specs.Lists.{sum_of}
-use Rattle.numbers.proofs.Sums.{sum_of_keep}
 use Rattle.query.specs.Place.{Place, Rect}
 use Rattle.query.specs.Deck.{Stop, Deck}
 use Rattle.query.specs.Travel.{travel, near}
 use Rattle.query.specs.Cost.{cost}
-use Rattle.query.specs.Reach.{travel_to, reach, load}
+use Rattle.query.specs.Reach.{travel_to, reach}
+use Rattle.query.specs.Bound.{bound}
 
 pub reach_nat : (deck : Deck) (r : Rect) (stop : Stop) → T (reach deck r stop) → travel_to deck r stop < near deck stop
 unfolding reach
@@ -23,17 +23,17 @@ pub nreach_nat : (deck : Deck) (r : Rect) (stop : Stop) → T (not (reach deck r
 unfolding reach
 nreach_nat deck r stop t = nltb→le _ _ t
 
--- a stop's part of the cost of a place, and of the load of a rectangle
+-- a stop's part of the cost of a place, and of the bound of a rectangle
 abbrev pub paid : Deck → Place → Stop → ℕ
 paid deck p stop = stop.visits * min (near deck stop) (travel deck.axis stop.at p)
 
-abbrev pub borne : Deck → Rect → Stop → ℕ
-borne deck r stop = cond (reach deck r stop) stop.visits 0
+abbrev pub least_paid : Deck → Rect → Stop → ℕ
+least_paid deck r stop = stop.visits * min (near deck stop) (travel_to deck r stop)
 
 pub cost_sum : (deck : Deck) (p : Place) → cost deck p ≡ sum_of (paid deck p) deck.stops
 unfolding cost
 cost_sum deck p = refl
 
-pub load_sum : (deck : Deck) (r : Rect) → load deck r ≡ sum_of (borne deck r) deck.stops
-unfolding load
-load_sum deck r = sum_of_keep (λ (stop : Stop). stop.visits) (reach deck r) deck.stops
+pub bound_sum : (deck : Deck) (r : Rect) → bound deck r ≡ sum_of (least_paid deck r) deck.stops
+unfolding bound
+bound_sum deck r = refl

@@ -11,6 +11,7 @@ use Rattle.numbers.proofs.Members.{least_member}
 use Rattle.numbers.proofs.Orders.{lt_z_strict}
 use Rattle.query.specs.Place.{Place, Rect, In, NonEmpty, corner}
 use Rattle.query.specs.Deck.{Deck}
+use Rattle.query.specs.Bound.{bound}
 use Rattle.query.specs.Problem.{problem}
 use Rattle.query.specs.Order.{Cell}
 use Rattle.query.specs.Search.{run}
@@ -33,6 +34,14 @@ point_in_range r p h i = record {
   y_range = within_range coordinate_limit r.ylo p.y r.yhi h.low_corner_law.y_range h.high_corner_law.y_range i.front i.back;
 }
 
+-- a figure that is not negative, and at most the cost limit
+record FigureInRange (z : ℤ) : Type 0 where
+  some : pos 0 ≤ℤ z
+  most : z ≤ℤ pos cost_limit
+
+natural : (n : ℕ) → n ≤ cost_limit → FigureInRange (pos n)
+natural n h = omega (arith, order)
+
 module _ (deck : Deck) (range : InRange deck) (full : NonEmpty deck.area) where
   ok : (n : ℕ) → Ok (problem deck) (run (problem deck) n).best (run (problem deck) n).live
   ok n = run_ok (problem deck) (lawful deck full) (cut_law (problem deck).rules.grid) n
@@ -45,9 +54,9 @@ module _ (deck : Deck) (range : InRange deck) (full : NonEmpty deck.area) where
         (cell.within (record { x = c.rect.xhi; y = c.rect.yhi }) (omega (arith, order, cell.full)));
   }
 
-  bound_in_range : (n : ℕ) (c : Cell) → Memᴰ c (run (problem deck) n).live → nat_abs c.bound ≤ cost_limit
+  bound_in_range : (n : ℕ) (c : Cell) → Memᴰ c (run (problem deck) n).live → FigureInRange c.bound
   unfolding problem
-  bound_in_range n c m = rw ((ok n).cells c m).bound_is ((figure_limits deck range).bound_limit c.rect (cell_in_range n c m))
+  bound_in_range n c m = rw ((ok n).cells c m).bound_is (natural (bound deck c.rect) ((figure_limits deck range).bound_limit c.rect))
 
   high_in_range : (n : ℕ) → high (run (problem deck) n) ≤ cost_limit
   high_in_range n = omega (
@@ -56,15 +65,15 @@ module _ (deck : Deck) (range : InRange deck) (full : NonEmpty deck.area) where
     best_costs deck (run (problem deck) n).best (ok n).best_ok,
   )
 
-  low_in_range : (n : ℕ) → nat_abs (low (run (problem deck) n)) ≤ cost_limit
+  low_in_range : (n : ℕ) → FigureInRange (low (run (problem deck) n))
   unfolding low
   low_in_range n = go (low (run (problem deck) n)) (least_member lt_z lt_z_strict (pos (high (run (problem deck) n)))
       (map (λ c. c.bound) (run (problem deck) n).live))
     where
-      go : (l : ℤ) → Memᴰ l (pos (high (run (problem deck) n)) ∷ map (λ c. c.bound) (run (problem deck) n).live) → nat_abs l ≤ cost_limit
-      go l (Memᴰ.head e) = rw e (high_in_range n)
+      go : (l : ℤ) → Memᴰ l (pos (high (run (problem deck) n)) ∷ map (λ c. c.bound) (run (problem deck) n).live) → FigureInRange l
+      go l (Memᴰ.head e) = rw e (natural (high (run (problem deck) n)) (high_in_range n))
       go l (Memᴰ.tail m) = let w = Memᴰ.of_map (λ (c : Cell). c.bound) (run (problem deck) n).live m in
-          subst (λ (z : ℤ). nat_abs z ≤ cost_limit) w.2 (bound_in_range n w.0 w.1)
+          subst (λ (z : ℤ). FigureInRange z) w.2 (bound_in_range n w.0 w.1)
 
   pub run_in_range : (n : ℕ) → RunInRange deck n
   unfolding figures figures_of
@@ -72,10 +81,12 @@ module _ (deck : Deck) (range : InRange deck) (full : NonEmpty deck.area) where
     figures_range = record {
       place = point_in_range deck.area (run (problem deck) n).best.at range.area (promise_3 deck full n).in_area;
       high_limit = high_in_range n;
-      low_limit = low_in_range n;
+      low_some = (low_in_range n).some;
+      low_limit = (low_in_range n).most;
       before_limit = (figure_limits deck range).before_limit;
       rounds_limit_lem = cuts_most (problem deck) n;
     };
     cells_range = cell_in_range n;
-    bounds_limit = bound_in_range n;
+    bounds_some = λ c m. (bound_in_range n c m).some;
+    bounds_limit = λ c m. (bound_in_range n c m).most;
   }

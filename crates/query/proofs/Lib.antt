@@ -3,8 +3,8 @@ pub mod Rows
 pub mod Axes
 pub mod Travel
 pub mod CostLaws
-pub mod Lipschitz
 pub mod BoundLaws
+pub mod CornerBoundLaws
 pub mod NearLaws
 pub mod LineLaws
 pub mod CutLaws

@@ -7,6 +7,7 @@ use native.Mathlib.Omega.{arith}
 use lib.Dec.{T}
 use lib.Signed.{◌≤ℤ◌}
 use Rattle.numbers.specs.Lists.{non_empty}
+use Rattle.numbers.proofs.Integer.{order}
 use Rattle.query.specs.Place.{NonEmpty, low_edge, high_edge}
 use Rattle.query.specs.Deck.{Deck}
 use Rattle.query.specs.Problem.{problem}
@@ -26,7 +27,7 @@ use Rattle.query.proofs.Beaten.{Cheapest, best_costs, cheapest_beats}
 use Rattle.query.proofs.EstimateLaws.{cuts_within}
 use Rattle.query.proofs.Counts.{live_cuts, cuts_made_lem}
 
--- the rules are lawful: the paper's Theorem 2 and Theorem 4, and the like of Theorem 4 for parts
+-- the rules are lawful: the paper's Theorem 2, and the like of its Theorem 4 for the bound, also of parts
 pub lawful : (deck : Deck) → NonEmpty deck.area → Lawful (problem deck)
 unfolding problem
 lawful deck full = record {
@@ -34,8 +35,8 @@ lawful deck full = record {
   low_line = λ axis. rw (lines_along_lem deck axis) (((lines_law deck axis).named (low_edge axis deck.area)).1 (edge_low refl));
   high_line = λ axis. rw (lines_along_lem deck axis) (((lines_law deck axis).named (high_edge axis deck.area)).1 (edge_high refl));
   increasing = λ axis. rw (lines_along_lem deck axis) (lines_law deck axis).increasing;
-  below = BoundLaws.below deck;
-  part = BoundLaws.part deck;
+  below = λ r p h. omega (arith, order, BoundLaws.below deck r p h);
+  part = λ r q n h k. omega (arith, order, BoundLaws.part deck r q n h k);
   crossing = λ p h. let (q, good) = Crossing.crossing deck p h in
       (q, good.in_area, λ axis. rw (lines_along_lem deck axis) (good.on_lines axis), good.not_worse);
 }

@@ -3,7 +3,8 @@ use Rattle.numbers.proofs.NumberRows.{number_rows}
 use Rattle.query.specs.QueryTheorems.{QueryTheorems}
 use Rattle.query.proofs.Marked.{marked}
 use Rattle.query.proofs.Rows.{rows}
-use Rattle.query.proofs.BoundLaws.{half_law, bound_law}
+use Rattle.query.proofs.BoundLaws.{bound_law}
+use Rattle.query.proofs.CornerBoundLaws.{half_law}
 use Rattle.query.proofs.NearLaws.{near_law, travel_to_law}
 use Rattle.query.proofs.LineLaws.{lines_law, gaps_law}
 use Rattle.query.proofs.CutLaws.{cut_law}

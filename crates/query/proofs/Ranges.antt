@@ -13,13 +13,15 @@ use Rattle.query.specs.Place.{Place, Rect, corner}
 use Rattle.query.specs.Deck.{AxisCosts, Stop, Deck}
 use Rattle.query.specs.Travel.{travel, near}
 use Rattle.query.specs.Cost.{cost, before}
-use Rattle.query.specs.Reach.{reach, load}
-use Rattle.query.specs.Bound.{span, corner_sum, bound}
+use Rattle.query.specs.Reach.{reach}
+use Rattle.query.specs.Bound.{bound}
+use Rattle.query.specs.CornerBound.{span, load, corner_sum, corner_bound}
 use Rattle.query.specs.Range.{coordinate_limit, visits_limit, axis_cost_limit, PlaceInRange, RectInRange, InRange, travel_limit, load_limit, cost_limit}
 use Rattle.query.specs.Range.{FigureLimits}
 use Rattle.query.proofs.CostLaws.{cost_sum}
 use Rattle.query.proofs.NearLaws.{near_law}
-use Rattle.query.proofs.BoundLaws.{bound_is, corner_sum_is}
+use Rattle.query.proofs.BoundLaws.{most}
+use Rattle.query.proofs.CornerBoundLaws.{corner_bound_is, corner_sum_is}
 
 pub costs_limit : (axis : AxisCosts) → (axis.a ≤ axis_cost_limit) × (axis.b ≤ axis_cost_limit) → (p q : Place) → PlaceInRange p → PlaceInRange q →
     travel axis p q ≤ travel_limit
@@ -68,8 +70,11 @@ module _ (deck : Deck) (range : InRange deck) where
     sum_of_most (λ (stop : Stop). stop.visits) visits_limit deck.stops (λ stop m. (range.stops stop m).most_visits),
   )
 
-  bound_limit : (r : Rect) → RectInRange r → nat_abs (bound deck r) ≤ cost_limit
-  bound_limit r h = rw (bound_is deck r) (half_sub_abs (corner_sum deck r) (span deck.axis r * load deck r) cost_limit corners
+  bound_limit : (r : Rect) → bound deck r ≤ cost_limit
+  bound_limit r = omega (arith, most deck r, before_limit)
+
+  corner_bound_limit : (r : Rect) → RectInRange r → nat_abs (corner_bound deck r) ≤ cost_limit
+  corner_bound_limit r h = rw (corner_bound_is deck r) (half_sub_abs (corner_sum deck r) (span deck.axis r * load deck r) cost_limit corners
       (omega (arith, mul-le-mul (span_limit r h) (load_limit_lem r))))
     where
       corners : corner_sum deck r ≤ 2 * cost_limit
@@ -88,7 +93,8 @@ module _ (deck : Deck) (range : InRange deck) where
     near_limit = near_limit;
     cost_limit_lem = cost_limit_lem;
     before_limit = before_limit;
+    bound_limit = bound_limit;
     load_limit_lem = load_limit_lem;
     span_limit = span_limit;
-    bound_limit = bound_limit;
+    corner_bound_limit = corner_bound_limit;
   }

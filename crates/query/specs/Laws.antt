@@ -1,6 +1,6 @@
 -- What a reader may hold the definitions to, in plain terms: a record for each law. QueryTheorems.antt says of what each holds.
 use Rattle.std.specs.Prelude.{ℕ, suc, ◌+◌, ◌*◌, ◌≤◌, ◌≡◌, not, ◌↔◌, T, ℤ, pos, ◌+ℤ◌, length, ◌≤ℤ◌, ◌<ℤ◌}
-use mathlib.Core.List.{[], ◌∷◌, ◌++◌, Memᴰ, Pairwise}
+use mathlib.Core.List.{List, [], ◌∷◌, ◌++◌, Memᴰ, Pairwise}
 use Rattle.numbers.specs.Integer.{half_up}
 use Rattle.numbers.specs.Lists.{non_empty}
 use Rattle.query.specs.Place.{Place, Rect, In, NonEmpty, Axis, x_axis, y_axis, coordinate, low_edge, high_edge, corner}
@@ -37,6 +37,10 @@ pub record TravelToLaw (deck : Deck) (r : Rect) (stop : Stop) : Type 0 where
   pub some_point : NonEmpty r → (p : Place) × In r p × (travel_to deck r stop ≡ travel deck.axis stop.at p)
   pub every_point : (p : Place) → In r p → travel_to deck r stop ≤ travel deck.axis stop.at p
 
+-- the deck with other stops
+abbrev pub with_stops : Deck → List Stop → Deck
+with_stops deck stops = record deck { stops = stops }
+
 -- RULES "Bound": what the bound of a rectangle is held to. r is any rectangle, whether or not a search makes it
 pub record BoundLaw (deck : Deck) (r : Rect) : Type 0 where
   -- at most the cost of each of its points
@@ -50,6 +54,10 @@ pub record BoundLaw (deck : Deck) (r : Rect) : Type 0 where
   -- so at most those of both parts of a cut, at any number between its edges
   pub parts : NonEmpty r → (axis : Axis) (v : ℤ) → low_edge axis r ≤ℤ v → v ≤ℤ high_edge axis r
       → (bound deck r ≤ bound deck (cut_before axis v r)) × (bound deck r ≤ bound deck (cut_after axis v r))
+  -- of one stop alone the cost of some point, so the least cost of its points; of several stops the sum of what each alone has
+  pub one_stop : NonEmpty r → (stop : Stop) → (p : Place) × In r p × (bound (with_stops deck (stop ∷ [])) r ≡ cost (with_stops deck (stop ∷ [])) p)
+  pub stop_by_stop : (stop : Stop) (stops : List Stop)
+      → bound (with_stops deck (stop ∷ stops)) r ≡ bound (with_stops deck (stop ∷ [])) r + bound (with_stops deck stops) r
   -- never below the corner bound
   pub above_corner_bound : NonEmpty r → corner_bound deck r ≤ℤ pos (bound deck r)
 

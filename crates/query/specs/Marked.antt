@@ -35,5 +35,5 @@ pub record Marked : Type 0 where
   pub a_3 : figures deck_a 3 ≡ report done (at 4 3) 13 (pos 13) 34 3
   pub B : figures deck_b 10 ≡ report done (at 0 0) 10 (pos 10) 110 0
   pub C : figures deck_c 10 ≡ report done (at 5 5) 16 (pos 16) 34 0
-  pub d_0 : figures deck_d 0 ≡ report stopped (at 0 0) 1 (negsuc 2) 1 0
+  pub d_0 : figures deck_d 0 ≡ report stopped (at 0 0) 1 (pos 0) 1 0
   pub d_1 : figures deck_d 1 ≡ report done (at 5 0) 0 (pos 0) 1 1

@@ -165,7 +165,6 @@ pub record Rows : Type 0 where
   -- what is within reach
   pub reach : figures deck_reach 10 ≡ report done (at 0 0) 8 (pos 8) 8 0
   pub far : figures deck_far 10 ≡ report done (at 2 4) 4 (pos 4) 14 1
-  pub load_1 : figures deck_load 1 ≡ report stopped (at 2 0) 3 (pos 0) 4 1
   -- where a cell is cut
   pub tie_1 : figures deck_tie 1 ≡ report stopped (at 1 0) 2 (pos 0) 10 1
   pub square_1 : figures deck_square 1 ≡ report stopped (at 1 2) 1 (pos 0) 5 1
@@ -176,34 +175,21 @@ pub record Rows : Type 0 where
   pub first : figures deck_first 10 ≡ report done (at 0 1) 6 (pos 6) 22 1
   pub order_1 : figures deck_order 1 ≡ report stopped (at 2 0) 4 (pos 0) 9 1
   pub order_2 : figures deck_order 2 ≡ report stopped (at 1 0) 3 (pos 0) 9 2
-  pub order : figures deck_order 10 ≡ report done (at 1 1) 2 (pos 2) 9 5
   -- bounds
   pub half_0 : figures deck_half 0 ≡ report stopped (at 0 3) 3 (pos 2) 3 0
-  pub axis_0 : figures deck_axis 0 ≡ report stopped (at 4 3) 14 (pos 0) 16 0
-  pub axis_1 : figures deck_axis 1 ≡ report stopped (at 2 3) 11 (pos 4) 16 1
-  pub axis_2 : figures deck_axis 2 ≡ report stopped (at 2 3) 11 (pos 5) 16 2
-  pub axis : figures deck_axis 10 ≡ report done (at 3 3) 9 (pos 9) 16 5
   pub narrow_plain : figures (deck_narrow 1 1) 10 ≡ report done (at 2 1) 7 (pos 7) 11 3
-  pub narrow_0 : figures (deck_narrow 2 1) 0 ≡ report stopped (at 3 1) 11 (pos 3) 15 0
   pub narrow_1 : figures (deck_narrow 2 1) 1 ≡ report stopped (at 1 4) 11 (pos 6) 15 1
   pub narrow : figures (deck_narrow 2 1) 10 ≡ report done (at 2 4) 9 (pos 9) 15 3
   pub narrow_deep : figures (deck_narrow 1 2) 10 ≡ report done (at 3 1) 9 (pos 9) 18 3
   pub side_1 : figures deck_side 1 ≡ report stopped (at 3 0) 4 (pos 0) 34 1
-  pub both_1 : figures deck_both 1 ≡ report stopped (at 2 0) 20 (pos 0) 44 1
-  pub both_2 : figures deck_both 2 ≡ report stopped (at 2 2) 8 (pos 3) 44 2
   pub both : figures deck_both 10 ≡ report done (at 2 2) 8 (pos 8) 44 5
   pub ends : figures (deck_ends lowest (at 20000 20000)) 1000 ≡ report done (at 20000 20000) 0 (pos 0) 24158822400000 0
-  pub ends_low : figures (deck_ends (at 0 1) (at 0 0)) 0 ≡ report stopped lowest 301985280 (negsuc 12079109214719) 301985280 0
   -- the cell space, with two numbers more than suffice
   pub space_a_0 : space deck_a 0 7 ≡ map pos (2 ∷ 2 ∷ 8 ∷ 8 ∷ 4 ∷ 0 ∷ 0 ∷ [])
   pub space_a_1 : space deck_a 1 12 ≡ map pos (4 ∷ 2 ∷ 8 ∷ 8 ∷ 4 ∷ 2 ∷ 2 ∷ 4 ∷ 8 ∷ 8 ∷ 0 ∷ 0 ∷ [])
   pub space_a_2 : space deck_a 2 17 ≡ map pos (2 ∷ 2 ∷ 4 ∷ 8 ∷ 8 ∷ []) ++ replicate 12 (pos 0)
   pub space_a_3 : space deck_a 3 22 ≡ replicate 22 (pos 0)
-  pub space_d_0 : space deck_d 0 7 ≡ pos 0 ∷ pos 0 ∷ pos 9 ∷ pos 0 ∷ negsuc 2 ∷ pos 0 ∷ pos 0 ∷ []
-  pub space_order_2 : space deck_order 2 17 ≡ map pos (1 ∷ 0 ∷ 2 ∷ 2 ∷ 0 ∷ 2 ∷ 0 ∷ 5 ∷ 2 ∷ 0 ∷ 0 ∷ 0 ∷ 1 ∷ 2 ∷ 1 ∷ 0 ∷ 0 ∷ [])
   -- excluded: cells of equal bound go by y before x, by x alone, or by x and then the larger y
-  pub space_columns_2 : space deck_columns 2 17
-      ≡ map pos (0 ∷ 2 ∷ 3 ∷ 4 ∷ 0 ∷ 1 ∷ 0 ∷ 3 ∷ 2 ∷ 0 ∷ 0 ∷ 0 ∷ 1 ∷ 2 ∷ 1 ∷ 0 ∷ 0 ∷ [])
   -- the exhaustive search
   pub exhaustive_a : exhaustive (problem deck_a) ≡ record { at = at 4 3; cost = 13 }
   pub exhaustive_b : exhaustive (problem deck_b) ≡ record { at = at 0 0; cost = 10 }

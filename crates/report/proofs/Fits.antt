@@ -11,7 +11,7 @@ use Rattle.report.specs.Limits.{ReportFits}
 use Rattle.report.proofs.TextLaws.{state_part, place_part, costs_part, rounds_part, report_parts, refusal_parts, length_five, length_state, length_place}
 use Rattle.report.proofs.TextLaws.{length_costs, length_rounds, length_refusal}
 
-longest : (f : Figures) → FiguresInRange rounds_limit f → length (report_text f) ≤ 105
+longest : (f : Figures) → FiguresInRange rounds_limit f → length (report_text f) ≤ 104
 unfolding bytes
 longest f r =
     rw report_parts (omega (
@@ -19,7 +19,7 @@ longest f r =
       length_five (state_part f.state) (place_part f.at.x f.at.y) (costs_part f.high f.low f.before) (rounds_part f.rounds) (bytes "\n"),
       length_state f.state,
       length_place f.at.x f.at.y r.place.x_range r.place.y_range,
-      length_costs f.high f.low f.before r.high_limit r.low_limit r.before_limit,
+      length_costs f.high f.low f.before r.high_limit r.low_some r.low_limit r.before_limit,
       length_rounds f.rounds r.rounds_limit_lem,
     ))
 

@@ -6,7 +6,9 @@ use mathlib.Core.Logic.{◌⊎◌, inl, inr}
 use mathlib.Core.List.{List, [], ◌∷◌, ◌++◌, flatten, append_assoc, append-nil}
 use mathlib.Core.Option.{Option, none, some}
 use lib.ListN.{length, length-append, get_or, drop}
-use lib.IntN.{ℤ, pos, nat_abs}
+use lib.IntN.{ℤ, pos, negsuc, nat_abs}
+use lib.Signed.{◌≤ℤ◌}
+use Rattle.numbers.proofs.Integer.{order}
 use Rattle.query.specs.Figures.{Figures, State, done, stopped}
 use Rattle.query.specs.Range.{coordinate_limit, rounds_limit, cost_limit}
 use Rattle.text.specs.Ascii.{bytes, comma}
@@ -95,14 +97,19 @@ pub length_place : (x y : ℤ) → nat_abs x ≤ coordinate_limit → nat_abs y 
 unfolding bytes
 length_place x y h k = simp length-append (omega (arith, length_spell_int_below 4 x (omega arith), length_spell_int_below 4 y (omega arith)))
 
-pub length_costs : (high : ℕ) (low : ℤ) (before : ℕ) → high ≤ cost_limit → nat_abs low ≤ cost_limit → before ≤ cost_limit
-    → length (costs_part high low before) ≤ 62
+length_low : (low : ℤ) → pos 0 ≤ℤ low → low ≤ℤ pos cost_limit → length (spell_int low) ≤ 14
+unfolding spell_int
+length_low (pos n) g h = length_spell_nat_below 13 n (omega (arith, order))
+length_low (negsuc n) g h = absurd (omega (arith, order))
+
+pub length_costs : (high : ℕ) (low : ℤ) (before : ℕ) → high ≤ cost_limit → pos 0 ≤ℤ low → low ≤ℤ pos cost_limit → before ≤ cost_limit
+    → length (costs_part high low before) ≤ 61
 unfolding bytes
-length_costs high low before h k l =
+length_costs high low before h g k l =
     simp length-append (omega (
       arith,
       length_spell_nat_below 13 high (omega arith),
-      length_spell_int_below 13 low (omega arith),
+      length_low low g k,
       length_spell_nat_below 13 before (omega arith),
     ))
 

@@ -10,20 +10,21 @@ use Rattle.report.specs.Text.{report_text, refusal_text}
 abbrev pub output_size : ℕ
 output_size = 128
 
--- figures at the ends of their ranges
+-- figures at the ends of their ranges. No deck has all of them at once: where low is the largest cost no place saves anything, and the
+-- report is done
 abbrev pub widest : Figures
 widest = record {
   state = stopped;
   at = record { x = neg_ℤ (pos coordinate_limit); y = neg_ℤ (pos coordinate_limit) };
   high = cost_limit;
-  low = neg_ℤ (pos cost_limit);
+  low = pos cost_limit;
   before = cost_limit;
   rounds = rounds_limit;
 }
 
--- figures in range have a report that fits, of at most 105 bytes; every refusal has at most 36
+-- figures in range have a report that fits, of at most 104 bytes; every refusal has at most 36
 pub record ReportFits : Type 0 where
   pub report_fits : (f : Figures) → FiguresInRange rounds_limit f → length (report_text f) ≤ output_size
-  pub report_longest : (f : Figures) → FiguresInRange rounds_limit f → length (report_text f) ≤ 105
-  pub report_widest : length (report_text widest) ≡ 105
+  pub report_longest : (f : Figures) → FiguresInRange rounds_limit f → length (report_text f) ≤ 104
+  pub report_widest : length (report_text widest) ≡ 104
   pub refusal_longest : (why : Refusal) → length (refusal_text (number_of why) (line_of why)) ≤ 36

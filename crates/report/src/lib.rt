@@ -32,7 +32,7 @@ pub struct Report {
     pub y: i64,
     /// The cost of that place.
     pub high: u64,
-    /// What every place of the area costs at least. It can be negative.
+    /// What every place of the area costs at least. It is never negative.
     pub low: i64,
     /// The cost without a new post.
     pub before: u64,

@@ -1,14 +1,14 @@
--- The parts of `solve` and `respond` make up the call `report`.
+-- A search and the text of its report make up the call `report`.
 use Prim.Native.Nat.{ℕ, ◌+◌, ◌*◌, ◌≤◌, ◌<◌}
 use mathlib.Core.Path.{◌≡◌, refl, sym, ap, ap₂, subst, ◌∙◌}
-use mathlib.Core.List.{List, [], ◌∷◌, map}
+use mathlib.Core.List.{List, [], ◌∷◌}
 use native.Mathlib.Omega.{arith}
 use mir.Syntax.{w64}
 use mir.ValLaws.{to_z-of_z}
 use lib.IntN.{ℤ, pos}
 use lib.ListN.{length, length-replicate}
-use Rattle.std.proofs.lemmas.List.{length-map}
 use Rattle.numbers.specs.Padded.{padded}
+use Rattle.numbers.proofs.Integer.{order, abs_range}
 use Rattle.numbers.proofs.Words.{word_fits}
 use Rattle.numbers.proofs.WordTests.{back}
 use Rattle.query.specs.Deck as Query
@@ -34,21 +34,20 @@ use Rattle.refusal.specs.declared.Refusal.TheVariants.{SmallSpace, ShortOutput}
 use Rattle.reach.specs.Held.{pricing_of_objects}
 use Rattle.pricing.specs.ObjectFigures.{before_of, Figure}
 use Rattle.pricing.proofs.ObjectLaws.{before_law}
-use Rattle.slots.specs.Slot.{entry_cell}
-use Rattle.cells.specs.Live.{Live}
 use Rattle.prepare.specs.declared.Problem as Held
 use Rattle.prepare.specs.declared.PreparedJob.{PreparedJob}
 use Rattle.prepare.specs.ProblemRecord.{given_by, given_for}
 use Rattle.prepare.proofs.JobProblem.{spelt, rounds_same, rounds_limit_lem, before_same, problem_same}
 use Rattle.priced_place.specs.Prepared.{problem_of, Prepared}
 use Rattle.priced_place.proofs.DeckProblem.{prepared_pricing, prepared_problem, made_prepared}
+use Rattle.report.specs.Limits.{output_size}
 use Rattle.report.specs.Report.{report_state, report_figures}
 use Rattle.report.specs.Text.{report_text}
 use Rattle.write.specs.Written.{overwritten}
 use Rattle.report.specs.declared.Report.{Report}
 use Rattle.report.specs.declared.State.{State}
 use Rattle.report.proofs.Fits.{report_fits}
-use Rattle.search.specs.Answer.{is_done, found_of, Searched}
+use Rattle.search.specs.Answer.{is_done, found_of}
 use Rattle.search.specs.declared.run.Found.{Found}
 use Rattle.calls.specs.declared.Estimate as Calls
 use Rattle.calls.specs.Answers.{gives, estimate_numbers}
@@ -57,9 +56,9 @@ use Rattle.calls.proofs.Promises.{more_rounds, call_of, small_answer, short_answ
 use Rattle.estimate.specs.LineCounts.{estimate_by}
 use Rattle.estimate.proofs.EstimateLaws.{deck_estimate}
 use Rattle.siting.specs.declared.Response.{Response}
-use Rattle.siting.specs.Response.{state_for, Solved, Fits, Lacking, Reported, Answered, cells_after, AnsweredIn, AnsweredAlone, Responded, RespondedAlone}
+use Rattle.siting.specs.Response.{state_for, Reported, Responded, RespondedAlone}
 
--- ---- solve
+-- ---- the report of what is found
 state_is : (cells : List Cell) → report_state (state_for (is_done cells)) ≡ Figures.state_of cells
 state_is [] = refl
 state_is (c ∷ cs) = refl
@@ -95,22 +94,19 @@ module _ {p : Held.Problem} (prepared : Prepared p) (n : ℕ) where
 
     low_word : back f.low ≡ f.low
     unfolding figures figures_of found_of
-    low_word = to_z-of_z w64 f.low (word_fits w64 f.low (rw found (omega (arith, figures_range.low_limit))))
+    low_word = let few = (abs_range f.low cost_limit).1 (rw found (omega (arith, order, figures_range.low_some, figures_range.low_limit))) in
+        to_z-of_z w64 f.low (word_fits w64 f.low (omega (arith, few)))
 
-  pub solved : (l : Live) (f : Found) (state : State) (b : ℕ) → Searched (problem_of p) n l f → state ≡ state_for f.done →
-      Solved (problem_of p) b n l (record {
-        state = state;
-        x = back f.best.at.x;
-        y = back f.best.at.y;
-        high = f.best.cost;
-        low = back f.low;
-        before = b;
-        rounds = f.cuts;
-      })
-  solved l f state b s t = record {
-    report = rw (place_x f s.found, place_y f s.found, low_word f s.found) (found_report (problem_of p) n f state b s.found t);
-    cells = s.cells;
-  }
+    pub found_figures : (state : State) (b : ℕ) → state ≡ state_for f.done → report_figures (record {
+      state = state;
+      x = back f.best.at.x;
+      y = back f.best.at.y;
+      high = f.best.cost;
+      low = back f.low;
+      before = b;
+      rounds = f.cuts;
+    }) ≡ figures_of b (run (problem_of p) n)
+    found_figures state b t = rw (place_x, place_y, low_word) (found_report (problem_of p) n f state b e t)
 
 -- ---- respond
 pub respond_refused : (call : Left) (cells : List ℤ) (out : List ℕ) (why : Refusal) → call ≡ turned_down why cells out →
@@ -187,61 +183,54 @@ module _ (bytes : List ℕ) (g : PreparedJob) (e : given_by (Ok g) ≡ given_for
     pub small : (cells : List ℤ) (out : List ℕ) → length cells < 5 * needs.cells → report_call bytes cells out ≡ turned_down SmallSpace cells out
     small cells out h = sym (call_is cells out) ∙ small_answer _ cells out (omega (arith, space_is))
 
-    pub fits : (lent : ℕ) → 5 * needs.cells ≤ lent → Fits g lent
-    fits lent h = record { enough = omega (arith, space_is, needed_is) }
+    pub enough : (lent : ℕ) → 5 * needs.cells ≤ lent → space_needed deck g.rounds ≤ lent
+    enough lent h = omega (arith, space_is)
 
-  -- ---- the report
-  module _ (l : Live) (x : Report) (s : Solved (problem_of g.problem) g.before g.rounds l x) where
-    solved_figures : report_figures x ≡ figures deck g.rounds
+  -- ---- refusal 8 and the report, where the cell space is large enough
+  live_is : (run (problem_of g.problem) g.rounds).live ≡ (run (problem deck) g.rounds).live
+  live_is = ap (λ (q : Problem). (run q g.rounds).live) (prepared_problem prepared)
+
+  pub live_fit : (lent : ℕ) → space_needed deck g.rounds ≤ lent → 5 * length (run (problem_of g.problem) g.rounds).live ≤ lent
+  live_fit lent h = omega (arith, (space_law deck g.rounds).live_cells, ap length live_is)
+
+  cells_are : (lent : ℕ) → padded lent (pos 0) (all_numbers (run (problem_of g.problem) g.rounds).live) ≡ space deck g.rounds lent
+  unfolding space
+  cells_are lent = ap (λ (cs : List Cell). padded lent (pos 0) (all_numbers cs)) live_is
+
+  module _ (x : Report) (s : report_figures x ≡ figures_of g.before (run (problem_of g.problem) g.rounds)) where
+    figures_are : report_figures x ≡ figures deck g.rounds
     unfolding figures
-    solved_figures = s.report ∙ ap₂ (λ (b : ℕ) (q : Problem). figures_of b (run q g.rounds)) paid (prepared_problem prepared)
-
-    solved_live : map entry_cell l.entries ≡ (run (problem deck) g.rounds).live
-    solved_live = s.cells ∙ ap (λ (q : Problem). (run q g.rounds).live) (prepared_problem prepared)
+    figures_are = s ∙ ap₂ (λ (b : ℕ) (q : Problem). figures_of b (run q g.rounds)) paid (prepared_problem prepared)
 
     pub report_limits : FiguresInRange rounds_limit (report_figures x)
-    report_limits = subst (FiguresInRange rounds_limit) (sym solved_figures)
+    report_limits = subst (FiguresInRange rounds_limit) (sym figures_are)
         (more_rounds (run_in_range deck range spells.allowed.area_full g.rounds).figures_range few_rounds)
 
-    pub live_fit : (lent : ℕ) → Fits g lent → 5 * length l.entries ≤ lent
-    live_fit lent h = omega (arith, h.enough, needed_is, (space_law deck g.rounds).live_cells, ap length solved_live, length-map l.entries entry_cell)
-
-    solved_cells : (lent : ℕ) → padded lent (pos 0) (all_numbers (map entry_cell l.entries)) ≡ space deck g.rounds lent
-    unfolding space
-    solved_cells lent = ap (λ (cs : List Cell). padded lent (pos 0) (all_numbers cs)) solved_live
-
-  -- ---- refusal 8 or the report, where the cell space is large enough
   module _ (cells : List ℤ) (out : List ℕ) (h : space_needed deck g.rounds ≤ length cells) where
-    lacking : (out' : List ℕ) (why : Refusal) → Lacking out out' why → Responded (report_call bytes cells out) out cells out' (Err why)
-    lacking out' why k = rw (k.kept, k.why_is)
-        (respond_refused _ cells out ShortOutput (sym (call_is cells out) ∙ short_answer _ cells out h k.short))
+    pub lacking : length out < output_size → Responded (report_call bytes cells out) out cells out (Err ShortOutput)
+    lacking k = respond_refused _ cells out ShortOutput (sym (call_is cells out) ∙ short_answer _ cells out h k)
 
-    reporting : (l : Live) (out' : List ℕ) (x : Response) → Reported g out l out' x →
-        Responded (report_call bytes cells out) out (cells_after l cells (Ok x)) out' (Ok x)
-    reporting l out' x k =
-        let figures_are = solved_figures l x.report k.solved in
+    pub reporting : output_size ≤ length out → (cells' : List ℤ) (out' : List ℕ) (x : Response)
+        → cells' ≡ padded (length cells) (pos 0) (all_numbers (run (problem_of g.problem) g.rounds).live) → Reported g out out' x
+        → Responded (report_call bytes cells out) out cells' out' (Ok x)
+    reporting long cells' out' x k r =
+        let same = figures_are x.report r.figures_are in
         record {
           left =
-              reported_is _ cells _ out out' x.report _ figures_are (solved_cells l x.report k.solved (length cells)) (ap report_text figures_are)
-              k.text.content
-              ∙ sym (report_answer_lem _ cells out h k.long) ∙ call_is cells out;
-          filled = k.text;
-          few = omega (arith, k.text.number, report_fits.report_fits (report_figures x.report) (report_limits l x.report k.solved));
+              reported_is _ cells _ out out' x.report _ same (k ∙ cells_are (length cells)) (ap report_text same) r.text.content
+              ∙ sym (report_answer_lem _ cells out h long) ∙ call_is cells out;
+          filled = r.text;
+          few = omega (arith, r.text.number, report_fits.report_fits (report_figures x.report) (report_limits x.report r.figures_are));
         }
 
-    responded : (l : Live) (out' : List ℕ) (r : Std.Result Response Refusal) → Answered g out l out' r →
-        Responded (report_call bytes cells out) out (cells_after l cells r) out' r
-    responded l out' (Ok x) k = reporting l out' x k
-    responded l out' (Err why) k = lacking out' why k
+  -- the same of one that has no cell space
+  own_enough : space_needed deck g.rounds ≤ length own_space
+  own_enough = omega (arith, needed_most, length-replicate (5 * (rounds_limit + 1)) (pos 0))
 
-  pub responded_in : (cells : List ℤ) (out : List ℕ) → Fits g (length cells) → (cells' : List ℤ) (out' : List ℕ) (r : Std.Result Response Refusal) →
-      AnsweredIn g cells out cells' out' r → Responded (report_call bytes cells out) out cells' out' r
-  responded_in cells out fit cells' out' r k =
-      subst (λ (z : List ℤ). Responded (report_call bytes cells out) out z out' r) (sym k.cells_are)
-      (responded cells out (omega (arith, fit.enough, needed_is)) k.live out' r k.answered)
+  module _ (out : List ℕ) where
+    pub lacking_alone : length out < output_size → RespondedAlone (report_call bytes own_space out) out out (Err ShortOutput)
+    lacking_alone k = alone (lacking own_space out own_enough k)
 
-  -- that of one that has no cell space
-  pub responded_alone : (out out' : List ℕ) (r : Std.Result Response Refusal) → AnsweredAlone g out out' r →
-      RespondedAlone (report_call bytes own_space out) out out' r
-  responded_alone out out' r k =
-      alone (responded own_space out (omega (arith, needed_most, length-replicate (5 * (rounds_limit + 1)) (pos 0))) k.live out' r k.answered)
+    pub reporting_alone : output_size ≤ length out → (out' : List ℕ) (x : Response) → Reported g out out' x
+        → RespondedAlone (report_call bytes own_space out) out out' (Ok x)
+    reporting_alone long out' x r = alone (reporting own_space out own_enough long _ out' x refl r)

@@ -2,7 +2,6 @@
 #![tactic(auto)]
 
 ghost use Rattle.std.specs.Prelude.{◌≤◌, ◌≡◌, length};
-ghost use Rattle.query.specs.Range.{rounds_limit};
 ghost use Rattle.calls.specs.Answers.{report_answer, cheapest_answer, estimated_answer, read_answer, written_answer, change_answer};
 ghost use Rattle.calls.specs.Call.{report_call, own_space};
 ghost use Rattle.calls.specs.Entry.{entry};
@@ -12,24 +11,21 @@ ghost use Rattle.calls.specs.EstimateCall.{estimate_call};
 ghost use Rattle.calls.specs.ReadCall.{read_call};
 ghost use Rattle.calls.specs.WriteCall.{write_call};
 ghost use Rattle.calls.specs.ChangeCall.{change_call};
-ghost use Rattle.cells.specs.Live.{none_live};
 ghost use Rattle.change.specs.Change.{add_post, remove_post, add_stop, remove_stop};
 ghost use Rattle.deck.specs.Rectangle.{place_of, stop_of};
 ghost use Rattle.report.specs.Limits.{output_size};
-ghost use Rattle.priced_place.specs.Prepared.{problem_of, Prepared};
-ghost use Rattle.siting.specs.Response.{state_for, Solved, OfJob, Fits, Answered, AnsweredIn, AnsweredAlone, Responded, RespondedAlone};
+ghost use Rattle.siting.specs.Response.{state_for, OfJob, found_in, Reported, Responded, RespondedAlone};
 
 use calls::{Answer, Estimate, Text};
-use cells::LiveCells;
 use deck::{Deck, Place, Stop};
 use job::Job;
 use limits::{CELL_NUMBERS, REPORT_BYTES};
-use prepare::{PreparedJob, Problem};
+use prepare::PreparedJob;
 use priced_place::PricedPlace;
 use refusal::Refusal;
 use report::{Report, State};
 use search::run;
-use slots::Arrays;
+use search::run::Found;
 
 // A report, and how many bytes its text has.
 #[derive(Clone, Copy)]
@@ -44,65 +40,23 @@ fn state_of(done: bool) -> State
     if done { State::Done } else { State::Stopped }
 }
 
-// The report of a deck's problem, with what is paid before, for so many rounds. It begins with no live cell, and leaves those that are
-// live at the end.
-fn solve(problem: &Problem, before: u64, rounds: u64, live: &mut LiveCells) -> Report
-    requires { Prepared problem.now × (rounds ≤ rounds_limit) × (live.old ≡ none_live) }
-    ensures { Solved (problem_of problem.now) before rounds live.new result }
+// Writes the report of what a search of the prepared problem has found to the start of the output.
+fn report_found(given: &PreparedJob, found: Found, out: &mut [u8]) -> Response
+    requires { OfJob given.now × (found ≡ found_in given.now) × (output_size ≤ length out.old) }
+    ensures { Reported given.now out.old out.new result }
 {
-    let found = run::search(problem, rounds, live);
     let state = state_of(found.done);
-    Report {
+    let report = Report {
         state,
         x: found.best.at.x,
         y: found.best.at.y,
         high: found.best.cost,
         low: found.low,
-        before,
+        before: given.before,
         rounds: found.cuts,
-    }
-}
-
-// The report of what a job gives, with its text in the output, or refusal 8, which comes before any place is priced.
-// Not inlined, for speed (docs/PERFORMANCE.md). `OfJob`, here and below, names the job that `given` comes from.
-#[inline(never)]
-fn respond_to(
-    given: &PreparedJob,
-    live: &mut LiveCells,
-    out: &mut [u8],
-) -> Result<Response, Refusal>
-    requires { OfJob given.now × (live.old ≡ none_live) }
-    ensures { Answered given.now out.old live.new out.new result }
-{
-    if out.len() < REPORT_BYTES {
-        return Err(Refusal::ShortOutput);
-    }
-    let report = solve(&given.problem, given.before, given.rounds, live);
+    };
     let bytes = report::write_report(out, report);
-    Ok(Response { report, bytes })
-}
-
-// The same, with the live cells in the cell space. Not inlined, so that the arrays are not on the stack while a job is read.
-#[inline(never)]
-fn respond_in(given: &PreparedJob, cells: &mut [i64], out: &mut [u8]) -> Result<Response, Refusal>
-    requires { OfJob given.now × Fits given.now (length cells.old) }
-    ensures { AnsweredIn given.now cells.old out.old cells.new out.new result }
-{
-    let mut arrays = Arrays::new();
-    let mut live = LiveCells::new(&mut arrays);
-    let response = respond_to(given, &mut live, out)?;
-    live.write_out(cells);
-    Ok(response)
-}
-
-// The same for a caller with no cell space. Not inlined, as `respond_in`.
-#[inline(never)]
-fn respond_without_cells(given: &PreparedJob, out: &mut [u8]) -> Result<Response, Refusal>
-    requires { OfJob given.now }
-    ensures { AnsweredAlone given.now out.old out.new result }
-{
-    let mut arrays = Arrays::new();
-    respond_to(given, &mut LiveCells::new(&mut arrays), out)
+    Response { report, bytes }
 }
 
 // What the public call `report` answers. Refusals 7 and 8 come before any place is priced. A refusal leaves the cell space and the output
@@ -116,7 +70,11 @@ fn respond(job: &[u8], cells: &mut [i64], out: &mut [u8]) -> Result<Response, Re
     if (cells.len() as u64) < CELL_NUMBERS as u64 * needs.cells {
         return Err(Refusal::SmallSpace);
     }
-    respond_in(&given, cells, out)
+    if out.len() < REPORT_BYTES {
+        return Err(Refusal::ShortOutput);
+    }
+    let found = run::search_into(&given.problem, given.rounds, cells);
+    Ok(report_found(&given, found, out))
 }
 
 // What the C entry and the program answer, as if with a cell space of their own, which is enough for every job.
@@ -124,7 +82,11 @@ fn respond_alone(job: &[u8], out: &mut [u8]) -> Result<Response, Refusal>
     ensures { RespondedAlone (report_call job.now own_space out.old) out.old out.new result }
 {
     let given = prepare::of_job(job)?;
-    respond_without_cells(&given, out)
+    if out.len() < REPORT_BYTES {
+        return Err(Refusal::ShortOutput);
+    }
+    let found = run::search(&given.problem, given.rounds);
+    Ok(report_found(&given, found, out))
 }
 
 /// Searches a job's area (RULES "Calls", "Refusals"): the report, with its text at the start of the output, which ends with its sixth byte

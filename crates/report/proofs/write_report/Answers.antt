@@ -8,12 +8,13 @@ use borrow.Author.Rules.{rules}
 use mir.Syntax.{w64}
 use mir.Val.{to_z, of_z}
 use mir.ValLaws.{to_z-of_z}
+use Rattle.numbers.proofs.Integer.{order, abs_range}
 use Rattle.text.specs.Ascii.{bytes}
 use Rattle.write.specs.declared.Writer.{Writer}
 use Rattle.write.specs.Written.{Wrote}
 use Rattle.write.proofs.WrittenLaws.{wrote_front}
 use Rattle.report.specs.declared.Report.{Report}
-use Rattle.query.specs.Range.{rounds_limit, FiguresInRange}
+use Rattle.query.specs.Range.{cost_limit, rounds_limit, FiguresInRange}
 use Rattle.report.specs.Report.{report_state, report_figures}
 use Rattle.report.proofs.TextLaws.{place_part, costs_part, length_state, length_place, length_costs, length_rounds, report_wrote}
 use Rattle.report.proofs.write_report.Goals as goal
@@ -29,7 +30,8 @@ place-wrote r h w = rw (back r.x (omega (arith, h.place.x_range)), back r.y (ome
 
 costs-wrote : {before after : Writer} (r : Report) → FiguresInRange rounds_limit (report_figures r) →
     Wrote before (costs_part r.high (to_z w64 (of_z w64 r.low)) r.before) after → Wrote before (costs_part r.high r.low r.before) after
-costs-wrote r h w = rw (back r.low (omega (arith, h.low_limit))) at w
+costs-wrote r h w = let few = (abs_range r.low cost_limit).1 (omega (arith, order, h.low_some, h.low_limit)) in
+    rw (back r.low (omega (arith, few))) at w
 
 pub put_place-requires : goal.put_place-requires
 unfolding bytes
@@ -80,7 +82,7 @@ put_key-requires c =
       length_place c.args.report.x c.args.report.y range.place.x_range range.place.y_range,
       costs.next,
       costs.size,
-      length_costs c.args.report.high c.args.report.low c.args.report.before range.high_limit range.low_limit range.before_limit,
+      length_costs c.args.report.high c.args.report.low c.args.report.before range.high_limit range.low_some range.low_limit range.before_limit,
       length_rounds c.args.report.rounds range.rounds_limit_lem,
     )
 
@@ -103,7 +105,7 @@ put-requires c =
       length_place c.args.report.x c.args.report.y range.place.x_range range.place.y_range,
       costs.next,
       costs.size,
-      length_costs c.args.report.high c.args.report.low c.args.report.before range.high_limit range.low_limit range.before_limit,
+      length_costs c.args.report.high c.args.report.low c.args.report.before range.high_limit range.low_some range.low_limit range.before_limit,
       c.put_key.ensures.next,
       c.put_key.ensures.size,
       length_rounds c.args.report.rounds range.rounds_limit_lem,

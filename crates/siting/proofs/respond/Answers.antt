@@ -6,7 +6,7 @@ use Rattle.calls.proofs.Promises.{refused_call}
 use Rattle.prepare.specs.ProblemRecord.{given_by}
 use Rattle.prepare.proofs.JobProblem.{given_refused}
 use Rattle.estimate.proofs.EstimateLaws.{job_counts}
-use Rattle.siting.proofs.SolveLaws.{few_cells, small, fits, respond_refused, responded_in}
+use Rattle.siting.proofs.SolveLaws.{prepared, few_rounds, few_cells, small, enough, live_fit, respond_refused, lacking, reporting}
 use Rattle.siting.proofs.respond.Goals as goal
 
 pub returns-in_err-given : goal.returns-in_err-given
@@ -26,8 +26,4 @@ returns-then-cells-needs c =
     let given = ap given_by (sym c.in_ok-given.was) ∙ c.of_job.ensures in
     respond_refused _ _ _ _ (small _ c.in_ok-given.given given c.of_given-needs.result c.of_given-needs.ensures _ _ (omega (arith, c.if-cells-needs.true)))
 
-pub returns : goal.returns
-returns c =
-    let given = ap given_by (sym c.in_ok-given.was) ∙ c.of_job.ensures in
-    let fit = fits _ c.in_ok-given.given given c.of_given-needs.result c.of_given-needs.ensures _ (omega (arith, c.if-cells-needs.false)) in
-    responded_in _ c.in_ok-given.given given _ _ fit _ _ _ c.respond_in.ensures
+-- GOALS TO COME
