@@ -88,8 +88,8 @@ struct Bounds {
     /// The bound is 0, and before.
     zero: usize,
     before: usize,
-    /// Every whole point was priced, and some point costs no more than the bound.
-    priced: usize,
+    /// All its points were priced, and, of more than one, some cost no more than the bound.
+    whole: usize,
     reached: usize,
     /// A part has a larger bound.
     larger: usize,
@@ -120,15 +120,22 @@ fn check_bounds(random: &mut Random, job: &Job, r: Rect, seen: &mut Bounds) {
     let (bound, corner_bound) = (deck.bound(r), deck.corner_bound(r));
     let say = || format!("{r:?} {bound} {corner_bound}\n{}", text(&spell(job)));
     assert!(corner_bound <= bound && 0 <= bound && bound <= deck.before(), "{}", say());
-    let (width, depth) = (r.xhi - r.xlo, r.yhi - r.ylo);
-    if width + depth == 0 {
-        assert_eq!((bound, corner_bound), (deck.cost((r.xlo, r.ylo)), bound), "{}", say());
-        seen.points += 1;
-    }
     // no point costs less
     let (xs, ys) = (numbers(random, r.xlo, r.xhi), numbers(random, r.ylo, r.yhi));
-    let least = xs.iter().flat_map(|&x| ys.iter().map(move |&y| (x, y))).map(|p| deck.cost(p)).min().unwrap();
+    let points: Vec<Place> = xs.iter().flat_map(|&x| ys.iter().map(move |&y| (x, y))).collect();
+    let least = points.iter().map(|&p| deck.cost(p)).min().unwrap();
     assert!(bound <= least, "{}", say());
+    let (width, depth) = (r.xhi - r.xlo, r.yhi - r.ylo);
+    let whole = width < 20 && depth < 20;
+    if whole {
+        // each stop with a post of its own, at the best of all points
+        let alone = |s: &Stop| points.iter().map(|&p| travel(job.axis, s.at, p)).min().unwrap();
+        let sum: i64 = job.stops.iter().zip(&deck.near).map(|(s, &near)| s.visits * near.min(alone(s))).sum();
+        assert_eq!(bound, sum, "{}", say());
+    }
+    if points.len() == 1 {
+        assert_eq!((bound, corner_bound), (least, least), "{}", say());
+    }
     // no part has a smaller one
     let at_x = xs.iter().flat_map(|&v| [Rect { xhi: v, ..r }, Rect { xlo: v, ..r }]);
     let at_y = ys.iter().flat_map(|&v| [Rect { yhi: v, ..r }, Rect { ylo: v, ..r }]);
@@ -136,13 +143,14 @@ fn check_bounds(random: &mut Random, job: &Job, r: Rect, seen: &mut Bounds) {
     let parts: Vec<i64> = at_x.chain(at_y).chain(others).map(|part| deck.bound(part)).collect();
     assert!(parts.iter().all(|&part| bound <= part), "{}", say());
     seen.rectangles += 1;
-    seen.segments += (width == 0 && depth > 0 || width > 0 && depth == 0) as usize;
+    seen.points += (points.len() == 1) as usize;
+    seen.segments += (points.len() > 1 && width.min(depth) == 0) as usize;
     seen.closer += (corner_bound < bound) as usize;
     seen.negative += (corner_bound < 0) as usize;
     seen.zero += (bound == 0) as usize;
     seen.before += (bound == deck.before()) as usize;
-    seen.priced += (width < 20 && depth < 20) as usize;
-    seen.reached += (width < 20 && depth < 20 && width + depth > 0 && bound == least) as usize;
+    seen.whole += whole as usize;
+    seen.reached += (whole && points.len() > 1 && bound == least) as usize;
     seen.larger += parts.iter().any(|&part| bound < part) as usize;
 }
 
@@ -167,7 +175,7 @@ fn no_point_costs_less_than_the_bound_and_no_part_has_a_smaller_one() {
         check_bounds(&mut random, &j, Rect { xlo: -20_000, ylo: -20_000, xhi: 20_000, yhi: 20_000 }, &mut seen);
     }
     println!("{seen:?}");
-    assert!(seen.points > 1_000 && seen.segments > 5_000 && seen.priced > 10_000 && seen.larger > 10_000, "{seen:?}");
+    assert!(seen.points > 1_000 && seen.segments > 5_000 && seen.whole > 10_000 && seen.larger > 10_000, "{seen:?}");
     assert!(seen.closer > 10_000 && seen.negative > 3_000 && seen.zero > 2_000 && seen.before > 5_000 && seen.reached > 5_000, "{seen:?}");
 }
 
