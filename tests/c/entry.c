@@ -141,7 +141,7 @@ static const struct {
     {"area=0,0,10,0\nposts=1\npost=0,50\nstops=2\nstop=0,0,1\nstop=10,0,1\nrounds=10\n",
      "state=done\nat=0,0\nhigh=10\nlow=10\nbefore=110\nrounds=0\n"},
     {"area=5,5,5,5\n" POSTS STOPS "rounds=10\n", "state=done\nat=5,5\nhigh=16\nlow=16\nbefore=34\nrounds=0\n"},
-    {"area=0,0,9,0\nposts=1\npost=5,1\nstops=1\nstop=5,0,1\nrounds=0\n", "state=stopped\nat=0,0\nhigh=1\nlow=-3\nbefore=1\nrounds=0\n"},
+    {"area=0,0,9,0\nposts=1\npost=5,1\nstops=1\nstop=5,0,1\nrounds=0\n", "state=stopped\nat=0,0\nhigh=1\nlow=0\nbefore=1\nrounds=0\n"},
     {"area=0,0,9,0\nposts=1\npost=5,1\nstops=1\nstop=5,0,1\nrounds=1\n", "state=done\nat=5,0\nhigh=0\nlow=0\nbefore=1\nrounds=1\n"},
     // axis costs
     {AREA "axis=1,1\n" POSTS STOPS "rounds=10\n", REPORT_A},

@@ -66,7 +66,7 @@ pub fn reports() -> Vec<(String, &'static str)> {
         (behind(1, "axis=1,1\n"), case_a),
         (narrow("", 10), plain),
         (narrow("axis=1,1\n", 10), plain),
-        (narrow("axis=2,1\n", 0), "state=stopped\nat=3,1\nhigh=11\nlow=3\nbefore=15\nrounds=0\n"),
+        (narrow("axis=2,1\n", 0), "state=stopped\nat=3,1\nhigh=11\nlow=6\nbefore=15\nrounds=0\n"),
         (narrow("axis=2,1\n", 1), "state=stopped\nat=1,4\nhigh=11\nlow=6\nbefore=15\nrounds=1\n"),
         (narrow("axis=2,1\n", 3), wide),
         (narrow("axis=2,1\n", 1_000), wide),
