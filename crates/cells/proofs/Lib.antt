@@ -4,3 +4,4 @@ pub mod RangeLaws
 pub mod SlotLaws
 pub mod PlaceLaws
 pub mod WriteLaws
+pub mod LiveLaws
