@@ -16,7 +16,7 @@ use Rattle.query.specs.Order.{Priced, precedes, priced_key, cell_key, cell_befor
 use Rattle.query.specs.Search.{is_live}
 use Rattle.query.proofs.KeyOrder.{cell_before_strict}
 use Rattle.cells.specs.declared.Cell.{Cell}
-use Rattle.cells.specs.Held.{query_cell, held_before}
+use Rattle.cells.specs.Held.{query_cell}
 use Rattle.cells.specs.Live.{Live, with_cell}
 use Rattle.cells.proofs.HeldLaws.{keep_insert_in, keep_insert_out, keep_agree, cells_insert}
 use Rattle.search.specs.LiveCells.{with_live}
@@ -58,17 +58,17 @@ module _ (G : Grid) (best : Priced) (c : Cell) (l : Live) where
   added_one r f g l' q = let live : is_live G best (query_cell c) ≡ true = sym f ∙ g in rw live q
 
   -- it takes one slot at most
-  pub with_live_free : l.free ≤ (with_live G best c l).free + 1
+  pub added_free : (l' : Live) → l' ≡ with_live G best c l → l.free ≤ l'.free + 1
   unfolding with_live with_cell
-  with_live_free = go (is_live G best (query_cell c))
+  added_free l' e = rw e (go (is_live G best (query_cell c)))
     where
       go : (b : Bool) → l.free ≤ (cond b (with_cell c l) l).free + 1
       go true = omega arith
       go false = omega arith
 
-  pub with_live_cells : map query_cell (with_live G best c l).cells ≡ one_more G best (query_cell c) (map query_cell l.cells)
+  pub added_cells : (l' : Live) → l' ≡ with_live G best c l → map query_cell l'.cells ≡ one_more G best (query_cell c) (map query_cell l.cells)
   unfolding with_live one_more with_cell
-  with_live_cells = go (is_live G best (query_cell c))
+  added_cells l' e = rw e (go (is_live G best (query_cell c)))
     where
       go : (b : Bool) → map query_cell (cond b (with_cell c l) l).cells ≡ cond b (insert_by cell_before (query_cell c) (map query_cell l.cells)) (map query_cell l.cells)
       go true = cells_insert c l.cells

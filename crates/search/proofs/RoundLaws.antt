@@ -2,7 +2,7 @@
 use mathlib.Core.Path.{◌≡◌, refl, sym, ap, subst, ◌∙◌}
 use mathlib.Core.List.Memᴰ
 use mathlib.Core.List.{List, [], ◌∷◌, map, Memᴰ}
-use Prim.Native.Nat.{ℕ, suc, ◌+◌, ◌-◌, ◌≤◌}
+use Prim.Native.Nat.{suc, ◌+◌, ◌-◌, ◌≤◌}
 use native.Mathlib.Numerals.{add-one}
 use native.Mathlib.Omega.{arith}
 use lib.Dec.{T}
@@ -21,7 +21,7 @@ use Rattle.deck.specs.Rectangle.{rect_of}
 use Rattle.reach.specs.Held.{pricing_of_objects}
 use Rattle.reach.specs.declared.columns.Objects.{Objects}
 use Rattle.cells.specs.declared.Cell.{Cell}
-use Rattle.cells.specs.Held.{query_cell, HeldInOrder}
+use Rattle.cells.specs.Held.{query_cell}
 use Rattle.cells.specs.Live.{Live, none_live, comes_before, leading}
 use Rattle.cells.proofs.HeldLaws.{cells_keep, cells_in_order}
 use Rattle.priced_place.specs.declared.PricedPlace.{PricedPlace}
@@ -34,7 +34,7 @@ use Rattle.search.specs.LiveCells.{with_live}
 use Rattle.search.specs.Running.{Takeable, search_of, Holds}
 use Rattle.search.proofs.BestLaws.{best_two, priced_limit}
 use Rattle.search.proofs.CutParts.{parts_ranged}
-use Rattle.search.proofs.LiveLaws.{one_more, keep_two, with_live_free, with_live_cells, keep_live, single}
+use Rattle.search.proofs.LiveLaws.{one_more, keep_two, added_free, added_cells, keep_live, single}
 
 -- ---- a start
 pub search_is : (cs : List Cell) (st : Running) → search_of cs st ≡ record { best = priced_of st.best; live = map query_cell cs; cuts = st.cuts }
@@ -54,7 +54,7 @@ started P G area best bests c cell l added = record {
       search_is l.cells (record { best = best; cuts = 0 })
       ∙ (λ i. record { best = bests i; live = cells i; cuts = 0 })
       ∙ sym (start_is Q);
-  low_free = rw added (omega (arith, with_live_free G (priced_of best) c none_live));
+  low_free = omega (arith, added_free G (priced_of best) c none_live l added);
 }
   where
     Q : Problem
@@ -62,8 +62,7 @@ started P G area best bests c cell l added = record {
 
     cells : map query_cell l.cells ≡ keep (is_live G (start_best Q)) (cell_of Q.rules area ∷ [])
     cells =
-        ap (λ (k : Live). map query_cell k.cells) added
-        ∙ with_live_cells G (priced_of best) c none_live
+        added_cells G (priced_of best) c none_live l added
         ∙ (λ i. one_more G (bests i) (query_cell (cell i)) [])
         ∙ single G (start_best Q) (cell_of Q.rules area)
 
@@ -136,11 +135,9 @@ module _ (P : Pricing) (G : Grid) (c : Cell) (l : Live) (st : Running) (h : Take
       (front : l₃ ≡ with_live G (priced_of best) halves.first l₂) where
     cells : map query_cell l₃.cells ≡ keep (is_live G (priced_of best)) (cells_after R (query_cell c) (map query_cell l.cells))
     cells =
-        ap (λ (k : Live). map query_cell k.cells) front
-        ∙ with_live_cells G (priced_of best) halves.first l₂
+        added_cells G (priced_of best) halves.first l₂ l₃ front
         ∙ ap (one_more G (priced_of best) (query_cell halves.first))
-        (ap (λ (k : Live). map query_cell k.cells) behind
-        ∙ with_live_cells G (priced_of best) halves.second l₁
+        (added_cells G (priced_of best) halves.second l₁ l₂ behind
         ∙ ap (one_more G (priced_of best) (query_cell halves.second))
         (ap (map query_cell) (leading_cells (priced_key (priced_of best)) l l₁ trimmed) ∙ kept))
         ∙ sym after
@@ -167,12 +164,13 @@ module _ (P : Pricing) (G : Grid) (c : Cell) (l : Live) (st : Running) (h : Take
     after_round = record {
       is = search_is l₃.cells (record { best = best; cuts = st.cuts + 1 }) ∙ round_search;
       low_free =
-          rw front
-          (omega (arith, with_live_free G (priced_of best) halves.first l₂, second_free, leading_free (priced_key (priced_of best)) l l₁ trimmed));
+          omega (
+            arith,
+            leading_free (priced_key (priced_of best)) l l₁ trimmed,
+            added_free G (priced_of best) halves.second l₁ l₂ behind,
+            added_free G (priced_of best) halves.first l₂ l₃ front,
+          );
     }
-      where
-        second_free : l₁.free ≤ l₂.free + 1
-        second_free = rw behind (with_live_free G (priced_of best) halves.second l₁)
 
   pub rounded : (hv : Halves) → hv ≡ halves → (b new : PricedPlace) → b ≡ improved st.best hv.low → new ≡ improved b hv.high
       → (l₁ : Live) → l₁ ≡ leading (priced_key (priced_of new)) l → (l₂ : Live) → l₂ ≡ with_live G (priced_of new) hv.second l₁

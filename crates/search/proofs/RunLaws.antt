@@ -4,14 +4,14 @@ use mathlib.Core.Bool.{Bool, cond, not}
 use mathlib.Core.Logic.{⊎_elim}
 use mathlib.Core.List.Memᴰ
 use mathlib.Core.List.Pairwise
-use mathlib.Core.List.{List, [], ◌∷◌, map, Memᴰ, Pairwise, rel_of_Pairwise-cons}
+use mathlib.Core.List.{List, [], ◌∷◌, map, Memᴰ, rel_of_Pairwise-cons}
 use Prim.Native.Nat.{ℕ, zero, suc, ◌+◌, ◌-◌, ◌*◌, ◌^◌, ◌≤◌, ◌<◌}
 use native.Mathlib.Nat.{eq-or-lt_of_le}
 use native.Mathlib.Numerals.{add-one}
 use native.Mathlib.Omega.{arith}
 use lib.Dec.{T}
 use lib.IntN.{ℤ, pos}
-use lib.ListN.{length}
+use lib.ListN.{length, length-map}
 use lib.Signed.{mag, lt_z, ◌≤ℤ◌}
 use Rattle.std.specs.Prelude.{None, Some}
 use Rattle.std.specs.Int.{int_min}
@@ -168,7 +168,7 @@ module _ (Q : Problem) (n lowest : ℕ) (l : Live) (st : Running) (h : Holds (ru
   found_is r e = e ∙ ap found_of h.is
 
   pub room : (lent : ℕ) → 5 * length (run Q n).live ≤ lent → 5 * length l.cells ≤ lent
-  room lent k = rw (sym cells_are, length-map) at k
+  room lent k = rw (sym cells_are, length-map l.cells query_cell) at k
 
   pub searched : (lent : ℕ) (numbers : List ℤ) → numbers ≡ padded lent (pos 0) (all_numbers (map query_cell l.cells)) → (r : Found)
       → r ≡ found_of (search_of l.cells st) → Searched Q n lent numbers r

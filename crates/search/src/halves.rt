@@ -2,11 +2,11 @@
 ghost use Rattle.std.specs.Prelude.{◌≡◌, ◌≤◌};
 ghost use Rattle.query.specs.Cut.{cut_line, cut_before, cut_after};
 ghost use Rattle.query.specs.Order.{priced_key};
-ghost use Rattle.query.specs.Range.{cost_limit};
+ghost use Rattle.query.specs.Range.{cost_limit, RectInRange};
 ghost use Rattle.deck.specs.Rectangle.{rect_of, rect_record};
 ghost use Rattle.reach.specs.Columns.{Ranged};
 ghost use Rattle.reach.specs.Held.{pricing_of_objects};
-ghost use Rattle.cuts.specs.CutRecord.{axis_of};
+ghost use Rattle.cuts.specs.CutRecord.{axis_of, cut_record};
 ghost use Rattle.cells.specs.Held.{query_key};
 ghost use Rattle.priced_place.specs.ObjectProblem.{priced_of};
 ghost use Rattle.priced_place.specs.Prepared.{problem_of};
@@ -44,7 +44,8 @@ pub(crate) fn priced_key(priced: PricedPlace) -> Key
 // The better of two places.
 pub(crate) fn improve(best: PricedPlace, other: PricedPlace) -> PricedPlace
     requires { (best.cost ≤ cost_limit) × (other.cost ≤ cost_limit) }
-    ensures { result ≡ improved best other }
+    ensures better { result ≡ improved best other }
+    ensures limit { result.cost ≤ cost_limit }
 {
     if priced_key(other).precedes(priced_key(best)) {
         return other;
@@ -59,6 +60,18 @@ pub(crate) fn bounded(objects: &Objects, rect: Rect) -> Cell
 {
     let bound = pricing::bound(objects, rect) as i64;
     Cell { rect, bound }
+}
+
+// Where a rectangle is cut, if it can be.
+fn cut_of(problem: &Problem, rect: Rect) -> Option<Cut>
+    requires { RectInRange (rect_of rect) }
+    ensures { result ≡ cut_record (problem_of problem.now).rules.grid (rect_of rect) }
+{
+    cuts::find_cut(
+        problem.vertical.as_slice(),
+        problem.horizontal.as_slice(),
+        rect,
+    )
 }
 
 // The part of a rectangle up to a cut.
@@ -93,9 +106,7 @@ pub(crate) fn halve(problem: &Problem, rect: Rect) -> Halves
         ≡ halves_of (pricing_of_objects problem.now.objects)
         (cut_line (problem_of problem.now).rules.grid (rect_of rect)) (rect_of rect) }
 {
-    let vertical = problem.vertical.as_slice();
-    let horizontal = problem.horizontal.as_slice();
-    let cut = cuts::find_cut(vertical, horizontal, rect).unwrap();
+    let cut = cut_of(problem, rect).unwrap();
     let before = part_before(rect, cut);
     let behind = part_after(rect, cut);
     let objects = &problem.objects;

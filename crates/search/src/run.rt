@@ -64,28 +64,12 @@ fn best_corner(problem: &Problem) -> PricedPlace
     ensures start { priced_of result ≡ Search.start_best (problem_of problem.now) }
     ensures limit { result.cost ≤ cost_limit }
 {
-    let area = problem.area;
     let objects = &problem.objects;
-    let front_left = priced(objects, area.low());
-    let back_left = priced(
-        objects,
-        Place {
-            x: area.xlo,
-            y: area.yhi,
-        },
-    );
-    let front_right = priced(
-        objects,
-        Place {
-            x: area.xhi,
-            y: area.ylo,
-        },
-    );
-    let back_right = priced(objects, area.high());
-    improve(
-        improve(improve(front_left, back_left), front_right),
-        back_right,
-    )
+    let r = problem.area;
+    let mut best = priced(objects, r.low());
+    best = improve(best, priced(objects, Place { x: r.xlo, y: r.yhi }));
+    best = improve(best, priced(objects, Place { x: r.xhi, y: r.ylo }));
+    improve(best, priced(objects, r.high()))
 }
 
 // The start of a search.

@@ -11,7 +11,8 @@ returns-then-precedes c =
     let a = c.args in
     let compared : c.precedes.result ≡ precedes (cell_key (query_cell a.cell)) (priced_key (priced_of a.best)) =
     c.precedes.ensures ∙ (λ i. precedes (c.of_cell.ensures i) (c.priced_key.ensures i)) in
-    c.can_cut.ensures ∙ live_cut _ (priced_of a.best) (query_cell a.cell) _ compared c.if-precedes.true
+    rw (c.as_slice-vertical.ensures.lines, c.as_slice-horizontal.ensures.lines) at c.can_cut.ensures
+    ∙ live_cut _ (priced_of a.best) (query_cell a.cell) _ compared c.if-precedes.true
 
 pub returns-else-precedes : goal.returns-else-precedes
 returns-else-precedes c =
