@@ -6,7 +6,7 @@ use siting_tests::reference::{brute_force, estimate, exhaustive, lent_enough, re
 use siting_tests::reference::{Axis, Deck, Estimate, Found, Job, Rect, Refusal, Stop};
 use siting_tests::text;
 use siting_tests::trial;
-use siting_tests::vectors::{case_a, case_b, case_c, case_d, deep, narrow, refusals, reports};
+use siting_tests::vectors::{case_a, case_b, case_c, case_d, closer, deep, equal_bounds, narrow, refusals, reports};
 
 const LEAST: i64 = i64::MIN;
 
@@ -398,6 +398,25 @@ fn the_live_cells_of_decks_with_axis_costs() {
     assert_eq!(live_narrow(3), []);
     // cut at y 2, as 5 tenths are longer than 3. Both stops are in the front; 3,0, with 3 visits, is 2 from the back: above the best cost, 4
     assert_eq!(live(&deep(1)), [0, 0, 3, 2, 0]);
+}
+
+/// Worked out by hand.
+#[test]
+fn the_live_cells_of_a_closer_bound() {
+    // 2,1 is inside, and 9,5 is 5 + 3 from 4,2
+    assert_eq!(live(&closer(0)), [0, 0, 4, 2, 8]);
+    // cut at x 2, where 2,1 is. 9,5 is 7 + 3 from the left part: above the best cost, 9
+    assert_eq!(live(&closer(1)), [2, 0, 4, 2, 8]);
+    // cut at y 1, and no line is left inside its halves
+    assert_eq!(live(&closer(2)), []);
+}
+
+/// Worked out by hand: of equal bounds the smaller x is first, and then the smaller y.
+#[test]
+fn the_live_cells_of_equal_bounds() {
+    // cut at y 1, where both stops are, and the front part at x 1. Left of it 2,1 is 1 away, and no line inside
+    assert_eq!(live(&equal_bounds(1)), [0, 0, 3, 1, 0, 0, 1, 3, 4, 0]);
+    assert_eq!(live(&equal_bounds(2)), [0, 1, 3, 4, 0, 1, 0, 3, 1, 0]);
 }
 
 /// Worked out by hand: the cells that suffice, five numbers each, and the live ones of them. All of the space is written.

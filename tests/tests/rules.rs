@@ -5,7 +5,7 @@ use siting_tests::generate::{any_rect, each_job, job, job_of, largest, rect, see
 use siting_tests::reference::{answer_text, brute_force, changed, exhaustive, read, saved, search, search_by, spell, travel, write};
 use siting_tests::reference::{Axis, Change, Deck, Job, Kind, Place, Record, Rect, Refusal, Stop};
 use siting_tests::text;
-use siting_tests::vectors::{changes, refusals, reports};
+use siting_tests::vectors::{changes, closer, refusals, reports};
 
 #[test]
 fn a_finished_search_finds_the_earliest_cheapest_point() {
@@ -195,6 +195,14 @@ fn bounds_under_each_axis_cost() {
     }
     println!("{seen:?}");
     assert!(seen.points > 300 && seen.closer > 3_000 && seen.reached > 2_000 && seen.larger > 3_000, "{seen:?}");
+}
+
+#[test]
+fn the_bound_saves_a_cut() {
+    let job = read(closer(1_000).as_bytes()).unwrap();
+    let by_corners = |rounds: i64| search_by(&Job { rounds, ..job.clone() }, |deck, r| deck.corner_bound(r));
+    assert_eq!([0, 1, 2, 3].map(|rounds| by_corners(rounds).low), [6, 7, 9, 9]);
+    assert_eq!((search(&job).rounds, by_corners(1_000).rounds), (2, 3));
 }
 
 // ---- changes
