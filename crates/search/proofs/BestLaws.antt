@@ -70,8 +70,8 @@ module _ (P : Pricing) (G : Grid) where
       ∙ sym (best_more first (record { x = area.xlo; y = area.yhi }) rest)
 
   -- as the code finds it, one corner after another
-  pub start_best_is : (area : Rect) (a b c d : PricedPlace) → a ≡ priced_place_of P (corner area) → b ≡ priced_place_of P (record { x = area.xlo; y = area.yhi })
-      → c ≡ priced_place_of P (record { x = area.xhi; y = area.ylo }) → d ≡ priced_place_of P (record { x = area.xhi; y = area.yhi })
+  pub start_best_is : (area : Rect) (a b c d : PricedPlace) → a ≡ priced_place_of P (corner area)
+      → b ≡ priced_place_of P (record { x = area.xlo; y = area.yhi }) → c ≡ priced_place_of P (record { x = area.xhi; y = area.ylo }) → d ≡ priced_place_of P (record { x = area.xhi; y = area.yhi })
       → (one two best : PricedPlace) → one ≡ improved a b → two ≡ improved one c → best ≡ improved two d
       → priced_of best ≡ start_best (object_problem P G area)
   start_best_is area a b c d fa fb fc fd one two best f₁ f₂ f₃ = rw (f₃, f₂, f₁, fa, fb, fc, fd) (corners_best area)
