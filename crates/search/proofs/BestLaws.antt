@@ -2,7 +2,10 @@
 use mathlib.Core.Path.{◌≡◌, refl, sym, ◌∙◌}
 use mathlib.Core.Bool.{Bool, true, false, cond}
 use mathlib.Core.List.{List, [], ◌∷◌}
-use Prim.Native.Nat.{◌≤◌}
+use Prim.Native.Nat.{◌^◌, ◌≤◌, ◌<◌}
+use lib.IntN.{ℤ}
+use lib.Signed.{mag}
+use Rattle.numbers.proofs.WordTests.{back, fitting}
 use Rattle.query.specs.Place.{Place, Rect, corner}
 use Rattle.query.specs.Grid.{Grid}
 use Rattle.query.specs.Range.{cost_limit}
@@ -43,6 +46,11 @@ improved_is best p = go (better (priced_of p) (priced_of best))
 pub priced_limit : (o : Objects) (p : Place) (priced : PricedPlace) → priced ≡ priced_place_of (pricing_of_objects o) p → priced.cost ≤ cost_limit
 priced_limit o p priced e = rw e (cost_most o.priceable p)
 
+-- one that was priced at two numbers, read as words
+pub priced_words : (P : Pricing) (x y : ℤ) → mag x < 2 ^ 63 → mag y < 2 ^ 63 → (priced : PricedPlace)
+    → priced ≡ priced_place_of P (record { x = back x; y = back y }) → priced ≡ priced_place_of P (record { x = x; y = y })
+priced_words P x y h g priced e = e ∙ (λ i. priced_place_of P (record { x = fitting x h i; y = fitting y g i }))
+
 -- ---- the best of several
 module _ (P : Pricing) (G : Grid) where
   best_more : (best : PricedPlace) (p : Place) (ps : List Place)
@@ -70,8 +78,10 @@ module _ (P : Pricing) (G : Grid) where
       ∙ sym (best_more first (record { x = area.xlo; y = area.yhi }) rest)
 
   -- as the code finds it, one corner after another
-  pub start_best_is : (area : Rect) (a b c d : PricedPlace) → a ≡ priced_place_of P (corner area) → b ≡ priced_place_of P (record { x = area.xlo; y = area.yhi })
-      → c ≡ priced_place_of P (record { x = area.xhi; y = area.ylo }) → d ≡ priced_place_of P (record { x = area.xhi; y = area.yhi })
+  pub start_best_is : (area : Rect) (a b c d : PricedPlace) → a ≡ priced_place_of P (corner area)
+      → b ≡ priced_place_of P (record { x = area.xlo; y = area.yhi })
+      → c ≡ priced_place_of P (record { x = area.xhi; y = area.ylo })
+      → d ≡ priced_place_of P (record { x = area.xhi; y = area.yhi })
       → (one two best : PricedPlace) → one ≡ improved a b → two ≡ improved one c → best ≡ improved two d
       → priced_of best ≡ start_best (object_problem P G area)
   start_best_is area a b c d fa fb fc fd one two best f₁ f₂ f₃ = rw (f₃, f₂, f₁, fa, fb, fc, fd) (corners_best area)

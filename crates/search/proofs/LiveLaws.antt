@@ -70,7 +70,8 @@ module _ (G : Grid) (best : Priced) (c : Cell) (l : Live) where
   unfolding with_live one_more with_cell
   added_cells l' e = rw e (go (is_live G best (query_cell c)))
     where
-      go : (b : Bool) → map query_cell (cond b (with_cell c l) l).cells ≡ cond b (insert_by cell_before (query_cell c) (map query_cell l.cells)) (map query_cell l.cells)
+      go : (b : Bool) → map query_cell (cond b (with_cell c l) l).cells
+          ≡ cond b (insert_by cell_before (query_cell c) (map query_cell l.cells)) (map query_cell l.cells)
       go true = cells_insert c l.cells
       go false = refl
 

@@ -172,7 +172,10 @@ module _ (Q : Problem) (n lowest : ℕ) (l : Live) (st : Running) (h : Holds (ru
 
   pub searched : (lent : ℕ) (numbers : List ℤ) → numbers ≡ padded lent (pos 0) (all_numbers (map query_cell l.cells)) → (r : Found)
       → r ≡ found_of (search_of l.cells st) → Searched Q n lent numbers r
-  searched lent numbers written r e = record { found = found_is r e; cells = written ∙ ap (λ (cs : List Query.Cell). padded lent (pos 0) (all_numbers cs)) cells_are }
+  searched lent numbers written r e = record {
+    found = found_is r e;
+    cells = written ∙ ap (λ (cs : List Query.Cell). padded lent (pos 0) (all_numbers cs)) cells_are;
+  }
 
 -- ---- the low figure
 low_is : (s : Search) → Figures.low s ≡ least_by lt_z (pos s.best.cost) (map (λ c. c.bound) s.live)

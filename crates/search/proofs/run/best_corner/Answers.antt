@@ -1,8 +1,7 @@
 -- What `search::run::best_corner` owes.
 use native.Mathlib.Omega.{arith}
-use Rattle.numbers.proofs.WordTests.{fitting}
 use Rattle.deck.specs.Rectangle.{rect_of}
-use Rattle.search.proofs.BestLaws.{priced_limit, start_best_is}
+use Rattle.search.proofs.BestLaws.{priced_limit, priced_words, start_best_is}
 use Rattle.search.proofs.run.best_corner.Goals as goal
 
 pub improve-best-requires : goal.improve-best-requires
@@ -20,8 +19,8 @@ pub returns : goal.returns
 returns c =
     let r = c.args.problem.now.area in
     let first = rw c.low.ensures at c.priced-best.ensures in
-    let second = rw (fitting r.xlo (omega arith), fitting r.yhi (omega arith)) at c.priced.ensures in
-    let third = rw (fitting r.xhi (omega arith), fitting r.ylo (omega arith)) at c.priced-2.ensures in
+    let second = priced_words _ r.xlo r.yhi (omega arith) (omega arith) _ c.priced.ensures in
+    let third = priced_words _ r.xhi r.ylo (omega arith) (omega arith) _ c.priced-2.ensures in
     let last = rw c.high.ensures at c.priced-3.ensures in
     record {
       start =
