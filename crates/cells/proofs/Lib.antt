@@ -1,8 +1,7 @@
 pub mod Keys
-pub mod Listing
-pub mod Entries
-pub mod Trims
-pub mod Numbers
-pub mod SpaceLaws
-pub mod Inserts
+pub mod HeldLaws
+pub mod RangeLaws
+pub mod SlotLaws
+pub mod PlaceLaws
+pub mod WriteLaws
 pub mod LiveLaws

@@ -1,3 +1,5 @@
-pub mod Entries
-pub mod Steps
+pub mod Held
+pub mod Numbering
+pub mod Slots
 pub mod Live
+pub mod Steps

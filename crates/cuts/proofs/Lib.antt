@@ -1,3 +1,4 @@
 pub mod MiddleLaws
 pub mod NextLaws
+pub mod BetweenLaws
 pub mod CutRecordLaws

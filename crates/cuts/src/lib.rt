@@ -3,7 +3,8 @@
 
 ghost use Rattle.std.specs.Prelude.{◌≡◌, ◌≤◌, length, ◌+ℤ◌, ◌-ℤ◌};
 ghost use Rattle.numbers.specs.Integer.{half_up, strictly_between};
-ghost use Rattle.numbers.specs.Lists.{keep};
+ghost use Rattle.numbers.specs.Lists.{keep, non_empty};
+ghost use Rattle.query.specs.Cut.{can_cut};
 ghost use Rattle.query.specs.Range.{RectInRange};
 ghost use Rattle.deck.specs.Rectangle.{rect_of};
 ghost use Rattle.lines.specs.LineRecord.{LinesInOrder, Lined, grid_of};
@@ -140,4 +141,23 @@ pub fn find_cut<'a>(vertical: &'a [i64], horizontal: &'a [i64], rectangle: Rect)
     } else {
         first_of(&deep, &across)
     }
+}
+
+// Whether some line lies strictly between two edges: the first one above the low edge then lies below the high one.
+fn line_between(lines: &[i64], low: i64, high: i64) -> bool
+    requires { LinesInOrder lines.now × Edges low high }
+    ensures { result ≡ non_empty (keep (strictly_between low high) lines.now) }
+{
+    let at = first_at_least(lines, low + 1);
+    at < lines.len() && lines[at] < high
+}
+
+/// Whether the cell `rectangle` can be cut (RULES "Cuts"): one of the vertical or of the horizontal lines lies strictly inside it. It is so
+/// where `find_cut` finds a cut, which takes longer.
+pub fn can_cut(vertical: &[i64], horizontal: &[i64], rectangle: Rect) -> bool
+    requires { Lined vertical.now horizontal.now × RectInRange (rect_of rectangle) }
+    ensures { result ≡ can_cut (grid_of vertical.now horizontal.now) (rect_of rectangle) }
+{
+    line_between(vertical, rectangle.xlo, rectangle.xhi)
+        || line_between(horizontal, rectangle.ylo, rectangle.yhi)
 }

@@ -1,5 +1,5 @@
 // The limits of RULES "Deck", "Refusals" and "Calls", and the sizes of arrays that follow from them. The definitions have them in
-// query/specs/Range.antt, deck/specs/Columns.antt, job/specs/Format.antt, report/specs/Limits.antt and slots/specs/Numbering.antt.
+// query/specs/Range.antt, deck/specs/Columns.antt, job/specs/Format.antt, report/specs/Limits.antt and cells/specs/Numbering.antt.
 #![tactic(auto)]
 
 /// The most bytes of a job: a longer one is refused with refusal 1.
@@ -56,9 +56,3 @@ pub const CELLS: usize = MOST_ROUNDS + 1;
 
 /// How many numbers of the cell space a cell takes: its four edges and its bound.
 pub const CELL_NUMBERS: usize = 5;
-
-/// How many numbers of cell space suffice for every job.
-pub const SPACE: usize = CELLS * CELL_NUMBERS;
-
-/// How many costs are kept for the corners of all live cells, four of each.
-pub const CORNER_COSTS: usize = CELLS * 4;

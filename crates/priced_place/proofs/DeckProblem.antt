@@ -1,53 +1,33 @@
--- The problem that the code prepares of a deck is the deck's, and its figures are in range.
-use mathlib.Core.Path.{◌≡◌, refl, sym, ap, subst, ◌∙◌}
-use Prim.Native.Nat.{ℕ, ◌+◌, ◌*◌, max}
-use lib.IntN.{pos, ◌-ℤ◌}
+-- The problem that the code prepares of a deck is the deck's.
+use mathlib.Core.Path.{◌≡◌, sym, ap, subst, ◌∙◌}
+use lib.IntN.{pos}
 use lib.ListN.{length}
-use Rattle.numbers.specs.Integer.{half_up}
 use Rattle.query.specs.Place as Place
 use Rattle.query.specs.Deck as Query
-use Rattle.query.specs.Bound.{span, bound}
-use Rattle.query.specs.Reach.{load}
 use Rattle.query.specs.Grid.{grid}
 use Rattle.query.specs.Lines.{lines}
 use Rattle.query.specs.Problem.{problem}
 use Rattle.query.specs.Range.{InRange}
-use Rattle.query.proofs.BoundLaws.{bound_is, corner_sum_is}
 use Rattle.deck.specs.Rectangle.{rect_of}
-use Rattle.deck.specs.Objects.{Pricing, pricing_of}
+use Rattle.deck.specs.Objects.{pricing_of}
 use Rattle.deck.specs.ObjectColumns.{pricing_in, columns_of}
 use Rattle.reach.specs.Columns.{Ranged}
 use Rattle.reach.specs.Held.{columns_of_objects, count_of_objects, pricing_of_objects}
 use Rattle.reach.proofs.RecordLaws.{made_pricing}
-use Rattle.pricing.specs.ObjectFigures.{cost_of, load_of}
-use Rattle.pricing.proofs.ObjectLaws.{cost_law, load_law}
+use Rattle.pricing.proofs.ObjectLaws.{cost_law, bound_law}
 use Rattle.lines.specs.LineRecord.{grid_of}
 use Rattle.prepare.specs.declared.Problem.{Problem}
 use Rattle.prepare.specs.ProblemRecord.{Parts, parts_in, problem_record}
-use Rattle.priced_place.specs.ObjectProblem.{bound_of, object_problem}
+use Rattle.priced_place.specs.ObjectProblem.{object_problem}
 use Rattle.priced_place.specs.Prepared.{problem_of, Prepared}
 
--- ---- the figures and the problem of a deck
-pub bound_of_is : (P : Pricing) (r : Place.Rect) → bound_of P r ≡ half_up (pos
-    (max (cost_of P (record { x = r.xlo; y = r.ylo }) + cost_of P (record { x = r.xhi; y = r.yhi }))
-    (cost_of P (record { x = r.xlo; y = r.yhi }) + cost_of P (record { x = r.xhi; y = r.ylo }))) -ℤ pos (span P.axis r * load_of P r))
-unfolding bound_of
-bound_of_is P r = refl
-
-module _ (deck : Query.Deck) where
-  pub bound_law : (r : Place.Rect) → bound_of (pricing_of deck) r ≡ bound deck r
-  bound_law r =
-      bound_of_is (pricing_of deck) r
-      ∙ (λ i. half_up (pos
-      (max (cost_law deck (record { x = r.xlo; y = r.ylo }) i + cost_law deck (record { x = r.xhi; y = r.yhi }) i)
-      (cost_law deck (record { x = r.xlo; y = r.yhi }) i + cost_law deck (record { x = r.xhi; y = r.ylo }) i)) -ℤ pos
-      (span deck.axis r * load_law deck r i)))
-      ∙ ap (λ (m : ℕ). half_up (pos m -ℤ pos (span deck.axis r * load deck r))) (sym (corner_sum_is deck r))
-      ∙ sym (bound_is deck r)
-
-  deck_problem : object_problem (pricing_of deck) (grid deck) deck.area ≡ problem deck
-  unfolding problem
-  deck_problem = λ i. record { area = deck.area; rules = record { grid = grid deck; price = λ p. cost_law deck p i; bound = λ r. bound_law r i } }
+-- ---- the problem of a deck
+deck_problem : (deck : Query.Deck) → object_problem (pricing_of deck) (grid deck) deck.area ≡ problem deck
+unfolding problem
+deck_problem deck = λ i. record {
+  area = deck.area;
+  rules = record { grid = grid deck; price = λ p. cost_law deck p i; bound = λ r. pos (bound_law deck r i) };
+}
 
 -- ---- a problem that was prepared
 module _ {p : Problem} (prepared : Prepared p) where

@@ -1,32 +1,33 @@
 -- The figures of objects as sums over them, and as the figures of the deck whose objects they are.
 use mathlib.Core.Path.{◌≡◌, refl, ap, sym, ◌∙◌}
-use mathlib.Core.Bool.{cond}
 use mathlib.Core.List.{List, [], ◌∷◌, map}
 use Prim.Native.Nat.{ℕ, ◌+◌, ◌*◌, min}
 use Rattle.numbers.specs.Lists.{sum_of}
-use Rattle.numbers.proofs.Sums.{sum_of_keep}
 use Rattle.query.specs.Place.{Place, Rect}
 use Rattle.query.specs.Deck.{Deck, plain}
 use Rattle.query.specs.Travel.{travel}
 use Rattle.query.specs.Cost.{cost, before}
-use Rattle.query.specs.Reach.{load}
-use Rattle.query.proofs.CostLaws.{cost_sum, load_sum}
+use Rattle.query.specs.Bound.{bound}
+use Rattle.query.proofs.CostLaws.{cost_sum, bound_sum}
 use Rattle.deck.specs.Objects.{scaled_place, scaled_rect, Object, objects_of, Pricing, pricing_of}
 use Rattle.deck.proofs.TravelLaws.{travel_scaled}
-use Rattle.reach.specs.ObjectReach.{reaches}
-use Rattle.reach.proofs.ReachLaws.{reaches_to, object_of, objects_of_map, reach_law}
-use Rattle.pricing.specs.ObjectFigures.{cost_of, before_of, load_of}
+use Rattle.reach.specs.ObjectReach.{travel_to_of}
+use Rattle.reach.proofs.ReachLaws.{travel_to_scaled, object_of, objects_of_map, travel_to_law}
+use Rattle.pricing.specs.ObjectFigures.{cost_of, before_of, bound_of}
 
 -- an object's part of `before`
 abbrev pub paid_now : Object → ℕ
 paid_now s = s.visits * s.near
 
--- an object's part of the cost of a scaled place and of the load of a scaled rectangle
-abbrev pub paid_by : Place → Object → ℕ
-paid_by p s = s.visits * min s.near (travel plain s.at p)
+-- what an object pays for a post at some travel, and so its part of the cost of a scaled place and of the bound of a scaled rectangle
+abbrev pub paid_along : (Object → ℕ) → Object → ℕ
+paid_along travelled s = s.visits * min s.near (travelled s)
 
-abbrev pub borne_by : Rect → Object → ℕ
-borne_by r s = cond (reaches_to r s) s.visits 0
+abbrev pub paid_by : Place → Object → ℕ
+paid_by p = paid_along (λ s. travel plain s.at p)
+
+abbrev pub least_paid_by : Rect → Object → ℕ
+least_paid_by r = paid_along (travel_to_scaled r)
 
 module _ (P : Pricing) where
   pub cost_of_sum : (p : Place) → cost_of P p ≡ sum_of (paid_by (scaled_place P.axis p)) P.objects
@@ -37,9 +38,9 @@ module _ (P : Pricing) where
   unfolding before_of
   before_of_sum = refl
 
-  pub load_of_sum : (r : Rect) → load_of P r ≡ sum_of (borne_by (scaled_rect P.axis r)) P.objects
-  unfolding load_of reaches
-  load_of_sum r = sum_of_keep (λ (s : Object). s.visits) (reaches P r) P.objects
+  pub bound_of_sum : (r : Rect) → bound_of P r ≡ sum_of (least_paid_by (scaled_rect P.axis r)) P.objects
+  unfolding bound_of travel_to_of
+  bound_of_sum r = refl
 
 sum_of_map : {A B : Type 0} (f : B → ℕ) (g : A → B) (xs : List A) → sum_of f (map g xs) ≡ sum_of (λ x. f (g x)) xs
 unfolding sum_of
@@ -48,16 +49,16 @@ sum_of_map f g (x ∷ xs) = ap (λ (n : ℕ). f (g x) + n) (sum_of_map f g xs)
 
 -- ---- the deck's figures
 module _ (deck : Deck) where
-  sum_of_lem : (f : Object → ℕ) → sum_of f (objects_of deck) ≡ sum_of (λ stop. f (object_of deck stop)) deck.stops
-  sum_of_lem f = rw objects_of_map (sum_of_map f (object_of deck) deck.stops)
+  pub objects_sum : (f : Object → ℕ) → sum_of f (objects_of deck) ≡ sum_of (λ stop. f (object_of deck stop)) deck.stops
+  objects_sum f = rw objects_of_map (sum_of_map f (object_of deck) deck.stops)
 
   pub before_law : before_of (pricing_of deck) ≡ before deck
   unfolding before
-  before_law = before_of_sum (pricing_of deck) ∙ sum_of_lem paid_now
+  before_law = before_of_sum (pricing_of deck) ∙ objects_sum paid_now
 
   pub cost_law : (p : Place) → cost_of (pricing_of deck) p ≡ cost deck p
-  cost_law p = cost_of_sum (pricing_of deck) p ∙ sum_of_lem (paid_by (scaled_place deck.axis p))
+  cost_law p = cost_of_sum (pricing_of deck) p ∙ objects_sum (paid_by (scaled_place deck.axis p))
       ∙ simp (← travel_scaled deck.axis) (sym (cost_sum deck p))
 
-  pub load_law : (r : Rect) → load_of (pricing_of deck) r ≡ load deck r
-  load_law r = load_of_sum (pricing_of deck) r ∙ sum_of_lem (borne_by (scaled_rect deck.axis r)) ∙ simp (reach_law deck, load_sum)
+  pub bound_law : (r : Rect) → bound_of (pricing_of deck) r ≡ bound deck r
+  bound_law r = bound_of_sum (pricing_of deck) r ∙ objects_sum (least_paid_by (scaled_rect deck.axis r)) ∙ simp (travel_to_law deck) (sym (bound_sum deck r))

@@ -1,5 +1,5 @@
 -- How far a number lies above another, and beyond the ends of a range: its distance to the closest number of the range.
-use mathlib.Core.Path.{◌≡◌, ap, ◌∙◌}
+use mathlib.Core.Path.{◌≡◌, refl, ap, ◌∙◌}
 use mathlib.Core.Bool.{true, false}
 use mathlib.Core.Logic.{⊎_elim}
 use Prim.Native.Nat.{ℕ, ◌+◌, ◌*◌, ◌^◌, ◌≤◌, ◌<◌}
@@ -9,8 +9,8 @@ use lib.Signed.{lt_z, ◌≤ℤ◌}
 use mir.Syntax.{w32}
 use Rattle.numbers.specs.Integer.{dist, clamp}
 use Rattle.numbers.proofs.Truth.{test, holds, fails, cond_ind}
-use Rattle.numbers.proofs.Integer.{order, dist_nat}
-use Rattle.numbers.proofs.Distance.{dist_sym, dist_most}
+use Rattle.numbers.proofs.Integer.{order, abs_range, dist_nat}
+use Rattle.numbers.proofs.Distance.{dist_sym, dist_most, clamp_low, clamp_high}
 use Rattle.numbers.proofs.Words.{word_fits, gap_above}
 use Rattle.query.specs.Range.{travel_limit}
 use Rattle.reach.specs.Columns.{EdgesInRange, excess_of}
@@ -54,8 +54,11 @@ clamp_excess lo hi v h =
 
 -- the same of words
 module _ (v lo hi : ℤ) (g : nat_abs v ≤ scaled_limit) (edges : ScaledPlaceInRange lo hi) (h : lo ≤ℤ hi) where
-  pub outside_most : dist v (clamp lo hi v) ≤ travel_limit
-  outside_most = omega (arith, clamp_excess lo hi v h, excess_most lo v edges.x_range g, excess_most v hi g edges.y_range)
+  pub outside_most : dist v (clamp lo hi v) ≤ 2 * scaled_limit
+  outside_most = dist_most scaled_limit v (clamp lo hi v) g (within _ (clamp_low lo hi v h) (clamp_high lo hi v h))
+    where
+      within : (z : ℤ) → lo ≤ℤ z → z ≤ℤ hi → nat_abs z ≤ scaled_limit
+      within z k l = (abs_range z scaled_limit).1 (omega (arith, order, (abs_range lo scaled_limit).0 edges.x_range, (abs_range hi scaled_limit).0 edges.y_range))
 
   pub outside_sum : (a b : ℤ) → a ≡ pos (excess_of (word lo) (word v)) → b ≡ pos (excess_of (word v) (word hi))
       → word a +ℤ word b ≡ pos (dist v (clamp lo hi v))
@@ -81,8 +84,11 @@ module _ (sx sy xlo ylo xhi yhi : ℤ) (at : ScaledPlaceInRange sx sy) (edges : 
   y_edges : ScaledPlaceInRange ylo yhi
   y_edges = record { x_range = edges.low.y_range; y_range = edges.high.y_range }
 
-  pub away_small : away sx sy xlo ylo xhi yhi < 2 ^ 31
-  away_small = omega (arith, outside_most sx xlo xhi at.x_range x_edges edges.across, outside_most sy ylo yhi at.y_range y_edges edges.deep)
+  pub away_most : away sx sy xlo ylo xhi yhi ≤ travel_limit
+  away_most = omega (arith, outside_most sx xlo xhi at.x_range x_edges edges.across, outside_most sy ylo yhi at.y_range y_edges edges.deep)
+
+  pub away_word : away (word sx) (word sy) xlo ylo xhi yhi ≡ away sx sy xlo ylo xhi yhi
+  away_word = rw (coordinate sx at.x_range, coordinate sy at.y_range) refl
 
   pub away_sum : (a b : ℤ) → a ≡ pos (dist (word sx) (clamp (word xlo) (word xhi) (word sx)))
       → b ≡ pos (dist (word sy) (clamp (word ylo) (word yhi) (word sy))) → word a +ℤ word b ≡ pos (away sx sy xlo ylo xhi yhi)
@@ -91,5 +97,5 @@ module _ (sx sy xlo ylo xhi yhi : ℤ) (at : ScaledPlaceInRange sx sy) (edges : 
       (q ∙ ap pos (outside_word sy ylo yhi at.y_range y_edges edges.deep))
       (small _ (outside_most sx xlo xhi at.x_range x_edges edges.across)) (small _ (outside_most sy ylo yhi at.y_range y_edges edges.deep))
     where
-      small : (n : ℕ) → n ≤ travel_limit → n < 2 ^ 31
+      small : (n : ℕ) → n ≤ 2 * scaled_limit → n < 2 ^ 31
       small n h = omega arith

@@ -1,7 +1,8 @@
--- The flags of objects, one for each, and as the reach of the stops of the deck whose objects they are.
+-- The travel of objects to a rectangle and their flags, one for each, and as those of the stops of the deck whose objects they are.
 use mathlib.Core.Path.{◌≡◌, refl, ap, ◌∙◌}
 use mathlib.Core.Bool.{Bool, false}
 use mathlib.Core.List.{map, map-map}
+use Prim.Native.Nat.{ℕ}
 use lib.Dec.{ltb}
 use Rattle.numbers.specs.Padded.{padded}
 use Rattle.numbers.proofs.Joined.{map_each}
@@ -13,15 +14,18 @@ use Rattle.query.specs.Reach.{closest_point, travel_to, reach}
 use Rattle.query.specs.Range.{stops_limit}
 use Rattle.deck.specs.Objects.{scaled_place, scaled_rect, Object, objects_of, Pricing, pricing_of}
 use Rattle.deck.proofs.TravelLaws.{travel_scaled}
-use Rattle.reach.specs.ObjectReach.{reaches, flags_of}
+use Rattle.reach.specs.ObjectReach.{travel_to_of, reaches, flags_of}
 
--- whether an object reaches a scaled rectangle
+-- an object's travel to a scaled rectangle, and whether it reaches it
+abbrev pub travel_to_scaled : Rect → Object → ℕ
+travel_to_scaled r s = travel plain s.at (closest_point r s.at)
+
 abbrev pub reaches_to : Rect → Object → Bool
-reaches_to r s = ltb (travel plain s.at (closest_point r s.at)) s.near
+reaches_to r s = ltb (travel_to_scaled r s) s.near
 
 module _ (P : Pricing) where
   pub flags_of_map : (r : Rect) → flags_of P r ≡ padded stops_limit false (map (reaches_to (scaled_rect P.axis r)) P.objects)
-  unfolding flags_of reaches
+  unfolding flags_of reaches travel_to_of
   flags_of_map r = refl
 
 -- ---- the deck's stops
@@ -33,13 +37,17 @@ module _ (deck : Deck) where
   unfolding objects_of
   objects_of_map = refl
 
-  pub reach_law : (r : Rect) (stop : Stop) → reaches_to (scaled_rect deck.axis r) (object_of stop) ≡ reach deck r stop
-  unfolding reach travel_to closest_point
-  reach_law r stop = rw (
+  pub travel_to_law : (r : Rect) (stop : Stop) → travel_to_scaled (scaled_rect deck.axis r) (object_of stop) ≡ travel_to deck r stop
+  unfolding travel_to closest_point
+  travel_to_law r stop = rw (
     clamp_scale deck.axis.a r.xlo r.xhi stop.at.x,
     clamp_scale deck.axis.b r.ylo r.yhi stop.at.y,
     travel_scaled deck.axis stop.at (closest_point r stop.at),
   )
+
+  pub reach_law : (r : Rect) (stop : Stop) → reaches_to (scaled_rect deck.axis r) (object_of stop) ≡ reach deck r stop
+  unfolding reach
+  reach_law r stop = ap (λ (n : ℕ). ltb n (near deck stop)) (travel_to_law r stop)
 
   pub flags_law : (r : Rect) → flags_of (pricing_of deck) r ≡ padded stops_limit false (map (reach deck r) deck.stops)
   flags_law r = flags_of_map (pricing_of deck) r

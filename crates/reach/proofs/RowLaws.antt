@@ -20,11 +20,14 @@ use Rattle.reach.specs.Held.{object_of_row}
 use Rattle.reach.specs.declared.columns.Row.{Row}
 use Rattle.reach.proofs.ExcessLaws.{away}
 use Rattle.reach.proofs.NarrowLaws.{word, number_word, near_word}
-use Rattle.reach.proofs.ReachLaws.{reaches_to}
+use Rattle.reach.proofs.ReachLaws.{travel_to_scaled, reaches_to}
+
+pub travel_away : (r : Rect) (s : Object) → travel_to_scaled r s ≡ away s.at.x s.at.y r.xlo r.ylo r.xhi r.yhi
+unfolding closest_point
+travel_away r s = travel_plain s.at (closest_point r s.at)
 
 pub reaches_away : (r : Rect) (s : Object) → reaches_to r s ≡ ltb (away s.at.x s.at.y r.xlo r.ylo r.xhi r.yhi) s.near
-unfolding closest_point
-reaches_away r s = rw travel_plain
+reaches_away r s = ap (λ (n : ℕ). ltb n s.near) (travel_away r s)
 
 -- a row, of words
 module _ (row : Row) where

@@ -1,5 +1,5 @@
--- Which objects, at scaled places, are within reach of a rectangle (RULES "Reach").
-use Rattle.std.specs.Prelude.{Bool, false, List, map, ltb}
+-- The travel of objects, at scaled places, to a rectangle, and which of them are within reach of it (RULES "Travel", "Reach").
+use Rattle.std.specs.Prelude.{ℕ, Bool, false, List, map, ltb}
 use Rattle.numbers.specs.Padded.{padded}
 use Rattle.query.specs.Place.{Rect}
 use Rattle.query.specs.Deck.{plain}
@@ -8,10 +8,15 @@ use Rattle.query.specs.Reach.{closest_point}
 use Rattle.query.specs.Range.{stops_limit}
 use Rattle.deck.specs.Objects.{scaled_rect, Object, Pricing}
 
+-- an object's travel to a rectangle
+unfoldable pub travel_to_of : Pricing → Rect → Object → ℕ
+unfolding travel closest_point
+travel_to_of P r s = travel plain s.at (closest_point (scaled_rect P.axis r) s.at)
+
 -- within reach; the paper's membership in VCU(R)
 unfoldable pub reaches : Pricing → Rect → Object → Bool
-unfolding travel closest_point
-reaches P r s = ltb (travel plain s.at (closest_point (scaled_rect P.axis r) s.at)) s.near
+unfolding travel_to_of
+reaches P r s = ltb (travel_to_of P r s) s.near
 
 -- for each object whether it is within reach, and false behind the last
 unfoldable pub flags_of : Pricing → Rect → List Bool

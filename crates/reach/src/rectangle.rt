@@ -1,7 +1,8 @@
-// The scaled edges of a rectangle, and whether they are reached.
+// The scaled edges of a rectangle, the travel to it, and whether it is reached.
 
 ghost use Rattle.std.specs.Prelude.{◌≡◌, ◌+◌, ◌≤◌, ltb, pos, nat_abs, ◌≤ℤ◌};
 ghost use Rattle.numbers.specs.Integer.{dist, clamp};
+ghost use Rattle.query.specs.Range.{travel_limit};
 ghost use Rattle.deck.specs.Ranges.{scaled_limit, ScaledPlaceInRange, CostsInRange};
 ghost use Rattle.deck.specs.DeckOf.{held_axis};
 ghost use Rattle.deck.specs.Rectangle.{rect_of};
@@ -53,12 +54,21 @@ impl Edges {
         }
     }
 
+    /// The travel from an object at the scaled place `x`, `y` to the point of the rectangle that is closest to it (RULES "Travel").
+    pub fn travel_from(self, x: i32, y: i32) -> i32
+        requires { ScaledPlaceInRange x y }
+        ensures { (result ≡ pos (dist x (clamp self.xlo self.xhi x) + dist y (clamp self.ylo self.yhi y)))
+            × (nat_abs result ≤ travel_limit) }
+    {
+        outside(x, self.xlo, self.xhi) + outside(y, self.ylo, self.yhi)
+    }
+
     /// Whether an object at the scaled place `x`, `y` is within reach of the rectangle (RULES "Reach"): its travel to the closest point is
     /// less than its near.
     pub fn reached_from(self, x: i32, y: i32, near: i32) -> bool
         requires { ScaledPlaceInRange x y × (pos 0 ≤ℤ near) }
         ensures { result ≡ ltb (dist x (clamp self.xlo self.xhi x) + dist y (clamp self.ylo self.yhi y)) (nat_abs near) }
     {
-        outside(x, self.xlo, self.xhi) + outside(y, self.ylo, self.yhi) < near
+        self.travel_from(x, y) < near
     }
 }

@@ -1,29 +1,19 @@
--- A deck's search as the code prepares it: what its runs keep in range, and its answer.
-use mathlib.Core.Path.{◌≡◌, sym, ap, subst, ◌∙◌}
-use Prim.Native.Nat.{ℕ}
+-- A deck's search as the code prepares it: what its runs keep in range.
+use mathlib.Core.Path.{sym, subst}
 use Rattle.query.specs.Place.{NonEmpty}
 use Rattle.query.specs.Deck.{Deck}
-use Rattle.query.specs.Problem as QueryProblem
 use Rattle.query.specs.Problem.{problem}
-use Rattle.query.specs.Search.{run}
 use Rattle.query.specs.Figures.{figures, figures_of}
 use Rattle.query.specs.Range.{InRange}
 use Rattle.query.proofs.CutLaws.{cut_law}
 use Rattle.query.proofs.Invariant.{run_ok}
 use Rattle.query.proofs.Promise3.{lawful}
 use Rattle.query.proofs.FigureRanges.{run_in_range}
-use Rattle.deck.specs.Objects.{Pricing}
 use Rattle.prepare.specs.declared.Problem.{Problem}
 use Rattle.priced_place.specs.Prepared.{problem_of, Prepared}
 use Rattle.priced_place.proofs.DeckProblem.{prepared_problem}
-use Rattle.cells.specs.Live.{Live}
-use Rattle.search.specs.declared.run.Running.{Running}
-use Rattle.search.specs.declared.run.Found.{Found}
-use Rattle.search.specs.Running.{search_of, Holds}
-use Rattle.search.specs.Answer.{found_of, Searched}
-use Rattle.search.proofs.RunLaws.{Steady, cells_are}
+use Rattle.search.proofs.RunLaws.{Steady}
 
--- ---- what the runs keep in range
 deck_steady : (deck : Deck) → InRange deck → NonEmpty deck.area → Steady (problem deck)
 unfolding figures figures_of
 deck_steady deck range full = record {
@@ -36,8 +26,3 @@ deck_steady deck range full = record {
 
 pub steady : {p : Problem} → Prepared p → Steady (problem_of p)
 steady p = subst Steady (sym (prepared_problem p)) (deck_steady p.deck p.range p.full)
-
--- ---- a search
-pub searched : (P : Pricing) (Q : QueryProblem.Problem) (rounds : ℕ) (l : Live) (st : Running) → Holds P (run Q rounds) 0 l st
-    → (r : Found) → r ≡ found_of (search_of l.entries st) → Searched Q rounds l r
-searched P Q rounds l st holds r found = record { found = found ∙ ap found_of holds.is; cells = cells_are Q P rounds 0 l st holds }

@@ -1,4 +1,4 @@
-pub mod StepLaws
+pub mod BestLaws
 pub mod CutParts
 pub mod LiveLaws
 pub mod RoundLaws

@@ -1,5 +1,5 @@
-pub mod Corners
+pub mod BestPlace
 pub mod CutCell
-pub mod LiveEntries
+pub mod LiveCells
 pub mod Running
 pub mod Answer

@@ -1,41 +1,33 @@
-// The better of two places, entries with their bounds, and what a cut makes of a cell (RULES "Bound", "Cuts", "Live cells").
+// The better of two places, cells with their bounds, and what a cut makes of a cell (RULES "Bound", "Cuts", "Live cells").
 ghost use Rattle.std.specs.Prelude.{◌≡◌, ◌≤◌};
-ghost use Rattle.query.specs.Cut.{cut_line};
+ghost use Rattle.query.specs.Cut.{cut_line, cut_before, cut_after};
 ghost use Rattle.query.specs.Order.{priced_key};
 ghost use Rattle.query.specs.Range.{cost_limit, RectInRange};
 ghost use Rattle.deck.specs.Rectangle.{rect_of, rect_record};
 ghost use Rattle.reach.specs.Columns.{Ranged};
 ghost use Rattle.reach.specs.Held.{pricing_of_objects};
 ghost use Rattle.cuts.specs.CutRecord.{axis_of, cut_record};
-ghost use Rattle.priced_place.specs.ObjectProblem.{priced_of, rect_in};
+ghost use Rattle.cells.specs.Held.{query_key};
+ghost use Rattle.priced_place.specs.ObjectProblem.{priced_of};
 ghost use Rattle.priced_place.specs.Prepared.{problem_of};
-ghost use Rattle.cells.specs.Entries.{query_key};
-ghost use Rattle.search.specs.Corners.{corner_costs, entry_for, improved};
-ghost use Rattle.search.specs.CutCell.{cut_part, part_costs, halves_of, Cutting};
+ghost use Rattle.search.specs.BestPlace.{improved};
+ghost use Rattle.search.specs.CutCell.{cell_for, halves_of, Cutting};
 
-use cells::Key;
+use cells::{Cell, Key};
 use cuts::{Axis, Cut};
 use deck::Rect;
 use prepare::Problem;
 use priced_place::PricedPlace;
 use reach::Objects;
-use slots::{Cell, Costs, Entry};
 
-/// What a cut makes of a cell: the two new corners with their costs, `low` at the end of the cut line on the cell's low edge and `high`
-/// on its high edge, and the two parts, `first` up to the line and `second` from it on.
+// What a cut makes of a cell: the two new corners with their costs, `low` at the end of the cut line on the cell's low edge and `high` on
+// its high edge, and the two parts, `first` up to the line and `second` from it on.
 #[derive(Clone, Copy)]
-pub struct Halves {
+pub(crate) struct Halves {
     pub low: PricedPlace,
     pub high: PricedPlace,
-    pub first: Entry,
-    pub second: Entry,
-}
-
-// The two parts of a cell that is cut: the one before the cut, and the one behind it.
-#[derive(Clone, Copy)]
-enum Part {
-    Before,
-    Behind,
+    pub first: Cell,
+    pub second: Cell,
 }
 
 // The key of a place: its cost, and between equal costs the place.
@@ -52,7 +44,8 @@ pub(crate) fn priced_key(priced: PricedPlace) -> Key
 // The better of two places.
 pub(crate) fn improve(best: PricedPlace, other: PricedPlace) -> PricedPlace
     requires { (best.cost ≤ cost_limit) × (other.cost ≤ cost_limit) }
-    ensures { result ≡ improved best other }
+    ensures better { result ≡ improved best other }
+    ensures limit { result.cost ≤ cost_limit }
 {
     if priced_key(other).precedes(priced_key(best)) {
         return other;
@@ -60,20 +53,17 @@ pub(crate) fn improve(best: PricedPlace, other: PricedPlace) -> PricedPlace
     best
 }
 
-// A cell with its bound and the costs of its corners, from these costs.
-pub(crate) fn bounded(objects: &Objects, rect: Rect, k: Costs) -> Entry
-    requires { Ranged (rect_of rect) × (k ≡ corner_costs (pricing_of_objects objects.now) (rect_of rect)) }
-    ensures { result ≡ entry_for (pricing_of_objects objects.now) (rect_of rect) }
+// The cell of a rectangle, with its bound.
+pub(crate) fn bounded(objects: &Objects, rect: Rect) -> Cell
+    requires { Ranged (rect_of rect) }
+    ensures { result ≡ cell_for (pricing_of_objects objects.now) (rect_of rect) }
 {
-    let load = pricing::load(objects, rect);
-    let span = pricing::span(objects.axis(), rect);
-    let bound = pricing::bound(k, span, load);
-    let cell = Cell { rect, bound };
-    Entry { cell, costs: k }
+    let bound = pricing::bound(objects, rect) as i64;
+    Cell { rect, bound }
 }
 
-// Where a cell is cut, if it can be.
-pub(crate) fn cut_of(problem: &Problem, rect: Rect) -> Option<Cut>
+// Where a rectangle is cut, if it can be.
+fn cut_of(problem: &Problem, rect: Rect) -> Option<Cut>
     requires { RectInRange (rect_of rect) }
     ensures { result ≡ cut_record (problem_of problem.now).rules.grid (rect_of rect) }
 {
@@ -84,66 +74,46 @@ pub(crate) fn cut_of(problem: &Problem, rect: Rect) -> Option<Cut>
     )
 }
 
-// A part of a cell that is cut.
-fn rect_part(rect: Rect, cut: Cut, part: Part) -> Rect
-    ensures { result ≡ rect_record (cut_part part (axis_of cut.axis) cut.at (rect_of rect)) }
+// The part of a rectangle up to a cut.
+fn part_before(rect: Rect, cut: Cut) -> Rect
+    ensures { result ≡ rect_record (cut_before (axis_of cut.axis) cut.at (rect_of rect)) }
 {
-    let mut r = rect;
-    match (part, cut.axis) {
-        (Part::Before, Axis::X) => r.xhi = cut.at,
-        (Part::Before, Axis::Y) => r.yhi = cut.at,
-        (Part::Behind, Axis::X) => r.xlo = cut.at,
-        (Part::Behind, Axis::Y) => r.ylo = cut.at,
+    let mut part = rect;
+    match cut.axis {
+        Axis::X => part.xhi = cut.at,
+        Axis::Y => part.yhi = cut.at,
     }
-    r
+    part
 }
 
-// The costs of the corners of a part, from those of the cell and of the two new corners.
-fn costs_part(k: Costs, axis: Axis, part: Part, low: u64, high: u64) -> Costs
-    ensures { result ≡ part_costs part (axis_of axis) k low high }
+// The part of a rectangle from a cut on.
+fn part_after(rect: Rect, cut: Cut) -> Rect
+    ensures { result ≡ rect_record (cut_after (axis_of cut.axis) cut.at (rect_of rect)) }
 {
-    let mut costs = k;
-    match (part, axis) {
-        (Part::Before, Axis::X) => {
-            costs.c10 = low;
-            costs.c11 = high;
-        }
-        (Part::Before, Axis::Y) => {
-            costs.c01 = low;
-            costs.c11 = high;
-        }
-        (Part::Behind, Axis::X) => {
-            costs.c00 = low;
-            costs.c01 = high;
-        }
-        (Part::Behind, Axis::Y) => {
-            costs.c00 = low;
-            costs.c10 = high;
-        }
+    let mut part = rect;
+    match cut.axis {
+        Axis::X => part.xlo = cut.at,
+        Axis::Y => part.ylo = cut.at,
     }
-    costs
+    part
 }
 
-// What the cut of a cell makes of it. The new corners are the low corner of the part behind the cut and the high one of the part before.
-pub(crate) fn halve(problem: &Problem, entry: Entry) -> Halves
-    requires { Cutting (pricing_of_objects problem.now.objects) (problem_of problem.now).rules.grid (rect_in entry.cell)
-        entry.costs }
+// What the cut of a cell makes of its rectangle. The new corners are the low corner of the part behind the cut and the high one of the part
+// before it.
+pub(crate) fn halve(problem: &Problem, rect: Rect) -> Halves
+    requires { Cutting (problem_of problem.now).rules.grid (rect_of rect) }
     ensures { result
         ≡ halves_of (pricing_of_objects problem.now.objects)
-        (cut_line (problem_of problem.now).rules.grid (rect_in entry.cell)) (rect_in entry.cell) }
+        (cut_line (problem_of problem.now).rules.grid (rect_of rect)) (rect_of rect) }
 {
-    let rect = entry.cell.rect;
-    let k = entry.costs;
     let cut = cut_of(problem, rect).unwrap();
-    let before = rect_part(rect, cut, Part::Before);
-    let behind = rect_part(rect, cut, Part::Behind);
+    let before = part_before(rect, cut);
+    let behind = part_after(rect, cut);
     let objects = &problem.objects;
     let low = priced_place::priced(objects, behind.low());
     let high = priced_place::priced(objects, before.high());
-    let first_costs = costs_part(k, cut.axis, Part::Before, low.cost, high.cost);
-    let second_costs = costs_part(k, cut.axis, Part::Behind, low.cost, high.cost);
-    let first = bounded(objects, before, first_costs);
-    let second = bounded(objects, behind, second_costs);
+    let first = bounded(objects, before);
+    let second = bounded(objects, behind);
     Halves {
         low,
         high,

@@ -1,32 +1,28 @@
 // The search by cells: its start, its rounds and what it answers (RULES "Rounds", "Figures").
-ghost use Rattle.std.specs.Prelude.{◌≡◌, ◌∷◌, ◌-◌, ◌≤◌};
+ghost use Rattle.std.specs.Prelude.{◌≡◌, ◌∷◌, ◌-◌, ◌*◌, ◌≤◌, length};
 ghost use Rattle.query.specs.Search as Search;
 ghost use Rattle.query.specs.Range.{cost_limit, rounds_limit, RectInRange};
 ghost use Rattle.query.specs.Figures as Figures;
 ghost use Rattle.deck.specs.Rectangle.{rect_of};
-ghost use Rattle.reach.specs.Held.{pricing_of_objects};
-ghost use Rattle.slots.specs.Slot.{query_cell};
+ghost use Rattle.cells.specs.Held.{query_cell};
 ghost use Rattle.cells.specs.Live.{none_live};
-ghost use Rattle.search.specs.Corners.{priced_corners, costs_of, CostsInRange, best_corner};
-ghost use Rattle.search.specs.LiveEntries.{Addable, Added};
+ghost use Rattle.priced_place.specs.ObjectProblem.{priced_of};
+ghost use Rattle.priced_place.specs.Prepared.{problem_of, Prepared};
+ghost use Rattle.search.specs.LiveCells.{Addable, with_live};
 ghost use Rattle.search.specs.Running.{search_of, Takeable, Holds};
 ghost use Rattle.search.specs.Answer.{Answerable, found_of, Searched};
-ghost use Rattle.priced_place.specs.ObjectProblem.{priced_of, rect_in};
-ghost use Rattle.priced_place.specs.Prepared.{problem_of, Prepared};
 
-use crate::halves::{bounded, cut_of, halve, improve, priced_key};
-use cells::{Key, LiveCells};
-use deck::{Place, Rect};
+use crate::halves::{bounded, halve, improve, priced_key};
+use cells::{Cell, Key, LiveCells};
+use deck::Place;
 use prepare::Problem;
-use priced_place::PricedPlace;
-use reach::Objects;
-use slots::{Cell, Costs, Entry};
+use priced_place::{PricedPlace, priced};
 
-/// What a search holds beside its live cells while it runs: the best place so far, and the cuts made.
+// What a search holds beside its live cells while it runs: the best place so far, and the cuts made.
 #[derive(Clone, Copy)]
-pub struct Running {
-    pub best: PricedPlace,
-    pub cuts: u64,
+struct Running {
+    best: PricedPlace,
+    cuts: u64,
 }
 
 /// What a search has found when it ends (RULES "Figures").
@@ -36,155 +32,139 @@ pub struct Found {
     pub done: bool,
     /// The best place; its cost is the figure `high`.
     pub best: PricedPlace,
-    /// The figure `low`. It can be negative.
+    /// The figure `low`, which is never negative.
     pub low: i64,
     /// The cuts made, which are the rounds of the report.
     pub cuts: u64,
 }
 
-// The corners of a rectangle, priced, named as in `slots::Costs`.
-#[derive(Clone, Copy)]
-struct Corners {
-    c00: PricedPlace,
-    c01: PricedPlace,
-    c10: PricedPlace,
-    c11: PricedPlace,
-}
-
-impl Corners {
-    fn of(objects: &Objects, r: Rect) -> Corners
-        requires { RectInRange (rect_of r) }
-        ensures { result ≡ priced_corners (pricing_of_objects objects.now) (rect_of r) }
-    {
-        let front = Place { x: r.xlo, y: r.ylo };
-        let left = Place { x: r.xlo, y: r.yhi };
-        let right = Place { x: r.xhi, y: r.ylo };
-        let back = Place { x: r.xhi, y: r.yhi };
-        Corners {
-            c00: priced_place::priced(objects, front),
-            c01: priced_place::priced(objects, left),
-            c10: priced_place::priced(objects, right),
-            c11: priced_place::priced(objects, back),
-        }
-    }
-
-    fn costs(&self) -> Costs
-        ensures { result ≡ costs_of self.now }
-    {
-        Costs {
-            c00: self.c00.cost,
-            c01: self.c01.cost,
-            c10: self.c10.cost,
-            c11: self.c11.cost,
-        }
-    }
-
-    fn best(&self) -> PricedPlace
-        requires { CostsInRange (costs_of self.now) }
-        ensures { result ≡ best_corner self.now }
-    {
-        improve(improve(improve(self.c00, self.c01), self.c10), self.c11)
-    }
-}
-
 // Whether a cell is live: it comes before the best place and can be cut.
-fn is_live(problem: &Problem, c: Cell, best: PricedPlace) -> bool
-    requires { RectInRange (rect_in c) × (best.cost ≤ cost_limit) }
-    ensures { result ≡ Search.is_live (problem_of problem.now).rules.grid (priced_of best) (query_cell c) }
+fn is_live(problem: &Problem, cell: Cell, best: PricedPlace) -> bool
+    requires { RectInRange (rect_of cell.rect) × (best.cost ≤ cost_limit) }
+    ensures { result ≡ Search.is_live (problem_of problem.now).rules.grid (priced_of best) (query_cell cell) }
 {
-    Key::of_cell(c).precedes(priced_key(best)) && cut_of(problem, c.rect).is_some()
+    let vertical = problem.vertical.as_slice();
+    let horizontal = problem.horizontal.as_slice();
+    Key::of_cell(cell).precedes(priced_key(best)) && cuts::can_cut(vertical, horizontal, cell.rect)
 }
 
-// One more entry among the live ones, if its cell is live.
-fn add(problem: &Problem, live: &mut LiveCells, entry: Entry, best: PricedPlace)
-    requires { Addable live.old entry best }
-    ensures { Added (problem_of problem.now).rules.grid (priced_of best) entry live.old
-        live.new }
+// One more among the live cells, if it is live.
+fn add(problem: &Problem, live: &mut LiveCells, cell: Cell, best: PricedPlace)
+    requires { Addable live.old cell best }
+    ensures { live.new ≡ with_live (problem_of problem.now).rules.grid (priced_of best) cell live.old }
 {
-    if is_live(problem, entry.cell, best) {
-        live.insert(entry);
+    if is_live(problem, cell, best) {
+        live.insert(cell);
     }
 }
 
-// A round: the entry that was the first of the live ones is cut, the best place may change, and dead cells are dropped.
-fn round(problem: &Problem, live: &mut LiveCells, entry: Entry, st: Running) -> Running
-    requires { Takeable (pricing_of_objects problem.now.objects) (problem_of problem.now).rules.grid entry live.old st }
-    ensures { Holds (pricing_of_objects problem.now.objects)
-        (Search.round (problem_of problem.now).rules (search_of (entry ∷ live.old.entries) st))
-        (live.old.free - 2) live.new result }
+// The best of the area's corners.
+fn best_corner(problem: &Problem) -> PricedPlace
+    requires { RectInRange (rect_of problem.now.area) }
+    ensures start { priced_of result ≡ Search.start_best (problem_of problem.now) }
+    ensures limit { result.cost ≤ cost_limit }
 {
-    let halves = halve(problem, entry);
-    let best = improve(improve(st.best, halves.low), halves.high);
-    live.trim(priced_key(best));
-    add(problem, live, halves.second, best);
-    add(problem, live, halves.first, best);
-    Running {
-        best,
-        cuts: st.cuts + 1,
-    }
+    let objects = &problem.objects;
+    let r = problem.area;
+    let mut best = priced(objects, r.low());
+    best = improve(best, priced(objects, Place { x: r.xlo, y: r.yhi }));
+    best = improve(best, priced(objects, Place { x: r.xhi, y: r.ylo }));
+    improve(best, priced(objects, r.high()))
 }
 
 // The start of a search.
 fn start(problem: &Problem, live: &mut LiveCells) -> Running
     requires { Prepared problem.now × (live.old ≡ none_live) }
-    ensures { Holds (pricing_of_objects problem.now.objects) (Search.start (problem_of problem.now)) rounds_limit
-        live.new result }
+    ensures { Holds (Search.start (problem_of problem.now)) rounds_limit live.new result }
 {
-    let corners = Corners::of(&problem.objects, problem.area);
-    let best = corners.best();
-    let entry = bounded(&problem.objects, problem.area, corners.costs());
-    add(problem, live, entry, best);
+    let best = best_corner(problem);
+    let cell = bounded(&problem.objects, problem.area);
+    add(problem, live, cell, best);
     Running { best, cuts: 0 }
+}
+
+// A round: the cell that was the first of the live ones is cut, the best place may change, and dead cells are dropped.
+fn round(problem: &Problem, live: &mut LiveCells, cell: Cell, state: Running) -> Running
+    requires { Takeable (problem_of problem.now).rules.grid cell live.old state }
+    ensures { Holds (Search.round (problem_of problem.now).rules (search_of (cell ∷ live.old.cells) state))
+        (live.old.free - 2) live.new result }
+{
+    let halves = halve(problem, cell.rect);
+    let best = improve(improve(state.best, halves.low), halves.high);
+    live.trim(priced_key(best));
+    add(problem, live, halves.second, best);
+    add(problem, live, halves.first, best);
+    Running {
+        best,
+        cuts: state.cuts + 1,
+    }
 }
 
 // A search: its start, and its rounds while a cell is live, at most so many.
 fn run_of(problem: &Problem, rounds: u64, live: &mut LiveCells) -> Running
     requires { Prepared problem.now × (rounds ≤ rounds_limit) × (live.old ≡ none_live) }
-    ensures { Holds (pricing_of_objects problem.now.objects) (Search.run (problem_of problem.now) rounds) 0
-        live.new result }
+    ensures { Holds (Search.run (problem_of problem.now) rounds) 0 live.new result }
 {
-    let mut st = start(problem, live);
-    for _k in 0..rounds {
-        let Some(entry) = live.pop_first() else {
-            return st;
+    let mut state = start(problem, live);
+    for _round in 0..rounds {
+        let Some(cell) = live.pop_first() else {
+            return state;
         };
-        st = round(problem, live, entry, st);
+        state = round(problem, live, cell, state);
     }
-    st
+    state
 }
 
 // The least of the best cost and the bounds of the live cells, which are in order.
-fn low_of(live: &LiveCells, st: Running) -> i64
-    requires { Answerable live.now st }
-    ensures { result ≡ Figures.low (search_of live.now.entries st) }
+fn low_of(live: &LiveCells, state: Running) -> i64
+    requires { Answerable live.now state }
+    ensures { result ≡ Figures.low (search_of live.now.cells state) }
 {
-    let best = st.best;
+    let best = state.best;
     let high = best.cost as i64;
     match live.first() {
-        Some(first) => high.min(first.cell.bound),
+        Some(first) => high.min(first.bound),
         None => high,
     }
 }
 
 // What a search answers at its end.
-fn answer(live: &LiveCells, st: Running) -> Found
-    requires { Answerable live.now st }
-    ensures { result ≡ found_of (search_of live.now.entries st) }
+fn answer(live: &LiveCells, state: Running) -> Found
+    requires { Answerable live.now state }
+    ensures { result ≡ found_of (search_of live.now.cells state) }
 {
     Found {
         done: live.is_empty(),
-        best: st.best,
-        low: low_of(live, st),
-        cuts: st.cuts,
+        best: state.best,
+        low: low_of(live, state),
+        cuts: state.cuts,
     }
 }
 
-/// Searches the problem of a deck for at most `rounds` rounds (RULES "Rounds"), and gives what it found. `live` is lent with no live cell,
-/// and at the end holds those that are live, in their order.
-pub fn search(problem: &Problem, rounds: u64, live: &mut LiveCells) -> Found
-    requires { Prepared problem.now × (rounds ≤ rounds_limit) × (live.old ≡ none_live) }
-    ensures { Searched (problem_of problem.now) rounds live.new result }
+/// Searches the prepared problem of a deck for at most `rounds` rounds (RULES "Rounds"), of which there may be 1,000, and gives what it has
+/// found (RULES "Figures").
+// Not inlined, so that the live cells are on the stack while it runs alone.
+#[inline(never)]
+pub fn search(problem: &Problem, rounds: u64) -> Found
+    requires { Prepared problem.now × (rounds ≤ rounds_limit) }
+    ensures { result ≡ found_of (Search.run (problem_of problem.now) rounds) }
 {
-    let st = run_of(problem, rounds, live);
-    answer(live, st)
+    let mut live = LiveCells::new();
+    let state = run_of(problem, rounds, &mut live);
+    answer(&live, state)
+}
+
+/// The same, with the cells that are live at the end in the cell space `cells`, which must have room for them: five numbers each, in their
+/// order, and 0 behind them to its end (RULES "Cell space").
+// Not inlined, as `search`.
+#[inline(never)]
+pub fn search_into(problem: &Problem, rounds: u64, cells: &mut [i64]) -> Found
+    requires { Prepared problem.now
+        × (rounds ≤ rounds_limit) × (5 * length (Search.run (problem_of problem.now) rounds).live ≤ length cells.old) }
+    ensures { Searched (problem_of problem.now) rounds (length cells.old) cells.new result }
+{
+    let mut live = LiveCells::new();
+    let state = run_of(problem, rounds, &mut live);
+    live.write_out(cells);
+    answer(&live, state)
 }

@@ -6,30 +6,30 @@ use Rattle.search.proofs.DeckRun.{steady}
 use Rattle.search.proofs.RunLaws.{holds_first, holds_more, holds_run, ended, finished, takeable}
 use Rattle.search.proofs.run.run_of.Goals as goal
 
-pub loop-k-init : goal.loop-k-init
-loop-k-init c = (omega arith, holds_first _ _ _ _ _ c.start-st.ensures)
+pub loop-round-init : goal.loop-round-init
+loop-round-init c = (omega arith, holds_first _ _ _ _ c.start-state.ensures)
 
 -- no cell is live
 pub returns-in_default : goal.returns-in_default
 returns-in_default c =
-    let held = holds_run _ (problem_of c.args.problem.now) _ _ _ _ _ c.start-st.ensures.is c.loop-k.invariant.1 in
-    ended _ _ _ _ _ _ held _ (omega arith) _ (sym c.in_default.is ∙ c.pop_first.ensures.first) c.pop_first.ensures.left
+    let held = holds_run (problem_of c.args.problem.now) _ _ _ _ _ c.start-state.ensures.is c.loop-round.invariant.1 in
+    ended _ _ _ _ _ held _ (omega arith) _ (sym c.in_default.is ∙ c.pop_first.ensures.first) c.pop_first.ensures.left
 
-pub round-st-requires : goal.round-st-requires
-round-st-requires c =
+pub round-state-requires : goal.round-state-requires
+round-state-requires c =
     let p = c.requires in
-    let held = holds_run _ (problem_of c.args.problem.now) _ _ _ _ _ c.start-st.ensures.is c.loop-k.invariant.1 in
-    takeable _ _ _ _ _ _ held (steady p.0) (omega (arith, p.1)) (omega (arith, p.1)) _ _ (sym c.in-Some.is ∙ c.pop_first.ensures.first)
+    let held = holds_run (problem_of c.args.problem.now) _ _ _ _ _ c.start-state.ensures.is c.loop-round.invariant.1 in
+    takeable _ _ _ _ _ held (steady p.0) (omega (arith, p.1)) (omega (arith, p.1)) _ _ (sym c.in-Some.is ∙ c.pop_first.ensures.first)
     c.pop_first.ensures.left
 
-pub loop-k-preserved : goal.loop-k-preserved
-loop-k-preserved c = (
+pub loop-round-preserved : goal.loop-round-preserved
+loop-round-preserved c = (
   omega arith,
-  holds_more _ _ _ _ _ _ _ _ _ _ c.loop-k.invariant.1 (sym c.in-Some.is ∙ c.pop_first.ensures.first) c.pop_first.ensures.left
-      c.round-st.ensures,
+  holds_more _ _ _ _ _ _ _ _ _ c.loop-round.invariant.1 (sym c.in-Some.is ∙ c.pop_first.ensures.first) c.pop_first.ensures.left
+      c.round-state.ensures,
 )
 
 pub returns : goal.returns
 returns c =
-    let held = holds_run _ (problem_of c.args.problem.now) _ _ _ _ _ c.start-st.ensures.is c.loop-k.invariant.1 in
-    finished _ _ _ _ _ _ held _ (omega arith)
+    let held = holds_run (problem_of c.args.problem.now) _ _ _ _ _ c.start-state.ensures.is c.loop-round.invariant.1 in
+    finished _ _ _ _ _ held _ (omega arith)

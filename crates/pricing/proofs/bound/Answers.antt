@@ -1,0 +1,34 @@
+-- What `pricing::bound` owes.
+use mathlib.Core.Path.{◌≡◌, sym, ap, ◌∙◌}
+use native.Mathlib.Omega.{arith}
+use Rattle.query.specs.Deck.{AxisCosts}
+use Rattle.deck.specs.Rectangle.{rect_of}
+use Rattle.deck.specs.Objects.{scaled_rect}
+use Rattle.reach.specs.Held.{count_of_objects, pricing_of_objects}
+use Rattle.pricing.proofs.ObjectLaws.{bound_of_sum}
+use Rattle.pricing.proofs.ColumnLaws.{passed_none}
+use Rattle.pricing.proofs.TurnLaws.{to_rect, found_fits, paid_more}
+use Rattle.pricing.proofs.bound.Goals as goal
+
+pub loop-i-init : goal.loop-i-init
+loop-i-init c = passed_none _ _ _
+
+pub paid-sum-requires : goal.paid-sum-requires
+paid-sum-requires c = found_fits (to_rect c.row-row.result c.of-edges.result c.travel_from.ensures.0)
+
+pub loop-i-preserved : goal.loop-i-preserved
+loop-i-preserved c =
+    paid_more (to_rect c.row-row.result c.of-edges.result c.travel_from.ensures.0) c.row-row.ensures _ c.loop-i.invariant c.paid-sum.ensures
+
+pub overflow_add-sum : goal.overflow_add-sum
+overflow_add-sum c =
+    let next = loop-i-preserved c in omega (arith, next.most, c.loop-i-test.true, c.count-i-end.ensures, c.args.objects.now.priceable.count)
+
+pub returns : goal.returns
+returns c =
+    let full : c.loop-i.i ≡ count_of_objects c.args.objects.now = omega (arith, c.loop-i-test.false, c.loop-i.auto.i-end, c.count-i-end.ensures) in
+    let edges = c.of-edges.ensures.are ∙ ap (λ (axis : AxisCosts). scaled_rect axis (rect_of c.args.rectangle)) c.axis.ensures.is in
+    record {
+      is = c.loop-i.invariant.so_far ∙ rw (full, edges) (sym (bound_of_sum (pricing_of_objects c.args.objects.now) _));
+      within = omega (arith, c.loop-i.invariant.most, full, c.args.objects.now.priceable.count);
+    }

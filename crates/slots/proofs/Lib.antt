@@ -1,4 +1,0 @@
-pub mod SlotLaws
-pub mod NumberingLaws
-pub mod Rotations
-pub mod PlaceLaws
