@@ -73,6 +73,7 @@ enum Kernel {
     Bound,
     Cut,
     Near,
+    CornerBound,
 }
 
 fn proved(kernel: Kernel, job: &[u8], k: u64) -> i64 {
@@ -392,6 +393,7 @@ fn kernels(deck: &twin::Deck, suffix: &str) {
     row("cost of a place, 512 stops", 20_000, Kernel::Cost, &|k| twin::cost_many(&s, k));
     row("load of a rectangle, 512 stops", 20_000, Kernel::Load, &|k| twin::load_many(&s, k));
     row("bound of a cell, 512 stops", 20_000, Kernel::Bound, &|k| twin::bound_many(&s, k));
+    row("corner bound, 512 stops (4 costs, load)", 5_000, Kernel::CornerBound, &|k| twin::corner_bound_many(&s, k));
 }
 
 fn main() {

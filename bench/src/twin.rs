@@ -123,6 +123,14 @@ fn bound(s: &Sites, r: &Rect) -> u64 {
     s.rows().map(|(x, y, v, near)| v as u64 * near.min(travel_to(x, y, r)) as u64).sum()
 }
 
+/// From the costs of the corners and the load, each found by a pass of its own.
+fn corner_bound(s: &Sites, r: &Rect) -> i64 {
+    let first = cost(s, r.xlo, r.ylo) + cost(s, r.xhi, r.yhi);
+    let second = cost(s, r.xlo, r.yhi) + cost(s, r.xhi, r.ylo);
+    let span = (r.xhi - r.xlo + r.yhi - r.ylo) as i64;
+    (first.max(second) as i64 - span * load(s, r) as i64 + 1) >> 1
+}
+
 /// The line strictly between lo and hi that is closest to the middle, the smaller on a tie; lo where there is none.
 fn middle(lines: &[i64], lo: i64, hi: i64) -> i64 {
     let at = lines.partition_point(|&v| v < (lo + hi + 1) >> 1);
@@ -166,7 +174,11 @@ pub fn load_many(s: &Sites, k: u64) -> i64 {
 }
 
 pub fn bound_many(s: &Sites, k: u64) -> i64 {
-    (0..k).filter(|&t| bound(s, &s.axis.scaled(rect(t))) > 0).count() as i64
+    (0..k).map(|t| bound(s, &s.axis.scaled(rect(t))) as i64).sum()
+}
+
+pub fn corner_bound_many(s: &Sites, k: u64) -> i64 {
+    (0..k).filter(|&t| corner_bound(s, &s.axis.scaled(rect(t))) > 0).count() as i64
 }
 
 pub fn cut_many(xs: &[i64], ys: &[i64], k: u64) -> i64 {

@@ -160,7 +160,7 @@ pub fn special(random: &mut Random) -> Job {
     let size = random.pick(&[2, 5, 9, 40, 1_000, 20_000]);
     let mut j = job_of(random, size, 12);
     let a = j.area;
-    match random.range(1, 10) {
+    match random.range(1, 11) {
         // the same from all four sides: stops and posts mirrored in the middle of the area
         1 => {
             j.stops = j.stops.iter().flat_map(|s| images(s.at, a).map(|at| Stop { at, ..*s })).collect();
@@ -205,6 +205,13 @@ pub fn special(random: &mut Random) -> Job {
                     _ => s.at.1 = a.yhi,
                 }
             }
+        }
+        // each stop beside a post of its own: most cells are out of reach of all stops, and cost before
+        10 => {
+            j.area = Rect { xlo: -size, ylo: -size, xhi: size, yhi: size };
+            let at = |random: &mut Random| (random.range(-size, size), random.range(-size, size));
+            j.stops = (0..random.range(4, 16)).map(|_| Stop { at: at(random), visits: random.range(1, 2) }).collect();
+            j.posts = j.stops.iter().map(|s| (if s.at.0 < 0 { s.at.0 + 1 } else { s.at.0 - 1 }, s.at.1)).collect();
         }
         // all on one line through the area
         _ => j.stops.iter_mut().for_each(|s| s.at.1 = a.ylo),
