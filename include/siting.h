@@ -35,7 +35,7 @@ extern "C" {
  *     state=done              or state=stopped, where the rounds ran out
  *     at=x,y                  the place
  *     high=n                  the travel with a post at that place: the sum over the stops of visits times the travel to the closest post
- *     low=n                   no place of the area has less travel than this; once done it equals high
+ *     low=n                   no place of the area has less travel than this; it is never below 0, and once done it equals high
  *     before=n                the travel without the new post
  *     rounds=n                the rounds taken
  *

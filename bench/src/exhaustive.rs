@@ -119,9 +119,3 @@ pub fn every_crossing(job: &[u8]) -> PricedPlace {
     }
     best
 }
-
-/// A job with all its posts in the first corner of the deck.
-pub fn cornered(job: Vec<u8>) -> Vec<u8> {
-    let text = String::from_utf8(job).unwrap();
-    text.lines().map(|l| if l.starts_with("post=") { "post=-20000,-20000\n".into() } else { format!("{l}\n") }).collect::<String>().into_bytes()
-}

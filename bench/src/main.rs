@@ -73,6 +73,7 @@ enum Kernel {
     Bound,
     Cut,
     Near,
+    CornerBound,
 }
 
 fn proved(kernel: Kernel, job: &[u8], k: u64) -> i64 {
@@ -375,7 +376,7 @@ fn exhaustive_calls() {
     let twins: [(&str, fn(&[u8]) -> exhaustive::PricedPlace); 3] = [("ramps by search", exhaustive::searched), ("ramps by table", exhaustive::looked_up), ("every crossing", exhaustive::every_crossing)];
     let job = |deck: Sizes| Sizes { rounds: 0, ..deck }.job();
     compare_exhaustive("largest", &job(LARGEST), 1, &twins);
-    compare_exhaustive("a post in a corner", &exhaustive::cornered(job(Sizes { posts: 1, ..LARGEST })), 1, &twins);
+    compare_exhaustive("a post in a corner", &read::cornered(job(Sizes { posts: 1, ..LARGEST })), 1, &twins);
     compare_exhaustive("typical", &job(TYPICAL), 20, &twins);
     for (name, deck) in slower() {
         compare_exhaustive(name, &job(deck), if deck.stops == 512 { 1 } else { 20 }, &twins);
@@ -391,8 +392,8 @@ fn kernels(deck: &twin::Deck, suffix: &str) {
     row("the same, twin post by post", 400, Kernel::Near, &|k| twin::near_many(deck, k, read::near_by_posts));
     row("cost of a place, 512 stops", 20_000, Kernel::Cost, &|k| twin::cost_many(&s, k));
     row("load of a rectangle, 512 stops", 20_000, Kernel::Load, &|k| twin::load_many(&s, k));
-    row("bound of a cell, 512 stops (4 costs, load)", 5_000, Kernel::Bound, &|k| twin::bound_many(&s, k, twin::bound));
-    row("the same, twin with one pass for all five", 5_000, Kernel::Bound, &|k| twin::bound_many(&s, k, twin::bound_in_one_pass));
+    row("bound of a cell, 512 stops", 20_000, Kernel::Bound, &|k| twin::bound_many(&s, k));
+    row("corner bound, 512 stops (4 costs, load)", 5_000, Kernel::CornerBound, &|k| twin::corner_bound_many(&s, k));
 }
 
 fn main() {

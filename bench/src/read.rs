@@ -202,3 +202,9 @@ impl Sizes {
         (text + &format!("rounds={}\n", self.rounds)).into_bytes()
     }
 }
+
+/// A job with all its posts in the first corner of the deck.
+pub fn cornered(job: Vec<u8>) -> Vec<u8> {
+    let text = String::from_utf8(job).unwrap();
+    text.lines().map(|l| if l.starts_with("post=") { "post=-20000,-20000\n".into() } else { format!("{l}\n") }).collect::<String>().into_bytes()
+}

@@ -100,10 +100,15 @@ pub fn near_by_stops(px: &[i32], py: &[i32], xs: &[i32], ys: &[i32]) -> Vec<i32>
 }
 
 #[inline]
-fn reached(x: i32, y: i32, near: u32, r: &Rect) -> bool {
+fn travel_to(x: i32, y: i32, r: &Rect) -> u32 {
     let dx = (r.xlo - x).max(0) + (x - r.xhi).max(0);
     let dy = (r.ylo - y).max(0) + (y - r.yhi).max(0);
-    ((dx + dy) as u32) < near
+    (dx + dy) as u32
+}
+
+#[inline]
+fn reached(x: i32, y: i32, near: u32, r: &Rect) -> bool {
+    travel_to(x, y, r) < near
 }
 
 fn cost(s: &Sites, px: i32, py: i32) -> u64 {
@@ -114,29 +119,16 @@ fn load(s: &Sites, r: &Rect) -> u64 {
     s.rows().map(|(x, y, v, near)| if reached(x, y, near, r) { v } else { 0 }).sum::<u32>() as u64
 }
 
-fn halved(first: u64, second: u64, r: &Rect, load: u64) -> i64 {
-    let span = (r.xhi - r.xlo + r.yhi - r.ylo) as i64;
-    (first.max(second) as i64 - span * load as i64 + 1) >> 1
+fn bound(s: &Sites, r: &Rect) -> u64 {
+    s.rows().map(|(x, y, v, near)| v as u64 * near.min(travel_to(x, y, r)) as u64).sum()
 }
 
-pub fn bound(s: &Sites, r: &Rect) -> i64 {
+/// From the costs of the corners and the load, each found by a pass of its own.
+fn corner_bound(s: &Sites, r: &Rect) -> i64 {
     let first = cost(s, r.xlo, r.ylo) + cost(s, r.xhi, r.yhi);
     let second = cost(s, r.xlo, r.yhi) + cost(s, r.xhi, r.ylo);
-    halved(first, second, r, load(s, r))
-}
-
-/// The same in one pass over the columns.
-pub fn bound_in_one_pass(s: &Sites, r: &Rect) -> i64 {
-    let (mut first, mut second, mut load) = (0u64, 0u64, 0u32);
-    for (x, y, v, near) in s.rows() {
-        let (left, right) = ((x - r.xlo).abs(), (x - r.xhi).abs());
-        let (front, back) = ((y - r.ylo).abs(), (y - r.yhi).abs());
-        let at = |t: i32| near.min(t as u32);
-        first += v as u64 * (at(left + front) + at(right + back)) as u64;
-        second += v as u64 * (at(left + back) + at(right + front)) as u64;
-        load += if reached(x, y, near, r) { v } else { 0 };
-    }
-    halved(first, second, r, load as u64)
+    let span = (r.xhi - r.xlo + r.yhi - r.ylo) as i64;
+    (first.max(second) as i64 - span * load(s, r) as i64 + 1) >> 1
 }
 
 /// The line strictly between lo and hi that is closest to the middle, the smaller on a tie; lo where there is none.
@@ -181,8 +173,12 @@ pub fn load_many(s: &Sites, k: u64) -> i64 {
     (0..k).map(|t| load(s, &s.axis.scaled(rect(t))) as i64).sum()
 }
 
-pub fn bound_many(s: &Sites, k: u64, bound: impl Fn(&Sites, &Rect) -> i64) -> i64 {
-    (0..k).filter(|&t| bound(s, &s.axis.scaled(rect(t))) > 0).count() as i64
+pub fn bound_many(s: &Sites, k: u64) -> i64 {
+    (0..k).map(|t| bound(s, &s.axis.scaled(rect(t))) as i64).sum()
+}
+
+pub fn corner_bound_many(s: &Sites, k: u64) -> i64 {
+    (0..k).filter(|&t| corner_bound(s, &s.axis.scaled(rect(t))) > 0).count() as i64
 }
 
 pub fn cut_many(xs: &[i64], ys: &[i64], k: u64) -> i64 {

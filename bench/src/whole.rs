@@ -1,6 +1,5 @@
-//! Hand-written Rust for the whole report call: reading, near, lines, the search with the costs of corners remembered and the cells
-//! in a heap, the text. Three of them, which differ in the stops that a pass of pricing goes over. And for the estimate, which is the
-//! first three steps.
+//! Hand-written Rust for the whole report call: reading, near, lines, the search with its cells in a heap, the text. Three of them, which
+//! differ in the stops that a pass of pricing goes over. And for the estimate, which is the first three steps.
 
 use std::cmp::Reverse;
 use std::collections::BinaryHeap;
@@ -24,14 +23,23 @@ fn outside(v: i32, lo: i32, hi: i32) -> i32 {
 
 impl Site {
     #[inline]
-    pub fn reaches(&self, r: Rect) -> bool {
-        outside(self.x, r.xlo, r.xhi) + outside(self.y, r.ylo, r.yhi) < self.near
+    fn travel_to(&self, r: Rect) -> i32 {
+        outside(self.x, r.xlo, r.xhi) + outside(self.y, r.ylo, r.yhi)
     }
 
     #[inline]
-    fn pays(&self, x: i32, y: i32) -> u64 {
-        let m = ((self.x - x).abs() + (self.y - y).abs()).min(self.near);
-        self.visits as u64 * m as u32 as u64
+    pub fn reaches(&self, r: Rect) -> bool {
+        self.travel_to(r) < self.near
+    }
+
+    #[inline]
+    fn pays(&self, travel: i32) -> u64 {
+        self.visits as u64 * travel.min(self.near) as u32 as u64
+    }
+
+    #[inline]
+    fn pays_at(&self, x: i32, y: i32) -> u64 {
+        self.pays((self.x - x).abs() + (self.y - y).abs())
     }
 }
 
@@ -47,26 +55,26 @@ impl Objects {
     }
 
     pub fn cost(&self, x: i32, y: i32) -> u64 {
-        self.sites().map(|s| s.pays(x, y)).sum()
+        self.sites().map(|s| s.pays_at(x, y)).sum()
     }
 
-    fn load(&self, r: Rect) -> u64 {
-        self.sites().map(|s| if s.reaches(r) { s.visits } else { 0 }).sum::<u32>() as u64
+    fn bound(&self, r: Rect) -> u64 {
+        self.sites().map(|s| s.pays(s.travel_to(r))).sum()
     }
 
-    /// The costs of the two ends of a cut at v, and the loads of the parts on both sides of it, in one pass.
+    /// The costs of the two ends of a cut at v, and the bounds of the parts on both sides of it, in one pass.
     fn cut(&self, across: bool, (lo, v, hi): (i32, i32, i32), (near_end, far_end): (i32, i32)) -> ([u64; 2], [u64; 2]) {
         let (us, ws) = if across { (&self.xs, &self.ys) } else { (&self.ys, &self.xs) };
-        let (mut low, mut high, mut before, mut behind) = (0u64, 0u64, 0u32, 0u32);
+        let (mut low, mut high, mut before, mut behind) = (0u64, 0u64, 0u64, 0u64);
         for (((&u, &w), &visits), &near) in us.iter().zip(ws).zip(&self.visits).zip(&self.near) {
-            let along = (u - v).abs();
-            low += visits as u64 * (along + (w - near_end).abs()).min(near) as u32 as u64;
-            high += visits as u64 * (along + (w - far_end).abs()).min(near) as u32 as u64;
-            let left = near - outside(w, near_end, far_end);
-            before += if outside(u, lo, v) < left { visits } else { 0 };
-            behind += if outside(u, v, hi) < left { visits } else { 0 };
+            let pays = |travel: i32| visits as u64 * travel.min(near) as u32 as u64;
+            let (along, beside) = ((u - v).abs(), outside(w, near_end, far_end));
+            low += pays(along + (w - near_end).abs());
+            high += pays(along + (w - far_end).abs());
+            before += pays(outside(u, lo, v) + beside);
+            behind += pays(outside(u, v, hi) + beside);
         }
-        ([low, high], [before as u64, behind as u64])
+        ([low, high], [before, behind])
     }
 }
 
@@ -116,10 +124,10 @@ pub fn estimate(job: &[u8]) -> Result<[usize; 4], Refused> {
 pub trait Pricing {
     type Stops: Copy;
 
-    /// The start: the costs of the area's corners, its load, its stops.
+    /// The start: the costs of the area's corners, its bound, its stops.
     fn start(&mut self, area: Rect) -> ([u64; 4], u64, Self::Stops);
 
-    /// A cut of a cell with these stops in two parts: the costs of the two new corners, and the load and the stops of each part.
+    /// A cut of a cell with these stops in two parts: the costs of the two new corners, and the bound and the stops of each part.
     fn cut(&mut self, stops: Self::Stops, first: Rect, second: Rect) -> ([u64; 2], [(u64, Self::Stops); 2]);
 }
 
@@ -131,7 +139,7 @@ impl Pricing for All<'_> {
 
     fn start(&mut self, r: Rect) -> ([u64; 4], u64, ()) {
         let cost = |x, y| self.0.cost(x, y);
-        ([cost(r.xlo, r.ylo), cost(r.xlo, r.yhi), cost(r.xhi, r.ylo), cost(r.xhi, r.yhi)], self.0.load(r), ())
+        ([cost(r.xlo, r.ylo), cost(r.xlo, r.yhi), cost(r.xhi, r.ylo), cost(r.xhi, r.yhi)], self.0.bound(r), ())
     }
 
     fn cut(&mut self, _: (), f: Rect, s: Rect) -> ([u64; 2], [(u64, ()); 2]) {
@@ -168,13 +176,13 @@ impl Pricing for Reaching {
     type Stops = ();
 
     fn start(&mut self, area: Rect) -> ([u64; 4], u64, ()) {
-        let (costs, load, ()) = All(&self.objects).start(area);
-        (costs.map(|c| c + self.others), load, ())
+        let (costs, bound, ()) = All(&self.objects).start(area);
+        (costs.map(|c| c + self.others), bound + self.others, ())
     }
 
     fn cut(&mut self, stops: (), first: Rect, second: Rect) -> ([u64; 2], [(u64, ()); 2]) {
         let (costs, parts) = All(&self.objects).cut(stops, first, second);
-        (costs.map(|c| c + self.others), parts)
+        (costs.map(|c| c + self.others), parts.map(|(bound, ())| (bound + self.others, ())))
     }
 }
 
@@ -195,32 +203,34 @@ impl Pricing for Listed {
     type Stops = List;
 
     fn start(&mut self, r: Rect) -> ([u64; 4], u64, List) {
-        let others = self.rows.iter().filter(|s| !s.reaches(r)).map(|s| s.visits as u64 * s.near as u64).sum();
+        let others = self.rows.iter().filter(|s| !s.reaches(r)).map(|s| s.pays(s.near)).sum();
         self.rows.retain(|s| s.reaches(r));
-        let cost = |x, y| others + self.rows.iter().map(|s| s.pays(x, y)).sum::<u64>();
-        let load = self.rows.iter().map(|s| s.visits as u64).sum();
-        ([cost(r.xlo, r.ylo), cost(r.xlo, r.yhi), cost(r.xhi, r.ylo), cost(r.xhi, r.yhi)], load, List { from: 0, to: self.rows.len(), others })
+        let cost = |x, y| others + self.rows.iter().map(|s| s.pays_at(x, y)).sum::<u64>();
+        let bound = others + self.rows.iter().map(|s| s.pays(s.travel_to(r))).sum::<u64>();
+        let costs = [cost(r.xlo, r.ylo), cost(r.xlo, r.yhi), cost(r.xhi, r.ylo), cost(r.xhi, r.yhi)];
+        (costs, bound, List { from: 0, to: self.rows.len(), others })
     }
 
     fn cut(&mut self, stops: List, f: Rect, s: Rect) -> ([u64; 2], [(u64, List); 2]) {
         let mut costs = [stops.others; 2];
         for site in &self.rows[stops.from..stops.to] {
-            costs[0] += site.pays(s.xlo, s.ylo);
-            costs[1] += site.pays(f.xhi, f.yhi);
+            costs[0] += site.pays_at(s.xlo, s.ylo);
+            costs[1] += site.pays_at(f.xhi, f.yhi);
         }
         let parts = [f, s].map(|r| {
             let from = self.rows.len();
-            let (mut load, mut others) = (0, stops.others);
+            let (mut inside, mut others) = (0, stops.others);
             for i in stops.from..stops.to {
                 let site = self.rows[i];
-                if site.reaches(r) {
+                let travel = site.travel_to(r);
+                if travel < site.near {
                     self.rows.push(site);
-                    load += site.visits as u64;
+                    inside += site.pays(travel);
                 } else {
-                    others += site.visits as u64 * site.near as u64;
+                    others += site.pays(site.near);
                 }
             }
-            (load, List { from, to: self.rows.len(), others })
+            (inside + others, List { from, to: self.rows.len(), others })
         });
         (costs, parts)
     }
@@ -236,9 +246,7 @@ struct Cell<S> {
     /// First and last line, across and deep.
     x: (u16, u16),
     y: (u16, u16),
-    bound: i64,
-    /// At (xlo, ylo), (xlo, yhi), (xhi, ylo), (xhi, yhi).
-    costs: [u64; 4],
+    bound: u64,
     stops: S,
 }
 
@@ -251,18 +259,10 @@ fn middle(lines: &[i32], (lo, hi): (u16, u16)) -> u16 {
     lo + 1 + (if above { at } else { at - 1 }) as u16
 }
 
-/// A cell with its bound, from its scaled edges.
-fn bounded<S>(mut c: Cell<S>, edges: Rect, load: u64) -> Cell<S> {
-    let span = edges.xhi - edges.xlo + edges.yhi - edges.ylo;
-    let [a, b, d, e] = c.costs;
-    c.bound = ((a + e).max(b + d) as i64 - span as i64 * load as i64 + 1) >> 1;
-    c
-}
-
 struct Found {
     done: bool,
     best: PricedPlace,
-    low: i64,
+    low: u64,
     rounds: usize,
 }
 
@@ -274,15 +274,15 @@ fn search<P: Pricing>(deck: &Deck, grid: &Grid, pricing: &mut P, out: &mut [i64]
     };
     let (a, axis) = (deck.area, deck.axis);
     let (x, y) = ((0, vs.len() as u16 - 1), (0, hs.len() as u16 - 1));
-    let (costs, load, stops) = pricing.start(axis.scaled(a));
+    let (costs, bound, stops) = pricing.start(axis.scaled(a));
     let mut best: PricedPlace = [(costs[0], a.xlo, a.ylo), (costs[1], a.xlo, a.yhi), (costs[2], a.xhi, a.ylo), (costs[3], a.xhi, a.yhi)].into_iter().min().unwrap();
     // lines are in order, so that (xlo, ylo) and the numbers of their lines have the same order
     let key = |c: &Cell<P::Stops>, i: usize| Reverse((c.bound, (c.x.0 as u32) << 16 | c.y.0 as u32, i as u32));
     let can_cut = |c: &Cell<P::Stops>| c.x.1 - c.x.0 > 1 || c.y.1 - c.y.0 > 1;
-    let precedes = |c: &Cell<P::Stops>, best: PricedPlace| (c.bound, vs[c.x.0 as usize], hs[c.y.0 as usize]) < (best.0 as i64, best.1, best.2);
+    let precedes = |c: &Cell<P::Stops>, best: PricedPlace| (c.bound, vs[c.x.0 as usize], hs[c.y.0 as usize]) < best;
     let mut cells: Vec<Cell<P::Stops>> = Vec::with_capacity(deck.rounds * 2 + 1);
     let mut heap = BinaryHeap::with_capacity(deck.rounds + 2);
-    let area = bounded(Cell { x, y, bound: 0, costs, stops }, axis.scaled(a), load);
+    let area = Cell { x, y, bound, stops };
     if can_cut(&area) && precedes(&area, best) {
         heap.push(key(&area, 0));
         cells.push(area);
@@ -298,12 +298,10 @@ fn search<P: Pricing>(deck: &Deck, grid: &Grid, pricing: &mut P, out: &mut [i64]
         }
         heap.pop();
         rounds += 1;
-        let [k00, k01, k10, k11] = c.costs;
         let (wide, deep) = (c.x.1 - c.x.0 > 1, c.y.1 - c.y.0 > 1);
         let r = edges(c.x, c.y);
-        let across = wide && (!deep || r.xhi - r.xlo >= r.yhi - r.ylo);
         let (mut first, mut second) = (c, c);
-        if across {
+        if wide && (!deep || r.xhi - r.xlo >= r.yhi - r.ylo) {
             let m = middle(vs, c.x);
             first.x.1 = m;
             second.x.0 = m;
@@ -313,18 +311,13 @@ fn search<P: Pricing>(deck: &Deck, grid: &Grid, pricing: &mut P, out: &mut [i64]
             second.y.0 = m;
         }
         let (f, s) = (edges(first.x, first.y), edges(second.x, second.y));
-        let (scaled_f, scaled_s) = (axis.scaled(f), axis.scaled(s));
-        let ([low, high], [(load1, stops1), (load2, stops2)]) = pricing.cut(c.stops, scaled_f, scaled_s);
+        let ([low, high], parts) = pricing.cut(c.stops, axis.scaled(f), axis.scaled(s));
         best = best.min((low, s.xlo, s.ylo)).min((high, f.xhi, f.yhi));
-        (first.costs, second.costs) = if across { ([k00, k01, low, high], [low, high, k10, k11]) } else { ([k00, low, k10, high], [low, k01, high, k11]) };
-        (first.stops, second.stops) = (stops1, stops2);
-        for (c, edges, load) in [(first, scaled_f, load1), (second, scaled_s, load2)] {
-            if can_cut(&c) {
-                let c = bounded(c, edges, load);
-                if precedes(&c, best) {
-                    heap.push(key(&c, cells.len()));
-                    cells.push(c);
-                }
+        for (mut c, (bound, stops)) in [first, second].into_iter().zip(parts) {
+            (c.bound, c.stops) = (bound, stops);
+            if can_cut(&c) && precedes(&c, best) {
+                heap.push(key(&c, cells.len()));
+                cells.push(c);
             }
         }
     }
@@ -333,10 +326,10 @@ fn search<P: Pricing>(deck: &Deck, grid: &Grid, pricing: &mut P, out: &mut [i64]
     for (slot, k) in out.chunks_exact_mut(5).zip(&live) {
         let c = &cells[k.2 as usize];
         let r = edges(c.x, c.y);
-        slot.copy_from_slice(&[r.xlo as i64, r.ylo as i64, r.xhi as i64, r.yhi as i64, c.bound]);
+        slot.copy_from_slice(&[r.xlo as i64, r.ylo as i64, r.xhi as i64, r.yhi as i64, c.bound as i64]);
     }
     out[5 * live.len()..].fill(0);
-    Found { done: live.is_empty(), best, low: live.first().map_or(best.0 as i64, |k| k.0), rounds }
+    Found { done: live.is_empty(), best, low: live.first().map_or(best.0, |k| k.0), rounds }
 }
 
 // ---- the text
@@ -388,7 +381,7 @@ fn report_with(job: &[u8], cells: &mut [i64], out: &mut [u8], find: impl FnOnce(
     let mut t = Text { out, at: 0 };
     t.put(b"state=").put(if f.done { b"done" } else { b"stopped" });
     t.put(b"\nat=").number(f.best.1 as i64).put(b",").number(f.best.2 as i64);
-    t.put(b"\nhigh=").number(f.best.0 as i64).put(b"\nlow=").number(f.low);
+    t.put(b"\nhigh=").number(f.best.0 as i64).put(b"\nlow=").number(f.low as i64);
     t.put(b"\nbefore=").number(objects.before() as i64).put(b"\nrounds=").number(f.rounds as i64).put(b"\n");
     0
 }

@@ -16,6 +16,7 @@
 #define REPORT_A "state=done\nat=4,3\nhigh=13\nlow=13\nbefore=34\nrounds=3\n"
 // a deck whose best place depends on the axis costs
 #define NARROW(axis) "area=1,1,3,9\n" axis "posts=1\npost=4,6\nstops=2\nstop=6,1,1\nstop=2,4,1\nrounds=10\n"
+#define CLOSER "area=0,0,4,2\nposts=1\npost=1,1\nstops=2\nstop=2,1,1\nstop=9,5,1\n"
 
 #define LONGEST_JOB 16384
 // less than the 256 KiB of siting.h, of which the thread's own start takes some
@@ -141,8 +142,11 @@ static const struct {
     {"area=0,0,10,0\nposts=1\npost=0,50\nstops=2\nstop=0,0,1\nstop=10,0,1\nrounds=10\n",
      "state=done\nat=0,0\nhigh=10\nlow=10\nbefore=110\nrounds=0\n"},
     {"area=5,5,5,5\n" POSTS STOPS "rounds=10\n", "state=done\nat=5,5\nhigh=16\nlow=16\nbefore=34\nrounds=0\n"},
-    {"area=0,0,9,0\nposts=1\npost=5,1\nstops=1\nstop=5,0,1\nrounds=0\n", "state=stopped\nat=0,0\nhigh=1\nlow=-3\nbefore=1\nrounds=0\n"},
+    {"area=0,0,9,0\nposts=1\npost=5,1\nstops=1\nstop=5,0,1\nrounds=0\n", "state=stopped\nat=0,0\nhigh=1\nlow=0\nbefore=1\nrounds=0\n"},
     {"area=0,0,9,0\nposts=1\npost=5,1\nstops=1\nstop=5,0,1\nrounds=1\n", "state=done\nat=5,0\nhigh=0\nlow=0\nbefore=1\nrounds=1\n"},
+    // two cuts, where a search by the corner bound needs three
+    {CLOSER "rounds=1\n", "state=stopped\nat=4,2\nhigh=9\nlow=8\nbefore=13\nrounds=1\n"},
+    {CLOSER "rounds=1000\n", "state=done\nat=4,2\nhigh=9\nlow=9\nbefore=13\nrounds=2\n"},
     // axis costs
     {AREA "axis=1,1\n" POSTS STOPS "rounds=10\n", REPORT_A},
     {AREA "axis=9,9\n" POSTS STOPS "rounds=10\n", "state=done\nat=4,3\nhigh=117\nlow=117\nbefore=306\nrounds=3\n"},

@@ -1,6 +1,6 @@
 //! Random jobs: valid ones of many shapes, and damaged ones. The generator is a plain xorshift, so that a printed seed repeats a run.
 
-use crate::reference::{spell, spell_out, Axis, Job, Rect, Stop};
+use crate::reference::{spell, spell_out, Axis, Job, Place, Rect, Stop};
 use crate::vectors::WRONG_AXIS_LINES;
 
 pub struct Random(u64);
@@ -160,7 +160,7 @@ pub fn special(random: &mut Random) -> Job {
     let size = random.pick(&[2, 5, 9, 40, 1_000, 20_000]);
     let mut j = job_of(random, size, 12);
     let a = j.area;
-    match random.range(1, 10) {
+    match random.range(1, 11) {
         // the same from all four sides: stops and posts mirrored in the middle of the area
         1 => {
             j.stops = j.stops.iter().flat_map(|s| images(s.at, a).map(|at| Stop { at, ..*s })).collect();
@@ -205,6 +205,13 @@ pub fn special(random: &mut Random) -> Job {
                     _ => s.at.1 = a.yhi,
                 }
             }
+        }
+        // each stop beside a post of its own: most cells are out of reach of all stops, and cost before
+        10 => {
+            j.area = Rect { xlo: -size, ylo: -size, xhi: size, yhi: size };
+            let at = |random: &mut Random| (random.range(-size, size), random.range(-size, size));
+            j.stops = (0..random.range(4, 16)).map(|_| Stop { at: at(random), visits: random.range(1, 2) }).collect();
+            j.posts = j.stops.iter().map(|s| (if s.at.0 < 0 { s.at.0 + 1 } else { s.at.0 - 1 }, s.at.1)).collect();
         }
         // all on one line through the area
         _ => j.stops.iter_mut().for_each(|s| s.at.1 = a.ylo),
@@ -255,6 +262,25 @@ pub fn rect(random: &mut Random, size: i64) -> Rect {
         v = y;
     }
     Rect { xlo: x.min(u), ylo: y.min(v), xhi: x.max(u), yhi: y.max(v) }
+}
+
+/// A rectangle for a job, whether or not a search of it makes such a cell: each edge at a stop, at a post, at an edge of the area, at an end of
+/// the range, or within -size ..= size. A part are points and segments.
+pub fn any_rect(random: &mut Random, job: &Job, size: i64) -> Rect {
+    let a = job.area;
+    let edge = |random: &mut Random, along: fn(Place) -> i64| match random.range(1, 8) {
+        1 => random.pick(&[-20_000, 20_000]),
+        2 => along(random.pick(&[(a.xlo, a.ylo), (a.xhi, a.yhi)])),
+        3 => along(random.pick(&job.posts)),
+        4 | 5 => along(random.pick(&job.stops).at),
+        _ => random.range(-size, size),
+    };
+    let edges = |random: &mut Random, along| {
+        let (v, w) = (edge(random, along), edge(random, along));
+        if random.one_in(5) { (v, v) } else { (v.min(w), v.max(w)) }
+    };
+    let ((xlo, xhi), (ylo, yhi)) = (edges(random, |p| p.0), edges(random, |p| p.1));
+    Rect { xlo, ylo, xhi, yhi }
 }
 
 /// The bytes of a job, damaged in one of many ways.

@@ -443,7 +443,7 @@ impl Record {
     }
 }
 
-// ---- pricing: RULES "Travel", "Near", "Cost", "Reach", "Lines", "Bound", "Cuts"
+// ---- pricing: RULES "Travel", "Near", "Cost", "Reach", "Lines", "Bound", "Corner bound", "Cuts"
 
 pub fn travel(axis: Axis, p: Place, q: Place) -> i64 {
     axis.a * (p.0 - q.0).abs() + axis.b * (p.1 - q.1).abs()
@@ -481,13 +481,13 @@ impl Deck<'_> {
         self.stops().map(|(s, near)| s.visits * near).sum()
     }
 
+    /// The travel from a stop to the closest point of a rectangle.
+    fn travel_to(&self, s: &Stop, r: Rect) -> i64 {
+        self.travel(s.at, (s.at.0.clamp(r.xlo, r.xhi), s.at.1.clamp(r.ylo, r.yhi)))
+    }
+
     fn within_reach(&self, r: Rect) -> impl Iterator<Item = &Stop> {
-        self.stops()
-            .filter(move |(s, near)| {
-                let closest = (s.at.0.clamp(r.xlo, r.xhi), s.at.1.clamp(r.ylo, r.yhi));
-                self.travel(s.at, closest) < *near
-            })
-            .map(|(s, _)| s)
+        self.stops().filter(move |(s, near)| self.travel_to(s, r) < *near).map(|(s, _)| s)
     }
 
     pub fn load(&self, r: Rect) -> i64 {
@@ -506,7 +506,13 @@ impl Deck<'_> {
         sorted(ys.chain([a.ylo, a.yhi]).collect())
     }
 
+    /// Stop by stop: what each pays if it has a post at its own closest point of the rectangle.
     pub fn bound(&self, r: Rect) -> i64 {
+        self.stops().map(|(s, near)| s.visits * near.min(self.travel_to(s, r))).sum()
+    }
+
+    /// By the costs of the corners. No search goes by it.
+    pub fn corner_bound(&self, r: Rect) -> i64 {
         let first = self.cost((r.xlo, r.ylo)) + self.cost((r.xhi, r.yhi));
         let second = self.cost((r.xlo, r.yhi)) + self.cost((r.xhi, r.ylo));
         let Axis { a, b } = self.job.axis;
@@ -627,9 +633,14 @@ impl Cell {
 }
 
 pub fn search(job: &Job) -> Found {
+    search_by(job, |deck, r| deck.bound(r))
+}
+
+/// The search with any bound of cells, for a comparison of bounds.
+pub fn search_by(job: &Job, bound: impl Fn(&Deck, Rect) -> i64) -> Found {
     let deck = Deck::new(job);
     let (vertical, horizontal) = (deck.vertical(), deck.horizontal());
-    let cell = |r: Rect| Cell { bound: deck.bound(r), r, cut: cut(&vertical, &horizontal, r) };
+    let cell = |r: Rect| Cell { bound: bound(&deck, r), r, cut: cut(&vertical, &horizontal, r) };
     let a = job.area;
     let mut best = [(a.xlo, a.ylo), (a.xlo, a.yhi), (a.xhi, a.ylo), (a.xhi, a.yhi)]
         .map(|p| deck.priced(p))
@@ -747,8 +758,17 @@ mod tests {
 
     #[test]
     fn halves_go_towards_plus_infinity() {
-        for (twice, half) in [(3, 2), (-3, -1), (-4, -2), (-7, -3)] {
-            assert_eq!(-((-twice as i64).div_euclid(2)), half);
-        }
+        let of = |stops: &str, xlo: i64, xhi: i64| {
+            let job = read(format!("area={xlo},0,{xhi},0\nposts=1\npost=5,1\n{stops}rounds=0\n").as_bytes()).unwrap();
+            let deck = Deck::new(&job);
+            let lows = (search(&job).low, search_by(&job, |deck, r| deck.corner_bound(r)).low);
+            assert_eq!((deck.bound(job.area), deck.corner_bound(job.area)), lows);
+            lows
+        };
+        // case D: 1 + 1 - 9, 1 + 1 - 5
+        assert_eq!(of("stops=1\nstop=5,0,1\n", 0, 9), (0, -3));
+        assert_eq!(of("stops=1\nstop=5,0,1\n", 3, 8), (0, -1));
+        // 17 + 12 - 2 * 9
+        assert_eq!(of("stops=2\nstop=5,0,1\nstop=20,0,1\n", 0, 9), (11, 6));
     }
 }

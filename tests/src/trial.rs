@@ -76,12 +76,12 @@ fn only(xlo: i64, ylo: i64) -> Rect {
     Rect { xlo, ylo, xhi: i64::MIN, yhi: i64::MIN }
 }
 
-/// The job's before, or i64::MIN where the job is refused; so of the figures below.
+/// The job's before, or -1 where the job is refused; so of the figures below that say nothing else, where what they ask of is out of range too.
 pub fn before(job: &[u8]) -> i64 {
     figure(job, 0, only(i64::MIN, i64::MIN))
 }
 
-/// The near of stop i, counted from 0; i64::MIN where there is none.
+/// The near of stop i, counted from 0; -1 where there is none.
 pub fn near(job: &[u8], i: usize) -> i64 {
     figure(job, 1, only(i as i64, i64::MIN))
 }
@@ -101,7 +101,12 @@ pub fn bound(job: &[u8], r: Rect) -> i64 {
     figure(job, 4, r)
 }
 
-/// 1 for a cut at an x, 2 for one at a y, 0 for none, -1 for no answer; and the line.
+/// The corner bound of a rectangle, or i64::MIN where there is none.
+pub fn corner_bound(job: &[u8], r: Rect) -> i64 {
+    figure(job, 7, r)
+}
+
+/// 1 for a cut at an x, 2 for one at a y, 0 for none, -1 for no answer; and the line, or i64::MIN where there is none.
 pub fn cut(job: &[u8], r: Rect) -> (i64, i64) {
     (figure(job, 5, r), figure(job, 6, r))
 }

@@ -49,6 +49,16 @@ pub fn deep(rounds: i64) -> String {
     format!("area=0,0,3,5\naxis=2,1\nposts=1\npost=0,4\nstops=2\nstop=1,2,1\nstop=3,0,3\nrounds={rounds}\n")
 }
 
+/// A deck that is done after 2 rounds, and would be after 3 by the corner bound.
+pub fn closer(rounds: i64) -> String {
+    format!("area=0,0,4,2\nposts=1\npost=1,1\nstops=2\nstop=2,1,1\nstop=9,5,1\nrounds={rounds}\n")
+}
+
+/// A deck with cells of equal bound, of which one has the smaller x and another the smaller y.
+pub fn equal_bounds(rounds: i64) -> String {
+    format!("area=0,0,3,4\nposts=1\npost=3,2\nstops=2\nstop=1,1,2\nstop=2,1,3\nrounds={rounds}\n")
+}
+
 /// Case A with more text behind its line `line`.
 pub fn behind(line: usize, text: &str) -> String {
     let mut lines: Vec<&str> = CASE_A.split_inclusive('\n').collect();
@@ -66,7 +76,7 @@ pub fn reports() -> Vec<(String, &'static str)> {
         (behind(1, "axis=1,1\n"), case_a),
         (narrow("", 10), plain),
         (narrow("axis=1,1\n", 10), plain),
-        (narrow("axis=2,1\n", 0), "state=stopped\nat=3,1\nhigh=11\nlow=3\nbefore=15\nrounds=0\n"),
+        (narrow("axis=2,1\n", 0), "state=stopped\nat=3,1\nhigh=11\nlow=6\nbefore=15\nrounds=0\n"),
         (narrow("axis=2,1\n", 1), "state=stopped\nat=1,4\nhigh=11\nlow=6\nbefore=15\nrounds=1\n"),
         (narrow("axis=2,1\n", 3), wide),
         (narrow("axis=2,1\n", 1_000), wide),
@@ -74,6 +84,11 @@ pub fn reports() -> Vec<(String, &'static str)> {
         // all travel nine times as long
         (behind(1, "axis=9,9\n"), "state=done\nat=4,3\nhigh=117\nlow=117\nbefore=306\nrounds=3\n"),
         (deep(1), "state=stopped\nat=3,0\nhigh=4\nlow=0\nbefore=34\nrounds=1\n"),
+        (closer(0), "state=stopped\nat=4,2\nhigh=9\nlow=8\nbefore=13\nrounds=0\n"),
+        (closer(1), "state=stopped\nat=4,2\nhigh=9\nlow=8\nbefore=13\nrounds=1\n"),
+        (closer(2), "state=done\nat=4,2\nhigh=9\nlow=9\nbefore=13\nrounds=2\n"),
+        (closer(3), "state=done\nat=4,2\nhigh=9\nlow=9\nbefore=13\nrounds=2\n"),
+        (equal_bounds(2), "state=stopped\nat=1,1\nhigh=3\nlow=0\nbefore=12\nrounds=2\n"),
     ]
 }
 

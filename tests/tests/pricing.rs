@@ -1,10 +1,10 @@
-//! The proved reader (RULES "Job", "Refusals") and the proved pricing (RULES "Near", "Cost", "Reach", "Lines", "Bound", "Cuts") against the
-//! reference, on random bytes and decks.
+//! The proved reader (RULES "Job", "Refusals") and the proved pricing (RULES "Near", "Cost", "Reach", "Lines", "Bound", "Corner bound", "Cuts")
+//! against the reference, on random bytes and decks.
 
-use siting_tests::generate::{damaged, job, job_of, largest, noise, rect, seed, spelled, spelling, Random};
+use siting_tests::generate::{any_rect, damaged, job, job_of, largest, noise, rect, seed, special, spelled, spelling, Random};
 use siting_tests::reference::{cut, read, spell, spell_out, travel, Axis, Deck, Job, Place, Rect, Refusal, Stop};
 use siting_tests::{text, trial};
-use siting_tests::vectors::{deep, narrow, refusals, reports};
+use siting_tests::vectors::{case_d, deep, narrow, refusals, reports};
 
 const LEAST: i64 = i64::MIN;
 
@@ -82,18 +82,18 @@ fn check_cost(bytes: &[u8], deck: &Deck, p: Place) {
 
 fn check_rect(bytes: &[u8], deck: &Deck, vertical: &[i64], horizontal: &[i64], r: Rect) {
     let none = outside(r.xlo) || outside(r.ylo) || outside(r.xhi) || outside(r.yhi) || r.xhi < r.xlo || r.yhi < r.ylo;
-    let (load, bound, axis, line) = if none {
-        (-1, LEAST, -1, LEAST)
+    let (load, bound, corner_bound, axis, line) = if none {
+        (-1, -1, LEAST, -1, LEAST)
     } else {
         let (axis, line) = match cut(vertical, horizontal, r) {
             None => (0, LEAST),
             Some((true, x)) => (1, x),
             Some((false, y)) => (2, y),
         };
-        (deck.load(r), deck.bound(r), axis, line)
+        (deck.load(r), deck.bound(r), deck.corner_bound(r), axis, line)
     };
-    let got = (trial::load(bytes, r), trial::bound(bytes, r), trial::cut(bytes, r));
-    assert_eq!(got, (load, bound, (axis, line)), "{r:?} {}", text(bytes));
+    let got = (trial::load(bytes, r), trial::bound(bytes, r), trial::corner_bound(bytes, r), trial::cut(bytes, r));
+    assert_eq!(got, (load, bound, corner_bound, (axis, line)), "{r:?} {}", text(bytes));
 }
 
 fn check_lines(bytes: &[u8], across: bool, lines: &[i64]) {
@@ -135,11 +135,11 @@ fn check_deck(random: &mut Random, job: &Job, many: usize) {
         check_cost(&bytes, &deck, (random.range(-20_002, 20_002), random.range(-20_002, 20_002)));
         let c = cell(random, &vertical, &horizontal);
         let r = rect(random, size);
-        let wide = rect(random, 20_001);
+        let (any, wide) = (any_rect(random, job, size), rect(random, 20_001));
         // a point: a stop, or a corner of the area
         let p = if random.one_in(2) { s } else { (a.xlo, a.yhi) };
         let point = Rect { xlo: p.0, ylo: p.1, xhi: p.0, yhi: p.1 };
-        for r in [c, r, wide, point] {
+        for r in [c, r, any, wide, point] {
             check_rect(&bytes, &deck, &vertical, &horizontal, r);
         }
         // edges in the wrong order
@@ -166,6 +166,15 @@ fn figures_of_the_largest_decks_are_those_of_the_reference() {
     for _ in 0..200 {
         let j = job_of(&mut random, 20_000, 512);
         check_deck(&mut random, &j, 4);
+    }
+}
+
+#[test]
+fn figures_of_special_decks_are_those_of_the_reference() {
+    let mut random = Random::new(seed());
+    for _ in 0..1_000 {
+        let j = special(&mut random);
+        check_deck(&mut random, &j, 6);
     }
 }
 
@@ -237,9 +246,30 @@ fn figures_of_a_deck_with_axis_costs() {
     let back = Rect { ylo: 4, ..whole };
     // 6,1 is 2 * 3 + 3 from 3,4, its near: not within reach
     assert_eq!((trial::load(bytes, whole), trial::load(bytes, back)), (2, 1));
-    assert_eq!((trial::bound(bytes, whole), trial::bound(bytes, back)), (3, 9));
+    // 2,4 is inside, and 6,1 is 2 * 3 from 3,1; of the back it pays its near
+    assert_eq!((trial::bound(bytes, whole), trial::bound(bytes, back)), (6, 9));
+    // corners 14 + 15 and 15 + 11, less (2 * 2 + 8) * 2, halved; 11 + 15, less 2 * 2 + 5
+    assert_eq!((trial::corner_bound(bytes, whole), trial::corner_bound(bytes, back)), (3, 9));
     // 5 tenths are longer than 3 at twice the cost
     assert_eq!(trial::cut(deep(0).as_bytes(), Rect { xlo: 0, ylo: 0, xhi: 3, yhi: 5 }), (2, 2));
+}
+
+/// Worked out by hand: corner bounds below 0, their halves towards plus infinity, beside bounds of 0.
+#[test]
+fn the_two_bounds_of_case_d() {
+    let job = case_d(0);
+    let bounds = |xlo, xhi| {
+        let r = Rect { xlo, ylo: 0, xhi, yhi: 0 };
+        (trial::bound(job.as_bytes(), r), trial::corner_bound(job.as_bytes(), r))
+    };
+    // the one stop, at 5,0 with near 1, is inside. The ends cost 1 + 1, 1 + 1, 1 + 1, 0 + 1, 0 + 0, less 9, 8, 5, 4, 0; halved
+    assert_eq!(bounds(0, 9), (0, -3));
+    assert_eq!(bounds(0, 8), (0, -3));
+    assert_eq!(bounds(3, 8), (0, -1));
+    assert_eq!(bounds(5, 9), (0, -1));
+    assert_eq!(bounds(5, 5), (0, 0));
+    // beside it the stop pays its near, at every place
+    assert_eq!((bounds(6, 9), bounds(0, 4)), ((1, 1), (1, 1)));
 }
 
 /// Every pair of axis costs, on one deck.
@@ -292,7 +322,7 @@ fn a_refused_job_has_no_figures() {
         assert_eq!(trial::near(&bytes, 0), -1);
         assert_eq!(trial::cost(&bytes, (r.xlo, r.ylo)), -1);
         assert_eq!(trial::load(&bytes, r), -1);
-        assert_eq!(trial::bound(&bytes, r), LEAST);
+        assert_eq!((trial::bound(&bytes, r), trial::corner_bound(&bytes, r)), (-1, LEAST));
         assert_eq!(trial::cut(&bytes, r), (-1, LEAST));
         let mut out = [5; 600];
         assert_eq!(trial::lines(&bytes, true, &mut out), -1);

@@ -1,12 +1,12 @@
 //! The proved report call (RULES "Calls", "Figures", "Cell space") against the reference: answer, text, cell space and all that stays as it
 //! was, on random jobs and lent memory.
 
-use siting_tests::generate::{damaged, each_job, job, job_of, largest, noise, seed, special, spelled, Random};
+use siting_tests::generate::{damaged, each_job, job, job_of, largest, noise, seed, special, spelled, spelling, Random};
 use siting_tests::reference::{brute_force, estimate, exhaustive, lent_enough, read, refusal_text, report_text, search, spell};
 use siting_tests::reference::{Axis, Deck, Estimate, Found, Job, Rect, Refusal, Stop};
 use siting_tests::text;
 use siting_tests::trial;
-use siting_tests::vectors::{case_a, case_b, case_c, case_d, deep, narrow, refusals, reports};
+use siting_tests::vectors::{case_a, case_b, case_c, case_d, closer, deep, equal_bounds, narrow, refusals, reports};
 
 const LEAST: i64 = i64::MIN;
 
@@ -117,7 +117,10 @@ struct Seen {
     refusals: [usize; 9],
     done: usize,
     stopped: usize,
-    negative_low: usize,
+    /// Of stopped reports: with a low of 0, and above it.
+    low_0: usize,
+    low_above_0: usize,
+    most_low: i64,
     most_cells: usize,
     most_rounds: i64,
 }
@@ -127,8 +130,14 @@ impl Seen {
         match answer {
             Err(r) => self.refusals[r.number as usize] += 1,
             Ok(f) => {
-                *(if f.done { &mut self.done } else { &mut self.stopped }) += 1;
-                self.negative_low += (f.low < 0) as usize;
+                assert!(0 <= f.low && f.low <= f.high && f.high <= f.before, "{f:?}");
+                if f.done {
+                    self.done += 1;
+                } else {
+                    self.stopped += 1;
+                    *(if f.low == 0 { &mut self.low_0 } else { &mut self.low_above_0 }) += 1;
+                    self.most_low = self.most_low.max(f.low);
+                }
                 self.most_cells = self.most_cells.max(f.cells.len() / 5);
                 self.most_rounds = self.most_rounds.max(f.rounds);
             }
@@ -177,9 +186,9 @@ fn check_jobs(count: usize, bytes: impl Fn(&mut Random) -> Vec<u8>) -> Seen {
 #[test]
 fn reports_are_those_of_the_reference() {
     let seen = check_jobs(20_000, spelled(job));
-    assert!(seen.done > 5_000 && seen.stopped > 1_000 && seen.negative_low > 50 && seen.most_cells > 20, "{seen:?}");
+    assert!(seen.done > 5_000 && seen.stopped > 1_000 && seen.most_cells > 20, "{seen:?}");
     assert!(seen.refusals[7] > 5_000 && seen.refusals[8] > 5_000 && seen.axis_costs > 8_000, "{seen:?}");
-    assert!(seen.few_cells > 5_000 && seen.full > 100, "{seen:?}");
+    assert!(seen.few_cells > 5_000 && seen.full > 100 && seen.low_0 > 30 && seen.low_above_0 > 1_000, "{seen:?}");
 }
 
 #[test]
@@ -210,6 +219,41 @@ fn long_searches_are_those_of_the_reference() {
 fn damaged_jobs_are_refused_as_the_reference_refuses_them() {
     let seen = check_jobs(15_000, |random| if random.one_in(5) { noise(random) } else { damaged(random) });
     assert!(seen.refusals[1..].iter().all(|&n| n > 10), "{seen:?}");
+}
+
+/// Small decks with every number of rounds, from 0 until one is not needed: all figures, the text and the whole of the cell space.
+#[test]
+fn every_number_of_rounds_gets_what_the_reference_says() {
+    let mut random = Random::new(seed());
+    let mut seen = Seen::default();
+    for i in 0..2_100 {
+        let j = match i % 3 {
+            0 => special(&mut random),
+            1 => {
+                let size = random.range(1, 14);
+                job_of(&mut random, size, 10)
+            }
+            _ => {
+                // one post, far away: most stops are within reach, and searches long
+                let far = Job { posts: vec![(20_000, -20_000)], ..job_of(&mut random, 30, 10) };
+                Job { area: Rect { xlo: -25, ylo: -25, xhi: 25, yhi: 25 }, ..far }
+            }
+        };
+        for rounds in 0.. {
+            let bytes = spelling(&mut random, &Job { rounds, ..j.clone() });
+            let answer = answer(&bytes);
+            let need = answer.as_ref().map_or(0, |accepted| accepted.estimate.numbers());
+            let m = lent(&mut random, need + [0, 0, 1, 33][i % 4], 128 + i % 3);
+            let f = check(&mut random, &bytes, &answer, m, true).unwrap();
+            let needed = f.rounds == rounds;
+            seen.add(Ok(f));
+            if !needed {
+                break;
+            }
+        }
+    }
+    println!("{seen:?}");
+    assert!(seen.stopped > 5_000 && seen.low_0 > 100 && seen.low_above_0 > 5_000 && seen.most_rounds > 40, "{seen:?}");
 }
 
 // ---- brute force
@@ -312,7 +356,7 @@ fn the_marked_decks_print_their_reports() {
     prints(&case_a(3), "state=done\nat=4,3\nhigh=13\nlow=13\nbefore=34\nrounds=3\n");
     prints(&case_b(10), "state=done\nat=0,0\nhigh=10\nlow=10\nbefore=110\nrounds=0\n");
     prints(&case_c(10), "state=done\nat=5,5\nhigh=16\nlow=16\nbefore=34\nrounds=0\n");
-    prints(&case_d(0), "state=stopped\nat=0,0\nhigh=1\nlow=-3\nbefore=1\nrounds=0\n");
+    prints(&case_d(0), "state=stopped\nat=0,0\nhigh=1\nlow=0\nbefore=1\nrounds=0\n");
     prints(&case_d(1), "state=done\nat=5,0\nhigh=0\nlow=0\nbefore=1\nrounds=1\n");
 }
 
@@ -326,13 +370,13 @@ fn live(job: &str) -> Vec<i64> {
     m.cells[..used].to_vec()
 }
 
-/// Worked out by hand. The lines stand at x 2, 4, 8 and y 2, 3, 8, and the load of every cell is 3.
+/// Worked out by hand. The lines stand at x 2, 4, 8 and y 2, 3, 8.
 #[test]
 fn the_live_cells_of_case_a() {
     let live = |rounds: i64| live(&case_a(rounds));
-    // corners 22 + 18 and 24 + 20, less 12 * 3, halved
+    // 4,3 is inside, and 8,12 is 4 from 8,8
     assert_eq!(live(0), [2, 2, 8, 8, 4]);
-    // cut at x 4: (4,2) costs 16 and (4,8) costs 18. Right: 18 + 20 - 10 * 3, left: 22 + 18 - 8 * 3
+    // cut at x 4, where 4,3 is; 8,12 is 4 from 8,8 and 8 from 4,8
     assert_eq!(live(1), [4, 2, 8, 8, 4, 2, 2, 4, 8, 8]);
     // the right one is cut at y 3, and no line is left inside its halves
     assert_eq!(live(2), [2, 2, 4, 8, 8]);
@@ -345,15 +389,34 @@ fn the_live_cells_of_case_a() {
 #[test]
 fn the_live_cells_of_decks_with_axis_costs() {
     let live_narrow = |rounds: i64| live(&narrow("axis=2,1\n", rounds));
-    // corners 14 + 15 and 15 + 11, less (2 * 2 + 8) * 2, halved
-    assert_eq!(live_narrow(0), [1, 1, 3, 9, 3]);
-    // cut at y 4: both new corners cost 11. Front: 14 + 11 - (2 * 2 + 3) * 2; back, of load 1: 11 + 15 - (2 * 2 + 5)
+    // 2,4 is inside, and 6,1 is 2 * 3 from 3,1
+    assert_eq!(live_narrow(0), [1, 1, 3, 9, 6]);
+    // cut at y 4, where 2,4 is: both new corners cost 11. 6,1 is 2 * 3 + 3 from 3,4, its near
     assert_eq!(live_narrow(1), [1, 1, 3, 4, 6, 1, 4, 3, 9, 9]);
     // the front one is cut at x 2: 2,4 costs 9, and the back one's corner is earlier
     assert_eq!(live_narrow(2), [1, 4, 3, 9, 9]);
     assert_eq!(live_narrow(3), []);
-    // cut at y 2, as 5 tenths are longer than 3. Front: 22 + 10 - (2 * 3 + 2) * 4; back: 26 + 19 - (2 * 3 + 3) * 4, above the best cost, 4
+    // cut at y 2, as 5 tenths are longer than 3. Both stops are in the front; 3,0, with 3 visits, is 2 from the back: above the best cost, 4
     assert_eq!(live(&deep(1)), [0, 0, 3, 2, 0]);
+}
+
+/// Worked out by hand.
+#[test]
+fn the_live_cells_of_a_closer_bound() {
+    // 2,1 is inside, and 9,5 is 5 + 3 from 4,2
+    assert_eq!(live(&closer(0)), [0, 0, 4, 2, 8]);
+    // cut at x 2, where 2,1 is. 9,5 is 7 + 3 from the left part: above the best cost, 9
+    assert_eq!(live(&closer(1)), [2, 0, 4, 2, 8]);
+    // cut at y 1, and no line is left inside its halves
+    assert_eq!(live(&closer(2)), []);
+}
+
+/// Worked out by hand: of equal bounds the smaller x is first, and then the smaller y.
+#[test]
+fn the_live_cells_of_equal_bounds() {
+    // cut at y 1, where both stops are, and the front part at x 1. Left of it 2,1 is 1 away, and no line inside
+    assert_eq!(live(&equal_bounds(1)), [0, 0, 3, 1, 0, 0, 1, 3, 4, 0]);
+    assert_eq!(live(&equal_bounds(2)), [0, 1, 3, 4, 0, 1, 0, 3, 1, 0]);
 }
 
 /// Worked out by hand: the cells that suffice, five numbers each, and the live ones of them. All of the space is written.
@@ -370,7 +433,7 @@ fn the_cell_space_of_the_marked_decks() {
         (case_b(0), 1, &[]),
         (case_b(10), 1, &[]),
         (case_c(10), 1, &[]),
-        (case_d(0), 1, &[0, 0, 9, 0, -3]),
+        (case_d(0), 1, &[0, 0, 9, 0, 0]),
         (case_d(1), 2, &[]),
         (case_d(10), 2, &[]),
     ];
@@ -424,19 +487,26 @@ fn the_byte_cases() {
     assert_eq!(refusal_text(read(&[b'a'; 16_385]).unwrap_err()), "refused=1\nline=0\n");
 }
 
-/// Large figures: one post in a corner, all stops with the most visits in the opposite one, and axis costs up to the most.
+/// Large figures: one post in a corner, all stops with the most visits in the opposite one, and axis costs up to the most. The area is the
+/// whole deck, or a part beside the post, with one of the stops in it.
 #[test]
 fn the_largest_figures_are_those_of_the_reference() {
     let mut random = Random::new(seed());
     let mut seen = Seen::default();
-    let area = Rect { xlo: -20_000, ylo: -20_000, xhi: 20_000, yhi: 20_000 };
+    let whole = Rect { xlo: -20_000, ylo: -20_000, xhi: 20_000, yhi: 20_000 };
     let corners: [(i64, i64); 4] = [(-20_000, -20_000), (20_000, -20_000), (-20_000, 20_000), (20_000, 20_000)];
     for post in corners {
-        for rounds in [0, 1, 1_000] {
+        let beside = |v: i64| if v < 0 { (-19_900, -19_100) } else { (19_100, 19_900) };
+        let ((xlo, xhi), (ylo, yhi)) = (beside(post.0), beside(post.1));
+        let part = Rect { xlo, ylo, xhi, yhi };
+        for (area, rounds) in [whole, part].into_iter().flat_map(|area| [0, 1, 1_000].map(|rounds| (area, rounds))) {
             for spread in [0, 1, 40_000] {
                 for (a, b) in [(1, 1), (9, 9), (1, 9)] {
                     let mut across = |v: i64| -v + v.signum() * random.range(0, spread);
-                    let stops = (0..512).map(|_| Stop { at: (across(post.0), across(post.1)), visits: 65_535 }).collect();
+                    let mut stops: Vec<Stop> = (0..512).map(|_| Stop { at: (across(post.0), across(post.1)), visits: 65_535 }).collect();
+                    if area == part {
+                        stops[0].at = (random.range(xlo, xhi), random.range(ylo, yhi));
+                    }
                     let j = Job { area, axis: Axis { a, b }, posts: vec![post], stops, rounds };
                     check_job(&mut random, &spell(&j), &mut seen);
                 }
@@ -444,5 +514,5 @@ fn the_largest_figures_are_those_of_the_reference() {
         }
     }
     println!("{seen:?}");
-    assert!(seen.done > 10 && seen.stopped > 10 && seen.negative_low > 0, "{seen:?}");
+    assert!(seen.done > 10 && seen.stopped > 10 && seen.low_0 > 0 && seen.most_low > 23_000_000_000_000, "{seen:?}");
 }

@@ -1,10 +1,11 @@
-//! The reference against itself, on random decks: what RULES "Promise 3", "Exhaustive search" and the changes say of the rules. And against
-//! the vectors.
+//! The reference against itself, on random decks: what RULES "Promise 3", "Exhaustive search", "Bound", "Corner bound" and the changes say of
+//! the rules. And against the vectors.
 
-use siting_tests::generate::{each_job, job, job_of, rect, seed, spelled, turns, Random};
-use siting_tests::reference::{answer_text, brute_force, changed, exhaustive, read, saved, search, spell, travel, write};
+use siting_tests::generate::{any_rect, each_job, job, job_of, largest, rect, seed, special, spelled, turns, Random};
+use siting_tests::reference::{answer_text, brute_force, changed, exhaustive, read, saved, search, search_by, spell, travel, write};
 use siting_tests::reference::{Axis, Change, Deck, Job, Kind, Place, Record, Rect, Refusal, Stop};
-use siting_tests::vectors::{changes, refusals, reports};
+use siting_tests::text;
+use siting_tests::vectors::{changes, closer, refusals, reports};
 
 #[test]
 fn a_finished_search_finds_the_earliest_cheapest_point() {
@@ -17,6 +18,9 @@ fn a_finished_search_finds_the_earliest_cheapest_point() {
         assert_eq!((found.high, found.at), brute_force(&j), "{}", String::from_utf8_lossy(&spell(&j)));
         assert_eq!((found.high, found.at), exhaustive(&j));
         assert_eq!(found.low, found.high);
+        // by the other bound it is the same point
+        let other = search_by(&j, |deck, r| deck.corner_bound(r));
+        assert_eq!((other.done, other.high, other.low, other.at), (true, found.high, found.low, found.at));
     }
 }
 
@@ -68,6 +72,137 @@ fn a_record_has_the_near_of_each_stop_and_before() {
         assert!(record.near[j.stops.len()..].iter().all(|&near| near == 0));
         assert!(j.posts.iter().all(|&p| deck.cost(p) == record.before as i64));
     });
+}
+
+// ---- bounds, also of rectangles that no search makes
+
+/// How often each kind of rectangle was seen.
+#[derive(Debug, Default)]
+struct Bounds {
+    rectangles: usize,
+    points: usize,
+    segments: usize,
+    /// The bound is above the corner bound, and the corner bound below 0.
+    closer: usize,
+    negative: usize,
+    /// The bound is 0, and before.
+    zero: usize,
+    before: usize,
+    /// All its points were priced, and, of more than one, some cost no more than the bound.
+    whole: usize,
+    reached: usize,
+    /// A part has a larger bound.
+    larger: usize,
+}
+
+/// A number of lo ..= hi, mostly a random one.
+fn between(random: &mut Random, lo: i64, hi: i64) -> i64 {
+    if random.one_in(8) { random.pick(&[lo, hi]) } else { random.range(lo, hi) }
+}
+
+/// A rectangle in another.
+fn within(random: &mut Random, r: Rect) -> Rect {
+    let mut edges = |lo, hi| {
+        let (v, w) = (between(random, lo, hi), between(random, lo, hi));
+        (v.min(w), v.max(w))
+    };
+    let ((xlo, xhi), (ylo, yhi)) = (edges(r.xlo, r.xhi), edges(r.ylo, r.yhi));
+    Rect { xlo, ylo, xhi, yhi }
+}
+
+/// All numbers of lo ..= hi, or of many some.
+fn numbers(random: &mut Random, lo: i64, hi: i64) -> Vec<i64> {
+    if hi - lo < 20 { (lo..=hi).collect() } else { (0..4).map(|_| between(random, lo, hi)).collect() }
+}
+
+fn check_bounds(random: &mut Random, job: &Job, r: Rect, seen: &mut Bounds) {
+    let deck = Deck::new(job);
+    let (bound, corner_bound) = (deck.bound(r), deck.corner_bound(r));
+    let say = || format!("{r:?} {bound} {corner_bound}\n{}", text(&spell(job)));
+    assert!(corner_bound <= bound && 0 <= bound && bound <= deck.before(), "{}", say());
+    // no point costs less
+    let (xs, ys) = (numbers(random, r.xlo, r.xhi), numbers(random, r.ylo, r.yhi));
+    let points: Vec<Place> = xs.iter().flat_map(|&x| ys.iter().map(move |&y| (x, y))).collect();
+    let least = points.iter().map(|&p| deck.cost(p)).min().unwrap();
+    assert!(bound <= least, "{}", say());
+    let (width, depth) = (r.xhi - r.xlo, r.yhi - r.ylo);
+    let whole = width < 20 && depth < 20;
+    if whole {
+        // each stop with a post of its own, at the best of all points
+        let alone = |s: &Stop| points.iter().map(|&p| travel(job.axis, s.at, p)).min().unwrap();
+        let sum: i64 = job.stops.iter().zip(&deck.near).map(|(s, &near)| s.visits * near.min(alone(s))).sum();
+        assert_eq!(bound, sum, "{}", say());
+    }
+    if points.len() == 1 {
+        assert_eq!((bound, corner_bound), (least, least), "{}", say());
+    }
+    // no part has a smaller one
+    let at_x = xs.iter().flat_map(|&v| [Rect { xhi: v, ..r }, Rect { xlo: v, ..r }]);
+    let at_y = ys.iter().flat_map(|&v| [Rect { yhi: v, ..r }, Rect { ylo: v, ..r }]);
+    let others: Vec<Rect> = (0..3).map(|_| within(random, r)).collect();
+    let parts: Vec<i64> = at_x.chain(at_y).chain(others).map(|part| deck.bound(part)).collect();
+    assert!(parts.iter().all(|&part| bound <= part), "{}", say());
+    seen.rectangles += 1;
+    seen.points += (points.len() == 1) as usize;
+    seen.segments += (points.len() > 1 && width.min(depth) == 0) as usize;
+    seen.closer += (corner_bound < bound) as usize;
+    seen.negative += (corner_bound < 0) as usize;
+    seen.zero += (bound == 0) as usize;
+    seen.before += (bound == deck.before()) as usize;
+    seen.whole += whole as usize;
+    seen.reached += (whole && points.len() > 1 && bound == least) as usize;
+    seen.larger += parts.iter().any(|&part| bound < part) as usize;
+}
+
+#[test]
+fn no_point_costs_less_than_the_bound_and_no_part_has_a_smaller_one() {
+    let mut random = Random::new(seed());
+    let mut seen = Bounds::default();
+    for i in 0..4_000 {
+        let size = random.pick(&[2, 5, 12, 12, 1_000, 20_000]);
+        let j = match i % 40 {
+            0 => largest(&mut random),
+            1 => job_of(&mut random, 20_000, 512),
+            2..=9 => special(&mut random),
+            _ => job_of(&mut random, size, 8),
+        };
+        for _ in 0..4 {
+            let (any, near) = (any_rect(&mut random, &j, size), rect(&mut random, size));
+            for r in [any, near, within(&mut random, j.area)] {
+                check_bounds(&mut random, &j, r, &mut seen);
+            }
+        }
+        check_bounds(&mut random, &j, Rect { xlo: -20_000, ylo: -20_000, xhi: 20_000, yhi: 20_000 }, &mut seen);
+    }
+    println!("{seen:?}");
+    assert!(seen.points > 1_000 && seen.segments > 5_000 && seen.whole > 10_000 && seen.larger > 10_000, "{seen:?}");
+    assert!(seen.closer > 10_000 && seen.negative > 3_000 && seen.zero > 2_000 && seen.before > 5_000 && seen.reached > 5_000, "{seen:?}");
+}
+
+/// The same under every pair of axis costs.
+#[test]
+fn bounds_under_each_axis_cost() {
+    let mut random = Random::new(seed());
+    let mut seen = Bounds::default();
+    for i in 0..10 * 81 {
+        let axis = Axis { a: i / 9 % 9 + 1, b: i % 9 + 1 };
+        let j = Job { axis, ..job_of(&mut random, 9, 8) };
+        for _ in 0..10 {
+            let (any, near) = (any_rect(&mut random, &j, 9), rect(&mut random, 9));
+            check_bounds(&mut random, &j, any, &mut seen);
+            check_bounds(&mut random, &j, near, &mut seen);
+        }
+    }
+    println!("{seen:?}");
+    assert!(seen.points > 300 && seen.closer > 3_000 && seen.reached > 2_000 && seen.larger > 3_000, "{seen:?}");
+}
+
+#[test]
+fn the_bound_saves_a_cut() {
+    let job = read(closer(1_000).as_bytes()).unwrap();
+    let by_corners = |rounds: i64| search_by(&Job { rounds, ..job.clone() }, |deck, r| deck.corner_bound(r));
+    assert_eq!([0, 1, 2, 3].map(|rounds| by_corners(rounds).low), [6, 7, 9, 9]);
+    assert_eq!((search(&job).rounds, by_corners(1_000).rounds), (2, 3));
 }
 
 // ---- changes
@@ -201,7 +336,8 @@ fn axis_costs_are_plain_travel_on_a_stretched_deck() {
             assert_eq!(deck.cost(p), wide.cost((a * p.0, b * p.1)));
             let r = rect(&mut random, size);
             let stretched = stretched_rect(j.axis, r);
-            assert_eq!((deck.load(r), deck.bound(r)), (wide.load(stretched), wide.bound(stretched)));
+            let figures = |deck: &Deck, r: Rect| (deck.load(r), deck.bound(r), deck.corner_bound(r));
+            assert_eq!(figures(&deck, r), figures(&wide, stretched));
         }
         let (cost, at) = exhaustive(&j);
         assert_eq!((cost, (a * at.0, b * at.1)), exhaustive(other));

@@ -15,7 +15,7 @@ use mir.Val.{SFits, to_z, of_z}
 use mir.ValLaws.{to_z-of_z, to_z_pos}
 use Rattle.numbers.proofs.WordTests.{back}
 use Rattle.numbers.proofs.Integer.{order, abs_range, sub_nat}
-use Rattle.numbers.proofs.Words.{difference, difference_fits}
+use Rattle.numbers.proofs.Words.{word_fits, difference, difference_fits}
 use Rattle.query.specs.Place.{Place, Rect}
 use Rattle.query.specs.Deck.{Deck}
 use Rattle.query.specs.Range.{coordinate_limit, load_limit, cost_limit}
@@ -24,11 +24,12 @@ use Rattle.job.proofs.ReadDeck.{Spelt}
 use Rattle.deck.specs.DeckOf.{deck_of}
 use Rattle.reach.specs.Columns.{Ranged}
 use Rattle.reach.specs.Held.{pricing_of_objects}
-use Rattle.pricing.specs.ObjectFigures.{cost_of, load_of, Figure}
-use Rattle.pricing.proofs.ObjectLaws.{cost_law, load_law}
+use Rattle.pricing.specs.ObjectFigures.{cost_of, bound_of, Figure}
+use Rattle.pricing.proofs.ObjectLaws.{cost_law, bound_law}
+use Rattle.corner_bound.specs.ObjectCornerBound.{load_of, corner_bound_of, CornerBound}
+use Rattle.corner_bound.proofs.LoadLaws.{load_law}
+use Rattle.corner_bound.proofs.CornerLaws.{corner_bound_law}
 use Rattle.prepare.proofs.Coordinates.{rect_back}
-use Rattle.priced_place.specs.ObjectProblem.{bound_of}
-use Rattle.priced_place.proofs.DeckProblem.{bound_law}
 use Rattle.std.specs.Prelude.{Option, None}
 use Rattle.std.specs.Option.{option_map}
 use Rattle.trial.specs.Opened.{parts_of, opened_record}
@@ -48,6 +49,7 @@ use Rattle.kernels.specs.Sums.{
   cost_turn,
   load_turn,
   bound_turn,
+  corner_bound_turn,
   turn,
   kernel_sum,
 }
@@ -95,10 +97,20 @@ module _ (o : Opened) (t : ℕ) {n : ℕ} where
     within = omega (arith, fig.within);
   }
 
-  pub bound_found : {r : Rect} → r ≡ rect_at t → Figure (positive (bound_of (pricing_of_objects o.problem.objects) r)) 1 n →
+  pub bound_found : {r : Rect} → r ≡ rect_at t → Figure (bound_of (pricing_of_objects o.problem.objects) r) cost_limit n →
       Figure (bound_turn (deck_of o.deck) t) cost_limit n
   bound_found e fig = record {
-    is = fig.is ∙ ap positive ((λ i. bound_of (whole_pricing o i) (e i)) ∙ bound_law (deck_of o.deck) (rect_at t));
+    is = fig.is ∙ (λ i. bound_of (whole_pricing o i) (e i)) ∙ bound_law (deck_of o.deck) (rect_at t);
+    within = fig.within;
+  }
+
+  pub corner_bound_found : {r : Rect} {b : ℤ} → r ≡ rect_at t → CornerBound (corner_bound_of (pricing_of_objects o.problem.objects) r) b →
+      Figure (positive (to_z w64 (of_z w64 b))) 1 n → Figure (corner_bound_turn (deck_of o.deck) t) cost_limit n
+  corner_bound_found {b = b} e found fig = record {
+    is =
+        fig.is
+        ∙ ap positive (to_z-of_z w64 b (word_fits w64 b (omega (arith, found.within))) ∙ found.is
+        ∙ (λ i. corner_bound_of (whole_pricing o i) (e i)) ∙ corner_bound_law (deck_of o.deck) (rect_at t));
     within = omega (arith, fig.within);
   }
 
@@ -106,15 +118,15 @@ module _ (o : Opened) (t : ℕ) {n : ℕ} where
 abbrev SumIs : (ℕ → ℕ) → ℕ → ℕ → Type 0
 SumIs f k n = Figure (sum_to f k) (turns_limit * cost_limit) n
 
-pub kernel_none : (which k : ℕ) (r : Result) → 4 < which → least ≡ kernel_sum which k r
-kernel_none which k r h = rw (lt-ltb 4 which h)
+pub kernel_none : (which k : ℕ) (r : Result) → 5 < which → least ≡ kernel_sum which k r
+kernel_none which k r h = rw (lt-ltb 5 which h)
 
-module _ (which k : ℕ) (w : which ≤ 4) where
+module _ (which k : ℕ) (w : which ≤ 5) where
   abbrev on_deck : Result → ℤ
   on_deck r = on_job minus_one (λ job. cond (ltb turns_limit k) minus_one (pos (sum_to (turn job.deck which) k))) r
 
   kernel_is : (r : Result) → on_deck r ≡ kernel_sum which k r
-  kernel_is r = rw (le-ltb 4 which w)
+  kernel_is r = rw (le-ltb 5 which w)
 
   pub kernel_refused : (bytes : List ℕ) (r : Option Opened) → option_map parts_of r ≡ opened_record (read_job bytes) → r ≡ None → minus_one ≡
       kernel_sum which k (read_job bytes)

@@ -1,5 +1,5 @@
--- Figures (RULES "Near", "Cost", "Reach", "Bound", "Cuts") that are summed over turns, each at a place or a rectangle of its own, for the
--- benchmarks.
+-- Figures (RULES "Near", "Cost", "Reach", "Bound", "Cuts", "Corner bound") that are summed over turns, each at a place or a rectangle of
+-- its own, for the benchmarks.
 use Rattle.std.specs.Prelude.{ℕ, zero, suc, ◌+◌, ◌*◌, ◌%◌, ◌≤◌, ◌≡◌, cond, [], ◌∷◌, map, ltb, ℤ, pos, nat_abs, ◌-ℤ◌}
 use Rattle.std.specs.Prelude.{get_or, Option, Some, None}
 use Rattle.std.specs.Int.Signed.{lt_z}
@@ -8,8 +8,8 @@ use Rattle.query.specs.Place.{Place, Rect}
 use Rattle.query.specs.Deck.{Deck}
 use Rattle.query.specs.Travel.{near}
 use Rattle.query.specs.Cost.{cost}
-use Rattle.query.specs.Reach.{load}
 use Rattle.query.specs.Bound.{bound}
+use Rattle.query.specs.CornerBound.{load, corner_bound}
 use Rattle.query.specs.Grid.{grid}
 use Rattle.job.specs.Format.{Result}
 use Rattle.deck.specs.Rectangle.{place_of, rect_of}
@@ -74,10 +74,10 @@ cost_turn deck t = cost deck (place_at t)
 abbrev pub load_turn : Deck → ℕ → ℕ
 load_turn deck t = load deck (rect_at t)
 
--- 1 where the bound, or the line of a cut, is above 0
 abbrev pub bound_turn : Deck → ℕ → ℕ
-bound_turn deck t = positive (bound deck (rect_at t))
+bound_turn deck t = bound deck (rect_at t)
 
+-- 1 where the line of a cut is above 0
 abbrev pub cut_turn : Deck → ℕ → ℕ
 cut_turn deck t = line_above (cut_record (grid deck) (rect_at t))
 
@@ -85,11 +85,16 @@ cut_turn deck t = line_above (cut_record (grid deck) (rect_at t))
 abbrev pub near_turn : Deck → ℕ → ℕ
 near_turn deck t = get_or (padded stops_limit 0 (map (near deck) deck.stops)) (t % stops_limit) 0
 
+-- 1 where the corner bound is above 0
+abbrev pub corner_bound_turn : Deck → ℕ → ℕ
+corner_bound_turn deck t = positive (corner_bound deck (rect_at t))
+
 -- the same by the kernel's number
 abbrev pub turn : Deck → ℕ → ℕ → ℕ
-turn deck which = get_or (cost_turn deck ∷ load_turn deck ∷ bound_turn deck ∷ cut_turn deck ∷ near_turn deck ∷ []) which (λ t. 0)
+turn deck which = get_or
+    (cost_turn deck ∷ load_turn deck ∷ bound_turn deck ∷ cut_turn deck ∷ near_turn deck ∷ corner_bound_turn deck ∷ []) which (λ t. 0)
 
 -- a sum over some turns: minus_one where the job is refused or there are too many turns, and least where there is no such kernel
 abbrev pub kernel_sum : ℕ → ℕ → Result → ℤ
 kernel_sum which turns r =
-    cond (ltb 4 which) least (on_job minus_one (λ job. cond (ltb turns_limit turns) minus_one (pos (sum_to (turn job.deck which) turns))) r)
+    cond (ltb 5 which) least (on_job minus_one (λ job. cond (ltb turns_limit turns) minus_one (pos (sum_to (turn job.deck which) turns))) r)

@@ -20,14 +20,15 @@ ghost use Rattle.kernels.specs.Sums.{
   bound_turn,
   cut_turn,
   near_turn,
+  corner_bound_turn,
   turn,
   kernel_sum,
 };
 
 use deck::{Place, Rect};
 use limits::{MOST_COORDINATE, STOPS};
+use trial::NO_FIGURE;
 use trial::opened::Opened;
-use trial::{NO_FIGURE, opened};
 
 // The turns of which the figures are summed, at most.
 const MOST_TURNS: u64 = 100000;
@@ -94,18 +95,29 @@ impl Kernel for Load {
     ghost figure = { load_turn };
 
     fn at(o: &Opened, t: u64) -> u64 {
-        pricing::load(&o.problem.objects, turn_rect(t))
+        corner_bound::load(&o.problem.objects, turn_rect(t))
     }
 }
 
-// Whether the bound of a rectangle is above 0.
+// The bound of a rectangle.
 struct Bound;
 
 impl Kernel for Bound {
     ghost figure = { bound_turn };
 
     fn at(o: &Opened, t: u64) -> u64 {
-        positive(opened::bound_in(&o.problem.objects, turn_rect(t)))
+        pricing::bound(&o.problem.objects, turn_rect(t))
+    }
+}
+
+// Whether the corner bound of a rectangle is above 0.
+struct CornerBound;
+
+impl Kernel for CornerBound {
+    ghost figure = { corner_bound_turn };
+
+    fn at(o: &Opened, t: u64) -> u64 {
+        positive(corner_bound::corner_bound(&o.problem.objects, turn_rect(t)))
     }
 }
 
@@ -150,7 +162,7 @@ fn sum_turns<K: Kernel>(o: &Opened, turns: u64) -> u64
 
 // The sum for a job. None where the job is refused or there are too many turns.
 fn sum_of_job(job: &[u8], which: u64, turns: u64) -> Option<i64>
-    requires { which ≤ 4 }
+    requires { which ≤ 5 }
     ensures { figure_or minus_one result ≡ kernel_sum which turns (read_job job.now) }
 {
     let o = Opened::of_job(job)?;
@@ -162,7 +174,7 @@ fn sum_of_job(job: &[u8], which: u64, turns: u64) -> Option<i64>
 
 // The sum by the kernel's number.
 fn sum_of(o: &Opened, which: u64, turns: u64) -> u64
-    requires { (which ≤ 4) × (turns ≤ turns_limit) }
+    requires { (which ≤ 5) × (turns ≤ turns_limit) }
     ensures { Figure (sum_to (turn (deck_of o.now.deck) which) turns) (turns_limit * cost_limit) result }
 {
     match which {
@@ -170,17 +182,19 @@ fn sum_of(o: &Opened, which: u64, turns: u64) -> u64
         1 => sum_turns::<Load>(o, turns),
         2 => sum_turns::<Bound>(o, turns),
         3 => sum_turns::<Cut>(o, turns),
-        _ => sum_turns::<Near>(o, turns),
+        4 => sum_turns::<Near>(o, turns),
+        _ => sum_turns::<CornerBound>(o, turns),
     }
 }
 
-/// What a kernel gives over so many turns, summed, by its number: 0 cost, 1 load, 2 whether the bound is above 0, 3 whether there is a cut
-/// at a line above 0, 4 the near of a stop, with that of all stops found anew at each turn. −1 where the job is refused or there are more
-/// than 100,000 turns, and `trial::NO_FIGURE` where no kernel has the number; the callers are C functions, which give a number.
+/// What a kernel gives over so many turns, summed, by its number: 0 cost, 1 load, 2 bound, 3 whether there is a cut at a line above 0, 4 the
+/// near of a stop, with that of all stops found anew at each turn, 5 whether the corner bound is above 0. −1 where the job is refused or
+/// there are more than 100,000 turns, and `trial::NO_FIGURE` where no kernel has the number; the callers are C functions, which give a
+/// number.
 pub fn kernel_sum(job: &[u8], which: u64, turns: u64) -> i64
     ensures { result ≡ kernel_sum which turns (read_job job.now) }
 {
-    if 4 < which {
+    if 5 < which {
         return NO_FIGURE;
     }
     sum_of_job(job, which, turns).unwrap_or(-1)

@@ -49,16 +49,16 @@ sum_of_map f g (x ∷ xs) = ap (λ (n : ℕ). f (g x) + n) (sum_of_map f g xs)
 
 -- ---- the deck's figures
 module _ (deck : Deck) where
-  sum_of_lem : (f : Object → ℕ) → sum_of f (objects_of deck) ≡ sum_of (λ stop. f (object_of deck stop)) deck.stops
-  sum_of_lem f = rw objects_of_map (sum_of_map f (object_of deck) deck.stops)
+  pub objects_sum : (f : Object → ℕ) → sum_of f (objects_of deck) ≡ sum_of (λ stop. f (object_of deck stop)) deck.stops
+  objects_sum f = rw objects_of_map (sum_of_map f (object_of deck) deck.stops)
 
   pub before_law : before_of (pricing_of deck) ≡ before deck
   unfolding before
-  before_law = before_of_sum (pricing_of deck) ∙ sum_of_lem paid_now
+  before_law = before_of_sum (pricing_of deck) ∙ objects_sum paid_now
 
   pub cost_law : (p : Place) → cost_of (pricing_of deck) p ≡ cost deck p
-  cost_law p = cost_of_sum (pricing_of deck) p ∙ sum_of_lem (paid_by (scaled_place deck.axis p))
+  cost_law p = cost_of_sum (pricing_of deck) p ∙ objects_sum (paid_by (scaled_place deck.axis p))
       ∙ simp (← travel_scaled deck.axis) (sym (cost_sum deck p))
 
   pub bound_law : (r : Rect) → bound_of (pricing_of deck) r ≡ bound deck r
-  bound_law r = bound_of_sum (pricing_of deck) r ∙ sum_of_lem (least_paid_by (scaled_rect deck.axis r)) ∙ simp (travel_to_law deck) (sym (bound_sum deck r))
+  bound_law r = bound_of_sum (pricing_of deck) r ∙ objects_sum (least_paid_by (scaled_rect deck.axis r)) ∙ simp (travel_to_law deck) (sym (bound_sum deck r))

@@ -1,5 +1,5 @@
 -- The worked cases A to D (RULES "Worked cases"): the figures of their eight reports. `proofs/Marked.antt` proves them.
-use Rattle.std.specs.Prelude.{ℕ, ◌≡◌, [], ◌∷◌, ℤ, pos, negsuc}
+use Rattle.std.specs.Prelude.{ℕ, ◌≡◌, [], ◌∷◌, ℤ, pos}
 use Rattle.query.specs.Place.{Place, Rect}
 use Rattle.query.specs.Deck.{Stop, Deck, plain}
 use Rattle.query.specs.Figures.{Figures, figures, State, done, stopped}

@@ -2,9 +2,11 @@
 -- figure. `proofs/Rows.antt` proves that the definitions give them.
 use Rattle.std.specs.Prelude.{ℕ, ◌<◌, ◌≡◌, [], ◌∷◌, ◌++◌, map, pos, negsuc, length, replicate, ◌<ℤ◌}
 use Rattle.numbers.specs.Integer.{half_up}
-use Rattle.query.specs.Place.{Place, x_axis, y_axis}
+use Rattle.query.specs.Place.{Place, Rect, x_axis, y_axis}
 use Rattle.query.specs.Deck.{Deck, plain}
 use Rattle.query.specs.Lines.{gaps}
+use Rattle.query.specs.Bound.{bound}
+use Rattle.query.specs.CornerBound.{corner_bound}
 use Rattle.query.specs.Problem.{problem}
 use Rattle.query.specs.Search.{run}
 use Rattle.query.specs.Figures.{figures, done, stopped}
@@ -26,15 +28,15 @@ deck_level = record { axis = plain; area = rect 1 1 1 4; posts = at 5 2 ∷ []; 
 abbrev pub deck_corner : Deck
 deck_corner = record { axis = plain; area = rect 0 0 2 2; posts = at 0 2 ∷ []; stops = stop 1 0 2 ∷ stop 0 1 1 ∷ [] }
 
--- the stop's travel to the area equals its near: no line, no load
+-- the travel of stop 1,0 to the area equals its near: no line
 abbrev pub deck_reach : Deck
-deck_reach = record { axis = plain; area = rect 0 0 1 2; posts = at 2 2 ∷ []; stops = stop 5 1 2 ∷ [] }
+deck_reach = record { axis = plain; area = rect 0 2 2 3; posts = at 0 1 ∷ []; stops = stop 2 0 1 ∷ stop 1 0 2 ∷ [] }
 
 -- a stop that stands in the area's range and out of reach: no line
 abbrev pub deck_far : Deck
 deck_far = record { axis = plain; area = rect 0 0 2 5; posts = at 1 0 ∷ []; stops = stop 4 4 2 ∷ stop 1 0 2 ∷ [] }
 
--- a stop that is within reach of the area, and of one of its parts only
+-- a stop that is within reach of the area, and not of its part 0,0,2,3, to which its travel equals its near
 abbrev pub deck_load : Deck
 deck_load = record { axis = plain; area = rect 0 0 3 3; posts = at 2 3 ∷ []; stops = stop 3 4 1 ∷ stop 2 1 1 ∷ [] }
 
@@ -58,15 +60,15 @@ deck_long = record { axis = plain; area = rect 0 0 2 5; posts = at 0 4 ∷ []; s
 abbrev pub deck_first : Deck
 deck_first = record { axis = plain; area = rect 0 0 0 3; posts = at 4 1 ∷ []; stops = stop 0 4 2 ∷ stop 0 1 2 ∷ [] }
 
--- the first cut leaves two cells of bound 0
+-- the first cut leaves two cells of bound 0, with corners 0,0 and 0,1; the second leaves two of bound 0, with corners 0,1 and 1,0
 abbrev pub deck_order : Deck
-deck_order = record { axis = plain; area = rect 0 0 5 2; posts = at 4 1 ∷ []; stops = stop 2 0 1 ∷ stop 1 1 2 ∷ [] }
+deck_order = record { axis = plain; area = rect 0 0 3 4; posts = at 3 2 ∷ []; stops = stop 1 1 2 ∷ stop 2 1 3 ∷ [] }
 
--- the first cut leaves two cells of bound 0, with corners 0,0 and 0,2; the second leaves two of bound 0, with corners 0,2 and 1,0
-abbrev pub deck_columns : Deck
-deck_columns = record { axis = plain; area = rect 0 0 3 4; posts = at 0 0 ∷ []; stops = stop 2 1 1 ∷ stop 1 2 3 ∷ [] }
+-- the bound of the area is 8 and its corner bound 6, by which a search has other lows and makes one cut more
+abbrev pub deck_closer : Deck
+deck_closer = record { axis = plain; area = rect 0 0 4 2; posts = at 1 1 ∷ []; stops = stop 2 1 1 ∷ stop 9 5 1 ∷ [] }
 
--- the bound of the area is half of 3
+-- the corner bound of the area is half of 3
 abbrev pub deck_half : Deck
 deck_half = record { axis = plain; area = rect 0 3 3 3; posts = at 0 0 ∷ []; stops = stop 2 1 1 ∷ [] }
 
@@ -90,11 +92,20 @@ deck_narrow a b = record {
 
 -- the area is deeper than wide in plain tenths, and not so by axis costs
 abbrev pub deck_side : Deck
-deck_side = record { axis = record { a = 2; b = 1 }; area = rect 0 0 3 5; posts = at 0 4 ∷ []; stops = stop 1 2 1 ∷ stop 3 0 3 ∷ [] }
+deck_side = record { axis = record { a = 2; b = 1 }; area = rect 0 0 2 4; posts = at 0 1 ∷ []; stops = stop 1 2 1 ∷ [] }
 
--- two axis costs that are not 1: if reach counted one of them only, or the longer side went by them, a stopped search had other figures
+-- two axis costs that are not 1: if bounds counted one of them only, or the longer side went by them, a stopped search had other figures
 abbrev pub deck_both : Deck
 deck_both = record { axis = record { a = 2; b = 3 }; area = rect 0 0 5 4; posts = at 5 6 ∷ []; stops = stop 1 6 1 ∷ stop 2 2 2 ∷ [] }
+
+-- a stop behind the area and one to its right, both out of reach: one of them were within it if reach counted only one of the axis costs
+abbrev pub deck_beyond : Deck
+deck_beyond = record {
+  axis = record { a = 2; b = 3 };
+  area = rect 0 0 4 2;
+  posts = at 2 3 ∷ at 6 2 ∷ [];
+  stops = stop 1 6 1 ∷ stop 6 1 1 ∷ stop 2 0 2 ∷ [];
+}
 
 -- two stops to the right of the area: both, one or none is within reach of it
 abbrev pub deck_beside : ℕ → ℕ → Deck
@@ -108,11 +119,14 @@ deck_beside a b = record {
 abbrev pub lowest : Place
 lowest = record { x = negsuc 19999; y = negsuc 19999 }
 
--- the ends of all ranges: 64 posts and 512 stops, with the most that a place can cost, and with a bound far below 0
+abbrev pub widest : Rect
+widest = record { xlo = negsuc 19999; ylo = negsuc 19999; xhi = pos 20000; yhi = pos 20000 }
+
+-- the ends of all ranges: 64 posts and 512 stops, with the most that a place can cost, and with a corner bound far below 0
 abbrev pub deck_ends : Place → Place → Deck
 deck_ends post at = record {
   axis = record { a = 9; b = 9 };
-  area = record { xlo = negsuc 19999; ylo = negsuc 19999; xhi = pos 20000; yhi = pos 20000 };
+  area = widest;
   posts = replicate 64 post;
   stops = replicate 512 (record { at = at; visits = 65535 });
 }
@@ -163,8 +177,9 @@ pub record Rows : Type 0 where
   -- excluded: at equal figures a cell is live where its corner is the best place (then 3 rounds)
   pub best_corner : figures deck_corner 10 ≡ report done (at 1 0) 1 (pos 1) 7 2
   -- what is within reach
-  pub reach : figures deck_reach 10 ≡ report done (at 0 0) 8 (pos 8) 8 0
+  pub reach : figures deck_reach 10 ≡ report done (at 2 2) 6 (pos 6) 7 0
   pub far : figures deck_far 10 ≡ report done (at 2 4) 4 (pos 4) 14 1
+  pub beyond : figures deck_beyond 10 ≡ report done (at 2 0) 14 (pos 14) 32 1
   -- where a cell is cut
   pub tie_1 : figures deck_tie 1 ≡ report stopped (at 1 0) 2 (pos 0) 10 1
   pub square_1 : figures deck_square 1 ≡ report stopped (at 1 2) 1 (pos 0) 5 1
@@ -173,23 +188,59 @@ pub record Rows : Type 0 where
   pub middle_1 : figures deck_middle 1 ≡ report stopped (at 3 0) 6 (pos 0) 35 1
   -- which place is the best, and which cell is next
   pub first : figures deck_first 10 ≡ report done (at 0 1) 6 (pos 6) 22 1
-  pub order_1 : figures deck_order 1 ≡ report stopped (at 2 0) 4 (pos 0) 9 1
-  pub order_2 : figures deck_order 2 ≡ report stopped (at 1 0) 3 (pos 0) 9 2
-  -- bounds
-  pub half_0 : figures deck_half 0 ≡ report stopped (at 0 3) 3 (pos 2) 3 0
+  pub order_2 : figures deck_order 2 ≡ report stopped (at 1 1) 3 (pos 0) 12 2
+  -- lows
+  pub closer_0 : figures deck_closer 0 ≡ report stopped (at 4 2) 9 (pos 8) 13 0
+  pub closer_1 : figures deck_closer 1 ≡ report stopped (at 4 2) 9 (pos 8) 13 1
+  pub closer : figures deck_closer 2 ≡ report done (at 4 2) 9 (pos 9) 13 2
+  pub axis_0 : figures deck_axis 0 ≡ report stopped (at 4 3) 14 (pos 6) 16 0
+  pub axis_1 : figures deck_axis 1 ≡ report stopped (at 2 3) 11 (pos 6) 16 1
+  pub axis_2 : figures deck_axis 2 ≡ report stopped (at 2 3) 11 (pos 6) 16 2
+  pub axis : figures deck_axis 10 ≡ report done (at 3 3) 9 (pos 9) 16 4
   pub narrow_plain : figures (deck_narrow 1 1) 10 ≡ report done (at 2 1) 7 (pos 7) 11 3
+  pub narrow_0 : figures (deck_narrow 2 1) 0 ≡ report stopped (at 3 1) 11 (pos 6) 15 0
   pub narrow_1 : figures (deck_narrow 2 1) 1 ≡ report stopped (at 1 4) 11 (pos 6) 15 1
   pub narrow : figures (deck_narrow 2 1) 10 ≡ report done (at 2 4) 9 (pos 9) 15 3
   pub narrow_deep : figures (deck_narrow 1 2) 10 ≡ report done (at 3 1) 9 (pos 9) 18 3
-  pub side_1 : figures deck_side 1 ≡ report stopped (at 3 0) 4 (pos 0) 34 1
+  pub side_1 : figures deck_side 1 ≡ report stopped (at 0 2) 2 (pos 0) 3 1
+  pub both_1 : figures deck_both 1 ≡ report stopped (at 2 0) 20 (pos 6) 44 1
+  pub both_2 : figures deck_both 2 ≡ report stopped (at 2 2) 8 (pos 6) 44 2
   pub both : figures deck_both 10 ≡ report done (at 2 2) 8 (pos 8) 44 5
   pub ends : figures (deck_ends lowest (at 20000 20000)) 1000 ≡ report done (at 20000 20000) 0 (pos 0) 24158822400000 0
+  -- the bound of a rectangle that no stop is within reach of, which is before; that holds all stops; of one point, which is its cost; of a
+  -- segment
+  pub bound_out_of_reach : bound deck_a (rect 20 20 25 21) ≡ 34
+  pub bound_inside : bound deck_a (rect 0 0 9 12) ≡ 0
+  pub bound_point : bound deck_a (rect 5 5 5 5) ≡ 16
+  pub bound_segment : bound deck_a (rect 2 5 6 5) ≡ 13
+  -- of one that only the second stop is within reach of: the smaller of the sums of all near and of all travel is 23
+  pub bound_one_reached : bound deck_a (rect 9 8 20 10) ≡ 17
+  -- of one to which the travel of a stop equals its near
+  pub bound_equal : bound deck_reach deck_reach.area ≡ 6
+  -- by axis costs: 5 in plain tenths, and 7 and 8 with the two exchanged
+  pub bound_x_cost : bound (deck_narrow 2 1) (rect 1 3 3 6) ≡ 8
+  pub bound_y_cost : bound (deck_narrow 1 2) (rect 1 3 3 6) ≡ 7
+  -- the largest of all, of the point farthest from the stops
+  pub bound_most : bound (deck_ends lowest (at 20000 20000)) (record { xlo = lowest.x; ylo = lowest.y; xhi = lowest.x; yhi = lowest.y })
+      ≡ 24158822400000
+  -- corner bounds, where the diagonal to (xhi, yhi) is the dearer one
+  pub corner_bound_part : corner_bound deck_load (rect 0 0 2 3) ≡ pos 2
+  pub corner_bound_axis : corner_bound (deck_narrow 2 1) (rect 1 1 3 9) ≡ pos 3
+  -- where the other one is, and where both are equal
+  pub corner_bound_a : corner_bound deck_a deck_a.area ≡ pos 4
+  pub corner_bound_closer : corner_bound deck_closer deck_closer.area ≡ pos 6
+  pub corner_bound_half : corner_bound deck_half deck_half.area ≡ pos 2
+  -- below 0
+  pub corner_bound_d : corner_bound deck_d deck_d.area ≡ negsuc 2
+  pub corner_bound_ends : corner_bound (deck_ends (at 0 1) (at 0 0)) widest ≡ negsuc 12079109214719
   -- the cell space, with two numbers more than suffice
   pub space_a_0 : space deck_a 0 7 ≡ map pos (2 ∷ 2 ∷ 8 ∷ 8 ∷ 4 ∷ 0 ∷ 0 ∷ [])
   pub space_a_1 : space deck_a 1 12 ≡ map pos (4 ∷ 2 ∷ 8 ∷ 8 ∷ 4 ∷ 2 ∷ 2 ∷ 4 ∷ 8 ∷ 8 ∷ 0 ∷ 0 ∷ [])
   pub space_a_2 : space deck_a 2 17 ≡ map pos (2 ∷ 2 ∷ 4 ∷ 8 ∷ 8 ∷ []) ++ replicate 12 (pos 0)
   pub space_a_3 : space deck_a 3 22 ≡ replicate 22 (pos 0)
+  pub space_d_0 : space deck_d 0 7 ≡ map pos (0 ∷ 0 ∷ 9 ∷ 0 ∷ 0 ∷ 0 ∷ 0 ∷ [])
   -- excluded: cells of equal bound go by y before x, by x alone, or by x and then the larger y
+  pub space_order_2 : space deck_order 2 17 ≡ map pos (0 ∷ 1 ∷ 3 ∷ 4 ∷ 0 ∷ 1 ∷ 0 ∷ 3 ∷ 1 ∷ 0 ∷ []) ++ replicate 7 (pos 0)
   -- the exhaustive search
   pub exhaustive_a : exhaustive (problem deck_a) ≡ record { at = at 4 3; cost = 13 }
   pub exhaustive_b : exhaustive (problem deck_b) ≡ record { at = at 0 0; cost = 10 }

@@ -19,9 +19,9 @@ pub record DecimalRows : Type 0 where
   pub seven_in_order : spell_nat 1234567 ≡ bytes "1234567"
   pub all_ten : spell_nat 9876543210 ≡ bytes "9876543210"
   pub all_ten_back : spell_nat 1023456789 ≡ bytes "1023456789"
-  -- the largest cost, and the least bound
+  -- the largest cost, and the number as far below 0
   pub most_cost : spell_nat 24158822400000 ≡ bytes "24158822400000"
-  pub least_bound : spell_int (negsuc 24158822399999) ≡ bytes "-24158822400000"
+  pub most_below_zero : spell_int (negsuc 24158822399999) ≡ bytes "-24158822400000"
   -- one more than 2 ^ 53, and the largest number of 64 bits
   pub past_53_bits : spell_nat 9007199254740993 ≡ bytes "9007199254740993"
   pub most_word : spell_nat 18446744073709551615 ≡ bytes "18446744073709551615"

@@ -9,17 +9,18 @@ use lib.IntN.{ℤ, pos}
 use lib.ListN.{length, get_or, take, length-map}
 use borrow.Author.Tests.{lt-ltb, le-ltb}
 use mir.Syntax.{w64}
-use mir.Val.{to_z}
-use mir.ValLaws.{to_z_pos}
+use mir.Val.{to_z, of_z}
+use mir.ValLaws.{to_z-of_z, to_z_pos}
 use Rattle.numbers.specs.Padded.{padded}
 use Rattle.numbers.proofs.Padded.{padded_front, padded_at}
+use Rattle.numbers.proofs.Words.{word_fits}
 use Rattle.query.proofs.Ranges.{figure_limits}
 use Rattle.query.specs.Place.{Place, Rect}
 use Rattle.query.specs.Deck as Query
 use Rattle.query.specs.Travel.{near}
 use Rattle.query.specs.Cost.{cost, before}
-use Rattle.query.specs.Reach.{load}
 use Rattle.query.specs.Bound.{bound}
+use Rattle.query.specs.CornerBound.{load, corner_bound}
 use Rattle.query.specs.Range.{cost_limit, load_limit, stops_limit, travel_limit}
 use Rattle.job.specs.Format.{read_job}
 use Rattle.deck.specs.declared.Deck.{Deck}
@@ -27,12 +28,13 @@ use Rattle.deck.specs.DeckOf.{deck_record}
 use Rattle.deck.specs.Objects.{Pricing, pricing_of}
 use Rattle.deck.proofs.SoundLaws.{sound_limit}
 use Rattle.reach.specs.Held.{pricing_of_objects}
-use Rattle.pricing.specs.ObjectFigures.{cost_of, load_of, Figure}
-use Rattle.pricing.proofs.ObjectLaws.{cost_law, load_law}
-use Rattle.priced_place.specs.ObjectProblem.{bound_of}
-use Rattle.priced_place.proofs.DeckProblem.{bound_law}
+use Rattle.pricing.specs.ObjectFigures.{cost_of, bound_of, Figure}
+use Rattle.pricing.proofs.ObjectLaws.{cost_law, bound_law}
+use Rattle.corner_bound.specs.ObjectCornerBound.{load_of, corner_bound_of, CornerBound}
+use Rattle.corner_bound.proofs.LoadLaws.{load_law}
+use Rattle.corner_bound.proofs.CornerLaws.{corner_bound_law}
 use Rattle.trial.specs.Ranges.{place_in_range, rect_allowed}
-use Rattle.trial.specs.Trial.{minus_one, least, before_figure, near_figure, cost_figure, load_figure, bound_figure}
+use Rattle.trial.specs.Trial.{minus_one, least, before_figure, near_figure, cost_figure, load_figure, bound_figure, corner_bound_figure}
 use Rattle.trial.specs.declared.opened.Opened.{Opened}
 use Rattle.job.proofs.ReadDeck.{Spelt, spelt_range}
 use Rattle.trial.proofs.OpenLaws.{Open, OpenIn, whole_pricing, open_deck, open_held, on_job_lem, inside}
@@ -119,7 +121,14 @@ module _ {bytes : List ℕ} {rect : Rect} {o : Opened} (w : OpenIn bytes rect o)
       ∙ ap pos (ap (λ (P : Pricing). load_of P rect) (pricing_is w.opened) ∙ load_law w.opened.job.job.deck rect)
       ∙ inside minus_one (rect_allowed rect) (λ job. pos (load job.deck rect)) w.opened.job w.allowed
 
-  pub bound_answer : {b : ℤ} → b ≡ bound_of (pricing_of_objects o.problem.objects) rect → b ≡ bound_figure rect (read_job bytes)
-  bound_answer is =
-      is ∙ ap (λ (P : Pricing). bound_of P rect) (pricing_is w.opened) ∙ bound_law w.opened.job.job.deck rect
-      ∙ inside least (rect_allowed rect) (λ job. bound job.deck rect) w.opened.job w.allowed
+  pub bound_answer : {n : ℕ} → Figure (bound_of (pricing_of_objects o.problem.objects) rect) cost_limit n → to_z w64 n ≡ bound_figure rect (read_job bytes)
+  bound_answer fig =
+      figure_word fig ∙ ap pos (ap (λ (P : Pricing). bound_of P rect) (pricing_is w.opened) ∙ bound_law w.opened.job.job.deck rect)
+      ∙ inside minus_one (rect_allowed rect) (λ job. pos (bound job.deck rect)) w.opened.job w.allowed
+
+  pub corner_bound_answer : {b : ℤ} → CornerBound (corner_bound_of (pricing_of_objects o.problem.objects) rect) b →
+      to_z w64 (of_z w64 b) ≡ corner_bound_figure rect (read_job bytes)
+  corner_bound_answer {b} found =
+      to_z-of_z w64 b (word_fits w64 b (omega (arith, found.within))) ∙ found.is
+      ∙ ap (λ (P : Pricing). corner_bound_of P rect) (pricing_is w.opened) ∙ corner_bound_law w.opened.job.job.deck rect
+      ∙ inside least (rect_allowed rect) (λ job. corner_bound job.deck rect) w.opened.job w.allowed

@@ -1,11 +1,11 @@
 -- What each function for tests answers, of a job's bytes: a figure of the deck that they spell (RULES "Cost", "Reach", "Lines", "Bound",
--- "Cuts"), or of the refusal that they get (RULES "Refusals").
+-- "Corner bound", "Cuts"), or of the refusal that they get (RULES "Refusals").
 use Rattle.std.specs.Prelude.{ℕ, Bool, cond, ◌&&◌, List, [], ◌∷◌, map, ◌++◌, ltb, ℤ, pos, negsuc, length, get_or, drop, Option, None, Some}
 use Rattle.query.specs.Place.{Place, Rect, corner, Axis, x_axis, y_axis}
 use Rattle.query.specs.Travel.{near}
 use Rattle.query.specs.Cost.{cost, before}
-use Rattle.query.specs.Reach.{load}
 use Rattle.query.specs.Bound.{bound}
+use Rattle.query.specs.CornerBound.{load, corner_bound}
 use Rattle.query.specs.Lines.{lines}
 use Rattle.query.specs.Grid.{grid}
 use Rattle.query.specs.Cut.{can_cut, cut_line}
@@ -56,7 +56,10 @@ abbrev pub load_figure : Rect → Result → ℤ
 load_figure rect r = on_job minus_one (λ job. cond (rect_allowed rect) (pos (load job.deck rect)) minus_one) r
 
 abbrev pub bound_figure : Rect → Result → ℤ
-bound_figure rect r = on_job least (λ job. cond (rect_allowed rect) (bound job.deck rect) least) r
+bound_figure rect r = on_job minus_one (λ job. cond (rect_allowed rect) (pos (bound job.deck rect)) minus_one) r
+
+abbrev pub corner_bound_figure : Rect → Result → ℤ
+corner_bound_figure rect r = on_job least (λ job. cond (rect_allowed rect) (corner_bound job.deck rect) least) r
 
 -- 1 for a cut at an x, 2 for one at a y, 0 for none
 abbrev pub axis_number : Axis → ℤ
@@ -81,7 +84,7 @@ near_at (negsuc i) r = minus_one
 -- all these figures, in the order that `trial_figure` numbers them
 abbrev pub deck_figures : Rect → Result → List ℤ
 deck_figures rect r = before_figure r ∷ near_at rect.xlo r ∷ cost_figure (corner rect) r ∷ load_figure rect r ∷ bound_figure rect r
-    ∷ cut_axis_figure rect r ∷ cut_line_figure rect r ∷ []
+    ∷ cut_axis_figure rect r ∷ cut_line_figure rect r ∷ corner_bound_figure rect r ∷ []
 
 -- a result, and what an output holds then
 pub record Written : Type 0 where

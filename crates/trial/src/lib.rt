@@ -27,6 +27,7 @@ ghost use Rattle.trial.specs.Trial.{
   bound_figure,
   cut_axis_figure,
   cut_line_figure,
+  corner_bound_figure,
   deck_figures,
   lines_written,
 };
@@ -121,15 +122,23 @@ fn load(job: &[u8], rect: Rect) -> Option<i64>
     ensures { figure_or minus_one result ≡ load_figure (rect_of rect) (read_job job.now) }
 {
     let o = opened_in(job, rect)?;
-    Some(pricing::load(&o.problem.objects, rect) as i64)
+    Some(corner_bound::load(&o.problem.objects, rect) as i64)
 }
 
 // The bound of a rectangle.
 fn bound(job: &[u8], rect: Rect) -> Option<i64>
-    ensures { figure_or least result ≡ bound_figure (rect_of rect) (read_job job.now) }
+    ensures { figure_or minus_one result ≡ bound_figure (rect_of rect) (read_job job.now) }
 {
     let o = opened_in(job, rect)?;
-    Some(opened::bound_in(&o.problem.objects, rect))
+    Some(pricing::bound(&o.problem.objects, rect) as i64)
+}
+
+// The corner bound of a rectangle.
+fn corner_bound(job: &[u8], rect: Rect) -> Option<i64>
+    ensures { figure_or least result ≡ corner_bound_figure (rect_of rect) (read_job job.now) }
+{
+    let o = opened_in(job, rect)?;
+    Some(corner_bound::corner_bound(&o.problem.objects, rect))
 }
 
 fn axis_number(axis: Axis) -> i64
@@ -162,9 +171,9 @@ fn cut_line(job: &[u8], rect: Rect) -> Option<i64>
 }
 
 /// A figure of the job's deck, by `which` from 0: before, the near of stop `xlo`, counted from 0, the cost of the place (`xlo`, `ylo`); of
-/// the rectangle the load, the bound, the axis of its cut (1 at an x, 2 at a y, 0 for no cut) and the line of its cut. Where the job is
-/// refused, a coordinate is out of range, the rectangle is empty, or there is no such stop or line, `NO_FIGURE` stands for the bound and
-/// the line, and −1 for the others. `NO_FIGURE` for any other `which`.
+/// the rectangle the load, the bound, the axis of its cut (1 at an x, 2 at a y, 0 for no cut), the line of its cut and the corner bound.
+/// Where the job is refused, a coordinate is out of range, the rectangle is empty, or there is no such stop or line, `NO_FIGURE` stands for
+/// the line and the corner bound, and −1 for the others. `NO_FIGURE` for any other `which`.
 pub fn trial_figure(job: &[u8], which: u64, xlo: i64, ylo: i64, xhi: i64, yhi: i64) -> i64
     ensures { result
         ≡ get_or (deck_figures (record { xlo = xlo; ylo = ylo; xhi = xhi; yhi = yhi }) (read_job job.now)) which least }
@@ -175,9 +184,10 @@ pub fn trial_figure(job: &[u8], which: u64, xlo: i64, ylo: i64, xhi: i64, yhi: i
         1 => near(job, xlo).unwrap_or(REFUSED),
         2 => cost(job, Place { x: xlo, y: ylo }).unwrap_or(REFUSED),
         3 => load(job, rect).unwrap_or(REFUSED),
-        4 => bound(job, rect).unwrap_or(NO_FIGURE),
+        4 => bound(job, rect).unwrap_or(REFUSED),
         5 => cut_axis(job, rect).unwrap_or(REFUSED),
         6 => cut_line(job, rect).unwrap_or(NO_FIGURE),
+        7 => corner_bound(job, rect).unwrap_or(NO_FIGURE),
         _ => NO_FIGURE,
     }
 }

@@ -1,4 +1,4 @@
-// A job that was read, with its deck prepared for pricing, and what is asked of both: ranges, bounds and cuts.
+// A job that was read, with its deck prepared for pricing, and what is asked of both: ranges and cuts.
 ghost use Rattle.std.specs.Prelude.{◌≡◌};
 ghost use Rattle.std.specs.Option.{option_map};
 ghost use Rattle.query.specs.Grid.{grid};
@@ -7,17 +7,13 @@ ghost use Rattle.deck.specs.DeckOf.{deck_of};
 ghost use Rattle.deck.specs.Sound.{Sound};
 ghost use Rattle.deck.specs.Rectangle.{place_of, rect_of};
 ghost use Rattle.reach.specs.Columns.{Ranged};
-ghost use Rattle.reach.specs.Held.{pricing_of_objects};
 ghost use Rattle.cuts.specs.CutRecord.{cut_record};
 ghost use Rattle.prepare.specs.ProblemRecord.{parts_in, problem_record};
-ghost use Rattle.priced_place.specs.ObjectProblem.{bound_of};
 ghost use Rattle.trial.specs.Ranges.{place_in_range, rect_allowed};
 
 use cuts::Cut;
 use deck::{Deck, Place, Rect};
 use prepare::Problem;
-use reach::Objects;
-use slots::Costs;
 
 /// The record that a job is read as, and what its deck is for pricing: its objects and its lines.
 #[derive(Drop)]
@@ -67,45 +63,4 @@ pub fn rect_allowed(rect: Rect) -> bool
     ensures { result ≡ rect_allowed (rect_of rect) }
 {
     job_line::area_in_range(rect) && !job::empty_area(rect)
-}
-
-// ---- figures of a problem
-
-/// The bound of a rectangle (RULES "Bound"), whose corners are priced for it.
-pub fn bound_in(objects: &Objects, rect: Rect) -> i64
-    requires { Ranged (rect_of rect) }
-    ensures { result ≡ bound_of (pricing_of_objects objects.now) (rect_of rect) }
-{
-    let corners = Costs {
-        c00: pricing::cost(
-            objects,
-            Place {
-                x: rect.xlo,
-                y: rect.ylo,
-            },
-        ),
-        c01: pricing::cost(
-            objects,
-            Place {
-                x: rect.xlo,
-                y: rect.yhi,
-            },
-        ),
-        c10: pricing::cost(
-            objects,
-            Place {
-                x: rect.xhi,
-                y: rect.ylo,
-            },
-        ),
-        c11: pricing::cost(
-            objects,
-            Place {
-                x: rect.xhi,
-                y: rect.yhi,
-            },
-        ),
-    };
-    let load = pricing::load(objects, rect);
-    pricing::bound(corners, pricing::span(objects.axis(), rect), load)
 }

@@ -15,9 +15,9 @@ pub extern "C" fn trial_reading(job: &[u8], which: u64) -> i64
 }
 
 /// A figure of the job's deck, by `which` from 0: before, the near of stop `xlo`, counted from 0, the cost of the place (`xlo`, `ylo`); of
-/// the rectangle the load, the bound, the axis of its cut (1 at an x, 2 at a y, 0 for no cut) and the line of its cut. Where the job is
-/// refused, a coordinate is out of range, the rectangle is empty, or there is no such stop or line, the least number of 64 bits stands for
-/// the bound and the line, and −1 for the others. The least number for any other `which`.
+/// the rectangle the load, the bound, the axis of its cut (1 at an x, 2 at a y, 0 for no cut), the line of its cut and the corner bound.
+/// Where the job is refused, a coordinate is out of range, the rectangle is empty, or there is no such stop or line, the least number of 64
+/// bits stands for the line and the corner bound, and −1 for the others. The least number for any other `which`.
 #[unsafe(no_mangle)]
 pub extern "C" fn trial_figure(
     job: &[u8],

@@ -26,4 +26,22 @@ returns-then-cells-needs c =
     let given = ap given_by (sym c.in_ok-given.was) ∙ c.of_job.ensures in
     respond_refused _ _ _ _ (small _ c.in_ok-given.given given c.of_given-needs.result c.of_given-needs.ensures _ _ (omega (arith, c.if-cells-needs.true)))
 
--- GOALS TO COME
+-- the cell space is large enough
+pub returns-then-out-lt-REPORT_BYTES : goal.returns-then-out-lt-REPORT_BYTES
+returns-then-out-lt-REPORT_BYTES c =
+    let given = ap given_by (sym c.in_ok-given.was) ∙ c.of_job.ensures in
+    let room = enough _ c.in_ok-given.given given c.of_given-needs.result c.of_given-needs.ensures _ (omega (arith, c.if-cells-needs.false)) in
+    lacking _ c.in_ok-given.given given c.args.cells.now c.args.out.now room (omega (arith, c.if-out-lt-REPORT_BYTES.true))
+
+pub search_into-found-requires : goal.search_into-found-requires
+search_into-found-requires c =
+    let given = ap given_by (sym c.in_ok-given.was) ∙ c.of_job.ensures in
+    let room = enough _ c.in_ok-given.given given c.of_given-needs.result c.of_given-needs.ensures _ (omega (arith, c.if-cells-needs.false)) in
+    (prepared _ c.in_ok-given.given given, few_rounds _ c.in_ok-given.given given, live_fit _ c.in_ok-given.given given _ room)
+
+pub returns : goal.returns
+returns c =
+    let given = ap given_by (sym c.in_ok-given.was) ∙ c.of_job.ensures in
+    let room = enough _ c.in_ok-given.given given c.of_given-needs.result c.of_given-needs.ensures _ (omega (arith, c.if-cells-needs.false)) in
+    reporting _ c.in_ok-given.given given c.args.cells.now c.args.out.now room (omega (arith, c.if-out-lt-REPORT_BYTES.false)) _ _ _
+    c.search_into-found.ensures.cells c.report_found.ensures
