@@ -118,10 +118,10 @@ module _ (Q : Problem) (n lowest : ℕ) (l : Live) (st : Running) (h : Holds (ru
   pub cells_are : map query_cell l.cells ≡ (run Q n).live
   cells_are = ap (λ (x : Search). x.live) (sym (search_is l.cells st) ∙ h.is)
 
-  pub cuts_are : st.cuts ≡ (run Q n).cuts
+  cuts_are : st.cuts ≡ (run Q n).cuts
   cuts_are = ap (λ (x : Search). x.cuts) (sym (search_is l.cells st) ∙ h.is)
 
-  pub best_cost : st.best.cost ≡ (run Q n).best.cost
+  best_cost : st.best.cost ≡ (run Q n).best.cost
   best_cost = ap (λ (x : Search). x.best.cost) (sym (search_is l.cells st) ∙ h.is)
 
   member : (c : Cell) → Memᴰ c l.cells → Memᴰ (query_cell c) (run Q n).live

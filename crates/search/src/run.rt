@@ -141,9 +141,9 @@ fn answer(live: &LiveCells, state: Running) -> Found
     }
 }
 
-/// Searches the prepared problem of a deck for at most `rounds` rounds (RULES "Rounds"), of which there may be 1,000, and gives what it has
+/// Searches the prepared problem of a deck for at most `rounds` rounds, which are 1,000 or fewer (RULES "Rounds"), and gives what it has
 /// found (RULES "Figures").
-// Not inlined, so that the live cells are on the stack while it runs alone.
+// Not inlined, so that the live cells are on the stack only while it runs.
 #[inline(never)]
 pub fn search(problem: &Problem, rounds: u64) -> Found
     requires { Prepared problem.now × (rounds ≤ rounds_limit) }
@@ -154,8 +154,8 @@ pub fn search(problem: &Problem, rounds: u64) -> Found
     answer(&live, state)
 }
 
-/// The same, with the cells that are live at the end in the cell space `cells`, which must have room for them: five numbers each, in their
-/// order, and 0 behind them to its end (RULES "Cell space").
+/// Searches as `search` does, and gives the same (RULES "Rounds", "Figures"). The cell space `cells` then holds the cells that are live at
+/// the end, for which it must have room: five numbers each, in their order, and 0 behind them to its end (RULES "Cell space").
 // Not inlined, as `search`.
 #[inline(never)]
 pub fn search_into(problem: &Problem, rounds: u64, cells: &mut [i64]) -> Found
