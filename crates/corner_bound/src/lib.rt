@@ -1,4 +1,4 @@
-// The corner bound of a rectangle, with its load (RULES "Corner bound", "Reach"). No search goes by it: the tests compare the bound with it.
+// The corner bound of a rectangle, with its load (RULES "Corner bound", "Reach"). No search goes by it: tests compare the bound with it.
 #![tactic(auto)]
 
 ghost use Rattle.std.specs.Prelude.{◌≡◌, cond, ◌+◌, ◌*◌, ltb, nat_abs};
@@ -61,8 +61,8 @@ fn diagonal(objects: &Objects, p: Place, q: Place) -> u64
     pricing::cost(objects, p) + pricing::cost(objects, q)
 }
 
-/// The corner bound of the rectangle (RULES "Corner bound"): half, rounded upwards, of what the corners of its dearer diagonal cost together
-/// less its span times its load. It can be negative.
+/// The corner bound of the rectangle (RULES "Corner bound"): half, rounded upwards, of what the corners of its dearer diagonal cost
+/// together less its span times its load. It can be negative.
 pub fn corner_bound(objects: &Objects, rectangle: Rect) -> i64
     requires { Ranged (rect_of rectangle) }
     ensures { CornerBound (corner_bound_of (pricing_of_objects objects.now) (rect_of rectangle)) result }

@@ -187,9 +187,9 @@ fn sum_of(o: &Opened, which: u64, turns: u64) -> u64
     }
 }
 
-/// What a kernel gives over so many turns, summed, by its number: 0 cost, 1 load, 2 bound, 3 whether there is a cut at a line above 0, 4 the
-/// near of a stop, with that of all stops found anew at each turn, 5 whether the corner bound is above 0. −1 where the job is refused or
-/// there are more than 100,000 turns, and `trial::NO_FIGURE` where no kernel has the number; the callers are C functions, which give a
+/// What a kernel gives over so many turns, summed, by its number: 0 cost, 1 load, 2 bound, 3 whether there is a cut at a line above 0,
+/// 4 the near of a stop, with that of all stops found anew at each turn, 5 whether the corner bound is above 0. −1 where the job is refused
+/// or there are more than 100,000 turns, and `trial::NO_FIGURE` where no kernel has the number; the callers are C functions, which give a
 /// number.
 pub fn kernel_sum(job: &[u8], which: u64, turns: u64) -> i64
     ensures { result ≡ kernel_sum which turns (read_job job.now) }

@@ -58,7 +58,8 @@ module _ (v lo hi : ℤ) (g : nat_abs v ≤ scaled_limit) (edges : ScaledPlaceIn
   outside_most = dist_most scaled_limit v (clamp lo hi v) g (within _ (clamp_low lo hi v h) (clamp_high lo hi v h))
     where
       within : (z : ℤ) → lo ≤ℤ z → z ≤ℤ hi → nat_abs z ≤ scaled_limit
-      within z k l = (abs_range z scaled_limit).1 (omega (arith, order, (abs_range lo scaled_limit).0 edges.x_range, (abs_range hi scaled_limit).0 edges.y_range))
+      within z k l = (abs_range z scaled_limit).1
+          (omega (arith, order, (abs_range lo scaled_limit).0 edges.x_range, (abs_range hi scaled_limit).0 edges.y_range))
 
   pub outside_sum : (a b : ℤ) → a ≡ pos (excess_of (word lo) (word v)) → b ≡ pos (excess_of (word v) (word hi))
       → word a +ℤ word b ≡ pos (dist v (clamp lo hi v))
