@@ -55,7 +55,8 @@ pub record BoundLaw (deck : Deck) (r : Rect) : Type 0 where
   pub parts : NonEmpty r → (axis : Axis) (v : ℤ) → low_edge axis r ≤ℤ v → v ≤ℤ high_edge axis r
       → (bound deck r ≤ bound deck (cut_before axis v r)) × (bound deck r ≤ bound deck (cut_after axis v r))
   -- of one stop alone the cost of some point, so the least cost of its points; of several stops the sum of what each alone has
-  pub one_stop : NonEmpty r → (stop : Stop) → (p : Place) × In r p × (bound (with_stops deck (stop ∷ [])) r ≡ cost (with_stops deck (stop ∷ [])) p)
+  pub one_stop : NonEmpty r → (stop : Stop)
+      → (p : Place) × In r p × (bound (with_stops deck (stop ∷ [])) r ≡ cost (with_stops deck (stop ∷ [])) p)
   pub stop_by_stop : (stop : Stop) (stops : List Stop)
       → bound (with_stops deck (stop ∷ stops)) r ≡ bound (with_stops deck (stop ∷ [])) r + bound (with_stops deck stops) r
   -- never below the corner bound

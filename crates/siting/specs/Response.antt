@@ -9,7 +9,6 @@ use Rattle.report.specs.Report.{report_figures}
 use Rattle.report.specs.Limits.{output_size}
 use Rattle.report.specs.Text.{report_text}
 use Rattle.write.specs.Written.{Overwrote}
-use Rattle.report.specs.declared.Report.{Report}
 use Rattle.report.specs.declared.State.{State}
 use Rattle.report.specs.declared.State.TheVariants.{Done, Stopped}
 use Rattle.prepare.specs.declared.PreparedJob.{PreparedJob}
