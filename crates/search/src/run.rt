@@ -5,7 +5,6 @@ ghost use Rattle.query.specs.Range.{cost_limit, rounds_limit, RectInRange};
 ghost use Rattle.query.specs.Figures as Figures;
 ghost use Rattle.deck.specs.Rectangle.{rect_of};
 ghost use Rattle.cells.specs.Held.{query_cell};
-ghost use Rattle.cells.specs.Live.{none_live};
 ghost use Rattle.priced_place.specs.ObjectProblem.{priced_of};
 ghost use Rattle.priced_place.specs.Prepared.{problem_of, Prepared};
 ghost use Rattle.search.specs.LiveCells.{Addable, with_live};
@@ -74,9 +73,10 @@ fn best_corner(problem: &Problem) -> PricedPlace
 
 // The start of a search.
 fn start(problem: &Problem, live: &mut LiveCells) -> Running
-    requires { Prepared problem.now × (live.old ≡ none_live) }
+    requires { Prepared problem.now }
     ensures { Holds (Search.start (problem_of problem.now)) rounds_limit live.new result }
 {
+    live.clear();
     let best = best_corner(problem);
     let cell = bounded(&problem.objects, problem.area);
     add(problem, live, cell, best);
@@ -102,7 +102,7 @@ fn round(problem: &Problem, live: &mut LiveCells, cell: Cell, state: Running) ->
 
 // A search: its start, and its rounds while a cell is live, at most so many.
 fn run_of(problem: &Problem, rounds: u64, live: &mut LiveCells) -> Running
-    requires { Prepared problem.now × (rounds ≤ rounds_limit) × (live.old ≡ none_live) }
+    requires { Prepared problem.now × (rounds ≤ rounds_limit) }
     ensures { Holds (Search.run (problem_of problem.now) rounds) 0 live.new result }
 {
     let mut state = start(problem, live);
