@@ -2,8 +2,7 @@
 use mathlib.Core.Path.{◌≡◌, sym, ap, ◌∙◌}
 use mathlib.Core.Bool.{Bool, false}
 use mathlib.Core.List.{List}
-use Prim.Native.Nat.{◌≤◌}
-use lib.IntN.{ℤ, nat_abs}
+use lib.IntN.{ℤ}
 use lib.ListN.{length, take}
 use Rattle.numbers.specs.Padded.{padded}
 use Rattle.query.specs.Place.{Axis, x_axis, y_axis, low_edge, high_edge}
