@@ -1,4 +1,4 @@
--- Load and corner bound (RULES "Reach", "Corner bound") of objects at scaled places, and what the corner bound stays within.
+-- Load and corner bound (RULES "Corner bound") of objects at scaled places, and what the corner bound stays within.
 use Rattle.std.specs.Prelude.{ℕ, ◌+◌, ◌*◌, ◌≤◌, ◌≡◌, max, ℤ, pos, nat_abs, ◌-ℤ◌}
 use Rattle.numbers.specs.Integer.{half_up}
 use Rattle.numbers.specs.Lists.{sum_of, keep}

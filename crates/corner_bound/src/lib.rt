@@ -1,4 +1,4 @@
-// The corner bound of a rectangle, with its load (RULES "Corner bound", "Reach"). No search goes by it: tests compare the bound with it.
+// The corner bound of a rectangle, with its load (RULES "Corner bound"). No search goes by it: tests compare the bound with it.
 #![tactic(auto)]
 
 ghost use Rattle.std.specs.Prelude.{◌≡◌, cond, ◌+◌, ◌*◌, ltb, nat_abs};
@@ -30,7 +30,7 @@ fn borne(row: Row, edges: Edges) -> u32
     }
 }
 
-/// The load of the rectangle: the visits of all objects within reach of it (RULES "Reach").
+/// The load of the rectangle: the visits of all objects within reach of it (RULES "Corner bound").
 pub fn load(objects: &Objects, rectangle: Rect) -> u64
     requires { Ranged (rect_of rectangle) }
     ensures { Figure (load_of (pricing_of_objects objects.now) (rect_of rectangle)) load_limit result }
