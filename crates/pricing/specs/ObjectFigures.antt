@@ -1,11 +1,13 @@
 -- Cost, before and bound (RULES "Cost", "Bound") of objects at scaled places, between which travel is plain; and what figures stay within.
 use Rattle.std.specs.Prelude.{ℕ, ◌*◌, ◌≤◌, min, ◌≡◌}
 use Rattle.numbers.specs.Lists.{sum_of}
-use Rattle.query.specs.Place.{Place, Rect}
+use Rattle.query.specs.Place.{Place, Rect, corner}
 use Rattle.query.specs.Deck.{plain}
 use Rattle.query.specs.Travel.{travel}
+use Rattle.query.specs.Range.{cost_limit}
 use Rattle.deck.specs.Objects.{scaled_place, Pricing}
 use Rattle.reach.specs.ObjectReach.{travel_to_of}
+use Rattle.pricing.specs.declared.PartFigures.{PartFigures}
 
 unfoldable pub cost_of : Pricing → Place → ℕ
 unfolding sum_of travel
@@ -23,3 +25,10 @@ bound_of P r = sum_of (λ s. s.visits * min s.near (travel_to_of P r s)) P.objec
 pub record Figure (figure limit r : ℕ) : Type 0 where
   pub is : r ≡ figure
   pub within : r ≤ limit
+
+-- the figures of two parts of a cell: the costs of the low corner of the second and of the high corner of the first, and the bounds of both
+pub record PartsPriced (P : Pricing) (first second : Rect) (figures : PartFigures) : Type 0 where
+  pub low : Figure (cost_of P (corner second)) cost_limit figures.low
+  pub high : Figure (cost_of P (record { x = first.xhi; y = first.yhi })) cost_limit figures.high
+  pub first_bound : Figure (bound_of P first) cost_limit figures.first
+  pub second_bound : Figure (bound_of P second) cost_limit figures.second

@@ -2,12 +2,12 @@
 // places, which the compiler can vectorise. The place or rectangle is scaled once, before the pass.
 #![tactic(auto)]
 
-ghost use Rattle.std.specs.Prelude.{◌≡◌, ◌*◌, ◌≤◌, min, pos, nat_abs, ◌≤ℤ◌};
+ghost use Rattle.std.specs.Prelude.{◌≡◌, ◌-◌, ◌*◌, ◌≤◌, min, pos, nat_abs, ◌≤ℤ◌};
 ghost use Rattle.query.specs.Range.{cost_limit, travel_limit, PlaceInRange};
 ghost use Rattle.deck.specs.Rectangle.{place_of, rect_of};
 ghost use Rattle.reach.specs.Columns.{Ranged};
 ghost use Rattle.reach.specs.Held.{pricing_of_objects};
-ghost use Rattle.pricing.specs.ObjectFigures.{cost_of, bound_of, Figure};
+ghost use Rattle.pricing.specs.ObjectFigures.{cost_of, before_of, bound_of, Figure, PartsPriced};
 
 use deck::{Place, Rect, ScaledPlace};
 use reach::{Edges, Objects, Row};
@@ -50,4 +50,63 @@ pub fn bound(objects: &Objects, rectangle: Rect) -> u64
         sum += paid(row, edges.travel_from(row.x, row.y));
     }
     sum
+}
+
+/// Of two parts of a cell the costs of the corners that its cut makes, and their bounds.
+#[derive(Clone, Copy)]
+pub struct PartFigures {
+    /// The cost of the low corner of the second part.
+    pub low: u64,
+    /// The cost of the high corner of the first part.
+    pub high: u64,
+    /// The bounds of the parts.
+    pub first: u64,
+    pub second: u64,
+}
+
+// What an object pays less than `before` has it for a post at some travel: its visits times what the travel is below its near.
+fn saved(row: Row, travel: i32) -> u64
+    requires { (pos 0 ≤ℤ travel) × (nat_abs travel ≤ travel_limit) }
+    ensures { result ≡ nat_abs row.visits * (nat_abs row.near - nat_abs travel) }
+{
+    let less = if travel < row.near {
+        row.near - travel
+    } else {
+        0
+    };
+    ((row.visits as u32) as u64) * ((less as u32) as u64)
+}
+
+/// The figures of two parts of a cell (RULES "Cost", "Bound"), in one pass; `before` is what all objects pay without a new post. The pass
+/// adds up what is saved of it, which takes fewer steps than the smaller of near and travel.
+// Inlined, so that what the parts have in common is found once.
+#[inline(always)]
+pub fn parts(objects: &Objects, before: u64, first: Rect, second: Rect) -> PartFigures
+    requires { Figure (before_of (pricing_of_objects objects.now)) cost_limit before × Ranged (rect_of first)
+        × Ranged (rect_of second) }
+    ensures { PartsPriced (pricing_of_objects objects.now) (rect_of first) (rect_of second) result }
+{
+    let axis = objects.axis();
+    let low_corner = ScaledPlace::of(axis, second.low());
+    let high_corner = ScaledPlace::of(axis, first.high());
+    let first_edges = Edges::of(axis, first);
+    let second_edges = Edges::of(axis, second);
+    let mut at_low: u64 = 0;
+    let mut at_high: u64 = 0;
+    let mut in_first: u64 = 0;
+    let mut in_second: u64 = 0;
+    for i in 0..objects.count() {
+        let row = objects.row(i);
+        let stop = ScaledPlace { x: row.x, y: row.y };
+        at_low += saved(row, stop.travel_to(low_corner));
+        at_high += saved(row, stop.travel_to(high_corner));
+        in_first += saved(row, first_edges.travel_from(row.x, row.y));
+        in_second += saved(row, second_edges.travel_from(row.x, row.y));
+    }
+    PartFigures {
+        low: before - at_low,
+        high: before - at_high,
+        first: before - in_first,
+        second: before - in_second,
+    }
 }
