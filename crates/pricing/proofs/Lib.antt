@@ -1,4 +1,5 @@
 pub mod ColumnLaws
 pub mod ObjectLaws
+pub mod PartLaws
 pub mod PricedWords
 pub mod TurnLaws

@@ -1,7 +1,8 @@
 -- The figures of objects as sums over them, and as the figures of the deck whose objects they are.
 use mathlib.Core.Path.{◌≡◌, refl, ap, sym, ◌∙◌}
 use mathlib.Core.List.{List, [], ◌∷◌, map}
-use Prim.Native.Nat.{ℕ, ◌+◌, ◌*◌, min}
+use Prim.Native.Nat.{ℕ, ◌+◌, ◌-◌, ◌*◌, min}
+use native.Mathlib.Omega.{arith}
 use Rattle.numbers.specs.Lists.{sum_of}
 use Rattle.query.specs.Place.{Place, Rect}
 use Rattle.query.specs.Deck.{Deck, plain}
@@ -23,11 +24,25 @@ paid_now s = s.visits * s.near
 abbrev pub paid_along : (Object → ℕ) → Object → ℕ
 paid_along travelled s = s.visits * min s.near (travelled s)
 
+-- and what it saves by it
+abbrev pub saved_along : (Object → ℕ) → Object → ℕ
+saved_along travelled s = s.visits * (s.near - travelled s)
+
 abbrev pub paid_by : Place → Object → ℕ
 paid_by p = paid_along (λ s. travel plain s.at p)
 
 abbrev pub least_paid_by : Rect → Object → ℕ
 least_paid_by r = paid_along (travel_to_scaled r)
+
+-- what is paid and what is saved make up what is paid now
+module _ (travelled : Object → ℕ) where
+  share : (v n t : ℕ) → v * min n t + v * (n - t) ≡ v * n
+  share v n t = let whole : min n t + (n - t) ≡ n = omega arith in omega (arith, ap (λ (m : ℕ). v * m) whole)
+
+  pub paid_and_saved : (xs : List Object) → sum_of (paid_along travelled) xs + sum_of (saved_along travelled) xs ≡ sum_of paid_now xs
+  unfolding sum_of
+  paid_and_saved [] = refl
+  paid_and_saved (s ∷ xs) = omega (arith, share s.visits s.near (travelled s), paid_and_saved xs)
 
 module _ (P : Pricing) where
   pub cost_of_sum : (p : Place) → cost_of P p ≡ sum_of (paid_by (scaled_place P.axis p)) P.objects

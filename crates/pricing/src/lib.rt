@@ -1,9 +1,9 @@
-// The cost of a place and the bound of a rectangle (RULES "Cost", "Bound"): one pass each over the 32-bit columns of objects at scaled
-// places, which the compiler can vectorise. The place or rectangle is scaled once, before the pass.
+// The cost of a place, the bound of a rectangle, and both of the two parts of a cell (RULES "Cost", "Bound"): one pass each over the 32-bit
+// columns of objects at scaled places, which the compiler can vectorise. Places and rectangles are scaled once, before the pass.
 #![tactic(auto)]
 
 ghost use Rattle.std.specs.Prelude.{◌≡◌, ◌-◌, ◌*◌, ◌≤◌, min, pos, nat_abs, ◌≤ℤ◌};
-ghost use Rattle.query.specs.Range.{cost_limit, travel_limit, PlaceInRange};
+ghost use Rattle.query.specs.Range.{cost_limit, travel_limit, visits_limit, PlaceInRange};
 ghost use Rattle.deck.specs.Rectangle.{place_of, rect_of};
 ghost use Rattle.reach.specs.Columns.{Ranged};
 ghost use Rattle.reach.specs.Held.{pricing_of_objects};
@@ -64,22 +64,30 @@ pub struct PartFigures {
     pub second: u64,
 }
 
-// What an object pays less than `before` has it for a post at some travel: its visits times what the travel is below its near.
-fn saved(row: Row, travel: i32) -> u64
+// How far a travel is below an object's near; 0 where it is not.
+fn below_near(row: Row, travel: i32) -> i32
     requires { (pos 0 ≤ℤ travel) × (nat_abs travel ≤ travel_limit) }
-    ensures { result ≡ nat_abs row.visits * (nat_abs row.near - nat_abs travel) }
+    ensures { result ≡ pos (nat_abs row.near - nat_abs travel) }
 {
-    let less = if travel < row.near {
+    if travel < row.near {
         row.near - travel
     } else {
         0
-    };
+    }
+}
+
+// What an object saves by a post at some travel.
+fn saved(row: Row, travel: i32) -> u64
+    requires { (pos 0 ≤ℤ travel) × (nat_abs travel ≤ travel_limit) }
+    ensures { Figure (nat_abs row.visits * (nat_abs row.near - nat_abs travel)) (visits_limit * travel_limit) result }
+{
+    let less = below_near(row, travel);
     ((row.visits as u32) as u64) * ((less as u32) as u64)
 }
 
-/// The figures of two parts of a cell (RULES "Cost", "Bound"), in one pass; `before` is what all objects pay without a new post. The pass
-/// adds up what is saved of it, which takes fewer steps than the smaller of near and travel.
-// Inlined, so that what the parts have in common is found once.
+/// The figures of the two parts of a cell (RULES "Cost", "Bound"); `before` is what all objects pay without a new post.
+// One pass, which adds up what is saved of `before`: that takes fewer steps than the smaller of near and travel. It is inlined, so that what
+// the parts have in common is found once.
 #[inline(always)]
 pub fn parts(objects: &Objects, before: u64, first: Rect, second: Rect) -> PartFigures
     requires { Figure (before_of (pricing_of_objects objects.now)) cost_limit before × Ranged (rect_of first)

@@ -6,4 +6,4 @@ use Rattle.pricing.proofs.paid.Goals as goal
 pub returns : goal.returns
 returns c =
     let row = c.args.row.in_range in
-    rw (visits_word row, smaller _ _ _ row.near_some row.near_range c.requires.0 c.requires.1 c.min-m.ensures.value)
+    rw (visits_word row, smaller _ _ row.near_some row.near_range c.requires.0 c.requires.1 _ c.min-m.ensures.value)
