@@ -1,30 +1,35 @@
--- A cut cell as the code makes its parts: the rectangles and new corners are those of the definitions, and stay in range.
+-- A cut cell as the code makes its parts: they and their figures are those of the definitions, and stay in range.
 use mathlib.Core.Path.{◌≡◌, refl, sym, ap, subst, ◌∙◌}
-use Prim.Native.Nat.{◌≤◌}
+use Prim.Native.Nat.{ℕ, ◌≤◌}
 use native.Mathlib.Omega.{arith}
-use lib.IntN.{ℤ, nat_abs}
+use mir.Syntax.{w64}
+use mir.Val.{to_z}
+use mir.ValLaws.{to_z_pos}
+use lib.IntN.{ℤ, pos, nat_abs}
 use lib.Signed.{◌<ℤ◌}
 use Rattle.std.specs.Prelude.{Option, Some, IsSome, is_some}
 use Rattle.numbers.proofs.Truth.{holds}
+use Rattle.numbers.proofs.Words.{word_fits}
+use Rattle.numbers.proofs.WordTests.{back, back_is}
 use Rattle.numbers.proofs.Integer.{order, abs_range}
-use Rattle.query.specs.Place.{Place, Rect, corner, Axis, x_axis, y_axis, low_edge, high_edge}
+use Rattle.query.specs.Place.{Rect, Axis, x_axis, y_axis, low_edge, high_edge}
 use Rattle.query.specs.Grid.{Grid}
-use Rattle.query.specs.Cut.{Line, can_cut, cut_line, cut_before, cut_after, low_corner, high_corner}
-use Rattle.query.specs.Range.{PlaceInRange, RectInRange, coordinate_limit}
+use Rattle.query.specs.Cut.{Line, can_cut, cut_line, cut_before, cut_after}
+use Rattle.query.specs.Range.{RectInRange, coordinate_limit, cost_limit}
 use Rattle.query.proofs.CutLaws.{cut_law}
-use Rattle.deck.specs.declared.Place as Code
 use Rattle.deck.specs.declared.Rect as Deck
-use Rattle.deck.specs.Rectangle.{place_of, rect_of, rect_record}
+use Rattle.deck.specs.Rectangle.{rect_of}
 use Rattle.deck.specs.Objects.{Pricing}
 use Rattle.reach.specs.Columns.{Ranged}
+use Rattle.pricing.specs.declared.PartFigures.{PartFigures}
+use Rattle.pricing.specs.ObjectFigures.{Figure, PartsPriced}
 use Rattle.cuts.specs.CutRecord.{axis_of, axis_record, cut_at, cut_record}
 use Rattle.cuts.specs.declared.Cut.{Cut}
 use Rattle.cuts.proofs.CutRecordLaws.{cut_record_found, cut_record_cut}
-use Rattle.cells.specs.declared.Cell.{Cell}
 use Rattle.priced_place.specs.declared.PricedPlace.{PricedPlace}
-use Rattle.priced_place.specs.ObjectProblem.{priced_place_of}
+use Rattle.priced_place.specs.ObjectProblem.{priced_place_at}
 use Rattle.search.specs.declared.halves.Halves.{Halves}
-use Rattle.search.specs.CutCell.{cell_for, halves_of, Cutting}
+use Rattle.search.specs.CutCell.{parts_of, halves_of, Cutting}
 
 -- ---- ranges
 middle_range : (lo v hi : ℤ) → nat_abs lo ≤ coordinate_limit → nat_abs hi ≤ coordinate_limit → lo <ℤ v → v <ℤ hi → nat_abs v ≤ coordinate_limit
@@ -62,15 +67,47 @@ parts_range y_axis v r h n lo hi =
       },
     )
 
--- ---- where the new corners are
-low_is_corner : (axis : Axis) (v : ℤ) (r : Rect) → corner (cut_after axis v r) ≡ low_corner axis v r
-low_is_corner x_axis v r = refl
-low_is_corner y_axis v r = refl
+-- a rectangle as the code holds it in words
+abbrev words : Rect → Rect
+words r = record { xlo = back r.xlo; ylo = back r.ylo; xhi = back r.xhi; yhi = back r.yhi }
 
-high_is_corner : (axis : Axis) (v : ℤ) (r : Rect)
-    → ◌≡◌ {A = Place} (record { x = (cut_before axis v r).xhi; y = (cut_before axis v r).yhi }) (high_corner axis v r)
-high_is_corner x_axis v r = refl
-high_is_corner y_axis v r = refl
+back_coordinate : (v : ℤ) → nat_abs v ≤ coordinate_limit → back v ≡ v
+back_coordinate v h = back_is (word_fits w64 v (omega (arith, h)))
+
+words_are : (r : Rect) → RectInRange r → words r ≡ r
+words_are r h = λ i. record {
+  xlo = back_coordinate r.xlo h.low_corner_law.x_range i;
+  ylo = back_coordinate r.ylo h.low_corner_law.y_range i;
+  xhi = back_coordinate r.xhi h.high_corner_law.x_range i;
+  yhi = back_coordinate r.yhi h.high_corner_law.y_range i;
+}
+
+-- ---- what the parts make
+-- a bound, as a word
+bound_word : {n m : ℕ} → Figure n cost_limit m → to_z w64 m ≡ pos n
+bound_word {m = m} h = to_z_pos w64 m (omega (arith, h.within)) ∙ ap pos h.is
+
+pub parts_are : (P : Pricing) (first second : Deck.Rect) (figures : PartFigures) → PartsPriced P (rect_of first) (rect_of second) figures
+    → (low high : PricedPlace) → low ≡ priced_place_at second.xlo second.ylo figures.low → high ≡ priced_place_at first.xhi first.yhi figures.high
+    → ◌≡◌ {A = Halves} (record {
+      low = low;
+      high = high;
+      first = record { rect = first; bound = to_z w64 figures.first };
+      second = record { rect = second; bound = to_z w64 figures.second };
+    }) (parts_of P (rect_of first) (rect_of second))
+unfolding parts_of
+parts_are P first second figures h low high l k = λ i. record {
+  low = (l ∙ ap (priced_place_at second.xlo second.ylo) h.low.is) i;
+  high = (k ∙ ap (priced_place_at first.xhi first.yhi) h.high.is) i;
+  first = record { rect = first; bound = bound_word h.first_bound i };
+  second = record { rect = second; bound = bound_word h.second_bound i };
+}
+
+halves_by : (axis : Axis) (P : Pricing) (v : ℤ) (r : Rect)
+    → parts_of P (cut_before axis v r) (cut_after axis v r) ≡ halves_of P (record { axis = axis; at = v }) r
+unfolding parts_of halves_of
+halves_by x_axis P v r = refl
+halves_by y_axis P v r = refl
 
 axis_back : (axis : Axis) → axis_of (axis_record axis) ≡ axis
 axis_back x_axis = refl
@@ -89,47 +126,34 @@ module _ (G : Grid) (r : Rect) (h : Cutting G r) where
   pub cut_there : (o : Option Cut) → o ≡ cut_record G r → IsSome o
   cut_there o e = ap is_some e ∙ cut_record_found G r ∙ holds (can_cut G r) h.can_cut_lem
 
-  -- the parts as the code makes them at the cut that is found
+  -- along an axis, at the cut that is found
   module _ (o : Option Cut) (found : o ≡ cut_record G r) (cut : Cut) (is : o ≡ Some cut) where
     cut_is : cut ≡ cut_at (axis_record line.axis) line.at
     cut_is =
         let same : Some cut ≡ Some (cut_at (axis_record line.axis) line.at) = sym is ∙ found ∙ cut_record_cut G r (holds (can_cut G r) h.can_cut_lem) in
         cc
 
-    axis_is : axis_of cut.axis ≡ line.axis
-    axis_is = ap (λ (c : Cut). axis_of c.axis) cut_is ∙ axis_back line.axis
+    line_is : (axis : Axis) → axis_of cut.axis ≡ axis → record { axis = axis; at = cut.at } ≡ line
+    line_is axis e =
+        let same : axis ≡ line.axis = sym e ∙ ap (λ (c : Cut). axis_of c.axis) cut_is ∙ axis_back line.axis in
+        λ i. record { axis = same i; at = (cut_is i).at }
 
-    pub before_is : (p : Deck.Rect) → p ≡ rect_record (cut_before (axis_of cut.axis) cut.at r) → rect_of p ≡ cut_before line.axis line.at r
-    before_is p e = ap rect_of e ∙ (λ i. cut_before (axis_is i) (cut_is i).at r)
+    module _ (axis : Axis) (e : axis_of cut.axis ≡ axis) where
+      abbrev first : Rect
+      first = cut_before axis cut.at r
 
-    pub after_is : (p : Deck.Rect) → p ≡ rect_record (cut_after (axis_of cut.axis) cut.at r) → rect_of p ≡ cut_after line.axis line.at r
-    after_is p e = ap rect_of e ∙ (λ i. cut_after (axis_is i) (cut_is i).at r)
+      abbrev second : Rect
+      second = cut_after axis cut.at r
 
-  -- a corner of a part is a new corner of the cut
-  pub low_is : (p : Deck.Rect) → rect_of p ≡ cut_after line.axis line.at r → (at : Code.Place) → at ≡ record { x = p.xlo; y = p.ylo }
-      → place_of at ≡ low_corner line.axis line.at r
-  low_is p e at q = ap place_of q ∙ ap corner e ∙ low_is_corner line.axis line.at r
+      ranged : Ranged first × Ranged second
+      ranged = subst (λ (l : Line). Ranged (cut_before l.axis l.at r) × Ranged (cut_after l.axis l.at r)) (sym (line_is axis e)) parts_ranged
 
-  pub high_is : (p : Deck.Rect) → rect_of p ≡ cut_before line.axis line.at r → (at : Code.Place) → at ≡ record { x = p.xhi; y = p.yhi }
-      → place_of at ≡ high_corner line.axis line.at r
-  high_is p e at q =
-      ap place_of q ∙ ap (λ (s : Rect). record { x = s.xhi; y = s.yhi }) e ∙ high_is_corner line.axis line.at r
+      pub words_ranged : Ranged (words first) × Ranged (words second)
+      words_ranged = (subst Ranged (sym (words_are first ranged.0.range)) ranged.0, subst Ranged (sym (words_are second ranged.1.range)) ranged.1)
 
-  pub low_range : PlaceInRange (low_corner line.axis line.at r)
-  low_range = subst PlaceInRange (low_is_corner line.axis line.at r) parts_ranged.1.range.low_corner_law
-
-  pub high_range : PlaceInRange (high_corner line.axis line.at r)
-  high_range = subst PlaceInRange (high_is_corner line.axis line.at r) parts_ranged.0.range.high_corner_law
-
-  pub halves_are : (P : Pricing) (before behind : Deck.Rect) → rect_of before ≡ cut_before line.axis line.at r → rect_of behind ≡ cut_after line.axis line.at r
-      → (low high : Place) → low ≡ low_corner line.axis line.at r → high ≡ high_corner line.axis line.at r
-      → (priced_low priced_high : PricedPlace) → priced_low ≡ priced_place_of P low → priced_high ≡ priced_place_of P high
-      → (first second : Cell) → first ≡ cell_for P (rect_of before) → second ≡ cell_for P (rect_of behind)
-      → ◌≡◌ {A = Halves} (record { low = priced_low; high = priced_high; first = first; second = second }) (halves_of P line r)
-  unfolding halves_of
-  halves_are P before behind b a low high l k priced_low priced_high f g first second c d = λ i. record {
-    low = (f ∙ ap (priced_place_of P) l) i;
-    high = (g ∙ ap (priced_place_of P) k) i;
-    first = (c ∙ ap (cell_for P) b) i;
-    second = (d ∙ ap (cell_for P) a) i;
-  }
+      pub halves_are : (P : Pricing) (halves : Halves) → halves ≡ parts_of P (words first) (words second) → halves ≡ halves_of P line r
+      halves_are P halves made =
+          made
+          ∙ (λ i. parts_of P (words_are first ranged.0.range i) (words_are second ranged.1.range i))
+          ∙ halves_by axis P cut.at r
+          ∙ ap (λ (l : Line). halves_of P l r) (line_is axis e)

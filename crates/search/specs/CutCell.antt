@@ -1,6 +1,6 @@
 -- Cells with their bounds, and what a cut makes of a cell (RULES "Bound", "Cuts"), as the code has it.
 use Rattle.std.specs.Prelude.{T, pos}
-use Rattle.query.specs.Place.{Rect}
+use Rattle.query.specs.Place.{Rect, corner}
 use Rattle.query.specs.Grid.{Grid}
 use Rattle.query.specs.Cut.{Line, can_cut, cut_before, cut_after, low_corner, high_corner}
 use Rattle.deck.specs.Objects.{Pricing}
@@ -14,6 +14,16 @@ use Rattle.search.specs.declared.halves.Halves.{Halves}
 -- the cell of a rectangle
 abbrev pub cell_for : Pricing → Rect → Cell
 cell_for P r = record { rect = rect_record r; bound = pos (bound_of P r) }
+
+-- what the two parts of a cell make: the low corner of the second and the high corner of the first, with their costs, and both cells
+unfoldable pub parts_of : Pricing → Rect → Rect → Halves
+unfolding cost_of bound_of
+parts_of P first second = record {
+  low = priced_place_of P (corner second);
+  high = priced_place_of P (record { x = first.xhi; y = first.yhi });
+  first = cell_for P first;
+  second = cell_for P second;
+}
 
 -- what a cut at a line makes of a cell
 unfoldable pub halves_of : Pricing → Line → Rect → Halves

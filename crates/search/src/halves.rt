@@ -1,17 +1,18 @@
 // The better of two places, cells with their bounds, and what a cut makes of a cell (RULES "Bound", "Cuts", "Live cells").
 ghost use Rattle.std.specs.Prelude.{◌≡◌, ◌≤◌};
-ghost use Rattle.query.specs.Cut.{cut_line, cut_before, cut_after};
+ghost use Rattle.query.specs.Cut.{cut_line};
 ghost use Rattle.query.specs.Order.{priced_key};
 ghost use Rattle.query.specs.Range.{cost_limit, RectInRange};
-ghost use Rattle.deck.specs.Rectangle.{rect_of, rect_record};
+ghost use Rattle.deck.specs.Rectangle.{rect_of};
 ghost use Rattle.reach.specs.Columns.{Ranged};
 ghost use Rattle.reach.specs.Held.{pricing_of_objects};
-ghost use Rattle.cuts.specs.CutRecord.{axis_of, cut_record};
+ghost use Rattle.pricing.specs.ObjectFigures.{before_of, Figure};
+ghost use Rattle.cuts.specs.CutRecord.{cut_record};
 ghost use Rattle.cells.specs.Held.{query_key};
 ghost use Rattle.priced_place.specs.ObjectProblem.{priced_of};
 ghost use Rattle.priced_place.specs.Prepared.{problem_of};
 ghost use Rattle.search.specs.BestPlace.{improved};
-ghost use Rattle.search.specs.CutCell.{cell_for, halves_of, Cutting};
+ghost use Rattle.search.specs.CutCell.{cell_for, parts_of, halves_of, Cutting};
 
 use cells::{Cell, Key};
 use cuts::{Axis, Cut};
@@ -74,50 +75,62 @@ fn cut_of(problem: &Problem, rect: Rect) -> Option<Cut>
     )
 }
 
-// The part of a rectangle up to a cut.
-fn part_before(rect: Rect, cut: Cut) -> Rect
-    ensures { result ≡ rect_record (cut_before (axis_of cut.axis) cut.at (rect_of rect)) }
+// What the two parts of a cell make, in one pass over the objects: the new corners are the low one of the second and the high one of the
+// first.
+// Inlined, as what it calls, so that along each axis what the parts have in common is found once.
+#[inline(always)]
+fn parts(objects: &Objects, before: u64, first: Rect, second: Rect) -> Halves
+    requires { Figure (before_of (pricing_of_objects objects.now)) cost_limit before
+        × Ranged (rect_of first) × Ranged (rect_of second) }
+    ensures { result ≡ parts_of (pricing_of_objects objects.now) (rect_of first) (rect_of second) }
 {
-    let mut part = rect;
-    match cut.axis {
-        Axis::X => part.xhi = cut.at,
-        Axis::Y => part.yhi = cut.at,
+    let figures = pricing::parts(objects, before, first, second);
+    Halves {
+        low: priced_place::with_cost(second.low(), figures.low),
+        high: priced_place::with_cost(first.high(), figures.high),
+        first: Cell {
+            rect: first,
+            bound: figures.first as i64,
+        },
+        second: Cell {
+            rect: second,
+            bound: figures.second as i64,
+        },
     }
-    part
 }
 
-// The part of a rectangle from a cut on.
-fn part_after(rect: Rect, cut: Cut) -> Rect
-    ensures { result ≡ rect_record (cut_after (axis_of cut.axis) cut.at (rect_of rect)) }
-{
-    let mut part = rect;
-    match cut.axis {
-        Axis::X => part.xlo = cut.at,
-        Axis::Y => part.ylo = cut.at,
-    }
-    part
-}
-
-// What the cut of a cell makes of its rectangle. The new corners are the low corner of the part behind the cut and the high one of the part
-// before it.
-pub(crate) fn halve(problem: &Problem, rect: Rect) -> Halves
-    requires { Cutting (problem_of problem.now).rules.grid (rect_of rect) }
+// What the cut of a cell makes of its rectangle. `before` is what the objects pay without a new post.
+pub(crate) fn halve(problem: &Problem, before: u64, rect: Rect) -> Halves
+    requires { Figure (before_of (pricing_of_objects problem.now.objects)) cost_limit before
+        × Cutting (problem_of problem.now).rules.grid (rect_of rect) }
     ensures { result
         ≡ halves_of (pricing_of_objects problem.now.objects)
         (cut_line (problem_of problem.now).rules.grid (rect_of rect)) (rect_of rect) }
 {
-    let cut = cut_of(problem, rect).unwrap();
-    let before = part_before(rect, cut);
-    let behind = part_after(rect, cut);
     let objects = &problem.objects;
-    let low = priced_place::priced(objects, behind.low());
-    let high = priced_place::priced(objects, before.high());
-    let first = bounded(objects, before);
-    let second = bounded(objects, behind);
-    Halves {
-        low,
-        high,
-        first,
-        second,
+    let cut = cut_of(problem, rect).unwrap();
+    match cut.axis {
+        Axis::X => {
+            let first = Rect {
+                xhi: cut.at,
+                ..rect
+            };
+            let second = Rect {
+                xlo: cut.at,
+                ..rect
+            };
+            parts(objects, before, first, second)
+        }
+        Axis::Y => {
+            let first = Rect {
+                yhi: cut.at,
+                ..rect
+            };
+            let second = Rect {
+                ylo: cut.at,
+                ..rect
+            };
+            parts(objects, before, first, second)
+        }
     }
 }

@@ -4,6 +4,8 @@ ghost use Rattle.query.specs.Search as Search;
 ghost use Rattle.query.specs.Range.{cost_limit, rounds_limit, RectInRange};
 ghost use Rattle.query.specs.Figures as Figures;
 ghost use Rattle.deck.specs.Rectangle.{rect_of};
+ghost use Rattle.reach.specs.Held.{pricing_of_objects};
+ghost use Rattle.pricing.specs.ObjectFigures.{before_of, Figure};
 ghost use Rattle.cells.specs.Held.{query_cell};
 ghost use Rattle.priced_place.specs.ObjectProblem.{priced_of};
 ghost use Rattle.priced_place.specs.Prepared.{problem_of, Prepared};
@@ -84,12 +86,19 @@ fn start(problem: &Problem, live: &mut LiveCells) -> Running
 }
 
 // A round: the cell that was the first of the live ones is cut, the best place may change, and dead cells are dropped.
-fn round(problem: &Problem, live: &mut LiveCells, cell: Cell, state: Running) -> Running
-    requires { Takeable (problem_of problem.now).rules.grid cell live.old state }
+fn round(
+    problem: &Problem,
+    before: u64,
+    live: &mut LiveCells,
+    cell: Cell,
+    state: Running,
+) -> Running
+    requires { Figure (before_of (pricing_of_objects problem.now.objects)) cost_limit before
+        × Takeable (problem_of problem.now).rules.grid cell live.old state }
     ensures { Holds (Search.round (problem_of problem.now).rules (search_of (cell ∷ live.old.cells) state))
         (live.old.free - 2) live.new result }
 {
-    let halves = halve(problem, cell.rect);
+    let halves = halve(problem, before, cell.rect);
     let best = improve(improve(state.best, halves.low), halves.high);
     live.trim(priced_key(best));
     add(problem, live, halves.second, best);
@@ -101,8 +110,9 @@ fn round(problem: &Problem, live: &mut LiveCells, cell: Cell, state: Running) ->
 }
 
 // A search: its start, and its rounds while a cell is live, at most so many.
-fn run_of(problem: &Problem, rounds: u64, live: &mut LiveCells) -> Running
-    requires { Prepared problem.now × (rounds ≤ rounds_limit) }
+fn run_of(problem: &Problem, before: u64, rounds: u64, live: &mut LiveCells) -> Running
+    requires { Prepared problem.now
+        × Figure (before_of (pricing_of_objects problem.now.objects)) cost_limit before × (rounds ≤ rounds_limit) }
     ensures { Holds (Search.run (problem_of problem.now) rounds) 0 live.new result }
 {
     let mut state = start(problem, live);
@@ -110,7 +120,7 @@ fn run_of(problem: &Problem, rounds: u64, live: &mut LiveCells) -> Running
         let Some(cell) = live.pop_first() else {
             return state;
         };
-        state = round(problem, live, cell, state);
+        state = round(problem, before, live, cell, state);
     }
     state
 }
@@ -142,29 +152,32 @@ fn answer(live: &LiveCells, state: Running) -> Found
 }
 
 /// Searches the prepared problem of a deck for at most `rounds` rounds, which are 1,000 or fewer (RULES "Rounds"), and gives what it has
-/// found (RULES "Figures").
+/// found (RULES "Figures"). `before` is what the objects pay without a new post (RULES "Cost").
 // Not inlined, so that the live cells are on the stack only while it runs.
 #[inline(never)]
-pub fn search(problem: &Problem, rounds: u64) -> Found
-    requires { Prepared problem.now × (rounds ≤ rounds_limit) }
+pub fn search(problem: &Problem, before: u64, rounds: u64) -> Found
+    requires { Prepared problem.now
+        × Figure (before_of (pricing_of_objects problem.now.objects)) cost_limit before × (rounds ≤ rounds_limit) }
     ensures { result ≡ found_of (Search.run (problem_of problem.now) rounds) }
 {
     let mut live = LiveCells::new();
-    let state = run_of(problem, rounds, &mut live);
+    let state = run_of(problem, before, rounds, &mut live);
     answer(&live, state)
 }
 
-/// Searches as `search` does, and gives the same (RULES "Rounds", "Figures"). The cell space `cells` then holds the cells that are live at
-/// the end, for which it must have room: five numbers each, in their order, and 0 behind them to its end (RULES "Cell space").
+/// Searches as `search` does, where `before` is what the objects pay without a new post, and gives the same (RULES "Cost", "Rounds",
+/// "Figures"). The cell space `cells` then holds the cells that are live at the end, for which it must have room: five numbers each, in
+/// their order, and 0 behind them to its end (RULES "Cell space").
 // Not inlined, as `search`.
 #[inline(never)]
-pub fn search_into(problem: &Problem, rounds: u64, cells: &mut [i64]) -> Found
+pub fn search_into(problem: &Problem, before: u64, rounds: u64, cells: &mut [i64]) -> Found
     requires { Prepared problem.now
+        × Figure (before_of (pricing_of_objects problem.now.objects)) cost_limit before
         × (rounds ≤ rounds_limit) × (5 * length (Search.run (problem_of problem.now) rounds).live ≤ length cells.old) }
     ensures { Searched (problem_of problem.now) rounds (length cells.old) cells.new result }
 {
     let mut live = LiveCells::new();
-    let state = run_of(problem, rounds, &mut live);
+    let state = run_of(problem, before, rounds, &mut live);
     live.write_out(cells);
     answer(&live, state)
 }

@@ -152,7 +152,7 @@ module _ (bytes : List ℕ) (g : PreparedJob) (e : given_by (Ok g) ≡ given_for
   pub few_rounds : g.rounds ≤ rounds_limit
   few_rounds = rounds_limit_lem bytes g e
 
-  -- what the exhaustive search asks of what is paid before
+  -- what both searches ask of what is paid before
   pub before_figure_lem : Figure (before_of (pricing_of_objects g.problem.objects)) cost_limit g.before
   before_figure_lem = record {
     is = paid ∙ sym (ap before_of (prepared_pricing prepared) ∙ before_law deck);

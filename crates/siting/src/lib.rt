@@ -73,7 +73,7 @@ fn respond(job: &[u8], cells: &mut [i64], out: &mut [u8]) -> Result<Response, Re
     if out.len() < REPORT_BYTES {
         return Err(Refusal::ShortOutput);
     }
-    let found = run::search_into(&given.problem, given.rounds, cells);
+    let found = run::search_into(&given.problem, given.before, given.rounds, cells);
     Ok(report_found(&given, found, out))
 }
 
@@ -85,7 +85,7 @@ fn respond_alone(job: &[u8], out: &mut [u8]) -> Result<Response, Refusal>
     if out.len() < REPORT_BYTES {
         return Err(Refusal::ShortOutput);
     }
-    let found = run::search(&given.problem, given.rounds);
+    let found = run::search(&given.problem, given.before, given.rounds);
     Ok(report_found(&given, found, out))
 }
 

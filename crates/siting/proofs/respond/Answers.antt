@@ -6,7 +6,7 @@ use Rattle.calls.proofs.Promises.{refused_call}
 use Rattle.prepare.specs.ProblemRecord.{given_by}
 use Rattle.prepare.proofs.JobProblem.{given_refused}
 use Rattle.estimate.proofs.EstimateLaws.{job_counts}
-use Rattle.siting.proofs.SolveLaws.{prepared, few_rounds, few_cells, small, enough, live_fit, respond_refused, lacking, reporting}
+use Rattle.siting.proofs.SolveLaws.{prepared, few_rounds, before_figure_lem, few_cells, small, enough, live_fit, respond_refused, lacking, reporting}
 use Rattle.siting.proofs.respond.Goals as goal
 
 pub returns-in_err-given : goal.returns-in_err-given
@@ -36,8 +36,12 @@ returns-then-out-lt-REPORT_BYTES c =
 pub search_into-found-requires : goal.search_into-found-requires
 search_into-found-requires c =
     let given = ap given_by (sym c.in_ok-given.was) ∙ c.of_job.ensures in
-    let room = enough _ c.in_ok-given.given given c.of_given-needs.result c.of_given-needs.ensures _ (omega (arith, c.if-cells-needs.false)) in
-    (prepared _ c.in_ok-given.given given, few_rounds _ c.in_ok-given.given given, live_fit _ c.in_ok-given.given given _ room)
+    let room = enough _ c.in_ok-given.given given c.of_given-needs.result c.of_given-needs.ensures _ (omega (arith, c.if-cells-needs.false)) in (
+      prepared _ c.in_ok-given.given given,
+      before_figure_lem _ c.in_ok-given.given given,
+      few_rounds _ c.in_ok-given.given given,
+      live_fit _ c.in_ok-given.given given _ room,
+    )
 
 pub returns : goal.returns
 returns c =

@@ -5,7 +5,7 @@ use Rattle.job.proofs.PartLaws.{handed}
 use Rattle.calls.proofs.Promises.{refused_call}
 use Rattle.prepare.specs.ProblemRecord.{given_by}
 use Rattle.prepare.proofs.JobProblem.{given_refused}
-use Rattle.siting.proofs.SolveLaws.{prepared, few_rounds, refused_alone, lacking_alone, reporting_alone}
+use Rattle.siting.proofs.SolveLaws.{prepared, few_rounds, before_figure_lem, refused_alone, lacking_alone, reporting_alone}
 use Rattle.siting.proofs.respond_alone.Goals as goal
 
 pub returns-in_err-given : goal.returns-in_err-given
@@ -21,7 +21,7 @@ returns-then-out-lt-REPORT_BYTES c =
 pub search-found-requires : goal.search-found-requires
 search-found-requires c =
     let given = ap given_by (sym c.in_ok-given.was) ∙ c.of_job.ensures in
-    (prepared _ c.in_ok-given.given given, few_rounds _ c.in_ok-given.given given)
+    (prepared _ c.in_ok-given.given given, before_figure_lem _ c.in_ok-given.given given, few_rounds _ c.in_ok-given.given given)
 
 pub returns : goal.returns
 returns c =

@@ -19,8 +19,8 @@ pub round-state-requires : goal.round-state-requires
 round-state-requires c =
     let p = c.requires in
     let held = holds_run (problem_of c.args.problem.now) _ _ _ _ _ c.start-state.ensures.is c.loop-round.invariant.1 in
-    takeable _ _ _ _ _ held (steady p.0) (omega (arith, p.1)) (omega (arith, p.1)) _ _ (sym c.in-Some.is ∙ c.pop_first.ensures.first)
-    c.pop_first.ensures.left
+    let taken = sym c.in-Some.is ∙ c.pop_first.ensures.first in
+    (p.1, takeable _ _ _ _ _ held (steady p.0) (omega (arith, p.2)) (omega (arith, p.2)) _ _ taken c.pop_first.ensures.left)
 
 pub loop-round-preserved : goal.loop-round-preserved
 loop-round-preserved c = (
