@@ -1,5 +1,5 @@
 pub mod ColumnLaws
 pub mod ObjectLaws
-pub mod PartLaws
 pub mod PricedWords
+pub mod SpareLaws
 pub mod TurnLaws

@@ -2,7 +2,7 @@
 -- columns in range can be.
 use mathlib.Core.Path.{◌≡◌, refl, ap, ◌∙◌}
 use mathlib.Core.List.{List}
-use Prim.Native.Nat.{ℕ, ◌+◌, ◌-◌, ◌*◌, ◌≤◌, ◌<◌, min}
+use Prim.Native.Nat.{ℕ, ◌+◌, ◌*◌, ◌≤◌, ◌<◌, min}
 use native.Mathlib.Nat.{mul-le-mul}
 use native.Mathlib.Omega.{arith}
 use lib.IntN.{ℤ, pos, nat_abs}
@@ -29,31 +29,25 @@ use Rattle.reach.proofs.NarrowLaws.{word, number_word}
 use Rattle.reach.proofs.ReachLaws.{travel_to_scaled}
 use Rattle.reach.proofs.RowLaws.{x_word, y_word, travel_away}
 use Rattle.pricing.specs.ObjectFigures.{cost_of}
-use Rattle.pricing.proofs.ObjectLaws.{paid_by, cost_of_sum}
+use Rattle.pricing.proofs.ObjectLaws.{paid_along, paid_by, cost_of_sum}
 use Rattle.pricing.proofs.ColumnLaws.{Passed, passed_more, sum_most}
 
 -- the most that an object's part of a figure can be
 abbrev pub paid_limit : ℕ
 paid_limit = visits_limit * travel_limit
 
--- an object's part of a figure: its visits times a share of its near, by its travel
-abbrev pub part_along : (ℕ → ℕ → ℕ) → (Object → ℕ) → Object → ℕ
-part_along share travelled s = s.visits * share s.near (travelled s)
-
-module _ {x y visits near : ℤ} (row : ObjectInRange x y visits near) (share : ℕ → ℕ → ℕ) (less : (n t : ℕ) → share n t ≤ n) where
+module _ {x y visits near : ℤ} (row : ObjectInRange x y visits near) where
   abbrev s : Object
   s = record { at = record { x = x; y = y }; visits = nat_abs visits; near = nat_abs near }
 
-  pub part_most : (travelled : Object → ℕ) → part_along share travelled s ≤ paid_limit
-  part_most travelled =
-      let few : share (nat_abs near) (travelled s) ≤ travel_limit = omega (arith, less (nat_abs near) (travelled s), row.near_range) in
-      mul-le-mul row.visits_range few
+  times : (m : ℕ) → m ≤ travel_limit → nat_abs visits * m ≤ paid_limit
+  times m k = omega (arith, mul-le-mul row.visits_range k)
 
-pub min_less : (n t : ℕ) → min n t ≤ n
-min_less n t = omega arith
-
-pub minus_less : (n t : ℕ) → n - t ≤ n
-minus_less n t = omega arith
+  pub paid_most : (travelled : Object → ℕ) → paid_along travelled s ≤ paid_limit
+  paid_most travelled = times _ (least _ _ row.near_range)
+    where
+      least : (m t : ℕ) → m ≤ travel_limit → min m t ≤ travel_limit
+      least m t k = omega arith
 
 -- ---- the travel between two scaled places
 far_most : (ux uy vx vy : ℤ) → ScaledPlaceInRange ux uy → ScaledPlaceInRange vx vy → far ux uy vx vy ≤ travel_limit
@@ -80,20 +74,19 @@ module _ (row : Row) {t : ℤ} where
   }
 
 module _ {travelled : Object → ℕ} {row : Row} {t : ℤ} (found : Travelled travelled row t) where
-  found_word : word t ≡ pos (travelled (object_of_row row))
+  pub found_word : word t ≡ pos (travelled (object_of_row row))
   found_word = ap word found.is ∙ number_word (pos (travelled (object_of_row row))) found.most
 
   pub found_fits : (pos 0 ≤ℤ word t) × (nat_abs (word t) ≤ travel_limit)
   found_fits = rw found_word (omega (arith, order), found.most)
 
   -- and the pass, with one more row
-  module _ (share : ℕ → ℕ → ℕ) (less : (n t : ℕ) → share n t ≤ n) where
-    pub part_more : {columns : List ℤ} {sum i : ℕ} → object_of_row row ≡ object_at columns i → (v : ℕ) →
-        Passed (part_along share travelled) paid_limit columns sum i → v ≡ nat_abs row.visits * share (nat_abs row.near) (nat_abs (word t)) →
-        Passed (part_along share travelled) paid_limit columns (sum + v) (i + 1)
-    part_more {columns} at v passed e =
-        let own : v ≡ part_along share travelled (object_of_row row) = e ∙ rw found_word refl in
-        passed_more _ _ columns v passed (own ∙ ap (part_along share travelled) at) (rw own (part_most row.in_range share less travelled))
+  pub paid_more : {columns : List ℤ} {sum i : ℕ} → object_of_row row ≡ object_at columns i → (v : ℕ) →
+      Passed (paid_along travelled) paid_limit columns sum i → v ≡ nat_abs row.visits * min (nat_abs row.near) (nat_abs (word t)) →
+      Passed (paid_along travelled) paid_limit columns (sum + v) (i + 1)
+  paid_more {columns} at v passed e =
+      let own : v ≡ paid_along travelled (object_of_row row) = e ∙ rw found_word refl in
+      passed_more _ _ columns v passed (own ∙ ap (paid_along travelled) at) (rw own (paid_most row.in_range travelled))
 
 -- ---- all rows
 module _ {columns : List ℤ} {n : ℕ} (priceable : Priceable columns n) where
@@ -105,4 +98,4 @@ module _ {columns : List ℤ} {n : ℕ} (priceable : Priceable columns n) where
   pub cost_most : (p : Place) → cost_of (pricing_in columns n) p ≤ cost_limit
   cost_most p =
       let q = scaled_place (axis_in columns) p in
-      rw cost_of_sum (omega (arith, priceable.count, sum_most (paid_by q) paid_limit columns n (λ i h. part_most (row_at h) min min_less (λ s. travel plain s.at q))))
+      rw cost_of_sum (omega (arith, priceable.count, sum_most (paid_by q) paid_limit columns n (λ i h. paid_most (row_at h) (λ s. travel plain s.at q))))

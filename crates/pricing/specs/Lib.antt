@@ -1,1 +1,2 @@
 pub mod ObjectFigures
+pub mod Spared

@@ -6,10 +6,12 @@ ghost use Rattle.std.specs.Prelude.{◌≡◌, ◌-◌, ◌*◌, ◌≤◌, min,
 ghost use Rattle.query.specs.Range.{cost_limit, travel_limit, visits_limit, PlaceInRange};
 ghost use Rattle.deck.specs.Rectangle.{place_of, rect_of};
 ghost use Rattle.reach.specs.Columns.{Ranged};
-ghost use Rattle.reach.specs.Held.{pricing_of_objects};
+ghost use Rattle.reach.specs.Held.{columns_of_objects, count_of_objects, edges_rect, pricing_of_objects};
 ghost use Rattle.pricing.specs.ObjectFigures.{cost_of, before_of, bound_of, Figure, PartsPriced};
+ghost use Rattle.pricing.specs.Spared.{scaled_place_of, SparedBy};
 
 use deck::{Place, Rect, ScaledPlace};
+use limits::STOPS;
 use reach::{Edges, Objects, Row};
 
 // What an object pays for a post at some travel: its visits times the smaller of its near and the travel.
@@ -76,18 +78,49 @@ fn below_near(row: Row, travel: i32) -> i32
     }
 }
 
-// What an object saves by a post at some travel.
-fn saved(row: Row, travel: i32) -> u64
-    requires { (pos 0 ≤ℤ travel) × (nat_abs travel ≤ travel_limit) }
-    ensures { Figure (nat_abs row.visits * (nat_abs row.near - nat_abs travel)) (visits_limit * travel_limit) result }
+// How far travels are below near, row by row: those to two places and to two rectangles.
+#[derive(Drop)]
+struct Spared {
+    low: [i32; STOPS],
+    high: [i32; STOPS],
+    first: [i32; STOPS],
+    second: [i32; STOPS],
+}
+
+// For each object how far its travels to two scaled places and two scaled rectangles are below its near.
+#[inline(always)]
+fn put_spared(
+    objects: &Objects,
+    low: ScaledPlace,
+    high: ScaledPlace,
+    first: Edges,
+    second: Edges,
+    spared: &mut Spared,
+)
+    ensures { SparedBy (columns_of_objects objects.now) (count_of_objects objects.now) (scaled_place_of low) (scaled_place_of high)
+        (edges_rect first) (edges_rect second) spared.new }
 {
-    let less = below_near(row, travel);
-    ((row.visits as u32) as u64) * ((less as u32) as u64)
+    for i in 0..objects.count() {
+        let row = objects.row(i);
+        let stop = ScaledPlace { x: row.x, y: row.y };
+        spared.low[i] = below_near(row, stop.travel_to(low));
+        spared.high[i] = below_near(row, stop.travel_to(high));
+        spared.first[i] = below_near(row, first.travel_from(row.x, row.y));
+        spared.second[i] = below_near(row, second.travel_from(row.x, row.y));
+    }
+}
+
+// What an object saves: its visits times what it is spared of its near.
+fn saved(row: Row, spared: i32) -> u64
+    requires { (pos 0 ≤ℤ spared) × (nat_abs spared ≤ travel_limit) }
+    ensures { Figure (nat_abs row.visits * nat_abs spared) (visits_limit * travel_limit) result }
+{
+    ((row.visits as u32) as u64) * ((spared as u32) as u64)
 }
 
 /// The figures of the two parts of a cell (RULES "Cost", "Bound"); `before` is what all objects pay without a new post.
-// One pass, which adds up what is saved of `before`: that takes fewer steps than the smaller of near and travel. It is inlined, so that what
-// the parts have in common is found once.
+// What is saved of `before` takes fewer steps than the smaller of near and travel, and a pass of its own for the 32-bit numbers takes four
+// objects at a time. Inlined, so that what the parts have in common is found once.
 #[inline(always)]
 pub fn parts(objects: &Objects, before: u64, first: Rect, second: Rect) -> PartFigures
     requires { Figure (before_of (pricing_of_objects objects.now)) cost_limit before × Ranged (rect_of first)
@@ -99,17 +132,30 @@ pub fn parts(objects: &Objects, before: u64, first: Rect, second: Rect) -> PartF
     let high_corner = ScaledPlace::of(axis, first.high());
     let first_edges = Edges::of(axis, first);
     let second_edges = Edges::of(axis, second);
+    let mut spared = Spared {
+        low: [0; STOPS],
+        high: [0; STOPS],
+        first: [0; STOPS],
+        second: [0; STOPS],
+    };
+    put_spared(
+        objects,
+        low_corner,
+        high_corner,
+        first_edges,
+        second_edges,
+        &mut spared,
+    );
     let mut at_low: u64 = 0;
     let mut at_high: u64 = 0;
     let mut in_first: u64 = 0;
     let mut in_second: u64 = 0;
     for i in 0..objects.count() {
         let row = objects.row(i);
-        let stop = ScaledPlace { x: row.x, y: row.y };
-        at_low += saved(row, stop.travel_to(low_corner));
-        at_high += saved(row, stop.travel_to(high_corner));
-        in_first += saved(row, first_edges.travel_from(row.x, row.y));
-        in_second += saved(row, second_edges.travel_from(row.x, row.y));
+        at_low += saved(row, spared.low[i]);
+        at_high += saved(row, spared.high[i]);
+        in_first += saved(row, spared.first[i]);
+        in_second += saved(row, spared.second[i]);
     }
     PartFigures {
         low: before - at_low,

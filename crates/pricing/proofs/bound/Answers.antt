@@ -1,6 +1,5 @@
 -- What `pricing::bound` owes.
 use mathlib.Core.Path.{◌≡◌, sym, ap, ◌∙◌}
-use Prim.Native.Nat.{min}
 use native.Mathlib.Omega.{arith}
 use Rattle.query.specs.Deck.{AxisCosts}
 use Rattle.deck.specs.Rectangle.{rect_of}
@@ -8,7 +7,7 @@ use Rattle.deck.specs.Objects.{scaled_rect}
 use Rattle.reach.specs.Held.{count_of_objects, pricing_of_objects}
 use Rattle.pricing.proofs.ObjectLaws.{bound_of_sum}
 use Rattle.pricing.proofs.ColumnLaws.{passed_none}
-use Rattle.pricing.proofs.TurnLaws.{to_rect, found_fits, min_less, part_more}
+use Rattle.pricing.proofs.TurnLaws.{to_rect, found_fits, paid_more}
 use Rattle.pricing.proofs.bound.Goals as goal
 
 pub loop-i-init : goal.loop-i-init
@@ -19,7 +18,7 @@ paid-sum-requires c = found_fits (to_rect c.row-row.result c.of-edges.result c.t
 
 pub loop-i-preserved : goal.loop-i-preserved
 loop-i-preserved c =
-    part_more (to_rect c.row-row.result c.of-edges.result c.travel_from.ensures.0) min min_less c.row-row.ensures _ c.loop-i.invariant c.paid-sum.ensures
+    paid_more (to_rect c.row-row.result c.of-edges.result c.travel_from.ensures.0) c.row-row.ensures _ c.loop-i.invariant c.paid-sum.ensures
 
 pub overflow_add-sum : goal.overflow_add-sum
 overflow_add-sum c =

@@ -1,6 +1,5 @@
 -- What `pricing::cost` owes.
 use mathlib.Core.Path.{◌≡◌, sym, ap, ◌∙◌}
-use Prim.Native.Nat.{min}
 use native.Mathlib.Omega.{arith}
 use Rattle.query.specs.Deck.{AxisCosts}
 use Rattle.deck.specs.Rectangle.{place_of}
@@ -8,7 +7,7 @@ use Rattle.deck.specs.Objects.{scaled_place}
 use Rattle.reach.specs.Held.{count_of_objects, pricing_of_objects}
 use Rattle.pricing.proofs.ObjectLaws.{cost_of_sum}
 use Rattle.pricing.proofs.ColumnLaws.{passed_none}
-use Rattle.pricing.proofs.TurnLaws.{to_place, found_fits, min_less, part_more}
+use Rattle.pricing.proofs.TurnLaws.{to_place, found_fits, paid_more}
 use Rattle.pricing.proofs.cost.Goals as goal
 
 pub loop-i-init : goal.loop-i-init
@@ -21,7 +20,7 @@ pub paid-sum-requires : goal.paid-sum-requires
 paid-sum-requires c = found_fits (to_place c.row-row.result c.of-post.result c.travel_to.ensures)
 
 pub loop-i-preserved : goal.loop-i-preserved
-loop-i-preserved c = part_more (to_place c.row-row.result c.of-post.result c.travel_to.ensures) min min_less c.row-row.ensures _ c.loop-i.invariant c.paid-sum.ensures
+loop-i-preserved c = paid_more (to_place c.row-row.result c.of-post.result c.travel_to.ensures) c.row-row.ensures _ c.loop-i.invariant c.paid-sum.ensures
 
 pub overflow_add-sum : goal.overflow_add-sum
 overflow_add-sum c =
