@@ -1,5 +1,6 @@
 -- What `pricing::put_spared` owes.
 use mathlib.Core.Path.{◌≡◌}
+use Prim.Native.Nat.{◌<◌}
 use native.Mathlib.Omega.{arith}
 use lib.ListN.{length}
 use borrow.Author.Rules.{rules}
@@ -27,16 +28,21 @@ pub loop-i-preserved : goal.loop-i-preserved
 loop-i-preserved c =
     let done = c.loop-i.invariant in
     let row = c.row-row.result in
+    let at = c.row-row.ensures in
+    let here : c.loop-i.i < stops_limit = omega (arith, c.loop-i-test.true, c.count-i-end.ensures, c.args.objects.now.priceable.count) in
     let low : length c.loop-i.spared.low ≡ stops_limit = search rules in
     let high : length c.loop-i.spared.high ≡ stops_limit = search rules in
     let first : length c.loop-i.spared.first ≡ stops_limit = search rules in
     let second : length c.loop-i.spared.second ≡ stops_limit = search rules in
+    let to_low = to_place row c.args.low c.travel_to.ensures in
+    let to_high = to_place row c.args.high c.travel_to-in-loop-i.ensures in
+    let to_first = to_rect row c.args.first c.travel_from.ensures.0 in
+    let to_second = to_rect row c.args.second c.travel_from-in-loop-i.ensures.0 in
     record {
-      at_low = spared_more _ _ _ _ _ _ (to_place row c.args.low c.travel_to.ensures) c.row-row.ensures _ c.below_near.ensures (omega (arith, c.loop-i-test.true, c.count-i-end.ensures, c.args.objects.now.priceable.count)) done.at_low;
-      at_high = spared_more _ _ _ _ _ _ (to_place row c.args.high c.travel_to-in-loop-i.ensures) c.row-row.ensures _ c.below_near-in-loop-i.ensures (omega (arith, c.loop-i-test.true, c.count-i-end.ensures, c.args.objects.now.priceable.count)) done.at_high;
-      in_first = spared_more _ _ _ _ _ _ (to_rect row c.args.first c.travel_from.ensures.0) c.row-row.ensures _ c.below_near-in-loop-i-2.ensures (omega (arith, c.loop-i-test.true, c.count-i-end.ensures, c.args.objects.now.priceable.count)) done.in_first;
-      in_second =
-          spared_more _ _ _ _ _ _ (to_rect row c.args.second c.travel_from-in-loop-i.ensures.0) c.row-row.ensures _ c.below_near-in-loop-i-3.ensures (omega (arith, c.loop-i-test.true, c.count-i-end.ensures, c.args.objects.now.priceable.count)) done.in_second;
+      at_low = spared_more _ _ _ _ _ _ to_low at _ c.below_near.ensures (omega (arith, here, low)) done.at_low;
+      at_high = spared_more _ _ _ _ _ _ to_high at _ c.below_near-in-loop-i.ensures (omega (arith, here, high)) done.at_high;
+      in_first = spared_more _ _ _ _ _ _ to_first at _ c.below_near-in-loop-i-2.ensures (omega (arith, here, first)) done.in_first;
+      in_second = spared_more _ _ _ _ _ _ to_second at _ c.below_near-in-loop-i-3.ensures (omega (arith, here, second)) done.in_second;
     }
 
 pub returns : goal.returns
