@@ -765,7 +765,7 @@ mod tests {
             assert_eq!((deck.bound(job.area), deck.corner_bound(job.area)), lows);
             lows
         };
-        // case D: 1 + 1 - 9, 1 + 1 - 5
+        // the deck of case D, and another area: 1 + 1 - 9, 1 + 1 - 5
         assert_eq!(of("stops=1\nstop=5,0,1\n", 0, 9), (0, -3));
         assert_eq!(of("stops=1\nstop=5,0,1\n", 3, 8), (0, -1));
         // 17 + 12 - 2 * 9

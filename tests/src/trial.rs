@@ -76,7 +76,7 @@ fn only(xlo: i64, ylo: i64) -> Rect {
     Rect { xlo, ylo, xhi: i64::MIN, yhi: i64::MIN }
 }
 
-/// The job's before, or -1 where the job is refused; so of the figures below that say nothing else, where what they ask of is out of range too.
+/// The job's before; -1 where the job is refused. So of the figures below that say nothing else, and also where what is asked for is out of range.
 pub fn before(job: &[u8]) -> i64 {
     figure(job, 0, only(i64::MIN, i64::MIN))
 }

@@ -1,4 +1,4 @@
-// The corner bound of a rectangle, with its load (RULES "Corner bound"). No search goes by it: tests compare the bound with it.
+// The corner bound of a rectangle, with its load (RULES "Corner bound"). Nothing of the product calls it: tests compare the bound with it.
 #![tactic(auto)]
 
 ghost use Rattle.std.specs.Prelude.{◌≡◌, cond, ◌+◌, ◌*◌, ltb, nat_abs};

@@ -11,9 +11,6 @@ use Rattle.numbers.proofs.Integer.{order, abs_range, dist_nat}
 pub dist_sym : (u v : ℤ) → dist u v ≡ dist v u
 dist_sym u v = omega (arith, dist_nat u v, dist_nat v u)
 
-pub dist_triangle : (u v w : ℤ) → dist u w ≤ dist u v + dist v w
-dist_triangle u v w = omega (arith, dist_nat u v, dist_nat v w, dist_nat u w)
-
 -- v between u and w
 pub dist_split : (u v w : ℤ) → u ≤ℤ v → v ≤ℤ w → dist u v + dist v w ≡ dist u w
 dist_split u v w h k = omega (arith, order, dist_nat u v, dist_nat v w, dist_nat u w)

@@ -12,7 +12,8 @@ pub fn abs_diff(u: i64, v: i64) -> u64
     (u - v).unsigned_abs()
 }
 
-/// Half of t, rounded towards plus infinity (RULES "Corner bound"): 2 for 3, −1 for −3, −2 for −4.
+/// Half of t, rounded towards plus infinity (RULES "Corner bound"): 2 for 3, −1 for −3, −2 for −4. Nothing of the product calls it: it
+/// serves the corner bound, with which tests compare the bound.
 pub fn half_up(t: i64) -> i64
     ensures { result ≡ half_up t }
 {

@@ -28,7 +28,7 @@ pub record Figure (figure limit r : ℕ) : Type 0 where
 
 -- the figures of two parts of a cell: the costs of the low corner of the second and of the high corner of the first, and the bounds of both
 pub record PartsPriced (P : Pricing) (first second : Rect) (figures : PartFigures) : Type 0 where
-  pub low : Figure (cost_of P (corner second)) cost_limit figures.low
-  pub high : Figure (cost_of P (record { x = first.xhi; y = first.yhi })) cost_limit figures.high
-  pub first_bound : Figure (bound_of P first) cost_limit figures.first
-  pub second_bound : Figure (bound_of P second) cost_limit figures.second
+  pub low : Figure (cost_of P (corner second)) cost_limit figures.low_cost
+  pub high : Figure (cost_of P (record { x = first.xhi; y = first.yhi })) cost_limit figures.high_cost
+  pub first_bound : Figure (bound_of P first) cost_limit figures.first_bound
+  pub second_bound : Figure (bound_of P second) cost_limit figures.second_bound

@@ -12,7 +12,7 @@ use Rattle.pricing.specs.declared.Spared.{Spared}
 abbrev pub scaled_place_of : ScaledPlace → Place
 scaled_place_of p = record { x = p.x; y = p.y }
 
--- a column that has it of the first n rows, for a travel of objects
+-- a column that has, for each of the first n rows, how far a travel is below near
 pub record SparedColumn (travelled : Object → ℕ) (columns : List ℤ) (n : ℕ) (column : List ℤ) : Type 0 where
   pub each : (i : ℕ) → i < n → get_or column i (pos 0) ≡ pos ((object_at columns i).near - travelled (object_at columns i))
 

@@ -1,4 +1,4 @@
-// The cost of a place, the bound of a rectangle, and both of the two parts of a cell (RULES "Cost", "Bound"): one pass each over the 32-bit
+// The cost of a place, the bound of a rectangle, and both of the two parts of a cell (RULES "Cost", "Bound"): passes over the 32-bit
 // columns of objects at scaled places, which the compiler can vectorise. Places and rectangles are scaled once, before the pass.
 #![tactic(auto)]
 
@@ -40,7 +40,7 @@ pub fn cost(objects: &Objects, at: Place) -> u64
     sum
 }
 
-/// The bound of the rectangle (RULES "Bound"): what all stops would pay if each had a post at its closest point of it.
+/// The bound of the rectangle (RULES "Bound"): what all stops would pay if each had one more post, at its closest point of it.
 pub fn bound(objects: &Objects, rectangle: Rect) -> u64
     requires { Ranged (rect_of rectangle) }
     ensures { Figure (bound_of (pricing_of_objects objects.now) (rect_of rectangle)) cost_limit result }
@@ -58,12 +58,12 @@ pub fn bound(objects: &Objects, rectangle: Rect) -> u64
 #[derive(Clone, Copy)]
 pub struct PartFigures {
     /// The cost of the low corner of the second part.
-    pub low: u64,
+    pub low_cost: u64,
     /// The cost of the high corner of the first part.
-    pub high: u64,
+    pub high_cost: u64,
     /// The bounds of the parts.
-    pub first: u64,
-    pub second: u64,
+    pub first_bound: u64,
+    pub second_bound: u64,
 }
 
 // How far a travel is below an object's near; 0 where it is not.
@@ -158,9 +158,9 @@ pub fn parts(objects: &Objects, before: u64, first: Rect, second: Rect) -> PartF
         in_second += saved(row, spared.second[i]);
     }
     PartFigures {
-        low: before - at_low,
-        high: before - at_high,
-        first: before - in_first,
-        second: before - in_second,
+        low_cost: before - at_low,
+        high_cost: before - at_high,
+        first_bound: before - in_first,
+        second_bound: before - in_second,
     }
 }

@@ -1,8 +1,8 @@
--- Reach in numbers, and cost and bound as sums over the stops, so that proofs need not open `near`.
+-- A stop out of reach in numbers, and cost and bound as sums over the stops, so that proofs need not open `near`.
 use mathlib.Core.Path.{◌≡◌, refl}
 use mathlib.Core.Bool.{not}
-use Prim.Native.Nat.{ℕ, ◌*◌, ◌≤◌, ◌<◌, min}
-use lib.Dec.{T, ltb→lt, lt→ltb, nltb→le}
+use Prim.Native.Nat.{ℕ, ◌*◌, ◌≤◌, min}
+use lib.Dec.{T, nltb→le}
 use Rattle.numbers.specs.Lists.{sum_of}
 use Rattle.query.specs.Place.{Place, Rect}
 use Rattle.query.specs.Deck.{Stop, Deck}
@@ -10,14 +10,6 @@ use Rattle.query.specs.Travel.{travel, near}
 use Rattle.query.specs.Cost.{cost}
 use Rattle.query.specs.Reach.{travel_to, reach}
 use Rattle.query.specs.Bound.{bound}
-
-pub reach_nat : (deck : Deck) (r : Rect) (stop : Stop) → T (reach deck r stop) → travel_to deck r stop < near deck stop
-unfolding reach
-reach_nat deck r stop t = ltb→lt _ _ t
-
-pub nat_reach : (deck : Deck) (r : Rect) (stop : Stop) → travel_to deck r stop < near deck stop → T (reach deck r stop)
-unfolding reach
-nat_reach deck r stop h = lt→ltb _ _ h
 
 pub nreach_nat : (deck : Deck) (r : Rect) (stop : Stop) → T (not (reach deck r stop)) → near deck stop ≤ travel_to deck r stop
 unfolding reach

@@ -1,20 +1,12 @@
--- Travel: triangle, the closest point of a rectangle, and a rectangle's span through one of its points.
-use Prim.Native.Nat.{◌+◌, ◌≤◌}
+-- Travel to the closest point of a rectangle.
+use Prim.Native.Nat.{◌≤◌}
 use native.Mathlib.Nat.{mul-le-mul_left}
 use native.Mathlib.Omega.{arith}
-use Rattle.numbers.proofs.Distance.{dist_triangle, clamp_low, clamp_high, clamp_closest}
+use Rattle.numbers.proofs.Distance.{clamp_low, clamp_high, clamp_closest}
 use Rattle.query.specs.Place.{Place, Rect, In, NonEmpty}
-use Rattle.query.specs.Deck.{AxisCosts, Stop, Deck}
+use Rattle.query.specs.Deck.{Stop, Deck}
 use Rattle.query.specs.Travel.{travel}
 use Rattle.query.specs.Reach.{closest_point, travel_to}
-
-pub travel_triangle : (axis : AxisCosts) (p q s : Place) → travel axis p s ≤ travel axis p q + travel axis q s
-unfolding travel
-travel_triangle axis p q s = omega (
-  arith,
-  mul-le-mul_left axis.a (dist_triangle p.x q.x s.x),
-  mul-le-mul_left axis.b (dist_triangle p.y q.y s.y),
-)
 
 pub closest_point_in : (r : Rect) (p : Place) → NonEmpty r → In r (closest_point r p)
 unfolding closest_point

@@ -98,7 +98,7 @@ deck_side = record { axis = record { a = 2; b = 1 }; area = rect 0 0 2 4; posts 
 abbrev pub deck_both : Deck
 deck_both = record { axis = record { a = 2; b = 3 }; area = rect 0 0 5 4; posts = at 5 6 ∷ []; stops = stop 1 6 1 ∷ stop 2 2 2 ∷ [] }
 
--- a stop behind the area and one to its right, both out of reach: one of them were within it if reach counted only one of the axis costs
+-- a stop behind the area and one to its right, both out of reach: one of them would be within reach if only one of the axis costs counted
 abbrev pub deck_beyond : Deck
 deck_beyond = record {
   axis = record { a = 2; b = 3 };
@@ -189,10 +189,11 @@ pub record Rows : Type 0 where
   -- which place is the best, and which cell is next
   pub first : figures deck_first 10 ≡ report done (at 0 1) 6 (pos 6) 22 1
   pub order_2 : figures deck_order 2 ≡ report stopped (at 1 1) 3 (pos 0) 12 2
-  -- lows
+  -- low by the bound of the area and of its parts
   pub closer_0 : figures deck_closer 0 ≡ report stopped (at 4 2) 9 (pos 8) 13 0
   pub closer_1 : figures deck_closer 1 ≡ report stopped (at 4 2) 9 (pos 8) 13 1
   pub closer : figures deck_closer 2 ≡ report done (at 4 2) 9 (pos 9) 13 2
+  -- axis costs, and the ends of the ranges
   pub axis_0 : figures deck_axis 0 ≡ report stopped (at 4 3) 14 (pos 6) 16 0
   pub axis_1 : figures deck_axis 1 ≡ report stopped (at 2 3) 11 (pos 6) 16 1
   pub axis_2 : figures deck_axis 2 ≡ report stopped (at 2 3) 11 (pos 6) 16 2

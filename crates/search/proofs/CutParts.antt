@@ -88,12 +88,12 @@ bound_word : {n m : ℕ} → Figure n cost_limit m → to_z w64 m ≡ pos n
 bound_word {m = m} h = to_z_pos w64 m (omega (arith, h.within)) ∙ ap pos h.is
 
 pub parts_are : (P : Pricing) (first second : Deck.Rect) (figures : PartFigures) → PartsPriced P (rect_of first) (rect_of second) figures
-    → (low high : PricedPlace) → low ≡ priced_place_at second.xlo second.ylo figures.low → high ≡ priced_place_at first.xhi first.yhi figures.high
+    → (low high : PricedPlace) → low ≡ priced_place_at second.xlo second.ylo figures.low_cost → high ≡ priced_place_at first.xhi first.yhi figures.high_cost
     → ◌≡◌ {A = Halves} (record {
       low = low;
       high = high;
-      first = record { rect = first; bound = to_z w64 figures.first };
-      second = record { rect = second; bound = to_z w64 figures.second };
+      first = record { rect = first; bound = to_z w64 figures.first_bound };
+      second = record { rect = second; bound = to_z w64 figures.second_bound };
     }) (parts_of P (rect_of first) (rect_of second))
 unfolding parts_of
 parts_are P first second figures h low high l k = λ i. record {

@@ -75,8 +75,7 @@ fn cut_of(problem: &Problem, rect: Rect) -> Option<Cut>
     )
 }
 
-// What the two parts of a cell make, in one pass over the objects: the new corners are the low one of the second and the high one of the
-// first.
+// What the two parts of a cell make: the new corners are the low one of the second and the high one of the first.
 // Inlined, as what it calls, so that along each axis what the parts have in common is found once.
 #[inline(always)]
 fn parts(objects: &Objects, before: u64, first: Rect, second: Rect) -> Halves
@@ -86,15 +85,15 @@ fn parts(objects: &Objects, before: u64, first: Rect, second: Rect) -> Halves
 {
     let figures = pricing::parts(objects, before, first, second);
     Halves {
-        low: priced_place::with_cost(second.low(), figures.low),
-        high: priced_place::with_cost(first.high(), figures.high),
+        low: priced_place::with_cost(second.low(), figures.low_cost),
+        high: priced_place::with_cost(first.high(), figures.high_cost),
         first: Cell {
             rect: first,
-            bound: figures.first as i64,
+            bound: figures.first_bound as i64,
         },
         second: Cell {
             rect: second,
-            bound: figures.second as i64,
+            bound: figures.second_bound as i64,
         },
     }
 }

@@ -1,4 +1,4 @@
-pub mod SolveLaws
+pub mod RespondLaws
 pub mod EntryLaws
 pub mod ExhaustiveLaws
 pub mod SavingLaws

@@ -5,7 +5,7 @@ use Rattle.job.proofs.PartLaws.{handed}
 use Rattle.prepare.specs.ProblemRecord.{given_by}
 use Rattle.prepare.proofs.JobProblem.{given_refused}
 use Rattle.priced_place.proofs.DeckProblem.{prepared_problem}
-use Rattle.siting.proofs.SolveLaws.{spells, prepared, before_figure_lem}
+use Rattle.siting.proofs.RespondLaws.{spells, prepared, before_figure_lem}
 use Rattle.siting.proofs.ExhaustiveLaws.{exhaustive_found, exhaustive_refused}
 use Rattle.siting.proofs.exhaustive.Goals as goal
 

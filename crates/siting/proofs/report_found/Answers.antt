@@ -1,5 +1,5 @@
 -- What `siting::report_found` owes.
-use Rattle.siting.proofs.SolveLaws.{prepared, found_figures, report_limits}
+use Rattle.siting.proofs.RespondLaws.{prepared, found_figures, report_limits}
 use Rattle.siting.proofs.report_found.Goals as goal
 
 pub write_report-bytes-requires-clause-figures_in_range : goal.write_report-bytes-requires-clause-figures_in_range

@@ -6,7 +6,7 @@ use Rattle.calls.proofs.Promises.{refused_call}
 use Rattle.prepare.specs.ProblemRecord.{given_by}
 use Rattle.prepare.proofs.JobProblem.{given_refused}
 use Rattle.estimate.proofs.EstimateLaws.{job_counts}
-use Rattle.siting.proofs.SolveLaws.{prepared, few_rounds, before_figure_lem, few_cells, small, enough, live_fit, respond_refused, lacking, reporting}
+use Rattle.siting.proofs.RespondLaws.{prepared, few_rounds, before_figure_lem, few_cells, small, enough, live_fit, respond_refused, lacking, reporting}
 use Rattle.siting.proofs.respond.Goals as goal
 
 pub returns-in_err-given : goal.returns-in_err-given

@@ -5,7 +5,7 @@ use Rattle.job.proofs.PartLaws.{handed}
 use Rattle.calls.proofs.Promises.{refused_call}
 use Rattle.prepare.specs.ProblemRecord.{given_by}
 use Rattle.prepare.proofs.JobProblem.{given_refused}
-use Rattle.siting.proofs.SolveLaws.{prepared, few_rounds, before_figure_lem, refused_alone, lacking_alone, reporting_alone}
+use Rattle.siting.proofs.RespondLaws.{prepared, few_rounds, before_figure_lem, refused_alone, lacking_alone, reporting_alone}
 use Rattle.siting.proofs.respond_alone.Goals as goal
 
 pub returns-in_err-given : goal.returns-in_err-given
