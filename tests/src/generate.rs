@@ -155,6 +155,19 @@ fn mirrored(v: i64, lo: i64, hi: i64) -> i64 {
     (lo + hi - v).clamp(-20_000, 20_000)
 }
 
+/// A job of at most 10 stops, a few tenths from each other.
+pub fn small(random: &mut Random) -> Job {
+    let size = random.range(1, 14);
+    job_of(random, size, 10)
+}
+
+/// A job with one post, far away, and an area that reaches so far on each side of the centre: most stops are within reach of it, and searches
+/// are long. Size and stops as in `job_of`.
+pub fn far_post(random: &mut Random, size: i64, stops: i64, reach: i64) -> Job {
+    let far = Job { posts: vec![(20_000, -20_000)], ..job_of(random, size, stops) };
+    Job { area: Rect { xlo: -reach, ylo: -reach, xhi: reach, yhi: reach }, ..far }
+}
+
 /// A job of a shape in which many places cost the same, or in which little is left to search.
 pub fn special(random: &mut Random) -> Job {
     let size = random.pick(&[2, 5, 9, 40, 1_000, 20_000]);

@@ -1,7 +1,7 @@
 //! The proved estimate call (RULES "Change 3") against the reference, and against what the report call takes; the reference's estimate against
 //! its search.
 
-use siting_tests::generate::{axis, crowded, damaged, each_job, job, job_of, largest, noise, seed, special, spelled, Random};
+use siting_tests::generate::{axis, crowded, damaged, each_job, far_post, job, job_of, largest, noise, seed, small, special, spelled, Random};
 use siting_tests::reference::{estimate, read, search, spell, Axis, Deck, Estimate, Job, Rect, Refusal, Stop};
 use siting_tests::text;
 use siting_tests::trial;
@@ -223,16 +223,9 @@ fn no_search_passes_its_estimate() {
     for i in 0..2_000 {
         let j = match i % 4 {
             0 => special(&mut random),
-            1 => {
-                let size = random.range(1, 14);
-                job_of(&mut random, size, 10)
-            }
+            1 => small(&mut random),
             2 => job_of(&mut random, 1_000, 30),
-            _ => {
-                // one post, far away: bounds are loose, and searches long
-                let far = Job { posts: vec![(20_000, -20_000)], ..job_of(&mut random, 200, 8) };
-                Job { area: Rect { xlo: -150, ylo: -150, xhi: 150, yhi: 150 }, ..far }
-            }
+            _ => far_post(&mut random, 200, 8, 150),
         };
         axis_costs += (j.axis != Axis::PLAIN) as usize;
         let last = estimate(&j).cut_limit;

@@ -147,35 +147,25 @@ fn check_deck(random: &mut Random, job: &Job, many: usize) {
     }
 }
 
+/// So many random decks, each with so many places and rectangles.
+fn check_decks(count: usize, many: usize, deck: impl Fn(&mut Random) -> Job) {
+    let mut random = Random::new(seed());
+    for _ in 0..count {
+        let j = deck(&mut random);
+        check_deck(&mut random, &j, many);
+    }
+}
+
 #[test]
 fn figures_are_those_of_the_reference() {
-    let mut random = Random::new(seed());
-    for _ in 0..4_000 {
-        let j = job(&mut random);
-        check_deck(&mut random, &j, 6);
-    }
+    check_decks(4_000, 6, job);
+    check_decks(1_000, 6, special);
 }
 
 #[test]
 fn figures_of_the_largest_decks_are_those_of_the_reference() {
-    let mut random = Random::new(seed());
-    for _ in 0..300 {
-        let j = largest(&mut random);
-        check_deck(&mut random, &j, 4);
-    }
-    for _ in 0..200 {
-        let j = job_of(&mut random, 20_000, 512);
-        check_deck(&mut random, &j, 4);
-    }
-}
-
-#[test]
-fn figures_of_special_decks_are_those_of_the_reference() {
-    let mut random = Random::new(seed());
-    for _ in 0..1_000 {
-        let j = special(&mut random);
-        check_deck(&mut random, &j, 6);
-    }
+    check_decks(300, 4, largest);
+    check_decks(200, 4, |random| job_of(random, 20_000, 512));
 }
 
 /// The near of every stop.

@@ -1,7 +1,7 @@
 //! The proved report call (RULES "Calls", "Figures", "Cell space") against the reference: answer, text, cell space and all that stays as it
 //! was, on random jobs and lent memory.
 
-use siting_tests::generate::{damaged, each_job, job, job_of, largest, noise, seed, special, spelled, spelling, Random};
+use siting_tests::generate::{damaged, each_job, far_post, job, job_of, largest, noise, seed, small, special, spelled, spelling, Random};
 use siting_tests::reference::{brute_force, estimate, exhaustive, lent_enough, read, refusal_text, report_text, search, spell};
 use siting_tests::reference::{Axis, Deck, Estimate, Found, Job, Rect, Refusal, Stop};
 use siting_tests::text;
@@ -229,15 +229,8 @@ fn every_number_of_rounds_gets_what_the_reference_says() {
     for i in 0..2_100 {
         let j = match i % 3 {
             0 => special(&mut random),
-            1 => {
-                let size = random.range(1, 14);
-                job_of(&mut random, size, 10)
-            }
-            _ => {
-                // one post, far away: most stops are within reach, and searches long
-                let far = Job { posts: vec![(20_000, -20_000)], ..job_of(&mut random, 30, 10) };
-                Job { area: Rect { xlo: -25, ylo: -25, xhi: 25, yhi: 25 }, ..far }
-            }
+            1 => small(&mut random),
+            _ => far_post(&mut random, 30, 10, 25),
         };
         for rounds in 0.. {
             let bytes = spelling(&mut random, &Job { rounds, ..j.clone() });
