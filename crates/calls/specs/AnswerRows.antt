@@ -4,7 +4,7 @@ use Rattle.std.specs.Prelude.{◌≡◌, pos, Ok, Err}
 use Rattle.query.specs.Figures.{done, stopped}
 use Rattle.query.specs.Marked.{at, report}
 use Rattle.query.specs.Rows.{needs}
-use Rattle.deck.specs.Rectangle.{place_of, stop_of}
+use Rattle.deck.specs.Values.{place_of, stop_of}
 use Rattle.report.specs.declared.State.TheVariants.{Done, Stopped}
 use Rattle.refusal.specs.declared.Refusal.TheVariants.{Malformed, OutOfRange, NoPosts, NoStops}
 use Rattle.calls.specs.declared.Answer.TheVariants.{Report, Refused}

@@ -24,7 +24,7 @@ pub record ChangeLaw (deck : Deck) (change : Change) : Type 0 where
   -- a record can be changed if reading would accept its file, with 0 rounds, and no stop's near is more than a travel can be. Every record
   -- that the calls make can; one that cannot gets 3
   pub usable_exactly : Sized deck → T (usable deck)
-      ↔ (Saveable deck 0 × ((i : ℕ) → i < deck.stops → get_or deck.near i 0 ≤ travel_limit))
+      ↔ (Saveable deck 0 × ((i : ℕ) → i < deck.stop_count → get_or deck.near i 0 ≤ travel_limit))
   pub sound_usable : Sound deck → T (usable deck)
   pub unusable : T (not (usable deck)) → change_call deck change ≡ record { answer = refuses 3 0; deck = deck }
   -- of one that can be changed: each refusal exactly under its condition; the change is made exactly where none applies; then the record

@@ -1,9 +1,10 @@
 -- Which records the calls make, and their near and before (RULES "Change 5", "Change 6").
-use Rattle.std.specs.Prelude.{ℕ, ◌≤◌, ◌<◌, ◌≡◌, ◌↔◌, List, pos, get_or}
+use Rattle.std.specs.Prelude.{ℕ, ◌≤◌, ◌<◌, ◌≡◌, ◌↔◌, List, get_or}
 use Rattle.query.specs.Deck.{Stop}
 use Rattle.query.specs.Travel.{near}
 use Rattle.query.specs.Cost.{before}
 use Rattle.deck.specs.DeckOf.{deck_of}
+use Rattle.deck.specs.Values.{stop_of, no_stop}
 use Rattle.deck.specs.Sound.{Sound}
 use Rattle.deck.specs.declared.Deck.{Deck}
 use Rattle.job.specs.declared.Job as Held
@@ -19,10 +20,7 @@ pub data Made : Deck → Type 0 where
 
 -- stop i of a record, counted from 0
 abbrev pub stop_in : Deck → ℕ → Stop
-stop_in deck i = record {
-  at = record { x = get_or deck.stop_x i (pos 0); y = get_or deck.stop_y i (pos 0) };
-  visits = get_or deck.visits i 0;
-}
+stop_in deck i = stop_of (get_or deck.stops i no_stop)
 
 pub record RecordLaw (deck : Deck) : Type 0 where
   -- these records are the sound ones, whose near and before are those of the deck that they hold
@@ -30,8 +28,8 @@ pub record RecordLaw (deck : Deck) : Type 0 where
   -- and each is read from some job, so that changes make no others
   pub as_read : Sound deck → (job : List ℕ) × (held : Held.Job) × (read_call job ≡ gives held) × (deck ≡ held.deck)
   -- near and before of a sound record, number by number
-  pub near_is : Sound deck → (i : ℕ) → i < deck.stops → get_or deck.near i 0 ≡ near (deck_of deck) (stop_in deck i)
-  pub near_behind : Sound deck → (i : ℕ) → deck.stops ≤ i → get_or deck.near i 0 ≡ 0
+  pub near_is : Sound deck → (i : ℕ) → i < deck.stop_count → get_or deck.near i 0 ≡ near (deck_of deck) (stop_in deck i)
+  pub near_behind : Sound deck → (i : ℕ) → deck.stop_count ≤ i → get_or deck.near i 0 ≡ 0
   pub before_is : Sound deck → deck.before ≡ before (deck_of deck)
   -- no two sound records hold one deck
   pub one_record : (other : Deck) → Sound deck → Sound other → deck_of deck ≡ deck_of other → deck ≡ other

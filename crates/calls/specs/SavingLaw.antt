@@ -50,8 +50,8 @@ pub record ReadLaw (job : List ℕ) : Type 0 where
 -- a record and rounds whose file the reader accepts
 pub record Saveable (deck : Deck) (rounds : ℕ) : Type 0 where
   pub allowed : Allowed (held_job deck rounds)
-  pub few_posts : deck.posts ≤ posts_limit
-  pub few_stops : deck.stops ≤ stops_limit
+  pub few_posts : deck.post_count ≤ posts_limit
+  pub few_stops : deck.stop_count ≤ stops_limit
 
 -- a refusal applies to a record, rounds and an output: 2 to 6 where reading the file's text gives it, then 8
 pub data WriteApplies (deck : Deck) (rounds : ℕ) (out : List ℕ) : Refusal → Type 0 where
@@ -97,7 +97,7 @@ pub record WriteLaw (deck : Deck) (rounds : ℕ) (out : List ℕ) : Type 0 where
       length text ≤ length out → write_call deck rounds out ≡ record { answer = gives (length text); out = overwritten text out }
   pub written : (n : ℕ) → (write_call deck rounds out).answer ≡ gives n → WrittenLaw deck rounds out n
   -- a record with the same counts that holds the same deck is written alike, whatever stands behind its lists
-  pub same_file : (other : Deck) → deck_of other ≡ deck_of deck → other.posts ≡ deck.posts → other.stops ≡ deck.stops →
+  pub same_file : (other : Deck) → deck_of other ≡ deck_of deck → other.post_count ≡ deck.post_count → other.stop_count ≡ deck.stop_count →
       write_call other rounds out ≡ write_call deck rounds out
   -- nor do near and before matter
   pub other_figures : (nears : List ℕ) (paid : ℕ) → write_call (with_figures deck nears paid) rounds out ≡ write_call deck rounds out

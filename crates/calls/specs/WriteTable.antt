@@ -6,6 +6,7 @@ use Rattle.numbers.specs.Padded.{padded}
 use Rattle.query.specs.Range.{posts_limit, stops_limit}
 use Rattle.query.specs.Marked.{deck_a}
 use Rattle.deck.specs.DeckOf.{deck_record, with_figures}
+use Rattle.deck.specs.Values.{no_place, no_stop}
 use Rattle.deck.specs.declared.Deck.{Deck}
 use Rattle.job.specs.File.{file_text}
 use Rattle.job.specs.Meaning.{longest_job}
@@ -19,18 +20,12 @@ use Rattle.calls.specs.RefusalTable.{case_a, behind, ended, number_and_line}
 -- x, y, visits. Its near and before are 0
 abbrev pub record_of : ℕ × ℕ → List ℤ → ℕ → List (ℤ × ℤ) → ℕ → List (ℤ × ℤ × ℕ) → Deck
 record_of axis area post_count posts stop_count stops = record {
+  area = record { xlo = get_or area 0 (pos 0); ylo = get_or area 1 (pos 0); xhi = get_or area 2 (pos 0); yhi = get_or area 3 (pos 0) };
   axis = record { a = axis.0; b = axis.1 };
-  xlo = get_or area 0 (pos 0);
-  ylo = get_or area 1 (pos 0);
-  xhi = get_or area 2 (pos 0);
-  yhi = get_or area 3 (pos 0);
-  posts = post_count;
-  post_x = padded posts_limit (pos 0) (map (λ p. p.0) posts);
-  post_y = padded posts_limit (pos 0) (map (λ p. p.1) posts);
-  stops = stop_count;
-  stop_x = padded stops_limit (pos 0) (map (λ s. s.0) stops);
-  stop_y = padded stops_limit (pos 0) (map (λ s. s.1) stops);
-  visits = padded stops_limit 0 (map (λ s. s.2) stops);
+  post_count = post_count;
+  posts = padded posts_limit no_place (map (λ p. record { x = p.0; y = p.1 }) posts);
+  stop_count = stop_count;
+  stops = padded stops_limit no_stop (map (λ s. record { at = record { x = s.0; y = s.1 }; visits = s.2 }) stops);
   near = replicate stops_limit 0;
   before = 0;
 }

@@ -21,7 +21,7 @@ use Rattle.deck.specs.DeckOf.{places, deck_of, deck_record, with_figures}
 use Rattle.deck.specs.Sound.{Sound}
 use Rattle.deck.specs.declared.Deck.{Deck}
 use Rattle.deck.proofs.DeckLaws.{held_deck}
-use Rattle.deck.proofs.PaidLaws.{paid_stops}
+use Rattle.columns.proofs.PaidLaws.{paid_stops}
 use Rattle.change.specs.Change.{Change, add_post, remove_post, add_stop, remove_stop, with_posts, with_stops, altered, change_refusal}
 use Rattle.items.specs.Items.{is_same_place, is_same_stop, remove_first, first_place, taken_out_at}
 use Rattle.change.specs.ChangedRecord.{with_post_columns, with_stop_columns, renewed, altered_record}

@@ -17,7 +17,7 @@ use Rattle.query.specs.Deck as Query
 use Rattle.query.specs.Deck.{Stop}
 use Rattle.deck.specs.declared.Deck.{Deck}
 use Rattle.deck.specs.DeckOf.{places, stops_of, deck_of}
-use Rattle.deck.proofs.ClosestLaws.{zip_take}
+use Rattle.columns.proofs.ClosestLaws.{zip_take}
 use Rattle.job_line.proofs.LineLaws.{ok_or_some, ok_or_none}
 use Rattle.job.proofs.PartLaws.{handed}
 use Rattle.refusal.specs.declared.Refusal.{Refusal}

@@ -9,7 +9,7 @@ use Rattle.std.proofs.Math.Seq.{take-suc-set}
 use Rattle.query.specs.Place.{Place}
 use Rattle.query.specs.Deck.{Stop}
 use Rattle.deck.specs.DeckOf.{places, stops_of}
-use Rattle.deck.proofs.ClosestLaws.{zip_take, places_length}
+use Rattle.columns.proofs.ClosestLaws.{zip_take, places_length}
 use Rattle.deck.proofs.DeckLaws.{StopColumns, stops_length}
 use Rattle.items.specs.Items.{taken_out_at}
 use Rattle.items.proofs.Removal.{removed, taken_front}

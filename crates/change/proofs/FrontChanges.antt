@@ -11,7 +11,7 @@ use lib.ListN.{length, get_or, take, drop, set, length-set}
 use lib.Seq.{take-take, take-length, drop-length}
 use Rattle.std.specs.List.{list_all}
 use Rattle.numbers.proofs.Truth.{and_left, and_right, and_intro}
-use Rattle.deck.specs.Ranges.{CoordinatesUpTo, PlacesInRange, NaturalsUpTo}
+use Rattle.columns.specs.Ranges.{CoordinatesUpTo, PlacesInRange, NaturalsUpTo}
 use Rattle.items.specs.Items.{taken_out_at}
 use Rattle.items.proofs.Removal.{taken_length, taken_each}
 

@@ -19,10 +19,11 @@ use Rattle.query.specs.Range.{PlaceInRange, axis_cost_limit, travel_limit, posts
 use Rattle.query.proofs.NearLaws.{closest_some}
 use Rattle.query.proofs.Ranges.{costs_limit}
 use Rattle.deck.specs.DeckOf.{places}
-use Rattle.deck.specs.Ranges.{CostsInRange, PlacesInRange, NearsInRange}
-use Rattle.deck.proofs.ClosestLaws.{zip_at, zip_take, place_at, places_length, places_at}
-use Rattle.deck.proofs.Fronts.{front_count, front_places_are}
-use Rattle.deck.proofs.MadeNears.{places_each, places_whole, places_count}
+use Rattle.deck.specs.Ranges.{CostsInRange, NearsInRange}
+use Rattle.columns.specs.Ranges.{PlacesInRange}
+use Rattle.columns.proofs.ClosestLaws.{zip_at, zip_take, place_at, places_length, places_at}
+use Rattle.columns.proofs.Fronts.{front_count, front_places_are}
+use Rattle.columns.proofs.MadeNears.{places_each, places_whole, places_count}
 use Rattle.near_change.specs.NearChange.{near_with, near_without}
 use Rattle.near_change.proofs.NearLaws.{stop_in_range}
 use Rattle.change.proofs.FrontChanges.{EachUpTo}

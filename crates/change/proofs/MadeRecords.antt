@@ -14,10 +14,11 @@ use Rattle.query.specs.Travel.{closest}
 use Rattle.query.specs.Range.{PlaceInRange, posts_limit, stops_limit}
 use Rattle.deck.specs.declared.Deck.{Deck}
 use Rattle.deck.specs.DeckOf.{Sized, held_axis, places, deck_of}
-use Rattle.deck.specs.Ranges.{CostsInRange, PlacesInRange, VisitsInRange}
+use Rattle.deck.specs.Ranges.{CostsInRange}
+use Rattle.columns.specs.Ranges.{PlacesInRange, VisitsInRange}
 use Rattle.deck.proofs.DeckLaws.{costs_range, posts_range, stops_range, visits_range, posts_counted}
-use Rattle.deck.proofs.Fronts.{front_count, front_places_are, places_in_front, given_range, given_places, given_count}
-use Rattle.deck.proofs.WordLaws.{wide}
+use Rattle.columns.proofs.Fronts.{front_count, front_places_are, places_in_front, given_range, given_places, given_count}
+use Rattle.columns.proofs.WordLaws.{wide}
 use Rattle.items.specs.Items.{is_same_place, first_place, taken_out_at}
 use Rattle.items.proofs.FirstPlace.{removed_is}
 use Rattle.items.proofs.Removal.{removed}

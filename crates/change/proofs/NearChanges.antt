@@ -12,7 +12,7 @@ use Rattle.query.specs.Place.{Place}
 use Rattle.query.specs.Deck.{AxisCosts}
 use Rattle.query.specs.Travel.{travel, closest}
 use Rattle.query.proofs.NearLaws.{closest_some, closest_least}
-use Rattle.deck.proofs.ClosestLaws.{closest_snoc}
+use Rattle.columns.proofs.ClosestLaws.{closest_snoc}
 use Rattle.items.specs.Items.{is_same_place, remove_first}
 use Rattle.near_change.specs.NearChange.{near_with, near_without}
 use Rattle.items.proofs.FirstRemoved.{removed_least, removed_from, removed_keeps}

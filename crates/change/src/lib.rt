@@ -1,22 +1,22 @@
 // Changes of a deck's record (RULES "Change 6"): a post or a stop is added or removed, and near and before follow.
 #![tactic(auto)]
 
-ghost use Rattle.std.specs.Prelude.{◌≡◌, ◌-◌, ◌≤◌, ◌<◌, leb, pos, cond, ◌&&◌, T};
+ghost use Rattle.std.specs.Prelude.{◌≡◌, ◌-◌, ◌≤◌, ◌<◌, leb, cond, ◌&&◌, T, take};
 ghost use Rattle.std.specs.List.{list_all};
 ghost use Rattle.std.proofs.Math.Option.{none, some};
 ghost use Rattle.query.specs.Range.{PlaceInRange, StopInRange, posts_limit, stops_limit, travel_limit};
 ghost use Rattle.deck.specs.DeckOf.{deck_of, with_figures};
-ghost use Rattle.deck.specs.StopFigures.{paid};
-ghost use Rattle.deck.specs.Ranges.{VisitsInRange, NearsInRange};
-ghost use Rattle.deck.specs.Rectangle.{place_of, stop_of};
+ghost use Rattle.columns.specs.StopFigures.{paid};
+ghost use Rattle.deck.specs.Ranges.{StopsInRange, NearsInRange};
+ghost use Rattle.deck.specs.Values.{place_of, stop_of, no_stop};
 ghost use Rattle.items.specs.Items.{is_same_place, first_place, taken_out_at};
 ghost use Rattle.job_check.specs.LineFaults.{checked_as};
 ghost use Rattle.job.specs.Spelling.{stop_line};
 ghost use Rattle.refusal.specs.declared.Refusal.TheVariants.{OutOfRange};
 ghost use Rattle.change.specs.Change.{add_post, remove_post, add_stop, remove_stop, line_in_range};
-ghost use Rattle.change.specs.ChangedRecord.{usable, with_stop_columns, altered_record, changed_record};
+ghost use Rattle.change.specs.ChangedRecord.{usable, with_stop_list, altered_record, changed_record};
 
-use deck::{Deck, Place, Places, Stop};
+use deck::{Deck, NO_POST, NO_STOP, Place, Stop};
 use limits::{MOST_VISITS, POSTS, STOPS};
 use refusal::Refusal;
 
@@ -35,7 +35,7 @@ fn all_travels(near: &[u64]) -> bool
 fn usable(deck: &Deck) -> bool
     ensures { result ≡ usable deck.now }
 {
-    job_check::check(deck, 0).is_ok() && all_travels(&deck.near[..deck.stops])
+    job_check::check(deck, 0).is_ok() && all_travels(deck.listed_near())
 }
 
 // Whether the values of a stop are in range. Its visits are compared as u64 first, since as i64 large ones would be other numbers.
@@ -60,81 +60,67 @@ fn check_range(deck: &Deck, in_range: bool) -> Result<(), Refusal>
 
 // Makes `before` that of the visits and the near that are held.
 fn renew_before(deck: &mut Deck)
-    requires { VisitsInRange deck.old.visits deck.old.stops × NearsInRange deck.old.near deck.old.stops
-        × (deck.old.stops ≤ stops_limit) }
-    ensures { deck.new ≡ with_figures deck.old deck.old.near (paid deck.old.visits deck.old.near deck.old.stops) }
+    requires { StopsInRange (take deck.old.stop_count deck.old.stops) × NearsInRange deck.old.near deck.old.stop_count
+        × (deck.old.stop_count ≤ stops_limit) }
+    ensures { deck.new ≡ with_figures deck.old deck.old.near (paid (deck_of deck.old).stops deck.old.near) }
 {
-    let n = deck.stops;
-    deck.before = deck::before_of(&deck.visits[..n], &deck.near[..n]);
+    deck.before = columns::before_of(deck.listed_stops(), deck.listed_near());
 }
 
 // Puts a post behind the last.
 fn put_post(deck: &mut Deck, post: Place)
-    requires { T (usable deck.old) × (deck.old.posts < posts_limit) × PlaceInRange (place_of post) }
+    requires { T (usable deck.old) × (deck.old.post_count < posts_limit) × PlaceInRange (place_of post) }
     ensures { deck.new ≡ altered_record (add_post (place_of post)) deck.old }
 {
-    let n = deck.stops;
-    let stops = Places {
-        x: &deck.stop_x[..n],
-        y: &deck.stop_y[..n],
-    };
-    near_change::improve(&mut deck.near, stops, deck.axis, post);
-    deck.post_x[deck.posts] = post.x;
-    deck.post_y[deck.posts] = post.y;
-    deck.posts += 1;
+    let n = deck.stop_count;
+    near_change::improve(&mut deck.near, &deck.stops[..n], deck.axis, post);
+    deck.posts[deck.post_count] = post;
+    deck.post_count += 1;
     renew_before(deck);
 }
 
 // Takes out post i, counted from 0, which is the first at this place.
 fn take_post(deck: &mut Deck, post: Place, i: usize)
     requires { T (usable deck.old) × PlaceInRange (place_of post)
-        × (i ≡ first_place (is_same_place (place_of post)) (deck_of deck.old).posts) × (i < deck.old.posts) × (2 ≤ deck.old.posts) }
+        × (i ≡ first_place (is_same_place (place_of post)) (deck_of deck.old).posts) × (i < deck.old.post_count) × (2 ≤ deck.old.post_count) }
     ensures { deck.new ≡ altered_record (remove_post (place_of post)) deck.old }
 {
-    let k = deck.posts;
-    items::take_out(&mut deck.post_x[..k], i, 0);
-    items::take_out(&mut deck.post_y[..k], i, 0);
-    deck.posts = k - 1;
-    let left = Places {
-        x: &deck.post_x[..k - 1],
-        y: &deck.post_y[..k - 1],
-    };
-    let n = deck.stops;
-    let stops = Places {
-        x: &deck.stop_x[..n],
-        y: &deck.stop_y[..n],
-    };
-    near_change::renew_without(&mut deck.near, stops, deck.axis, post, left);
+    let k = deck.post_count;
+    items::take_out(&mut deck.posts[..k], i, NO_POST);
+    deck.post_count = k - 1;
+    let n = deck.stop_count;
+    near_change::renew_without(
+        &mut deck.near,
+        &deck.stops[..n],
+        deck.axis,
+        post,
+        &deck.posts[..k - 1],
+    );
     renew_before(deck);
 }
 
 // Puts a stop behind the last.
 fn put_stop(deck: &mut Deck, stop: Stop)
-    requires { T (usable deck.old) × (deck.old.stops < stops_limit) × StopInRange (stop_of stop) }
+    requires { T (usable deck.old) × (deck.old.stop_count < stops_limit) × StopInRange (stop_of stop) }
     ensures { deck.new ≡ altered_record (add_stop (stop_of stop)) deck.old }
 {
-    let n = deck.stops;
-    deck.near[n] = near_change::near_of(deck.axis, deck.post_places(), stop.at);
-    deck.stop_x[n] = stop.at.x;
-    deck.stop_y[n] = stop.at.y;
-    deck.visits[n] = stop.visits;
-    deck.stops = n + 1;
+    let n = deck.stop_count;
+    deck.near[n] = near_change::near_of(deck.axis, deck.listed_posts(), stop.at);
+    deck.stops[n] = stop;
+    deck.stop_count = n + 1;
     renew_before(deck);
 }
 
 // Takes out stop i, counted from 0.
 fn take_stop(deck: &mut Deck, i: usize)
-    requires { T (usable deck.old) × (i < deck.old.stops) × (2 ≤ deck.old.stops) }
-    ensures { deck.new ≡ with_stop_columns deck.old (deck.old.stops - 1) (taken_out_at deck.old.stops i (pos 0) deck.old.stop_x)
-        (taken_out_at deck.old.stops i (pos 0) deck.old.stop_y) (taken_out_at deck.old.stops i 0 deck.old.visits)
-        (taken_out_at deck.old.stops i 0 deck.old.near) }
+    requires { T (usable deck.old) × (i < deck.old.stop_count) × (2 ≤ deck.old.stop_count) }
+    ensures { deck.new ≡ with_stop_list deck.old (deck.old.stop_count - 1)
+        (taken_out_at deck.old.stop_count i no_stop deck.old.stops) (taken_out_at deck.old.stop_count i 0 deck.old.near) }
 {
-    let n = deck.stops;
-    items::take_out(&mut deck.stop_x[..n], i, 0);
-    items::take_out(&mut deck.stop_y[..n], i, 0);
-    items::take_out(&mut deck.visits[..n], i, 0);
+    let n = deck.stop_count;
+    items::take_out(&mut deck.stops[..n], i, NO_STOP);
     items::take_out(&mut deck.near[..n], i, 0);
-    deck.stops = n - 1;
+    deck.stop_count = n - 1;
     renew_before(deck);
 }
 
@@ -144,7 +130,7 @@ pub fn add_post(deck: &mut Deck, post: Place) -> Result<(), Refusal>
     ensures { record { answer = result; deck = deck.new } ≡ changed_record (add_post (place_of post)) deck.old }
 {
     check_range(deck, job_line::place_in_range(post))?;
-    if POSTS <= deck.posts {
+    if POSTS <= deck.post_count {
         return Err(Refusal::Full);
     }
     put_post(deck, post);
@@ -158,9 +144,8 @@ pub fn remove_post(deck: &mut Deck, post: Place) -> Result<(), Refusal>
     ensures { record { answer = result; deck = deck.new } ≡ changed_record (remove_post (place_of post)) deck.old }
 {
     check_range(deck, job_line::place_in_range(post))?;
-    let posts = deck.post_places();
-    let i = items::find_post(posts.x, posts.y, post).ok_or(Refusal::NotHeld)?;
-    if deck.posts == 1 {
+    let i = items::find_post(deck.listed_posts(), post).ok_or(Refusal::NotHeld)?;
+    if deck.post_count == 1 {
         return Err(Refusal::NoPosts);
     }
     take_post(deck, post, i);
@@ -173,7 +158,7 @@ pub fn add_stop(deck: &mut Deck, stop: Stop) -> Result<(), Refusal>
     ensures { record { answer = result; deck = deck.new } ≡ changed_record (add_stop (stop_of stop)) deck.old }
 {
     check_range(deck, stop_in_range(stop))?;
-    if STOPS <= deck.stops {
+    if STOPS <= deck.stop_count {
         return Err(Refusal::Full);
     }
     put_stop(deck, stop);
@@ -187,9 +172,8 @@ pub fn remove_stop(deck: &mut Deck, stop: Stop) -> Result<(), Refusal>
     ensures { record { answer = result; deck = deck.new } ≡ changed_record (remove_stop (stop_of stop)) deck.old }
 {
     check_range(deck, stop_in_range(stop))?;
-    let stops = deck.stop_columns();
-    let i = items::find_stop(stops.at.x, stops.at.y, stops.visits, stop).ok_or(Refusal::NotHeld)?;
-    if deck.stops == 1 {
+    let i = items::find_stop(deck.listed_stops(), stop).ok_or(Refusal::NotHeld)?;
+    if deck.stop_count == 1 {
         return Err(Refusal::NoStops);
     }
     take_stop(deck, i);

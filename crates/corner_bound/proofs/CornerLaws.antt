@@ -14,7 +14,7 @@ use Rattle.query.specs.Deck.{Deck}
 use Rattle.query.specs.CornerBound.{span, corner_sum, corner_bound}
 use Rattle.query.specs.Range.{cost_limit}
 use Rattle.query.proofs.CornerBoundLaws.{corner_bound_is, corner_sum_is}
-use Rattle.deck.specs.Objects.{Pricing, pricing_of}
+use Rattle.columns.specs.Objects.{Pricing, pricing_of}
 use Rattle.pricing.specs.ObjectFigures.{cost_of}
 use Rattle.pricing.proofs.ObjectLaws.{cost_law}
 use Rattle.corner_bound.specs.ObjectCornerBound.{load_of, corner_sum_of, corner_bound_of, CornerBound}

@@ -14,11 +14,11 @@ use Rattle.query.specs.Deck.{Deck}
 use Rattle.query.specs.CornerBound.{load}
 use Rattle.query.specs.Range.{visits_limit}
 use Rattle.query.proofs.CornerBoundLaws.{load_sum}
-use Rattle.deck.specs.Objects.{Object, scaled_rect, Pricing, pricing_of}
-use Rattle.deck.specs.ObjectColumns.{object_at}
+use Rattle.columns.specs.Objects.{Object, scaled_rect, Pricing, pricing_of}
+use Rattle.columns.specs.ObjectColumns.{object_at}
 use Rattle.reach.specs.ObjectReach.{reaches, travel_to_of}
 use Rattle.reach.specs.Held.{object_of_row}
-use Rattle.reach.specs.declared.columns.Row.{Row}
+use Rattle.reach.specs.declared.objects.Row.{Row}
 use Rattle.reach.proofs.ExcessLaws.{away}
 use Rattle.reach.proofs.ReachLaws.{reaches_to, reach_law}
 use Rattle.reach.proofs.RowLaws.{reaches_away}

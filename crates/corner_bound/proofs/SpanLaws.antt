@@ -14,7 +14,7 @@ use Rattle.query.specs.Place.{Rect}
 use Rattle.query.specs.Deck.{AxisCosts}
 use Rattle.query.specs.CornerBound.{span}
 use Rattle.query.specs.Range.{travel_limit}
-use Rattle.deck.specs.Ranges.{scaled_limit}
+use Rattle.columns.specs.Ranges.{scaled_limit}
 use Rattle.reach.specs.Held.{EdgesOf}
 use Rattle.reach.specs.declared.rectangle.Edges.{Edges}
 use Rattle.reach.proofs.NarrowLaws.{word, number_word}

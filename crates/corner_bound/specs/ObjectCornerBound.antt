@@ -5,7 +5,7 @@ use Rattle.numbers.specs.Lists.{sum_of, keep}
 use Rattle.query.specs.Place.{Rect}
 use Rattle.query.specs.CornerBound.{span}
 use Rattle.query.specs.Range.{cost_limit}
-use Rattle.deck.specs.Objects.{Pricing}
+use Rattle.columns.specs.Objects.{Pricing}
 use Rattle.reach.specs.ObjectReach.{reaches}
 use Rattle.pricing.specs.ObjectFigures.{cost_of}
 

@@ -5,9 +5,9 @@ ghost use Rattle.std.specs.Prelude.{◌≡◌, cond, ◌+◌, ◌*◌, ltb, nat_
 ghost use Rattle.numbers.specs.Integer.{dist, clamp};
 ghost use Rattle.query.specs.CornerBound as Query;
 ghost use Rattle.query.specs.Range.{load_limit, cost_limit, travel_limit, PlaceInRange};
-ghost use Rattle.deck.specs.DeckOf.{held_axis};
+ghost use Rattle.deck.specs.Values.{held_axis};
 ghost use Rattle.deck.specs.Ranges.{CostsInRange};
-ghost use Rattle.deck.specs.Rectangle.{place_of, rect_of};
+ghost use Rattle.deck.specs.Values.{place_of, rect_of};
 ghost use Rattle.reach.specs.Columns.{Ranged};
 ghost use Rattle.reach.specs.Held.{pricing_of_objects};
 ghost use Rattle.pricing.specs.ObjectFigures.{cost_of, Figure};

@@ -6,20 +6,13 @@ ghost use Rattle.numbers.specs.Integer.{half_up, strictly_between};
 ghost use Rattle.numbers.specs.Lists.{keep, non_empty};
 ghost use Rattle.query.specs.Cut.{can_cut};
 ghost use Rattle.query.specs.Range.{RectInRange};
-ghost use Rattle.deck.specs.Rectangle.{rect_of};
+ghost use Rattle.deck.specs.Values.{rect_of};
 ghost use Rattle.lines.specs.LineRecord.{LinesInOrder, Lined, grid_of};
 ghost use Rattle.cuts.specs.CutRecord.{Edges, LineBefore, LineFrom, line_inside, cut_along, cut_record, first_of};
 ghost use Rattle.lines.proofs.OneProof.{in_order_prop};
 
-use deck::Rect;
+use deck::{Axis, Rect};
 use lines::first_at_least;
-
-/// An axis of the deck.
-#[derive(Clone, Copy, PartialEq)]
-pub enum Axis {
-    X,
-    Y,
-}
 
 /// A cut of a cell at one line: on axis x at the x `at`, on axis y at the y `at`, in tenths of a millimetre.
 #[derive(Clone, Copy)]

@@ -1,16 +1,2 @@
-pub mod WordLaws
-pub mod ScaleLaws
-pub mod TravelLaws
-pub mod ClosestLaws
-pub mod CopyLaws
-pub mod SoFarLaws
-pub mod ColumnLaws
 pub mod DeckLaws
-pub mod StoredLaws
-pub mod MadeColumns
-pub mod MadeNears
-pub mod PostLaws
-pub mod PaidLaws
 pub mod SoundLaws
-pub mod ColumnLoops
-pub mod Fronts

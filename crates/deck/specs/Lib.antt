@@ -1,10 +1,4 @@
-pub mod Columns
-pub mod Rectangle
+pub mod Values
 pub mod DeckOf
 pub mod Sound
-pub mod Objects
-pub mod ObjectColumns
-pub mod ClosestSoFar
 pub mod Ranges
-pub mod StopFigures
-pub mod Held

@@ -1,71 +1,29 @@
--- The ranges of the numbers that objects are made of: those of RULES "Deck", scaled by the axis costs.
-use Rattle.std.specs.Prelude.{ℕ, ◌+◌, ◌*◌, ◌≤◌, ◌<◌, ◌≡◌, List, ℤ, pos, nat_abs, length, drop, get_or, ◌≤ℤ◌}
-use Rattle.numbers.specs.Integer.{times}
+-- The ranges of RULES "Deck", of what a record holds.
+use Rattle.std.specs.Prelude.{ℕ, ◌≤◌, ◌<◌, length, get_or}
+use mathlib.Core.List.{List, map, Memᴰ}
+use Rattle.query.specs.Place as Query
+use Rattle.query.specs.Deck as QueryDeck
 use Rattle.query.specs.Deck.{AxisCosts}
-use Rattle.query.specs.Range.{coordinate_limit, visits_limit, axis_cost_limit, travel_limit, stops_limit}
-use Rattle.deck.specs.Columns.{y_column, near_column, columns_size}
+use Rattle.query.specs.Range.{PlaceInRange, StopInRange, axis_cost_limit, travel_limit, posts_limit, stops_limit}
+use Rattle.deck.specs.declared.Place.{Place}
+use Rattle.deck.specs.declared.Stop.{Stop}
+use Rattle.deck.specs.Values.{place_of, stop_of}
 
--- the most of a coordinate that is multiplied by an axis cost, and a place whose coordinates are so
-abbrev pub scaled_limit : ℕ
-scaled_limit = axis_cost_limit * coordinate_limit
-
-pub record ScaledPlaceInRange (x y : ℤ) : Type 0 where
-  pub x_range : nat_abs x ≤ scaled_limit
-  pub y_range : nat_abs y ≤ scaled_limit
-
--- an axis cost
-pub record AxisCostInRange (cost : ℤ) : Type 0 where
-  pub some : pos 1 ≤ℤ cost
-  pub most : nat_abs cost ≤ axis_cost_limit
-
--- a coordinate multiplied by an axis cost
-pub record Scaled (cost coordinate product : ℤ) : Type 0 where
-  pub is : product ≡ times (nat_abs cost) coordinate
-  pub small : nat_abs product ≤ scaled_limit
-
--- columns of coordinates up to a limit, and scaled ones, of which the first n count
-pub record CoordinatesUpTo (most : ℕ) (xs : List ℤ) (n : ℕ) : Type 0 where
-  pub count : n ≤ length xs
-  pub range : (i : ℕ) → i < n → nat_abs (get_or xs i (pos 0)) ≤ most
-
-abbrev pub CoordinatesInRange : List ℤ → ℕ → Type 0
-CoordinatesInRange = CoordinatesUpTo scaled_limit
-
--- columns of natural numbers up to a limit: of visits, and of near
-pub record NaturalsUpTo (most : ℕ) (vs : List ℕ) (n : ℕ) : Type 0 where
-  pub count : n ≤ length vs
-  pub range : (i : ℕ) → i < n → get_or vs i 0 ≤ most
-
-abbrev pub VisitsInRange : List ℕ → ℕ → Type 0
-VisitsInRange = NaturalsUpTo visits_limit
-
-abbrev pub NearsInRange : List ℕ → ℕ → Type 0
-NearsInRange = NaturalsUpTo travel_limit
-
--- all columns, with room for n rows
-pub record ColumnsFit (columns : List ℤ) (n : ℕ) : Type 0 where
-  pub few : n ≤ stops_limit
-  pub long : length columns ≡ columns_size
-
--- the first n rows have their scaled places in the first two columns
-pub record StopsInRange (columns : List ℤ) (n : ℕ) : Type 0 where
-  pub fit : ColumnsFit columns n
-  pub x : CoordinatesInRange columns n
-  pub y : CoordinatesInRange (drop y_column columns) n
-
--- of all columns, that of near has numbers from 0 up in its first n rows
-pub record NearColumn (columns : List ℤ) (n : ℕ) : Type 0 where
-  pub long : length columns ≡ columns_size
-  pub some : (i : ℕ) → i < n → pos 0 ≤ℤ get_or columns (near_column + i) (pos 0)
-
--- ---- what a record holds
 -- axis costs
 pub record CostsInRange (axis : AxisCosts) : Type 0 where
   pub some : (1 ≤ axis.a) × (1 ≤ axis.b)
   pub most : (axis.a ≤ axis_cost_limit) × (axis.b ≤ axis_cost_limit)
 
--- columns of the coordinates of places, of which the first n count, and these are at most so many
-pub record PlacesInRange (most : ℕ) (xs ys : List ℤ) (n : ℕ) : Type 0 where
-  pub x : CoordinatesUpTo coordinate_limit xs n
-  pub y : CoordinatesUpTo coordinate_limit ys n
-  pub few : n ≤ most
+-- posts and stops
+pub record PostsInRange (posts : List Place) : Type 0 where
+  pub few : length posts ≤ posts_limit
+  pub each : (p : Query.Place) → Memᴰ p (map place_of posts) → PlaceInRange p
+
+pub record StopsInRange (stops : List Stop) : Type 0 where
+  pub few : length stops ≤ stops_limit
+  pub each : (s : QueryDeck.Stop) → Memᴰ s (map stop_of stops) → StopInRange s
+
+-- the near of n stops
+pub record NearsInRange (nears : List ℕ) (n : ℕ) : Type 0 where
+  pub count : n ≤ length nears
+  pub range : (i : ℕ) → i < n → get_or nears i 0 ≤ travel_limit

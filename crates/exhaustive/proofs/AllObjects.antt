@@ -16,16 +16,16 @@ use Rattle.numbers.proofs.Scaling.{scaled_at}
 use Rattle.numbers.proofs.WordTests.{back}
 use Rattle.query.specs.Place.{Place}
 use Rattle.query.specs.Range.{coordinate_limit, stops_limit, axis_cost_limit}
-use Rattle.deck.specs.Ranges.{Scaled}
-use Rattle.deck.specs.Objects.{Object, scaled_place}
-use Rattle.deck.specs.ObjectColumns.{object_at, axis_in, pricing_in}
-use Rattle.deck.proofs.TravelLaws.{far, travel_plain}
-use Rattle.deck.specs.Columns.{y_column, visits_column, near_column}
+use Rattle.columns.specs.Ranges.{Scaled}
+use Rattle.columns.specs.Objects.{Object, scaled_place}
+use Rattle.columns.specs.ObjectColumns.{object_at, axis_in, pricing_in}
+use Rattle.columns.proofs.TravelLaws.{far, travel_plain}
+use Rattle.columns.specs.Columns.{y_column, visits_column, near_column}
 use Rattle.lines.specs.LineRecord.{FirstAtLeast}
 use Rattle.reach.specs.Columns.{ObjectInRange}
 use Rattle.reach.specs.Held.{object_of_row, columns_of_objects, count_of_objects}
-use Rattle.reach.specs.declared.columns.Objects.{Objects}
-use Rattle.reach.specs.declared.columns.Row.{Row}
+use Rattle.reach.specs.declared.objects.Objects.{Objects}
+use Rattle.reach.specs.declared.objects.Row.{Row}
 use Rattle.reach.proofs.RowLaws.{x_word, y_word}
 use Rattle.reach.proofs.NarrowLaws.{word, natural, visits_word, near_word, scaled_by, scaled_small}
 use Rattle.pricing.specs.ObjectFigures.{cost_of, before_of}

@@ -7,7 +7,7 @@ use lib.Dec.{T, ltb}
 use lib.Signed.{mag}
 use Rattle.numbers.proofs.Truth.{holds, fails}
 use Rattle.query.specs.Place.{Place}
-use Rattle.deck.specs.Objects.{Pricing}
+use Rattle.columns.specs.Objects.{Pricing}
 use Rattle.priced_place.specs.declared.PricedPlace.{PricedPlace}
 use Rattle.priced_place.specs.ObjectProblem.{priced_place_of}
 use Rattle.numbers.proofs.WordTests.{back, fitting}

@@ -7,7 +7,7 @@ use lib.IntN.{ℤ, pos}
 use lib.ListN.{length, get_or, drop, replicate, length-replicate, length-map, drop_of_length-le}
 use Rattle.numbers.specs.Integer.{times}
 use Rattle.query.specs.Range.{cost_limit, stops_limit}
-use Rattle.deck.specs.Objects.{Pricing}
+use Rattle.columns.specs.Objects.{Pricing}
 use Rattle.pricing.specs.ObjectFigures.{before_of, Figure}
 use Rattle.priced_place.specs.declared.PricedPlace.{PricedPlace}
 use Rattle.numbers.proofs.WordTests.{back}

@@ -6,7 +6,7 @@ use native.Mathlib.Omega.{arith}
 use lib.IntN.{ℤ, pos}
 use lib.ListN.{length, get_or, set, drop, length-append, length-map, length-drop, get_or-map, get_or-append}
 use lib.Seq.{take_all}
-use Rattle.deck.specs.Objects.{Pricing}
+use Rattle.columns.specs.Objects.{Pricing}
 use Rattle.pricing.specs.ObjectFigures.{cost_of}
 use Rattle.lines.proofs.Shifted.{over, over_set}
 use Rattle.exhaustive.specs.Cheapest.{costs_along}

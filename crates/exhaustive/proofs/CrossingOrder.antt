@@ -22,7 +22,7 @@ use Rattle.query.specs.Search.{best_of}
 use Rattle.query.specs.Exhaustive.{crossings, exhaustive}
 use Rattle.query.proofs.Best.{best_of_nil, best_of_cons}
 use Rattle.query.proofs.KeyOrder.{not_earlier}
-use Rattle.deck.specs.Objects.{Pricing}
+use Rattle.columns.specs.Objects.{Pricing}
 use Rattle.pricing.specs.ObjectFigures.{cost_of}
 use Rattle.priced_place.specs.declared.PricedPlace.{PricedPlace}
 use Rattle.priced_place.specs.ObjectProblem.{object_rules, object_problem, priced_of, priced_place_of}

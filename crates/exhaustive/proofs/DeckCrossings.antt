@@ -20,8 +20,8 @@ use Rattle.query.specs.Exhaustive.{exhaustive}
 use Rattle.query.specs.Range.{PlaceInRange, InRange, coordinate_limit}
 use Rattle.query.proofs.KeyOrder.{not_earlier}
 use Rattle.query.proofs.LineLaws.{lines_range}
-use Rattle.deck.specs.Rectangle.{rect_of}
-use Rattle.deck.specs.Objects.{Pricing}
+use Rattle.deck.specs.Values.{rect_of}
+use Rattle.columns.specs.Objects.{Pricing}
 use Rattle.reach.specs.Held.{pricing_of_objects}
 use Rattle.lines.specs.LineRecord.{grid_of}
 use Rattle.lines.proofs.Indexed.{member_at}

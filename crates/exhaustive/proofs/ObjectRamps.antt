@@ -14,7 +14,7 @@ use Rattle.numbers.proofs.Words.{word_fits}
 use Rattle.reach.specs.Columns.{ObjectInRange}
 use Rattle.numbers.proofs.WordTests.{back}
 use Rattle.query.specs.Range.{travel_limit}
-use Rattle.deck.specs.Ranges.{scaled_limit}
+use Rattle.columns.specs.Ranges.{scaled_limit}
 use Rattle.exhaustive.specs.declared.ramp_sums.Ramps.{Ramps}
 use Rattle.exhaustive.specs.declared.ramp_sums.ObjectRamps.{ObjectRamps}
 use Rattle.exhaustive.specs.Ramps.{height_of, RampSums, RampInRange, RampAdded, ObjectAdded, start_limit}

@@ -7,7 +7,7 @@ use lib.ListN.{length, get_or, length-map}
 use Rattle.numbers.specs.Integer.{times}
 use Rattle.numbers.proofs.Scaling.{scaled_at, scale_most}
 use Rattle.query.specs.Range.{coordinate_limit, axis_cost_limit}
-use Rattle.deck.specs.Ranges.{scaled_limit}
+use Rattle.columns.specs.Ranges.{scaled_limit}
 use Rattle.lines.specs.LineRecord.{lines_limit}
 use Rattle.exhaustive.specs.Ramps.{scaled_lines, LinesInRange}
 

@@ -5,12 +5,12 @@ use Prim.Native.Nat.{ℕ, ◌+◌, ◌*◌, ◌^◌, ◌≤◌, ◌<◌}
 use native.Mathlib.Omega.{arith}
 use lib.IntN.{ℤ, pos, nat_abs}
 use lib.ListN.{length, get_or, set, length-set, length-map}
-use Rattle.deck.specs.Objects.{Pricing}
+use Rattle.columns.specs.Objects.{Pricing}
 use Rattle.pricing.specs.ObjectFigures.{cost_of, before_of}
 use Rattle.numbers.specs.Integer.{times}
 use Rattle.numbers.proofs.Scaling.{scaled_at}
 use Rattle.query.specs.Range.{stops_limit, axis_cost_limit}
-use Rattle.deck.specs.Ranges.{scaled_limit}
+use Rattle.columns.specs.Ranges.{scaled_limit}
 use Rattle.lines.specs.LineRecord.{lines_limit}
 use Rattle.exhaustive.specs.declared.ramp_sums.Ramps.{Ramps}
 use Rattle.exhaustive.specs.declared.ramp_sums.ObjectRamps.{ObjectRamps}

@@ -6,11 +6,11 @@ use Rattle.std.specs.Prelude.{ℕ, zero, suc, ◌+◌, ◌*◌, ◌-◌, ◌/◌
 use Rattle.std.specs.Prelude.{set}
 use Rattle.numbers.specs.Integer.{dist, times}
 use Rattle.query.specs.Range.{cost_limit, coordinate_limit, axis_cost_limit, stops_limit, visits_limit, travel_limit}
-use Rattle.deck.specs.Ranges.{scaled_limit}
-use Rattle.deck.specs.Objects.{Pricing}
-use Rattle.deck.specs.ObjectColumns.{axis_in, object_at}
+use Rattle.columns.specs.Ranges.{scaled_limit}
+use Rattle.columns.specs.Objects.{Pricing}
+use Rattle.columns.specs.ObjectColumns.{axis_in, object_at}
 use Rattle.reach.specs.Held.{columns_of_objects, count_of_objects}
-use Rattle.reach.specs.declared.columns.Objects.{Objects}
+use Rattle.reach.specs.declared.objects.Objects.{Objects}
 use Rattle.pricing.specs.ObjectFigures.{cost_of, before_of}
 use Rattle.lines.specs.LineRecord.{LinesInOrder, FirstAtLeast, lines_limit}
 use Rattle.exhaustive.specs.declared.ramp_sums.Ramps.{Ramps}

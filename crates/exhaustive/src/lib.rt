@@ -18,7 +18,8 @@ ghost use Rattle.exhaustive.specs.Cheapest.{cheaper_of, first_cheapest, along, c
 mod line_numbers;
 mod ramp_sums;
 
-use deck::{Place, scaled};
+use columns::scaled;
+use deck::Place;
 use limits::{LINES, STOPS};
 use line_numbers::{Divisor, ScaledLines};
 pub use line_numbers::{NumberedLines, TABLE, number_lines};

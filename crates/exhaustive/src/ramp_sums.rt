@@ -2,7 +2,7 @@
 
 ghost use Rattle.std.specs.Prelude.{◌≡◌, ◌+◌, ◌*◌, ◌≤◌, ◌<◌, nat_abs, length};
 ghost use Rattle.query.specs.Range.{axis_cost_limit, stops_limit};
-ghost use Rattle.deck.specs.Ranges.{scaled_limit};
+ghost use Rattle.columns.specs.Ranges.{scaled_limit};
 ghost use Rattle.lines.specs.LineRecord.{FirstAtLeast, lines_limit};
 ghost use Rattle.exhaustive.specs.Ramps.{scaled_lines, sums_size, ramps_limit};
 ghost use Rattle.exhaustive.specs.Ramps.{
@@ -19,7 +19,7 @@ ghost use Rattle.exhaustive.specs.Ramps.{
 ghost use Rattle.exhaustive.specs.Cheapest.{Swept};
 
 use crate::line_numbers::{NumberedLines, ScaledLines, height};
-use deck::scaled;
+use columns::scaled;
 use limits::LINES;
 use numbers::abs_diff;
 use reach::Row;

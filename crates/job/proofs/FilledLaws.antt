@@ -20,13 +20,14 @@ use Rattle.query.specs.Travel.{closest}
 use Rattle.query.specs.Cost.{before}
 use Rattle.query.specs.Range.{PlaceInRange, StopInRange, coordinate_limit, posts_limit, stops_limit, visits_limit}
 use Rattle.deck.specs.DeckOf.{held_axis, places}
-use Rattle.deck.specs.Ranges.{NearsInRange, CostsInRange, PlacesInRange, VisitsInRange}
-use Rattle.deck.specs.StopFigures.{Nears, paid}
+use Rattle.deck.specs.Ranges.{NearsInRange, CostsInRange}
+use Rattle.columns.specs.Ranges.{PlacesInRange, VisitsInRange}
+use Rattle.columns.specs.StopFigures.{Nears, paid}
 use Rattle.deck.specs.declared.AxisCosts.{AxisCosts}
 use Rattle.deck.specs.declared.Deck.{Deck}
-use Rattle.deck.proofs.ClosestLaws.{places_length}
+use Rattle.columns.proofs.ClosestLaws.{places_length}
 use Rattle.deck.proofs.DeckLaws.{front_places}
-use Rattle.deck.proofs.PaidLaws.{paid_stops}
+use Rattle.columns.proofs.PaidLaws.{paid_stops}
 use Rattle.job_line.specs.Kinds.{Kind, axis, posts, post, stops, stop, row}
 use Rattle.job_line.specs.OneLine.{line}
 use Rattle.job_line.specs.Reading.{cost_numbers}

@@ -33,8 +33,8 @@ use Rattle.query.specs.Travel as Travel
 use Rattle.query.specs.Cost.{before}
 use Rattle.query.specs.Range.{posts_limit, stops_limit}
 use Rattle.deck.specs.DeckOf.{held_axis, axis_record, places}
-use Rattle.deck.specs.Ranges.{PlacesInRange, VisitsInRange}
-use Rattle.deck.specs.StopFigures.{Nears, paid}
+use Rattle.columns.specs.Ranges.{PlacesInRange, VisitsInRange}
+use Rattle.columns.specs.StopFigures.{Nears, paid}
 use Rattle.deck.specs.declared.AxisCosts.{AxisCosts}
 use Rattle.deck.specs.declared.Deck.{Deck}
 use Rattle.deck.specs.declared.Rect.{Rect}

@@ -21,7 +21,7 @@ saved_spelling job = spell (writes_axis job.deck.axis) job
 
 -- the lines of its file. The counts that are written are the record's own, also where they are beyond its arrays
 abbrev pub file_lines : Deck → ℕ → List JobLine
-file_lines deck rounds = lines_counting (writes_axis (deck_of deck).axis) deck.posts deck.stops (held_job deck rounds)
+file_lines deck rounds = lines_counting (writes_axis (deck_of deck).axis) deck.post_count deck.stop_count (held_job deck rounds)
 
 -- its bytes
 unfoldable pub file_text : Deck → ℕ → List ℕ

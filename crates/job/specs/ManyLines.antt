@@ -10,6 +10,7 @@ use Rattle.job.specs.Format as Format
 use Rattle.job.specs.Format.{Result, refused, accepted, count_of, post_of, stop_of, job_of, checked, reading_result}
 use Rattle.job.specs.JobRecord.{job_result}
 use Rattle.numbers.specs.Padded.{padded}
+use Rattle.deck.specs.Values.{place_record, stop_record, no_place, no_stop}
 use Rattle.deck.specs.declared.AxisCosts.{AxisCosts}
 use Rattle.deck.specs.declared.Deck.{Deck}
 use Rattle.deck.specs.declared.Rect.{Rect}
@@ -49,34 +50,24 @@ all_stops = counted_lines stops stop
 -- ---- lines as a deck's record holds them
 -- no posts, and no stops
 pub record NoPostsYet (deck : Deck) : Type 0 where
-  pub x_is : deck.post_x ≡ replicate posts_limit (pos 0)
-  pub y_is : deck.post_y ≡ replicate posts_limit (pos 0)
+  pub are : deck.posts ≡ replicate posts_limit no_place
 
 pub record NoStopsYet (deck : Deck) : Type 0 where
-  pub x_is : deck.stop_x ≡ replicate stops_limit (pos 0)
-  pub y_is : deck.stop_y ≡ replicate stops_limit (pos 0)
-  pub visits_is : deck.visits ≡ replicate stops_limit 0
+  pub are : deck.stops ≡ replicate stops_limit no_stop
 
--- a record with the posts of these lines in its arrays, and with as many posts
+-- a record with the posts of these lines in its array, and with as many posts
 abbrev pub with_post_lines : Deck → List (List ℤ) → Deck
-with_post_lines deck lines = record deck {
-  post_x = padded posts_limit (pos 0) (map (λ l. (post_of l).x) lines);
-  post_y = padded posts_limit (pos 0) (map (λ l. (post_of l).y) lines);
-}
+with_post_lines deck lines = record deck { posts = padded posts_limit no_place (map (λ l. place_record (post_of l)) lines) }
 
 abbrev pub with_posts : Deck → List (List ℤ) → Deck
-with_posts deck lines = record (with_post_lines deck lines) { posts = length lines }
+with_posts deck lines = record (with_post_lines deck lines) { post_count = length lines }
 
 -- the same of stops
 abbrev pub with_stop_lines : Deck → List (List ℤ) → Deck
-with_stop_lines deck lines = record deck {
-  stop_x = padded stops_limit (pos 0) (map (λ l. (post_of l).x) lines);
-  stop_y = padded stops_limit (pos 0) (map (λ l. (post_of l).y) lines);
-  visits = padded stops_limit 0 (map (λ l. (stop_of l).visits) lines);
-}
+with_stop_lines deck lines = record deck { stops = padded stops_limit no_stop (map (λ l. stop_record (stop_of l)) lines) }
 
 abbrev pub with_stops : Deck → List (List ℤ) → Deck
-with_stops deck lines = record (with_stop_lines deck lines) { stops = length lines }
+with_stops deck lines = record (with_stop_lines deck lines) { stop_count = length lines }
 
 -- a result as the definitions have it, where these lines were read
 abbrev pub lines_read : List (List ℤ) → Std.Result Unread Refusal → Reading (List (List ℤ))

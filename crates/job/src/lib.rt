@@ -3,7 +3,7 @@
 #![tactic(auto)]
 
 ghost use Rattle.std.specs.Prelude.{◌≡◌, ◌≤◌};
-ghost use Rattle.deck.specs.DeckOf.{held_axis};
+ghost use Rattle.deck.specs.Values.{held_axis};
 ghost use Rattle.deck.specs.Ranges.{CostsInRange};
 ghost use Rattle.job_line.specs.Reading.{area_numbers};
 ghost use Rattle.job.specs.File.{writes_axis};
@@ -11,7 +11,7 @@ ghost use Rattle.job.specs.Format.{area_of, empty_area, check_parts, read_with, 
 ghost use Rattle.job.specs.JobRecord.{job_result};
 ghost use Rattle.job.specs.ManyLines.{AxisAt, NoPostsYet, NoStopsYet, PostsAt, StopsAt, LastAt, RestAt};
 
-use deck::{AxisCosts, Deck, Rect};
+use deck::{AxisCosts, Deck, NO_POST, NO_STOP, Rect};
 use job_line::Unread;
 use limits::{JOB_BYTES, MOST_ROUNDS, POSTS, STOPS};
 use refusal::Refusal;
@@ -46,11 +46,10 @@ fn read_posts<'a>(unread: Unread<'a>, deck: &mut Deck) -> Result<Unread<'a>, Ref
     let (count, mut left) = job_line::count_line(unread, b"posts=", POSTS)?;
     for i in 0..count {
         let (post, next) = job_line::post_line(left)?;
-        deck.post_x[i] = post.x;
-        deck.post_y[i] = post.y;
+        deck.posts[i] = post;
         left = next;
     }
-    deck.posts = count;
+    deck.post_count = count;
     Ok(left)
 }
 
@@ -62,12 +61,10 @@ fn read_stops<'a>(unread: Unread<'a>, deck: &mut Deck) -> Result<Unread<'a>, Ref
     let (count, mut left) = job_line::count_line(unread, b"stops=", STOPS)?;
     for i in 0..count {
         let (stop, next) = job_line::stop_line(left)?;
-        deck.stop_x[i] = stop.at.x;
-        deck.stop_y[i] = stop.at.y;
-        deck.visits[i] = stop.visits;
+        deck.stops[i] = stop;
         left = next;
     }
-    deck.stops = count;
+    deck.stop_count = count;
     Ok(left)
 }
 
@@ -116,28 +113,21 @@ fn read_rest(unread: Unread<'_>, area: Rect, axis: AxisCosts) -> Result<Job, Ref
     ensures { RestAt unread.entry area axis result }
 {
     let mut deck = Deck {
+        area,
         axis,
-        xlo: area.xlo,
-        ylo: area.ylo,
-        xhi: area.xhi,
-        yhi: area.yhi,
-        posts: 0,
-        post_x: [0; POSTS],
-        post_y: [0; POSTS],
-        stops: 0,
-        stop_x: [0; STOPS],
-        stop_y: [0; STOPS],
-        visits: [0; STOPS],
+        post_count: 0,
+        posts: [NO_POST; POSTS],
+        stop_count: 0,
+        stops: [NO_STOP; STOPS],
         near: [0; STOPS],
         before: 0,
     };
     let unread = read_posts(unread, &mut deck)?;
     let unread = read_stops(unread, &mut deck)?;
     let rounds = last_line(unread)?;
-    check_parts(area, deck.posts, deck.stops)?;
-    deck.near = deck::nears_of(axis, deck.post_places(), deck.stop_columns().at);
-    let filled = deck.stop_columns();
-    deck.before = deck::before_of(filled.visits, filled.near);
+    check_parts(area, deck.post_count, deck.stop_count)?;
+    deck.near = columns::nears_of(axis, deck.listed_posts(), deck.listed_stops());
+    deck.before = columns::before_of(deck.listed_stops(), deck.listed_near());
     Ok(Job { rounds, deck })
 }
 

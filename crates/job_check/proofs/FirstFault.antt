@@ -8,7 +8,7 @@ use lib.IntN.{ℤ}
 use lib.ListN.{length, get_or, take, drop, length-take, length-map, drop_of_length-le, get_or-map}
 use Rattle.numbers.proofs.Joined.{drop_next}
 use Rattle.deck.specs.DeckOf.{places, stops_of}
-use Rattle.deck.proofs.ClosestLaws.{zip_take, places_length}
+use Rattle.columns.proofs.ClosestLaws.{zip_take, places_length}
 use Rattle.deck.proofs.DeckLaws.{place_of, stop_of, stops_length}
 use Rattle.job.specs.Spelling.{JobLine, post_line, stop_line}
 use Rattle.refusal.specs.declared.Refusal.{Refusal}

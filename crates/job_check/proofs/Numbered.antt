@@ -16,8 +16,8 @@ use Rattle.std.specs.Iterator.Adapters.{zip_first, zip_second}
 use Rattle.std.specs.Option.{MatchOption}
 use Rattle.std.specs.Slice.Iter.{iter_rest}
 use Rattle.deck.specs.DeckOf.{places, stops_of}
-use Rattle.deck.proofs.ClosestLaws.{places_length}
-use Rattle.deck.proofs.ColumnLoops.{places_yielded, stops_yielded, yielded_place, yielded_stop}
+use Rattle.columns.proofs.ClosestLaws.{places_length}
+use Rattle.columns.proofs.ColumnLoops.{places_yielded, stops_yielded, yielded_place, yielded_stop}
 use Rattle.deck.proofs.DeckLaws.{stops_length}
 
 -- items, numbered from n on

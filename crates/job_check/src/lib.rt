@@ -1,9 +1,10 @@
 // The refusal that reading the file of a deck's record and rounds would give (RULES "Change 1"), found from their numbers.
 #![tactic(auto)]
 
-ghost use Rattle.std.specs.Prelude.{◌≡◌, cond, [], ◌∷◌, map, ◌≤◌, pos, length, take};
+ghost use Rattle.std.specs.Prelude.{◌≡◌, cond, [], ◌∷◌, map, ◌≤◌, pos, length};
 ghost use Rattle.query.specs.Range.{posts_limit, stops_limit};
-ghost use Rattle.deck.specs.DeckOf.{held_axis, places, stops_of};
+ghost use Rattle.deck.specs.DeckOf.{deck_of};
+ghost use Rattle.deck.specs.Values.{held_axis, place_of, stop_of};
 ghost use Rattle.job_line.specs.Kinds.{area, axis, posts, post, stops, stop, up_to, row};
 ghost use Rattle.job_line.specs.Reading.{area_numbers, cost_numbers, place_numbers, stop_numbers};
 ghost use Rattle.job.specs.Format.{read_text};
@@ -12,7 +13,7 @@ ghost use Rattle.job.specs.File.{writes_axis, file_text};
 ghost use Rattle.job_check.specs.LineFaults.{short, all_short, tested_fault, numbers_fault, first_fault};
 ghost use Rattle.job_check.specs.LineFaults.{refusal_in, checked_as};
 
-use deck::{AxisCosts, Deck, Place, Places, Rect, Stop, Stops};
+use deck::{AxisCosts, Deck, Place, Rect, Stop};
 use limits::{MOST_ROUNDS, POSTS, STOPS};
 use refusal::Refusal;
 
@@ -104,29 +105,23 @@ fn stop_line(s: Stop, line: u64) -> Result<(), Refusal>
 // ---- many lines
 
 // The lines of posts, from line `first` on.
-fn post_lines(posts: Places<'_>, first: u64) -> Result<(), Refusal>
-    requires { (length posts.x.now ≤ posts_limit) × (first ≤ 1000) }
-    ensures { checked_as result ≡ first_fault first (map post_line (places posts.entry.x.now posts.entry.y.now)) }
+fn post_lines(posts: &[Place], first: u64) -> Result<(), Refusal>
+    requires { (length posts.now ≤ posts_limit) × (first ≤ 1000) }
+    ensures { checked_as result ≡ first_fault first (map post_line (map place_of posts.now)) }
 {
-    for ((x, y), line) in posts.x.iter().zip(posts.y).zip(first..) {
-        post_line(Place { x: *x, y: *y }, line)?;
+    for (post, line) in posts.iter().zip(first..) {
+        post_line(*post, line)?;
     }
     Ok(())
 }
 
 // The lines of stops, from line `first` on.
-fn stop_lines(stops: Stops<'_>, first: u64) -> Result<(), Refusal>
-    requires { (length stops.at.x.now ≤ stops_limit) × (first ≤ 1000) }
-    ensures { checked_as result ≡ first_fault first
-        (map stop_line (stops_of (places stops.entry.at.x.now stops.entry.at.y.now) stops.entry.visits.now)) }
+fn stop_lines(stops: &[Stop], first: u64) -> Result<(), Refusal>
+    requires { (length stops.now ≤ stops_limit) × (first ≤ 1000) }
+    ensures { checked_as result ≡ first_fault first (map stop_line (map stop_of stops.now)) }
 {
-    let columns = stops.at.x.iter().zip(stops.at.y).zip(stops.visits);
-    for (((x, y), v), line) in columns.zip(first..) {
-        let stop = Stop {
-            at: Place { x: *x, y: *y },
-            visits: *v,
-        };
-        stop_line(stop, line)?;
+    for (stop, line) in stops.iter().zip(first..) {
+        stop_line(*stop, line)?;
     }
     Ok(())
 }
@@ -135,20 +130,20 @@ fn stop_lines(stops: Stops<'_>, first: u64) -> Result<(), Refusal>
 fn all_posts(deck: &Deck, line: u64) -> Result<(), Refusal>
     requires { line ≤ 900 }
     ensures { checked_as result ≡ first_fault line
-        (count_line posts deck.now.posts ∷ map post_line (take deck.now.posts (places deck.now.post_x deck.now.post_y))) }
+        (count_line posts deck.now.post_count ∷ map post_line (deck_of deck.now).posts) }
 {
-    count_line(deck.posts as u64, POSTS, line)?;
-    post_lines(deck.post_places(), line + 1)
+    count_line(deck.post_count as u64, POSTS, line)?;
+    post_lines(deck.listed_posts(), line + 1)
 }
 
 // The line `stops=n`, which is line `line`, and the lines of the stops.
 fn all_stops(deck: &Deck, line: u64) -> Result<(), Refusal>
     requires { line ≤ 900 }
-    ensures { checked_as result ≡ first_fault line (count_line stops deck.now.stops
-        ∷ map stop_line (take deck.now.stops (stops_of (places deck.now.stop_x deck.now.stop_y) deck.now.visits))) }
+    ensures { checked_as result ≡ first_fault line
+        (count_line stops deck.now.stop_count ∷ map stop_line (deck_of deck.now).stops) }
 {
-    count_line(deck.stops as u64, STOPS, line)?;
-    stop_lines(deck.stop_columns(), line + 1)
+    count_line(deck.stop_count as u64, STOPS, line)?;
+    stop_lines(deck.listed_stops(), line + 1)
 }
 
 // ---- the file
@@ -165,14 +160,13 @@ fn posts_at(c: AxisCosts) -> u64
 pub fn check(deck: &Deck, rounds: u64) -> Result<(), Refusal>
     ensures { checked_as result ≡ refusal_in (read_text (file_text deck.now rounds)) }
 {
-    let area = deck.area();
-    area_line(area)?;
+    area_line(deck.area)?;
     // costs of 1 and 1, which have no line, have no fault either
     axis_line(deck.axis)?;
     let first = posts_at(deck.axis);
     all_posts(deck, first)?;
-    let line = first + 1 + deck.posts as u64;
+    let line = first + 1 + deck.post_count as u64;
     all_stops(deck, line)?;
-    count_line(rounds, MOST_ROUNDS, line + 1 + deck.stops as u64)?;
-    job::check_parts(area, deck.posts, deck.stops)
+    count_line(rounds, MOST_ROUNDS, line + 1 + deck.stop_count as u64)?;
+    job::check_parts(deck.area, deck.post_count, deck.stop_count)
 }

@@ -17,7 +17,7 @@ use Rattle.write.specs.declared.Writer.{Writer}
 use Rattle.write.specs.Written.{HasRoom, Wrote}
 use Rattle.write.proofs.WrittenLaws.{wrote_both}
 use Rattle.deck.specs.DeckOf.{places, stops_of}
-use Rattle.deck.proofs.ColumnLoops.{places_taken, stops_taken}
+use Rattle.columns.proofs.ColumnLoops.{places_taken, stops_taken}
 use Rattle.job_line.specs.Kinds.{Kind, row, end_of}
 use Rattle.job.specs.Spelling.{JobLine, area_line, axis_line, count_line, post_line, stop_line, spell_numbers, spell_line}
 use Rattle.job.specs.File.{writes_axis}

@@ -1,16 +1,16 @@
 // The file of a deck's record and rounds (RULES "Change 1"): its length, and its bytes written into an output that has room for them.
 #![tactic(auto)]
 
-ghost use Rattle.std.specs.Prelude.{◌≡◌, [], ◌∷◌, ◌++◌, ◌+◌, ◌*◌, ◌≤◌, pos, length};
+ghost use Rattle.std.specs.Prelude.{◌≡◌, [], ◌∷◌, ◌++◌, ◌+◌, ◌*◌, ◌≤◌, map, pos, length};
 ghost use Rattle.query.specs.Range.{posts_limit, stops_limit};
 ghost use Rattle.text.specs.Ascii.{newline};
 ghost use Rattle.text.specs.Decimal.{spell_int};
 ghost use Rattle.write.specs.Written.{HasRoom, Overwrote, Wrote};
-ghost use Rattle.deck.specs.DeckOf.{held_axis};
+ghost use Rattle.deck.specs.Values.{held_axis, rect_of, place_of, stop_of};
 ghost use Rattle.job.specs.File.{file_text};
-ghost use Rattle.job_file.specs.Texts.{number_text, place_text, axis_text, post_text, stop_text, post_texts, stop_texts};
+ghost use Rattle.job_file.specs.Texts.{number_text, place_text, area_text, axis_text, post_text, stop_text, post_texts, stop_texts};
 
-use deck::{AxisCosts, Deck, Place, Places, Stop, Stops};
+use deck::{AxisCosts, Deck, Place, Rect, Stop};
 use write::{Decimal, Writer};
 
 // ---- lengths
@@ -21,6 +21,14 @@ fn place_len(p: Place) -> usize
     ensures upper_bound { result ≤ 44 }
 {
     p.x.text_len() + p.y.text_len() + 2
+}
+
+// The line of the area.
+fn area_len(r: Rect) -> usize
+    ensures value { result ≡ length (area_text (rect_of r)) }
+    ensures upper_bound { result ≤ 93 }
+{
+    5 + place_len(r.low()) + place_len(r.high())
 }
 
 // The line of axis costs: nothing where the file has none.
@@ -36,51 +44,42 @@ fn axis_len(c: AxisCosts) -> usize
 }
 
 // The lines of posts.
-fn posts_len(posts: Places<'_>) -> usize
-    requires { length posts.x.now ≤ posts_limit }
-    ensures value { result ≡ length (post_texts posts.entry.x.now posts.entry.y.now (length posts.entry.x.now)) }
-    ensures upper_bound { result ≤ length posts.entry.x.now * 49 }
+fn posts_len(posts: &[Place]) -> usize
+    requires { length posts.now ≤ posts_limit }
+    ensures value { result ≡ length (post_texts (map place_of posts.now)) }
+    ensures upper_bound { result ≤ length posts.now * 49 }
 {
     let mut len: usize = 0;
-    for (x, y) in posts.x.iter().zip(posts.y) {
-        len += 5 + place_len(Place { x: *x, y: *y });
+    for post in posts {
+        len += 5 + place_len(*post);
     }
     len
 }
 
 // The lines of stops.
-fn stops_len(stops: Stops<'_>) -> usize
-    requires { length stops.at.x.now ≤ stops_limit }
-    ensures value { result
-        ≡ length (stop_texts stops.entry.at.x.now stops.entry.at.y.now stops.entry.visits.now (length stops.entry.at.x.now)) }
-    ensures upper_bound { result ≤ length stops.entry.at.x.now * 70 }
+fn stops_len(stops: &[Stop]) -> usize
+    requires { length stops.now ≤ stops_limit }
+    ensures value { result ≡ length (stop_texts (map stop_of stops.now)) }
+    ensures upper_bound { result ≤ length stops.now * 70 }
 {
     let mut len: usize = 0;
-    for ((x, y), v) in stops.at.x.iter().zip(stops.at.y).zip(stops.visits) {
-        len += 5 + place_len(Place { x: *x, y: *y }) + v.text_len() + 1;
+    for stop in stops {
+        len += 5 + place_len(stop.at) + stop.visits.text_len() + 1;
     }
     len
 }
 
 /// How many bytes the file of a record and these rounds takes.
 pub fn file_len(deck: &Deck, rounds: u64) -> usize
-    requires { (deck.now.posts ≤ posts_limit) × (deck.now.stops ≤ stops_limit) }
+    requires { (deck.now.post_count ≤ posts_limit) × (deck.now.stop_count ≤ stops_limit) }
     ensures { result ≡ length (file_text deck.now rounds) }
 {
-    let posts = posts_len(deck.post_places());
-    let stops = stops_len(deck.stop_columns());
-    let low = Place {
-        x: deck.xlo,
-        y: deck.ylo,
-    };
-    let high = Place {
-        x: deck.xhi,
-        y: deck.yhi,
-    };
-    let area_line = 5 + place_len(low) + place_len(high);
+    let area_line = area_len(deck.area);
     let axis_line = axis_len(deck.axis);
-    let posts_line = 6 + (deck.posts as u64).text_len() + 1;
-    let stops_line = 6 + (deck.stops as u64).text_len() + 1;
+    let posts_line = 6 + (deck.post_count as u64).text_len() + 1;
+    let posts = posts_len(deck.listed_posts());
+    let stops_line = 6 + (deck.stop_count as u64).text_len() + 1;
+    let stops = stops_len(deck.listed_stops());
     let rounds_line = 7 + rounds.text_len() + 1;
     area_line + axis_line + posts_line + posts + stops_line + stops + rounds_line
 }
@@ -115,6 +114,16 @@ fn put_count(w: &mut Writer, key: &[u8], n: u64)
     put_number(w, n, b'\n');
 }
 
+// `area=xlo,ylo,xhi,yhi`
+fn put_area(w: &mut Writer, r: Rect)
+    requires { HasRoom w.old (length (area_text (rect_of r))) }
+    ensures { Wrote w.old (area_text (rect_of r)) w.new }
+{
+    w.put(b"area=");
+    put_place(w, r.low(), b',');
+    put_place(w, r.high(), b'\n');
+}
+
 // `axis=a,b`: nothing where the file has no such line.
 fn put_axis(w: &mut Writer, c: AxisCosts)
     requires { HasRoom w.old (length (axis_text (held_axis c))) }
@@ -130,8 +139,8 @@ fn put_axis(w: &mut Writer, c: AxisCosts)
 
 // `post=x,y`
 fn put_post(w: &mut Writer, p: Place)
-    requires { HasRoom w.old (length (post_text p.x p.y)) }
-    ensures { Wrote w.old (post_text p.x p.y) w.new }
+    requires { HasRoom w.old (length (post_text (place_of p))) }
+    ensures { Wrote w.old (post_text (place_of p)) w.new }
 {
     w.put(b"post=");
     put_place(w, p, b'\n');
@@ -139,8 +148,8 @@ fn put_post(w: &mut Writer, p: Place)
 
 // `stop=x,y,visits`
 fn put_stop(w: &mut Writer, s: Stop)
-    requires { HasRoom w.old (length (stop_text s.at.x s.at.y s.visits)) }
-    ensures { Wrote w.old (stop_text s.at.x s.at.y s.visits) w.new }
+    requires { HasRoom w.old (length (stop_text (stop_of s))) }
+    ensures { Wrote w.old (stop_text (stop_of s)) w.new }
 {
     w.put(b"stop=");
     put_place(w, s.at, b',');
@@ -150,24 +159,22 @@ fn put_stop(w: &mut Writer, s: Stop)
 // ---- many lines
 
 // The lines of posts.
-fn put_posts(w: &mut Writer, posts: Places<'_>)
-    requires { HasRoom w.old (length (post_texts posts.x.now posts.y.now (length posts.x.now))) }
-    ensures { Wrote w.old (post_texts posts.entry.x.now posts.entry.y.now (length posts.entry.x.now)) w.new }
+fn put_posts(w: &mut Writer, posts: &[Place])
+    requires { HasRoom w.old (length (post_texts (map place_of posts.now))) }
+    ensures { Wrote w.old (post_texts (map place_of posts.now)) w.new }
 {
-    for (x, y) in posts.x.iter().zip(posts.y) {
-        put_post(w, Place { x: *x, y: *y });
+    for post in posts {
+        put_post(w, *post);
     }
 }
 
 // The lines of stops.
-fn put_stops(w: &mut Writer, stops: Stops<'_>)
-    requires { HasRoom w.old (length (stop_texts stops.at.x.now stops.at.y.now stops.visits.now (length stops.at.x.now))) }
-    ensures { Wrote w.old
-        (stop_texts stops.entry.at.x.now stops.entry.at.y.now stops.entry.visits.now (length stops.entry.at.x.now)) w.new }
+fn put_stops(w: &mut Writer, stops: &[Stop])
+    requires { HasRoom w.old (length (stop_texts (map stop_of stops.now))) }
+    ensures { Wrote w.old (stop_texts (map stop_of stops.now)) w.new }
 {
-    for ((x, y), v) in stops.at.x.iter().zip(stops.at.y).zip(stops.visits) {
-        let at = Place { x: *x, y: *y };
-        put_stop(w, Stop { at, visits: *v });
+    for stop in stops {
+        put_stop(w, *stop);
     }
 }
 
@@ -176,26 +183,16 @@ fn put_stops(w: &mut Writer, stops: Stops<'_>)
 /// Writes the file of a record and these rounds over the first bytes of `out`, which has room for it, and gives how many bytes it takes.
 /// Any numbers are written, also those that a reader would refuse; the bytes of `out` behind the file stay.
 pub fn put_file(deck: &Deck, rounds: u64, out: &mut [u8]) -> usize
-    requires { (deck.now.posts ≤ posts_limit) × (deck.now.stops ≤ stops_limit) × (length (file_text deck.now rounds) ≤ length out.old) }
+    requires { (deck.now.post_count ≤ posts_limit) × (deck.now.stop_count ≤ stops_limit) × (length (file_text deck.now rounds) ≤ length out.old) }
     ensures { Overwrote out.old (file_text deck.now rounds) out.new result }
 {
-    let low = Place {
-        x: deck.xlo,
-        y: deck.ylo,
-    };
-    let high = Place {
-        x: deck.xhi,
-        y: deck.yhi,
-    };
     let mut w = Writer::new(out);
-    w.put(b"area=");
-    put_place(&mut w, low, b',');
-    put_place(&mut w, high, b'\n');
+    put_area(&mut w, deck.area);
     put_axis(&mut w, deck.axis);
-    put_count(&mut w, b"posts=", deck.posts as u64);
-    put_posts(&mut w, deck.post_places());
-    put_count(&mut w, b"stops=", deck.stops as u64);
-    put_stops(&mut w, deck.stop_columns());
+    put_count(&mut w, b"posts=", deck.post_count as u64);
+    put_posts(&mut w, deck.listed_posts());
+    put_count(&mut w, b"stops=", deck.stop_count as u64);
+    put_stops(&mut w, deck.listed_stops());
     put_count(&mut w, b"rounds=", rounds);
     w.len()
 }

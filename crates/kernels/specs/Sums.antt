@@ -12,7 +12,7 @@ use Rattle.query.specs.Bound.{bound}
 use Rattle.query.specs.CornerBound.{load, corner_bound}
 use Rattle.query.specs.Grid.{grid}
 use Rattle.job.specs.Format.{Result}
-use Rattle.deck.specs.Rectangle.{place_of, rect_of}
+use Rattle.deck.specs.Values.{place_of, rect_of}
 use Rattle.deck.specs.declared.Place as Code
 use Rattle.deck.specs.declared.Rect as Held
 use Rattle.reach.specs.Columns.{Ranged}

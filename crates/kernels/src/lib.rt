@@ -143,7 +143,7 @@ impl Kernel for Near {
 
     fn at(o: &Opened, t: u64) -> u64 {
         let deck = &o.deck;
-        let near = deck::nears_of(deck.axis, deck.post_places(), deck.stop_columns().at);
+        let near = columns::nears_of(deck.axis, deck.listed_posts(), deck.listed_stops());
         near[(t % STOPS as u64) as usize]
     }
 }

@@ -14,11 +14,12 @@ use Rattle.query.specs.Deck.{AxisCosts}
 use Rattle.query.specs.Travel.{travel}
 use Rattle.query.specs.Range.{PlaceInRange, coordinate_limit, stops_limit, travel_limit}
 use Rattle.deck.specs.DeckOf.{places}
-use Rattle.deck.specs.Ranges.{CostsInRange, PlacesInRange}
-use Rattle.deck.proofs.WordLaws.{wide}
+use Rattle.deck.specs.Ranges.{CostsInRange}
+use Rattle.columns.specs.Ranges.{PlacesInRange}
+use Rattle.columns.proofs.WordLaws.{wide}
 use Rattle.deck.proofs.DeckLaws.{place_of}
-use Rattle.deck.proofs.ClosestLaws.{zip_length, zip_at, place_at, places_length, places_at}
-use Rattle.deck.proofs.CopyLaws.{Copied, copied_more, copied_next}
+use Rattle.columns.proofs.ClosestLaws.{zip_length, zip_at, place_at, places_length, places_at}
+use Rattle.columns.proofs.CopyLaws.{Copied, copied_more, copied_next}
 
 -- ---- travel between two places in range, of the distances that were found of words
 module _ {axis : AxisCosts} {ux uy vx vy : ℤ} (costs : CostsInRange axis) (p : PlaceInRange (place_of ux uy)) (q : PlaceInRange (place_of vx vy)) where

@@ -9,8 +9,8 @@ use Rattle.numbers.proofs.Truth.{holds, fails}
 use Rattle.query.specs.Place.{Place}
 use Rattle.query.specs.Deck.{AxisCosts, plain}
 use Rattle.query.specs.Travel.{travel, closest}
-use Rattle.deck.specs.Objects.{scaled_place}
-use Rattle.deck.proofs.ClosestLaws.{closest_scaled}
+use Rattle.columns.specs.Objects.{scaled_place}
+use Rattle.columns.proofs.ClosestLaws.{closest_scaled}
 use Rattle.near_change.specs.NearChange.{near_without, near_but}
 use Rattle.items.proofs.ItemValues.{same_natural}
 

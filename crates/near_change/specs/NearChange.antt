@@ -3,7 +3,7 @@ use Rattle.std.specs.Prelude.{ℕ, min, cond, List, eqb}
 use Rattle.query.specs.Place.{Place}
 use Rattle.query.specs.Deck.{AxisCosts, plain}
 use Rattle.query.specs.Travel.{travel, closest}
-use Rattle.deck.specs.Objects.{scaled_place}
+use Rattle.columns.specs.Objects.{scaled_place}
 
 -- of a stop at q with one more post
 unfoldable pub near_with : AxisCosts → Place → Place → ℕ → ℕ

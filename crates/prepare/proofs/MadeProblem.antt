@@ -10,16 +10,16 @@ use Rattle.query.specs.Lines.{lines}
 use Rattle.deck.specs.declared.Deck.{Deck}
 use Rattle.deck.specs.declared.Rect.{Rect}
 use Rattle.deck.specs.DeckOf.{deck_of}
-use Rattle.deck.specs.Rectangle.{rect_of, rect_record}
-use Rattle.deck.specs.Objects.{pricing_of}
-use Rattle.deck.specs.ObjectColumns.{columns_of, pricing_in}
+use Rattle.deck.specs.Values.{rect_of, rect_record}
+use Rattle.columns.specs.Objects.{pricing_of}
+use Rattle.columns.specs.ObjectColumns.{columns_of, pricing_in}
 use Rattle.deck.specs.Sound.{Sound}
 use Rattle.deck.proofs.DeckLaws.{stops_x, stops_y}
 use Rattle.deck.proofs.SoundLaws.{sound_columns, sound_stops}
 use Rattle.reach.specs.ObjectReach.{flags_of}
 use Rattle.reach.specs.Columns.{Ranged}
 use Rattle.reach.specs.Held.{columns_of_objects, count_of_objects, pricing_of_objects}
-use Rattle.reach.specs.declared.columns.Objects.{Objects}
+use Rattle.reach.specs.declared.objects.Objects.{Objects}
 use Rattle.reach.proofs.ReachLaws.{flags_law}
 use Rattle.reach.proofs.RecordLaws.{made_pricing}
 use Rattle.lines.specs.LineRecord.{flagged, lines_between}

@@ -5,10 +5,10 @@ use Rattle.query.specs.Place.{x_axis, y_axis}
 use Rattle.query.specs.Deck as Query
 use Rattle.query.specs.Lines.{lines}
 use Rattle.query.specs.Cost.{before}
-use Rattle.deck.specs.Rectangle.{rect_record}
+use Rattle.deck.specs.Values.{rect_record}
 use Rattle.deck.specs.declared.Rect.{Rect}
-use Rattle.deck.specs.Objects.{pricing_of}
-use Rattle.deck.specs.ObjectColumns.{columns_of}
+use Rattle.columns.specs.Objects.{pricing_of}
+use Rattle.columns.specs.ObjectColumns.{columns_of}
 use Rattle.reach.specs.Held.{columns_of_objects, count_of_objects}
 use Rattle.refusal.specs.declared.Refusal.{Refusal}
 use Rattle.job.specs.Format.{Result, refused, accepted}

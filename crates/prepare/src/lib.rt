@@ -7,7 +7,7 @@ ghost use Rattle.deck.specs.Sound.{Sound};
 ghost use Rattle.job.specs.Format.{read_job};
 ghost use Rattle.prepare.specs.ProblemRecord.{parts_in, problem_record, given_by, given_for};
 
-use deck::{Deck, Rect};
+use deck::{Axis, Deck, Rect};
 use lines::Lines;
 use reach::Objects;
 use refusal::Refusal;
@@ -35,13 +35,12 @@ fn of_deck(deck: &Deck) -> Problem
     requires { Sound deck.now }
     ensures { parts_in result ≡ problem_record (deck_of deck.now) }
 {
-    let n = deck.stops;
-    let area = deck.area();
-    let stops = deck.stop_columns();
-    let objects = Objects::of_stops(deck.axis, stops);
+    let area = deck.area;
+    let stops = deck.listed_stops();
+    let objects = Objects::of_stops(deck.axis, stops, deck.listed_near());
     let flags = reach::reach_flags(&objects, area);
-    let vertical = lines::find_lines(stops.at.x, &flags[..n], area.xlo, area.xhi);
-    let horizontal = lines::find_lines(stops.at.y, &flags[..n], area.ylo, area.yhi);
+    let vertical = lines::find_lines(stops, &flags, area, Axis::X);
+    let horizontal = lines::find_lines(stops, &flags, area, Axis::Y);
     Problem {
         area,
         objects,

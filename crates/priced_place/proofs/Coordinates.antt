@@ -4,7 +4,7 @@ use Prim.Native.Nat.{◌≤◌}
 use lib.IntN.{ℤ, nat_abs}
 use Rattle.numbers.proofs.WordTests.{back}
 use Rattle.query.specs.Range.{PlaceInRange, coordinate_limit}
-use Rattle.deck.specs.Objects.{Pricing}
+use Rattle.columns.specs.Objects.{Pricing}
 use Rattle.prepare.proofs.Coordinates.{near_back}
 use Rattle.priced_place.specs.declared.PricedPlace.{PricedPlace}
 use Rattle.priced_place.specs.ObjectProblem.{priced_place_of}

@@ -8,9 +8,9 @@ use Rattle.query.specs.Grid.{grid}
 use Rattle.query.specs.Lines.{lines}
 use Rattle.query.specs.Problem.{problem}
 use Rattle.query.specs.Range.{InRange}
-use Rattle.deck.specs.Rectangle.{rect_of}
-use Rattle.deck.specs.Objects.{pricing_of}
-use Rattle.deck.specs.ObjectColumns.{pricing_in, columns_of}
+use Rattle.deck.specs.Values.{rect_of}
+use Rattle.columns.specs.Objects.{pricing_of}
+use Rattle.columns.specs.ObjectColumns.{pricing_in, columns_of}
 use Rattle.reach.specs.Columns.{Ranged}
 use Rattle.reach.specs.Held.{columns_of_objects, count_of_objects, pricing_of_objects}
 use Rattle.reach.proofs.RecordLaws.{made_pricing}

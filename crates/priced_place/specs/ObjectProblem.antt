@@ -4,8 +4,8 @@ use Rattle.query.specs.Place.{Place, Rect}
 use Rattle.query.specs.Grid.{Grid}
 use Rattle.query.specs.Problem.{Rules, Problem}
 use Rattle.query.specs.Order.{Priced}
-use Rattle.deck.specs.Rectangle.{place_of}
-use Rattle.deck.specs.Objects.{Pricing}
+use Rattle.deck.specs.Values.{place_of}
+use Rattle.columns.specs.Objects.{Pricing}
 use Rattle.pricing.specs.ObjectFigures.{cost_of, bound_of}
 use Rattle.priced_place.specs.declared.PricedPlace.{PricedPlace}
 

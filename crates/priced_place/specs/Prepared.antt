@@ -5,9 +5,9 @@ use Rattle.query.specs.Deck as Query
 use Rattle.query.specs.Lines.{lines}
 use Rattle.query.specs.Problem as QueryProblem
 use Rattle.query.specs.Range.{InRange}
-use Rattle.deck.specs.Rectangle.{rect_of}
-use Rattle.deck.specs.Objects.{pricing_of}
-use Rattle.deck.specs.ObjectColumns.{columns_of}
+use Rattle.deck.specs.Values.{rect_of}
+use Rattle.columns.specs.Objects.{pricing_of}
+use Rattle.columns.specs.ObjectColumns.{columns_of}
 use Rattle.reach.specs.Held.{columns_of_objects, count_of_objects, pricing_of_objects}
 use Rattle.lines.specs.LineRecord.{grid_of}
 use Rattle.prepare.specs.declared.Problem.{Problem}

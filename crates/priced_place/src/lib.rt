@@ -3,7 +3,7 @@
 
 ghost use Rattle.std.specs.Prelude.{◌≡◌};
 ghost use Rattle.query.specs.Range.{PlaceInRange};
-ghost use Rattle.deck.specs.Rectangle.{place_of};
+ghost use Rattle.deck.specs.Values.{place_of};
 ghost use Rattle.reach.specs.Held.{pricing_of_objects};
 ghost use Rattle.priced_place.specs.ObjectProblem.{priced_place_of, priced_place_at};
 

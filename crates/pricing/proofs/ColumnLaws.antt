@@ -6,9 +6,9 @@ use native.Mathlib.Numerals.{add-one}
 use native.Mathlib.Omega.{arith}
 use lib.IntN.{ℤ}
 use Rattle.numbers.specs.Lists.{sum_of}
-use Rattle.deck.specs.Objects.{Object}
-use Rattle.deck.specs.ObjectColumns.{object_at, objects_in}
-use Rattle.deck.proofs.ColumnLaws.{objects_in_none, objects_in_more}
+use Rattle.columns.specs.Objects.{Object}
+use Rattle.columns.specs.ObjectColumns.{object_at, objects_in}
+use Rattle.columns.proofs.ColumnLaws.{objects_in_none, objects_in_more}
 
 module _ (f : Object → ℕ) where
   sum_snoc : (xs : List Object) (x : Object) → sum_of f (xs ++ x ∷ []) ≡ sum_of f xs + f x

@@ -10,8 +10,8 @@ use Rattle.query.specs.Travel.{travel}
 use Rattle.query.specs.Cost.{cost, before}
 use Rattle.query.specs.Bound.{bound}
 use Rattle.query.proofs.CostLaws.{cost_sum, bound_sum}
-use Rattle.deck.specs.Objects.{scaled_place, scaled_rect, Object, objects_of, Pricing, pricing_of}
-use Rattle.deck.proofs.TravelLaws.{travel_scaled}
+use Rattle.columns.specs.Objects.{scaled_place, scaled_rect, Object, objects_of, Pricing, pricing_of}
+use Rattle.columns.proofs.TravelLaws.{travel_scaled}
 use Rattle.reach.specs.ObjectReach.{travel_to_of}
 use Rattle.reach.proofs.ReachLaws.{travel_to_scaled, object_of, objects_of_map, travel_to_law}
 use Rattle.pricing.specs.ObjectFigures.{cost_of, before_of, bound_of}

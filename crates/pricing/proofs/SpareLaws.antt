@@ -18,10 +18,10 @@ use Rattle.query.specs.Place.{Place, Rect}
 use Rattle.query.specs.Deck.{plain}
 use Rattle.query.specs.Travel.{travel}
 use Rattle.query.specs.Range.{cost_limit, travel_limit}
-use Rattle.deck.specs.Objects.{Object, scaled_place, scaled_rect}
-use Rattle.deck.specs.ObjectColumns.{object_at, objects_in, axis_in, pricing_in}
+use Rattle.columns.specs.Objects.{Object, scaled_place, scaled_rect}
+use Rattle.columns.specs.ObjectColumns.{object_at, objects_in, axis_in, pricing_in}
 use Rattle.reach.specs.Held.{object_of_row}
-use Rattle.reach.specs.declared.columns.Row.{Row}
+use Rattle.reach.specs.declared.objects.Row.{Row}
 use Rattle.reach.proofs.NarrowLaws.{word, number_word}
 use Rattle.reach.proofs.ReachLaws.{travel_to_scaled}
 use Rattle.pricing.specs.ObjectFigures.{cost_of, before_of, bound_of, Figure}

@@ -14,15 +14,15 @@ use Rattle.query.specs.Place.{Place}
 use Rattle.query.specs.Deck.{plain}
 use Rattle.query.specs.Travel.{travel}
 use Rattle.query.specs.Range.{cost_limit, visits_limit, travel_limit}
-use Rattle.deck.specs.Columns.{y_column, visits_column, near_column}
-use Rattle.deck.specs.Objects.{Object, scaled_place}
-use Rattle.deck.specs.Ranges.{ScaledPlaceInRange, scaled_limit}
-use Rattle.deck.specs.declared.ScaledPlace.{ScaledPlace}
-use Rattle.deck.proofs.TravelLaws.{far, travel_plain}
-use Rattle.deck.specs.ObjectColumns.{object_at, axis_in, pricing_in}
+use Rattle.columns.specs.Columns.{y_column, visits_column, near_column}
+use Rattle.columns.specs.Objects.{Object, scaled_place}
+use Rattle.columns.specs.Ranges.{ScaledPlaceInRange, scaled_limit}
+use Rattle.columns.specs.declared.ScaledPlace.{ScaledPlace}
+use Rattle.columns.proofs.TravelLaws.{far, travel_plain}
+use Rattle.columns.specs.ObjectColumns.{object_at, axis_in, pricing_in}
 use Rattle.reach.specs.Columns.{ObjectInRange, Priceable}
 use Rattle.reach.specs.Held.{object_of_row, edges_rect}
-use Rattle.reach.specs.declared.columns.Row.{Row}
+use Rattle.reach.specs.declared.objects.Row.{Row}
 use Rattle.reach.specs.declared.rectangle.Edges.{Edges}
 use Rattle.reach.proofs.ExcessLaws.{away, away_most}
 use Rattle.reach.proofs.NarrowLaws.{word, number_word}

@@ -5,7 +5,7 @@ use Rattle.query.specs.Place.{Place, Rect, corner}
 use Rattle.query.specs.Deck.{plain}
 use Rattle.query.specs.Travel.{travel}
 use Rattle.query.specs.Range.{cost_limit}
-use Rattle.deck.specs.Objects.{scaled_place, Pricing}
+use Rattle.columns.specs.Objects.{scaled_place, Pricing}
 use Rattle.reach.specs.ObjectReach.{travel_to_of}
 use Rattle.pricing.specs.declared.PartFigures.{PartFigures}
 

@@ -4,9 +4,9 @@ use Rattle.query.specs.Place.{Place, Rect}
 use Rattle.query.specs.Deck.{plain}
 use Rattle.query.specs.Travel.{travel}
 use Rattle.query.specs.Reach.{closest_point}
-use Rattle.deck.specs.declared.ScaledPlace.{ScaledPlace}
-use Rattle.deck.specs.Objects.{Object}
-use Rattle.deck.specs.ObjectColumns.{object_at}
+use Rattle.columns.specs.declared.ScaledPlace.{ScaledPlace}
+use Rattle.columns.specs.Objects.{Object}
+use Rattle.columns.specs.ObjectColumns.{object_at}
 use Rattle.pricing.specs.declared.Spared.{Spared}
 
 abbrev pub scaled_place_of : ScaledPlace → Place

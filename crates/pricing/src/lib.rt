@@ -4,13 +4,14 @@
 
 ghost use Rattle.std.specs.Prelude.{◌≡◌, ◌-◌, ◌*◌, ◌≤◌, min, pos, nat_abs, ◌≤ℤ◌};
 ghost use Rattle.query.specs.Range.{cost_limit, travel_limit, visits_limit, PlaceInRange};
-ghost use Rattle.deck.specs.Rectangle.{place_of, rect_of};
+ghost use Rattle.deck.specs.Values.{place_of, rect_of};
 ghost use Rattle.reach.specs.Columns.{Ranged};
 ghost use Rattle.reach.specs.Held.{columns_of_objects, count_of_objects, edges_rect, pricing_of_objects};
 ghost use Rattle.pricing.specs.ObjectFigures.{cost_of, before_of, bound_of, Figure, PartsPriced};
 ghost use Rattle.pricing.specs.Spared.{scaled_place_of, SparedBy};
 
-use deck::{Place, Rect, ScaledPlace};
+use columns::ScaledPlace;
+use deck::{Place, Rect};
 use limits::STOPS;
 use reach::{Edges, Objects, Row};
 

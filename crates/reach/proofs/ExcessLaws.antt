@@ -14,8 +14,8 @@ use Rattle.numbers.proofs.Distance.{dist_sym, dist_most, clamp_low, clamp_high}
 use Rattle.numbers.proofs.Words.{word_fits, gap_above}
 use Rattle.query.specs.Range.{travel_limit}
 use Rattle.reach.specs.Columns.{EdgesInRange, excess_of}
-use Rattle.deck.specs.Ranges.{ScaledPlaceInRange, scaled_limit}
-use Rattle.deck.proofs.WordLaws.{sum_is, coordinate}
+use Rattle.columns.specs.Ranges.{ScaledPlaceInRange, scaled_limit}
+use Rattle.columns.proofs.WordLaws.{sum_is, coordinate}
 use Rattle.reach.proofs.NarrowLaws.{word}
 
 excess_yes : (a b : ℤ) → lt_z b a ≡ true → excess_of a b ≡ dist b a

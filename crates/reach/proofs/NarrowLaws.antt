@@ -14,9 +14,10 @@ use Rattle.numbers.proofs.WordTests.{back}
 use Rattle.query.specs.Place.{Place, Rect}
 use Rattle.query.specs.Deck.{AxisCosts}
 use Rattle.query.specs.Range.{PlaceInRange, coordinate_limit, axis_cost_limit, travel_limit}
-use Rattle.deck.specs.Ranges.{ScaledPlaceInRange, CostsInRange, Scaled, scaled_limit}
-use Rattle.deck.specs.Objects.{scaled_rect}
-use Rattle.deck.proofs.ScaleLaws.{natural_word as cost_word, scaled_word}
+use Rattle.deck.specs.Ranges.{CostsInRange}
+use Rattle.columns.specs.Ranges.{ScaledPlaceInRange, Scaled, scaled_limit}
+use Rattle.columns.specs.Objects.{scaled_rect}
+use Rattle.columns.proofs.ScaleLaws.{natural_word as cost_word, scaled_word}
 use Rattle.reach.specs.Columns.{ObjectInRange, Ranged, EdgesInRange}
 
 -- a number as a 32-bit word holds it

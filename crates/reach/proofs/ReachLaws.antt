@@ -12,8 +12,8 @@ use Rattle.query.specs.Deck.{Stop, Deck, plain}
 use Rattle.query.specs.Travel.{travel, near}
 use Rattle.query.specs.Reach.{closest_point, travel_to, reach}
 use Rattle.query.specs.Range.{stops_limit}
-use Rattle.deck.specs.Objects.{scaled_place, scaled_rect, Object, objects_of, Pricing, pricing_of}
-use Rattle.deck.proofs.TravelLaws.{travel_scaled}
+use Rattle.columns.specs.Objects.{scaled_place, scaled_rect, Object, objects_of, Pricing, pricing_of}
+use Rattle.columns.proofs.TravelLaws.{travel_scaled}
 use Rattle.reach.specs.ObjectReach.{travel_to_of, reaches, flags_of}
 
 -- an object's travel to a scaled rectangle, and whether it reaches it

@@ -13,13 +13,14 @@ use Rattle.numbers.proofs.Scaling.{scale_most}
 use Rattle.numbers.proofs.Padded.{padded_each}
 use Rattle.query.specs.Deck.{AxisCosts, Stop, Deck}
 use Rattle.query.specs.Range.{InRange, coordinate_limit, stops_limit, visits_limit, axis_cost_limit, travel_limit}
-use Rattle.deck.specs.Objects.{Object, objects_of, Pricing, pricing_of, stored_objects, stored_pricing}
-use Rattle.deck.specs.Ranges.{CostsInRange, PlacesInRange, VisitsInRange, NearsInRange, scaled_limit}
-use Rattle.deck.proofs.ClosestLaws.{zip_at}
+use Rattle.columns.specs.Objects.{Object, objects_of, Pricing, pricing_of, stored_objects, stored_pricing}
+use Rattle.deck.specs.Ranges.{CostsInRange, NearsInRange}
+use Rattle.columns.specs.Ranges.{PlacesInRange, VisitsInRange, scaled_limit}
+use Rattle.columns.proofs.ClosestLaws.{zip_at}
 use Rattle.deck.proofs.DeckLaws.{stop_in, stops_in}
-use Rattle.deck.proofs.StoredLaws.{object_of as object_stored, stops_count, stored, stored_count}
-use Rattle.deck.specs.ObjectColumns.{column, columns_of, objects_in, pricing_in}
-use Rattle.deck.proofs.ColumnLaws.{nothing, pricing_length, x_cost_at, y_cost_at, columns_objects, columns_axis, x_row, y_row, visits_row, near_row}
+use Rattle.columns.proofs.StoredLaws.{object_of as object_stored, stops_count, stored, stored_count}
+use Rattle.columns.specs.ObjectColumns.{column, columns_of, objects_in, pricing_in}
+use Rattle.columns.proofs.ColumnLaws.{nothing, pricing_length, x_cost_at, y_cost_at, columns_objects, columns_axis, x_row, y_row, visits_row, near_row}
 use Rattle.reach.specs.Columns.{ObjectInRange, Priceable}
 use Rattle.reach.proofs.ReachLaws.{object_of, objects_of_map}
 

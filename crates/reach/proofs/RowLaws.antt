@@ -12,12 +12,12 @@ use Rattle.numbers.proofs.Padded.{padded_none, padded_map}
 use Rattle.query.specs.Place.{Rect}
 use Rattle.query.specs.Reach.{closest_point}
 use Rattle.query.specs.Range.{stops_limit}
-use Rattle.deck.specs.Objects.{Object}
-use Rattle.deck.specs.ObjectColumns.{object_at, objects_in}
-use Rattle.deck.proofs.TravelLaws.{travel_plain}
-use Rattle.deck.proofs.ColumnLaws.{objects_in_none, objects_in_more, objects_in_length}
+use Rattle.columns.specs.Objects.{Object}
+use Rattle.columns.specs.ObjectColumns.{object_at, objects_in}
+use Rattle.columns.proofs.TravelLaws.{travel_plain}
+use Rattle.columns.proofs.ColumnLaws.{objects_in_none, objects_in_more, objects_in_length}
 use Rattle.reach.specs.Held.{object_of_row}
-use Rattle.reach.specs.declared.columns.Row.{Row}
+use Rattle.reach.specs.declared.objects.Row.{Row}
 use Rattle.reach.proofs.ExcessLaws.{away}
 use Rattle.reach.proofs.NarrowLaws.{word, number_word, near_word}
 use Rattle.reach.proofs.ReachLaws.{travel_to_scaled, reaches_to}

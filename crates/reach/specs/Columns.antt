@@ -4,8 +4,8 @@ use Rattle.std.specs.Int.Signed.{lt_z}
 use Rattle.numbers.specs.Integer.{dist}
 use Rattle.query.specs.Place.{Rect, NonEmpty}
 use Rattle.query.specs.Range.{RectInRange, travel_limit, stops_limit, visits_limit}
-use Rattle.deck.specs.Columns.{y_column, visits_column, near_column, x_cost_place, y_cost_place, columns_size}
-use Rattle.deck.specs.Ranges.{ScaledPlaceInRange, AxisCostInRange}
+use Rattle.columns.specs.Columns.{y_column, visits_column, near_column, x_cost_place, y_cost_place, columns_size}
+use Rattle.columns.specs.Ranges.{ScaledPlaceInRange, AxisCostInRange}
 
 -- one row of the columns
 pub record ObjectInRange (x y visits near : ℤ) : Type 0 where

@@ -3,13 +3,13 @@ use Rattle.std.specs.Prelude.{ℕ, ◌≡◌, List, ℤ, nat_abs}
 use Rattle.query.specs.Place.{Rect}
 use Rattle.query.specs.Deck.{AxisCosts}
 use Rattle.deck.specs.declared.AxisCosts as Code
-use Rattle.deck.specs.DeckOf.{held_axis}
+use Rattle.deck.specs.Values.{held_axis}
 use Rattle.deck.specs.Ranges.{CostsInRange}
-use Rattle.deck.specs.Objects.{scaled_rect, Object, Pricing}
-use Rattle.deck.specs.ObjectColumns.{pricing_in}
+use Rattle.columns.specs.Objects.{scaled_rect, Object, Pricing}
+use Rattle.columns.specs.ObjectColumns.{pricing_in}
 use Rattle.reach.specs.Columns.{EdgesInRange}
-use Rattle.reach.specs.declared.columns.Objects.{Objects}
-use Rattle.reach.specs.declared.columns.Row.{Row}
+use Rattle.reach.specs.declared.objects.Objects.{Objects}
+use Rattle.reach.specs.declared.objects.Row.{Row}
 use Rattle.reach.specs.declared.rectangle.Edges.{Edges}
 
 -- the object of a row

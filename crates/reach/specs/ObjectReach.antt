@@ -6,7 +6,7 @@ use Rattle.query.specs.Deck.{plain}
 use Rattle.query.specs.Travel.{travel}
 use Rattle.query.specs.Reach.{closest_point}
 use Rattle.query.specs.Range.{stops_limit}
-use Rattle.deck.specs.Objects.{scaled_rect, Object, Pricing}
+use Rattle.columns.specs.Objects.{scaled_rect, Object, Pricing}
 
 -- an object's travel to a rectangle
 unfoldable pub travel_to_of : Pricing → Rect → Object → ℕ

@@ -3,15 +3,15 @@
 #![tactic(auto)]
 
 ghost use Rattle.std.specs.Prelude.{◌≡◌};
-ghost use Rattle.deck.specs.Rectangle.{rect_of};
+ghost use Rattle.deck.specs.Values.{rect_of};
 ghost use Rattle.reach.specs.Columns.{Ranged};
 ghost use Rattle.reach.specs.ObjectReach.{flags_of};
 ghost use Rattle.reach.specs.Held.{pricing_of_objects};
 
-mod columns;
+mod objects;
 mod rectangle;
 
-pub use columns::{Objects, Row};
+pub use objects::{Objects, Row};
 use deck::Rect;
 use limits::STOPS;
 pub use rectangle::Edges;

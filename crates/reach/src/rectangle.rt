@@ -3,12 +3,14 @@
 ghost use Rattle.std.specs.Prelude.{◌≡◌, ◌+◌, ◌≤◌, ltb, pos, nat_abs, ◌≤ℤ◌};
 ghost use Rattle.numbers.specs.Integer.{dist, clamp};
 ghost use Rattle.query.specs.Range.{travel_limit};
-ghost use Rattle.deck.specs.Ranges.{scaled_limit, ScaledPlaceInRange, CostsInRange};
-ghost use Rattle.deck.specs.DeckOf.{held_axis};
-ghost use Rattle.deck.specs.Rectangle.{rect_of};
+ghost use Rattle.deck.specs.Ranges.{CostsInRange};
+use Rattle.columns.specs.Ranges.{scaled_limit, ScaledPlaceInRange};
+ghost use Rattle.deck.specs.Values.{held_axis};
+ghost use Rattle.deck.specs.Values.{rect_of};
 ghost use Rattle.reach.specs.Columns.{Ranged, EdgesInRange, excess_of};
 
-use deck::{AxisCosts, Rect, scaled};
+use columns::scaled;
+use deck::{AxisCosts, Rect};
 
 /// The edges of a rectangle, each multiplied by the cost of its axis, as passes over objects at scaled places compare with them.
 #[derive(Clone, Copy)]

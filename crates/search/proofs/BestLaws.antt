@@ -12,9 +12,9 @@ use Rattle.query.specs.Range.{cost_limit}
 use Rattle.query.specs.Order.{Key, precedes, priced_key, better}
 use Rattle.query.specs.Search.{best_of, other_corners, start_best}
 use Rattle.query.proofs.Best.{best_of_nil, best_of_cons}
-use Rattle.deck.specs.Objects.{Pricing}
+use Rattle.columns.specs.Objects.{Pricing}
 use Rattle.reach.specs.Held.{pricing_of_objects}
-use Rattle.reach.specs.declared.columns.Objects.{Objects}
+use Rattle.reach.specs.declared.objects.Objects.{Objects}
 use Rattle.pricing.proofs.TurnLaws.{cost_most}
 use Rattle.priced_place.specs.declared.PricedPlace.{PricedPlace}
 use Rattle.priced_place.specs.ObjectProblem.{object_rules, object_problem, priced_of, priced_place_of}

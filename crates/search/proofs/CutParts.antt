@@ -18,8 +18,8 @@ use Rattle.query.specs.Cut.{Line, can_cut, cut_line, cut_before, cut_after}
 use Rattle.query.specs.Range.{RectInRange, coordinate_limit, cost_limit}
 use Rattle.query.proofs.CutLaws.{cut_law}
 use Rattle.deck.specs.declared.Rect as Deck
-use Rattle.deck.specs.Rectangle.{rect_of}
-use Rattle.deck.specs.Objects.{Pricing}
+use Rattle.deck.specs.Values.{rect_of}
+use Rattle.columns.specs.Objects.{Pricing}
 use Rattle.reach.specs.Columns.{Ranged}
 use Rattle.pricing.specs.declared.PartFigures.{PartFigures}
 use Rattle.pricing.specs.ObjectFigures.{Figure, PartsPriced}

@@ -16,10 +16,10 @@ use Rattle.query.specs.Order.{Priced, precedes, priced_key, cell_key}
 use Rattle.query.specs.Range.{RectInRange, cost_limit, rounds_limit}
 use Rattle.query.specs.Search.{Search, is_live, cell_of, best_of, start_best, start, cells_after, best_after, round_on, round}
 use Rattle.query.proofs.CellsAfter.{after_is}
-use Rattle.deck.specs.Objects.{Pricing}
-use Rattle.deck.specs.Rectangle.{rect_of}
+use Rattle.columns.specs.Objects.{Pricing}
+use Rattle.deck.specs.Values.{rect_of}
 use Rattle.reach.specs.Held.{pricing_of_objects}
-use Rattle.reach.specs.declared.columns.Objects.{Objects}
+use Rattle.reach.specs.declared.objects.Objects.{Objects}
 use Rattle.cells.specs.declared.Cell.{Cell}
 use Rattle.cells.specs.Held.{query_cell}
 use Rattle.cells.specs.Live.{Live, none_live, comes_before, leading}

@@ -29,7 +29,7 @@ use Rattle.query.specs.Space.{all_numbers}
 use Rattle.query.specs.Range.{cost_limit, rounds_limit}
 use Rattle.query.proofs.SearchLaws.{run_in_order, partition_law}
 use Rattle.query.proofs.Counts.{cuts_most}
-use Rattle.deck.specs.Rectangle.{rect_of}
+use Rattle.deck.specs.Values.{rect_of}
 use Rattle.reach.specs.Columns.{Ranged}
 use Rattle.cells.specs.declared.Cell.{Cell}
 use Rattle.search.specs.declared.run.Running.{Running}

@@ -3,8 +3,8 @@ use Rattle.std.specs.Prelude.{T, pos}
 use Rattle.query.specs.Place.{Rect, corner}
 use Rattle.query.specs.Grid.{Grid}
 use Rattle.query.specs.Cut.{Line, can_cut, cut_before, cut_after, low_corner, high_corner}
-use Rattle.deck.specs.Objects.{Pricing}
-use Rattle.deck.specs.Rectangle.{rect_record}
+use Rattle.columns.specs.Objects.{Pricing}
+use Rattle.deck.specs.Values.{rect_record}
 use Rattle.reach.specs.Columns.{Ranged}
 use Rattle.pricing.specs.ObjectFigures.{cost_of, bound_of}
 use Rattle.cells.specs.declared.Cell.{Cell}

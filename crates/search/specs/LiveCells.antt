@@ -4,7 +4,7 @@ use Rattle.query.specs.Grid.{Grid}
 use Rattle.query.specs.Order.{Priced}
 use Rattle.query.specs.Search.{is_live}
 use Rattle.query.specs.Range.{RectInRange, cost_limit}
-use Rattle.deck.specs.Rectangle.{rect_of}
+use Rattle.deck.specs.Values.{rect_of}
 use Rattle.priced_place.specs.declared.PricedPlace.{PricedPlace}
 use Rattle.cells.specs.declared.Cell.{Cell}
 use Rattle.cells.specs.Held.{query_cell}

@@ -5,7 +5,7 @@ use Rattle.query.specs.Grid.{Grid}
 use Rattle.query.specs.Cut.{can_cut}
 use Rattle.query.specs.Search.{Search}
 use Rattle.query.specs.Range.{cost_limit, rounds_limit}
-use Rattle.deck.specs.Rectangle.{rect_of}
+use Rattle.deck.specs.Values.{rect_of}
 use Rattle.reach.specs.Columns.{Ranged}
 use Rattle.priced_place.specs.ObjectProblem.{priced_of}
 use Rattle.cells.specs.declared.Cell.{Cell}

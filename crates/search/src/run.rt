@@ -3,7 +3,7 @@ ghost use Rattle.std.specs.Prelude.{◌≡◌, ◌∷◌, ◌-◌, ◌*◌, ◌�
 ghost use Rattle.query.specs.Search as Search;
 ghost use Rattle.query.specs.Range.{cost_limit, rounds_limit, RectInRange};
 ghost use Rattle.query.specs.Figures as Figures;
-ghost use Rattle.deck.specs.Rectangle.{rect_of};
+ghost use Rattle.deck.specs.Values.{rect_of};
 ghost use Rattle.reach.specs.Held.{pricing_of_objects};
 ghost use Rattle.pricing.specs.ObjectFigures.{before_of, Figure};
 ghost use Rattle.cells.specs.Held.{query_cell};

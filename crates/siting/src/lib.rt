@@ -12,7 +12,7 @@ ghost use Rattle.calls.specs.ReadCall.{read_call};
 ghost use Rattle.calls.specs.WriteCall.{write_call};
 ghost use Rattle.calls.specs.ChangeCall.{change_call};
 ghost use Rattle.change.specs.Change.{add_post, remove_post, add_stop, remove_stop};
-ghost use Rattle.deck.specs.Rectangle.{place_of, stop_of};
+ghost use Rattle.deck.specs.Values.{place_of, stop_of};
 ghost use Rattle.report.specs.Limits.{output_size};
 ghost use Rattle.siting.specs.Response.{state_for, OfJob, found_in, Reported, Responded, RespondedAlone};
 
@@ -140,14 +140,14 @@ pub fn read(job: &[u8]) -> Result<Job, Refusal>
 /// Writes the job of a record and rounds (RULES "Change 1") to the start of the output, and gives how many bytes it has; or the first
 /// refusal that applies: the number and line that reading this job's bytes would get, 2 to 6, or 8 where it does not fit. Bytes behind the
 /// job stay; after a refusal every byte does. Near and before of the record do not count.
-pub fn write(deck: Deck, rounds: u64, out: &mut [u8]) -> Result<usize, Refusal>
-    ensures { record { answer = written_answer result; out = out.new } ≡ write_call deck rounds out.old }
+pub fn write(deck: &Deck, rounds: u64, out: &mut [u8]) -> Result<usize, Refusal>
+    ensures { record { answer = written_answer result; out = out.new } ≡ write_call deck.now rounds out.old }
 {
-    job_check::check(&deck, rounds)?;
-    if out.len() < job_file::file_len(&deck, rounds) {
+    job_check::check(deck, rounds)?;
+    if out.len() < job_file::file_len(deck, rounds) {
         return Err(Refusal::ShortOutput);
     }
-    Ok(job_file::put_file(&deck, rounds, out))
+    Ok(job_file::put_file(deck, rounds, out))
 }
 
 /// Adds a post behind the last (RULES "Change 6"); near and before follow. Refusal 3 where the place is out of range or the record cannot

@@ -25,7 +25,7 @@ use Rattle.query.specs.Range.{cost_limit, load_limit, stops_limit, travel_limit}
 use Rattle.job.specs.Format.{read_job}
 use Rattle.deck.specs.declared.Deck.{Deck}
 use Rattle.deck.specs.DeckOf.{deck_record}
-use Rattle.deck.specs.Objects.{Pricing, pricing_of}
+use Rattle.columns.specs.Objects.{Pricing, pricing_of}
 use Rattle.deck.proofs.SoundLaws.{sound_limit}
 use Rattle.reach.specs.Held.{pricing_of_objects}
 use Rattle.pricing.specs.ObjectFigures.{cost_of, bound_of, Figure}

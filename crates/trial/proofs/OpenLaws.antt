@@ -23,7 +23,7 @@ use Rattle.prepare.specs.ProblemRecord.{parts_in, problem_record, given_by, give
 use Rattle.prepare.proofs.JobProblem.{spelt, problem_same, given_refused}
 use Rattle.lines.specs.LineRecord.{grid_of}
 use Rattle.query.specs.Grid.{grid}
-use Rattle.deck.specs.Objects.{pricing_of}
+use Rattle.columns.specs.Objects.{pricing_of}
 use Rattle.reach.specs.Held.{pricing_of_objects}
 use Rattle.priced_place.specs.Prepared.{Prepared}
 use Rattle.priced_place.proofs.DeckProblem.{made_prepared, prepared_pricing, prepared_grid}

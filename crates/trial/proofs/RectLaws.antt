@@ -17,7 +17,7 @@ use Rattle.job_line.proofs.RangeTests.{in_two, in_more}
 use Rattle.job.specs.Format.{area_of, empty_area}
 use Rattle.job.proofs.RangeLaws.{coordinate_range}
 use Rattle.reach.specs.Columns.{Ranged}
-use Rattle.deck.specs.Rectangle.{place_of, rect_of}
+use Rattle.deck.specs.Values.{place_of, rect_of}
 use Rattle.deck.specs.declared.Place as Code
 use Rattle.deck.specs.declared.Rect as Held
 use Rattle.trial.specs.Ranges.{place_in_range, rect_allowed}

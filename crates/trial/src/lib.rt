@@ -9,7 +9,7 @@ ghost use Rattle.std.specs.Prelude.{◌≡◌, ◌+◌, ◌≤◌, cond, get_or,
 ghost use Rattle.std.specs.Option.{option_map};
 ghost use Rattle.refusal.specs.Refusal.{line_of};
 ghost use Rattle.job.specs.Format.{read_job, size_limit};
-ghost use Rattle.deck.specs.Rectangle.{place_of, rect_of};
+ghost use Rattle.deck.specs.Values.{place_of, rect_of};
 ghost use Rattle.cuts.specs.CutRecord.{axis_of};
 ghost use Rattle.trial.specs.Ranges.{rect_allowed};
 ghost use Rattle.trial.specs.Opened.{parts_of, opened_record};
@@ -32,8 +32,7 @@ ghost use Rattle.trial.specs.Trial.{
   lines_written,
 };
 
-use cuts::Axis;
-use deck::{Place, Rect};
+use deck::{Axis, Place, Rect};
 use opened::Opened;
 use refusal::Refusal;
 
@@ -92,7 +91,7 @@ fn near(job: &[u8], i: i64) -> Option<i64>
 {
     let o = Opened::of_job(job)?;
     let i = usize::try_from(i).ok()?;
-    let near = o.deck.stop_columns().near.get(i)?;
+    let near = o.deck.listed_near().get(i)?;
     Some(*near as i64)
 }
 

@@ -5,7 +5,7 @@ ghost use Rattle.query.specs.Grid.{grid};
 ghost use Rattle.job.specs.Format.{read_job};
 ghost use Rattle.deck.specs.DeckOf.{deck_of};
 ghost use Rattle.deck.specs.Sound.{Sound};
-ghost use Rattle.deck.specs.Rectangle.{place_of, rect_of};
+ghost use Rattle.deck.specs.Values.{place_of, rect_of};
 ghost use Rattle.reach.specs.Columns.{Ranged};
 ghost use Rattle.cuts.specs.CutRecord.{cut_record};
 ghost use Rattle.prepare.specs.ProblemRecord.{parts_in, problem_record};

@@ -2,7 +2,7 @@
 // coordinates, of the area, the posts' x and y, the stops' x and y; and the others, the axis costs, the counts of posts and stops, the
 // visits, near and before.
 ghost use Rattle.std.specs.Prelude.{◌≡◌, ◌≤◌, length, get_or};
-ghost use Rattle.deck.specs.Rectangle.{place_of};
+ghost use Rattle.deck.specs.Values.{place_of};
 ghost use Rattle.calls.specs.Answers.{gives, change_answer};
 ghost use Rattle.calls.specs.ChangeCall.{change_call};
 ghost use Rattle.job.specs.Format.{size_limit};

@@ -3,7 +3,7 @@ use mathlib.Core.Path.{◌∙◌}
 use native.Mathlib.Omega.{arith}
 use borrow.Author.Rules.{rules}
 use Rattle.deck.specs.DeckOf.{Sized}
-use Rattle.deck.proofs.Fronts.{places_in_front, front_count}
+use Rattle.columns.proofs.Fronts.{places_in_front, front_count}
 use Rattle.change.proofs.UsableExactly.{usable_says}
 use Rattle.change.proofs.KeptNears.{renewed_is, renewed_range, with_limit}
 use Rattle.change.proofs.MadeRecords.{held_costs, held_stops, held_visits, made_post}

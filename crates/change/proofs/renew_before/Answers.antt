@@ -2,7 +2,7 @@
 use mathlib.Core.Path.{refl, ap, ◌∙◌}
 use native.Mathlib.Omega.{arith}
 use Rattle.deck.specs.DeckOf.{with_figures}
-use Rattle.deck.proofs.Fronts.{naturals_front, naturals_count, paid_front}
+use Rattle.columns.proofs.Fronts.{naturals_front, naturals_count, paid_front}
 use Rattle.change.proofs.renew_before.Goals as goal
 
 pub before_of-deck-requires : goal.before_of-deck-requires

@@ -5,8 +5,8 @@ use native.Mathlib.Nat.{mul-le-mul}
 use native.Mathlib.Omega.{arith}
 use lib.IntN.{pos, ◌-ℤ◌}
 use Rattle.numbers.specs.Integer.{half_up}
-use Rattle.deck.specs.Rectangle.{rect_of}
-use Rattle.deck.proofs.WordLaws.{wide}
+use Rattle.deck.specs.Values.{rect_of}
+use Rattle.columns.proofs.WordLaws.{wide}
 use Rattle.reach.specs.Held.{pricing_of_objects}
 use Rattle.corner_bound.specs.ObjectCornerBound.{corner_bound_of}
 use Rattle.corner_bound.proofs.CornerLaws.{half_words, corner_bound_of_is, corner_sum_of_is}

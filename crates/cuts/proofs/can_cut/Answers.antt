@@ -1,5 +1,5 @@
 -- What `cuts::can_cut` owes.
-use Rattle.deck.specs.Rectangle.{rect_of}
+use Rattle.deck.specs.Values.{rect_of}
 use Rattle.lines.specs.LineRecord.{grid_of}
 use Rattle.cuts.proofs.CutRecordLaws.{edges_x, edges_y, back_low, back_high}
 use Rattle.cuts.proofs.BetweenLaws.{cut_across, cut_deep}

@@ -7,7 +7,7 @@ use lib.IntN.{◌-ℤ◌}
 use lib.Signed.{le_z, ◌≤ℤ◌}
 use Rattle.numbers.proofs.Integer.{order}
 use Rattle.numbers.proofs.Words.{is_true, is_false}
-use Rattle.deck.specs.Rectangle.{rect_of}
+use Rattle.deck.specs.Values.{rect_of}
 use Rattle.lines.specs.LineRecord.{grid_of}
 use Rattle.cuts.specs.CutRecord.{Edges}
 use Rattle.cuts.proofs.CutRecordLaws.{edges_x, edges_y, back_low, back_high, side_is, x_first, y_first}

@@ -2,8 +2,8 @@
 use mathlib.Core.Path.{◌∙◌}
 use Rattle.std.proofs.Common.{rules, tests}
 use Rattle.std.proofs.lemmas.Iterator.Search.{position_from_yields_List}
-use Rattle.deck.specs.Rectangle.{place_of}
-use Rattle.deck.proofs.ColumnLoops.{places_yielded}
+use Rattle.deck.specs.Values.{place_of}
+use Rattle.columns.proofs.ColumnLoops.{places_yielded}
 use Rattle.items.specs.Items.{is_same_place}
 use Rattle.items.proofs.Found.{found_is}
 use Rattle.items.proofs.find_post.Goals as goal

@@ -2,8 +2,8 @@
 use mathlib.Core.Path.{◌∙◌}
 use Rattle.std.proofs.Common.{rules, tests}
 use Rattle.std.proofs.lemmas.Iterator.Search.{position_from_yields_List}
-use Rattle.deck.specs.Rectangle.{stop_of}
-use Rattle.deck.proofs.ColumnLoops.{stops_yielded}
+use Rattle.deck.specs.Values.{stop_of}
+use Rattle.columns.proofs.ColumnLoops.{stops_yielded}
 use Rattle.items.specs.Items.{is_same_stop}
 use Rattle.items.proofs.Found.{found_is}
 use Rattle.items.proofs.find_stop.Goals as goal

@@ -8,9 +8,9 @@ use borrow.Author.Rules.{rules}
 use native.Mathlib.Omega.{arith}
 use Rattle.query.specs.Deck as Query
 use Rattle.deck.specs.DeckOf.{places}
-use Rattle.deck.specs.StopFigures.{Nears}
+use Rattle.columns.specs.StopFigures.{Nears}
 use Rattle.deck.specs.declared.Deck.{Deck}
-use Rattle.deck.proofs.Fronts.{given_range, given_places, given_naturals, given_count, naturals_count, nears_given, paid_given}
+use Rattle.columns.proofs.Fronts.{given_range, given_places, given_naturals, given_count, naturals_count, nears_given, paid_given}
 use Rattle.job.proofs.PartLaws.{handed}
 use Rattle.job.proofs.FilledLaws.{nears_range}
 use Rattle.job.proofs.ReadLaws.{rest_no_posts, rest_no_stops, rest_no_rounds, filled_posts, filled_stops, filled_visits, checked_parts}

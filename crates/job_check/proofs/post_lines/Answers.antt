@@ -5,7 +5,7 @@ use native.Mathlib.Omega.{arith}
 use lib.ListN.{length-append}
 use borrow.Author.Rules.{rules}
 use Rattle.std.proofs.lemmas.Iterator.Consumers.{YieldsList-turn, YieldsList-end}
-use Rattle.deck.proofs.ColumnLoops.{word_place}
+use Rattle.columns.proofs.ColumnLoops.{word_place}
 use Rattle.job.specs.Spelling.{post_line}
 use Rattle.job_check.specs.LineFaults.{checked_as}
 use Rattle.job_check.proofs.FirstFault.{items_passed, item_passed, item_refused}

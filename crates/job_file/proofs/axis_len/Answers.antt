@@ -2,7 +2,7 @@
 use mathlib.Core.Path.{sym, ap, ◌∙◌}
 use native.Mathlib.Omega.{arith}
 use lib.ListN.{length}
-use Rattle.deck.specs.DeckOf.{held_axis}
+use Rattle.deck.specs.Values.{held_axis}
 use Rattle.job_file.proofs.TextLaws.{axis_left_out, length_axis}
 use Rattle.job_file.proofs.axis_len.Goals as goal
 

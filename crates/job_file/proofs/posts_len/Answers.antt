@@ -6,8 +6,8 @@ use lib.ListN.{length, length-append}
 use borrow.Author.Rules.{rules}
 use Rattle.std.proofs.lemmas.Iterator.Consumers.{YieldsList-turn, YieldsList-end}
 use Rattle.deck.specs.DeckOf.{places}
-use Rattle.deck.proofs.ClosestLaws.{places_length}
-use Rattle.deck.proofs.ColumnLoops.{places_yielded, word_place}
+use Rattle.columns.proofs.ClosestLaws.{places_length}
+use Rattle.columns.proofs.ColumnLoops.{places_yielded, word_place}
 use Rattle.job.specs.Spelling.{post_line}
 use Rattle.job_file.proofs.TextLaws.{texts_none, texts_all, post_counted}
 use Rattle.job_file.proofs.posts_len.Goals as goal

@@ -7,7 +7,7 @@ use native.Mathlib.Omega.{arith}
 use Rattle.text.specs.Ascii.{bytes, comma, newline}
 use Rattle.text.specs.Decimal.{spell_nat}
 use Rattle.write.proofs.WrittenLaws.{wrote_nothing, wrote_both}
-use Rattle.deck.specs.DeckOf.{held_axis}
+use Rattle.deck.specs.Values.{held_axis}
 use Rattle.job_file.proofs.TextLaws.{axis_text_lem, axis_left_out, nat_text, length_axis}
 use Rattle.job_file.proofs.put_axis.Goals as goal
 

@@ -14,7 +14,7 @@ use Rattle.write.specs.declared.Writer.{Writer}
 use Rattle.write.specs.Written.{slice_bytes, written_len, HasRoom, Wrote}
 use Rattle.write.proofs.WrittenLaws.{wrote_both, wrote_front}
 use Rattle.deck.specs.declared.Deck.{Deck}
-use Rattle.deck.specs.DeckOf.{held_axis}
+use Rattle.deck.specs.Values.{held_axis}
 use Rattle.job.specs.File.{file_text}
 use Rattle.job_file.specs.Texts.{place_text, axis_text, post_texts, stop_texts}
 use Rattle.job_file.proofs.FileLaws.{count_part, front₁, front₂, front₃, front₄, front₅, front₆, front₇, front₈}

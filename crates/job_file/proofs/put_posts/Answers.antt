@@ -7,8 +7,8 @@ use borrow.Author.Rules.{rules}
 use Rattle.std.proofs.lemmas.Iterator.Consumers.{YieldsList-turn, YieldsList-end}
 use Rattle.write.proofs.WrittenLaws.{wrote_nothing}
 use Rattle.deck.specs.DeckOf.{places}
-use Rattle.deck.proofs.ClosestLaws.{places_length}
-use Rattle.deck.proofs.ColumnLoops.{places_yielded, word_place}
+use Rattle.columns.proofs.ClosestLaws.{places_length}
+use Rattle.columns.proofs.ColumnLoops.{places_yielded, word_place}
 use Rattle.job.specs.Spelling.{post_line}
 use Rattle.job_file.proofs.TextLaws.{texts_none, texts_all, line_room, line_wrote, post_line_lem}
 use Rattle.job_file.proofs.put_posts.Goals as goal

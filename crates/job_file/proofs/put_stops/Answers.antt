@@ -8,7 +8,7 @@ use Rattle.std.proofs.lemmas.Iterator.Consumers.{YieldsList-turn, YieldsList-end
 use Rattle.write.proofs.WrittenLaws.{wrote_nothing}
 use Rattle.deck.specs.DeckOf.{places, stops_of}
 use Rattle.deck.proofs.DeckLaws.{stops_length}
-use Rattle.deck.proofs.ColumnLoops.{stops_yielded, word_stop}
+use Rattle.columns.proofs.ColumnLoops.{stops_yielded, word_stop}
 use Rattle.job.specs.Spelling.{stop_line}
 use Rattle.job_file.proofs.TextLaws.{texts_none, texts_all, line_room, line_wrote, stop_line_lem}
 use Rattle.job_file.proofs.put_stops.Goals as goal

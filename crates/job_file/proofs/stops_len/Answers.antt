@@ -7,7 +7,7 @@ use borrow.Author.Rules.{rules}
 use Rattle.std.proofs.lemmas.Iterator.Consumers.{YieldsList-turn, YieldsList-end}
 use Rattle.deck.specs.DeckOf.{places, stops_of}
 use Rattle.deck.proofs.DeckLaws.{stops_length}
-use Rattle.deck.proofs.ColumnLoops.{stops_yielded, word_stop}
+use Rattle.columns.proofs.ColumnLoops.{stops_yielded, word_stop}
 use Rattle.job.specs.Spelling.{stop_line}
 use Rattle.job_file.proofs.TextLaws.{texts_none, texts_all, stop_counted}
 use Rattle.job_file.proofs.stops_len.Goals as goal

@@ -2,8 +2,8 @@
 use mathlib.Core.List.{zip_with}
 use lib.ListN.{length}
 use Rattle.deck.specs.DeckOf.{held_axis, places}
-use Rattle.deck.specs.Rectangle.{place_of}
-use Rattle.deck.proofs.CopyLaws.{Copied}
+use Rattle.deck.specs.Values.{place_of}
+use Rattle.columns.proofs.CopyLaws.{Copied}
 use Rattle.near_change.specs.NearChange.{near_with}
 use Rattle.near_change.proofs.improve.Given as goal
 

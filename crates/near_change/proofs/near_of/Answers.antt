@@ -1,6 +1,6 @@
 -- What `near_change::near_of` owes.
 use mathlib.Core.Path.{ap}
-use Rattle.deck.specs.DeckOf.{held_axis}
+use Rattle.deck.specs.Values.{held_axis}
 use Rattle.near_change.proofs.ScaledLaws.{closest_found}
 use Rattle.near_change.proofs.near_of.Goals as goal
 

@@ -2,7 +2,7 @@
 use mathlib.Core.Path.{ap}
 use lib.ListN.{length}
 use Rattle.deck.specs.DeckOf.{held_axis, places}
-use Rattle.deck.specs.Rectangle.{place_of}
+use Rattle.deck.specs.Values.{place_of}
 use Rattle.near_change.proofs.ScaledLaws.{renewed_without}
 use Rattle.near_change.proofs.renew_without.Goals as goal
 

@@ -2,9 +2,9 @@
 use mathlib.Core.List.{zip_with}
 use lib.ListN.{length}
 use Rattle.deck.specs.DeckOf.{held_axis, places}
-use Rattle.deck.specs.Held.{axis_of_posts, places_of_posts}
-use Rattle.deck.specs.Rectangle.{place_of}
-use Rattle.deck.proofs.CopyLaws.{Copied}
+use Rattle.columns.specs.Held.{axis_of_posts, places_of_posts}
+use Rattle.deck.specs.Values.{place_of}
+use Rattle.columns.proofs.CopyLaws.{Copied}
 use Rattle.near_change.specs.NearChange.{near_but}
 use Rattle.near_change.proofs.reprice.Given as goal
 

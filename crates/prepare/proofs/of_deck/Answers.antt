@@ -5,9 +5,9 @@ use borrow.Author.Rules.{rules}
 use lib.ListN.{length}
 use lib.Seq.{length-take-le}
 use Rattle.query.specs.Range.{stops_limit}
-use Rattle.deck.specs.ObjectColumns.{columns_of}
+use Rattle.columns.specs.ObjectColumns.{columns_of}
 use Rattle.deck.proofs.DeckLaws.{costs_range, stops_range, visits_range}
-use Rattle.deck.proofs.Fronts.{given_range, given_naturals, given_count, stored_given}
+use Rattle.columns.proofs.Fronts.{given_range, given_naturals, given_count, stored_given}
 use Rattle.deck.proofs.SoundLaws.{sound_columns, sound_nears, sound_pricing}
 use Rattle.prepare.proofs.MadeProblem.{area_ranged, made_problem}
 use Rattle.prepare.proofs.of_deck.Goals as goal

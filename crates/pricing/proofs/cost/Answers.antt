@@ -2,8 +2,8 @@
 use mathlib.Core.Path.{◌≡◌, sym, ap, ◌∙◌}
 use native.Mathlib.Omega.{arith}
 use Rattle.query.specs.Deck.{AxisCosts}
-use Rattle.deck.specs.Rectangle.{place_of}
-use Rattle.deck.specs.Objects.{scaled_place}
+use Rattle.deck.specs.Values.{place_of}
+use Rattle.columns.specs.Objects.{scaled_place}
 use Rattle.reach.specs.Held.{count_of_objects, pricing_of_objects}
 use Rattle.pricing.proofs.ObjectLaws.{cost_of_sum}
 use Rattle.pricing.proofs.ColumnLaws.{passed_none}

@@ -5,8 +5,8 @@ use native.Mathlib.Omega.{arith}
 use lib.IntN.{ℤ}
 use Rattle.query.specs.Place.{Place}
 use Rattle.query.specs.Deck.{AxisCosts}
-use Rattle.deck.specs.Rectangle.{place_of, rect_of}
-use Rattle.deck.specs.Objects.{scaled_place, scaled_rect}
+use Rattle.deck.specs.Values.{place_of, rect_of}
+use Rattle.columns.specs.Objects.{scaled_place, scaled_rect}
 use Rattle.reach.specs.Held.{count_of_objects}
 use Rattle.pricing.proofs.SpareLaws.{summed_none, spare_fits, summed_more, saved_less, cost_left, bound_left}
 use Rattle.pricing.proofs.parts.Goals as goal

@@ -2,8 +2,8 @@
 use mathlib.Core.Path.{◌≡◌, sym, ap, ◌∙◌}
 use native.Mathlib.Omega.{arith}
 use Rattle.query.specs.Deck.{AxisCosts}
-use Rattle.deck.specs.Rectangle.{rect_of}
-use Rattle.deck.specs.Objects.{scaled_rect}
+use Rattle.deck.specs.Values.{rect_of}
+use Rattle.columns.specs.Objects.{scaled_rect}
 use Rattle.reach.specs.Held.{pricing_of_objects}
 use Rattle.reach.proofs.ReachLaws.{flags_of_map}
 use Rattle.reach.proofs.RowLaws.{row_reaches, flagged_none, flagged_more}

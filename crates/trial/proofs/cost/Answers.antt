@@ -3,7 +3,7 @@ use Rattle.numbers.proofs.Words.{is_true}
 use mathlib.Core.Path.{◌≡◌, sym, ◌∙◌}
 use mathlib.Core.Bool.{true}
 use Rattle.trial.specs.Ranges.{place_in_range}
-use Rattle.deck.specs.Rectangle.{place_of}
+use Rattle.deck.specs.Values.{place_of}
 use Rattle.trial.proofs.OpenLaws.{open_accepted, open_refused}
 use Rattle.trial.proofs.RectLaws.{place_range}
 use Rattle.trial.proofs.FigureLaws.{cost_answer}

@@ -4,7 +4,7 @@ use native.Mathlib.Omega.{arith}
 use Rattle.numbers.specs.Integer.{times}
 use Rattle.numbers.proofs.WordTests.{back}
 use Rattle.query.specs.Deck.{AxisCosts}
-use Rattle.deck.specs.ObjectColumns.{axis_in}
+use Rattle.columns.specs.ObjectColumns.{axis_in}
 use Rattle.reach.specs.Held.{columns_of_objects}
 use Rattle.reach.proofs.NarrowLaws.{scaled_small}
 use Rattle.exhaustive.proofs.ObjectRamps.{small_back}

@@ -1,5 +1,5 @@
 -- The loops of `exhaustive::Crossings::add_objects`.
-use Rattle.deck.specs.ObjectColumns.{pricing_in}
+use Rattle.columns.specs.ObjectColumns.{pricing_in}
 use Rattle.reach.specs.Held.{columns_of_objects}
 use Rattle.exhaustive.specs.Ramps.{ObjectsAdded}
 use Rattle.exhaustive.proofs.Crossings.add_objects.Given as goal

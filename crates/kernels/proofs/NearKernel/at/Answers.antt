@@ -9,7 +9,7 @@ use Rattle.query.specs.Range.{stops_limit, travel_limit}
 use Rattle.query.specs.Travel.{near}
 use Rattle.deck.specs.DeckOf.{deck_of}
 use Rattle.deck.proofs.DeckLaws.{costs_range, stops_range, posts_range}
-use Rattle.deck.proofs.Fronts.{given_range, given_places, given_count, nears_given}
+use Rattle.columns.proofs.Fronts.{given_range, given_places, given_count, nears_given}
 use Rattle.deck.proofs.SoundLaws.{found_nears, sound_columns, sound_posts, sound_limit}
 use Rattle.kernels.proofs.NearKernel.at.Goals as goal
 

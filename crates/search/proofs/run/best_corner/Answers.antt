@@ -1,6 +1,6 @@
 -- What `search::run::best_corner` owes.
 use native.Mathlib.Omega.{arith}
-use Rattle.deck.specs.Rectangle.{rect_of}
+use Rattle.deck.specs.Values.{rect_of}
 use Rattle.search.proofs.BestLaws.{priced_limit, priced_words, start_best_is}
 use Rattle.search.proofs.run.best_corner.Goals as goal
 

@@ -1,6 +1,6 @@
 -- What `search::run::start` owes.
 use native.Mathlib.Omega.{arith}
-use Rattle.deck.specs.Rectangle.{rect_of}
+use Rattle.deck.specs.Values.{rect_of}
 use Rattle.priced_place.proofs.DeckProblem.{prepared_ranged}
 use Rattle.search.proofs.RoundLaws.{started}
 use Rattle.search.proofs.run.start.Goals as goal

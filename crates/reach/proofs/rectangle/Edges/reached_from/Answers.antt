@@ -4,7 +4,7 @@ use native.Mathlib.Omega.{arith}
 use lib.IntN.{pos}
 use mir.Syntax.{w32}
 use mir.Val.{of_z}
-use Rattle.deck.proofs.WordLaws.{test_is}
+use Rattle.columns.proofs.WordLaws.{test_is}
 use Rattle.reach.proofs.NarrowLaws.{natural_word, natural_small}
 use Rattle.reach.proofs.ExcessLaws.{away_most, away_word}
 use Rattle.reach.proofs.rectangle.Edges.reached_from.Goals as goal

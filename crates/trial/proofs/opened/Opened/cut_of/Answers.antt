@@ -1,7 +1,7 @@
 -- What `trial::opened::Opened::cut_of` owes.
 use mathlib.Core.Path.{ap, ◌∙◌}
 use Rattle.query.specs.Grid.{Grid}
-use Rattle.deck.specs.Rectangle.{rect_of}
+use Rattle.deck.specs.Values.{rect_of}
 use Rattle.lines.specs.LineRecord.{grid_of}
 use Rattle.cuts.specs.CutRecord.{cut_record}
 use Rattle.trial.proofs.OpenLaws.{whole_grid}

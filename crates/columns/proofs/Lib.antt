@@ -1,0 +1,14 @@
+pub mod WordLaws
+pub mod ScaleLaws
+pub mod TravelLaws
+pub mod ClosestLaws
+pub mod CopyLaws
+pub mod SoFarLaws
+pub mod ColumnLaws
+pub mod StoredLaws
+pub mod MadeColumns
+pub mod MadeNears
+pub mod PostLaws
+pub mod PaidLaws
+pub mod ColumnLoops
+pub mod Fronts

@@ -1,7 +1,0 @@
--- The loop of `deck::before_of`.
-use lib.ListN.{length}
-use Rattle.deck.proofs.PaidLaws.{Paid}
-use Rattle.deck.proofs.before_of.Given as goal
-
-abbrev pub invariant-loop-visits : goal.invariant-loop-visits
-invariant-loop-visits l = Paid l.fn.visits l.fn.near (length l.fn.visits) l.sum (length l.yielded)

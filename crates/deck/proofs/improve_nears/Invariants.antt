@@ -1,8 +1,0 @@
--- The loops of `deck::improve_nears`.
-use Rattle.deck.specs.Columns.{near_column}
-use Rattle.deck.proofs.CopyLaws.{Copied}
-use Rattle.deck.proofs.SoFarLaws.{better}
-use Rattle.deck.proofs.improve_nears.Given as goal
-
-abbrev pub invariant-loop-stop : goal.invariant-loop-stop
-invariant-loop-stop l = Copied l.initial.columns near_column (better l.initial.columns (record { x = l.post.x; y = l.post.y })) l.n l.columns l.stop

@@ -1,6 +1,0 @@
--- What `deck::scaled` owes.
-use Rattle.deck.proofs.ScaleLaws.{product_scaled}
-use Rattle.deck.proofs.scaled.Goals as goal
-
-pub returns : goal.returns
-returns c = product_scaled c.args.cost c.args.coordinate c.requires.0 c.requires.1
