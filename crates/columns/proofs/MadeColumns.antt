@@ -64,7 +64,7 @@ module _ (n : ℕ) (few : n ≤ stops_limit) where
 
 -- ---- parts of an array that were filled
 pub part_put : (at n : ℕ) (d xs : List ℤ) {part : List ℤ} → part ≡ xs → length xs ≡ n → put_mid at (at + n - at) d part ≡ paste d at xs n
-part_put at n d xs {part} e h = put_mid-paste at (at + n - at) d part xs n (e ∙ sym (take_all n xs (omega (arith, h)))) (omega arith) (omega (arith, h))
+part_put at n d xs {part} e h = put_mid-paste at (at + n - at) d part xs n e (omega arith) (omega (arith, h))
 
 -- n numbers at the front, and n more behind the first column
 pub placed : (n : ℕ) (d us ws : List ℤ) {u w : List ℤ} → u ≡ us → w ≡ ws → length us ≡ n → length ws ≡ n →
@@ -78,10 +78,8 @@ placed n d us ws {u} eu ew lu lw =
     at = omega arith
 
 -- ---- all columns
-module _ (axis : AxisCosts) (stops : List Stop) (nears : List ℕ) (few : length stops ≤ stops_limit) (same : length stops ≡ length nears) where
-  abbrev n : ℕ
-  n = length stops
-
+module _ (axis : AxisCosts) (stops : List Stop) (nears : List ℕ) {n : ℕ} (stops-count : length stops ≡ n) (nears-count : length nears ≡ n)
+    (few : n ≤ stops_limit) where
   abbrev us : List ℤ
   us = map (λ s. times axis.a s.at.x) stops
 
@@ -92,13 +90,13 @@ module _ (axis : AxisCosts) (stops : List Stop) (nears : List ℕ) (few : length
   vs = map (λ s. pos s.visits) stops
 
   counted : (f : Stop → ℤ) → n ≤ length (map f stops)
-  counted f = omega (arith, length-map stops f)
+  counted f = omega (arith, length-map stops f, stops-count)
 
   near_count : length (map pos nears) ≡ n
-  near_count = omega (arith, length-map {B = ℤ} nears pos, same)
+  near_count = omega (arith, length-map {B = ℤ} nears pos, nears-count)
 
   all : (f : Stop → ℤ) → take n (map f stops) ≡ map f stops
-  all f = take_all n (map f stops) (omega (arith, length-map stops f))
+  all f = take_all n (map f stops) (omega (arith, length-map stops f, stops-count))
 
   module _ {b v m : List ℤ} (eb : b ≡ paste (paste (replicate columns_size (pos 0)) 0 us n) y_column ws n) (ev : v ≡ vs) (em : m ≡ map pos nears) where
     -- the columns with visits in them, and those with near too
@@ -127,7 +125,7 @@ module _ (axis : AxisCosts) (stops : List Stop) (nears : List ℕ) (few : length
     objects =
         part_put near_column n c (map pos nears) em near_count
         ∙ ap (λ (l : List ℤ). paste l near_column (map pos nears) n)
-        (part_put visits_column n b vs ev (length-map stops (λ s. pos s.visits))
+        (part_put visits_column n b vs ev (length-map stops (λ s. pos s.visits) ∙ stops-count)
         ∙ ap (λ (l : List ℤ). paste l visits_column vs n) (places_put n few us ws (counted _) (counted _) refl eb)
         ∙ put_column (x ++ y) visits_column (stops_limit + 2) n vs two few (counted _))
         ∙ put_column (x ++ y ++ w) near_column 2 n (map pos nears) three few (omega (arith, near_count))
@@ -138,7 +136,7 @@ module _ (axis : AxisCosts) (stops : List Stop) (nears : List ℕ) (few : length
       all (λ s. times axis.b s.at.y),
       all (λ s. pos s.visits),
       take_all n (map pos nears) (omega (arith, near_count)),
-      stored_columns axis stops nears same,
+      stored_columns axis stops nears (stops-count ∙ sym nears-count),
     ) refl
 
     -- and the costs behind them
@@ -148,4 +146,4 @@ module _ (axis : AxisCosts) (stops : List Stop) (nears : List ℕ) (few : length
     made_columns et eu =
         let held = stored_objects axis stops nears in
         (λ i. set (set (columns_are i) x_cost_place (et i)) y_cost_place (eu i))
-        ∙ costs_put (object_columns held) (pos axis.a) (pos axis.b) (columns_length held (omega (arith, stored_count axis stops nears same, few)))
+        ∙ costs_put (object_columns held) (pos axis.a) (pos axis.b) (columns_length held (omega (arith, stored_count axis stops nears (stops-count ∙ sym nears-count), stops-count, few)))
