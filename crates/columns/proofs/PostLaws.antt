@@ -17,7 +17,7 @@ use Rattle.query.specs.Place.{Place}
 use Rattle.query.specs.Deck.{AxisCosts, plain}
 use Rattle.query.specs.Travel.{travel, closest}
 use Rattle.query.specs.Range.{posts_limit}
-use Rattle.deck.specs.DeckOf.{places}
+use Rattle.columns.specs.Columns.{places}
 use Rattle.columns.specs.Objects.{scaled_place}
 use Rattle.deck.specs.Ranges.{CostsInRange}
 use Rattle.columns.specs.Ranges.{CoordinatesInRange, PlacesInRange}

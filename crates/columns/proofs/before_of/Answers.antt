@@ -1,4 +1,4 @@
--- What `deck::before_of` owes.
+-- What `columns::before_of` owes.
 use native.Mathlib.Omega.{arith}
 use lib.ListN.{length-append}
 use mathlib.Core.List.{[], ◌∷◌}

@@ -1,4 +1,4 @@
--- The loop of `deck::before_of`.
+-- The loop of `columns::before_of`.
 use lib.ListN.{length}
 use Rattle.columns.proofs.PaidLaws.{Paid}
 use Rattle.columns.proofs.before_of.Given as goal

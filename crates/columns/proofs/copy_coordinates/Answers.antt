@@ -1,4 +1,4 @@
--- What `deck::copy_coordinates` owes.
+-- What `columns::copy_coordinates` owes.
 use mathlib.Core.Path.{sym, ◌∙◌}
 use native.Mathlib.Omega.{arith}
 use lib.IntN.{nat_abs}

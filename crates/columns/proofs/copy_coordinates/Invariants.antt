@@ -1,4 +1,4 @@
--- The loop of `deck::copy_coordinates`.
+-- The loop of `columns::copy_coordinates`.
 use mathlib.Core.List.{map}
 use lib.IntN.{nat_abs}
 use lib.ListN.{length}

@@ -1,4 +1,4 @@
--- What `deck::nears_of` owes.
+-- What `columns::nears_of` owes.
 use Rattle.columns.proofs.MadeNears.{stops_copied, near_held, made_nears}
 use Rattle.columns.proofs.nears_of.Goals as goal
 

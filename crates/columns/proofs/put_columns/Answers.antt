@@ -1,4 +1,4 @@
--- What `deck::put_columns` owes.
+-- What `columns::put_columns` owes.
 use Rattle.columns.proofs.MadeColumns.{made_columns}
 use Rattle.columns.proofs.ScaleLaws.{natural_word}
 use Rattle.columns.proofs.put_columns.Goals as goal

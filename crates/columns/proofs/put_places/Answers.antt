@@ -1,4 +1,4 @@
--- What `deck::put_places` owes.
+-- What `columns::put_places` owes.
 use Rattle.columns.proofs.MadeColumns.{placed}
 use Rattle.columns.proofs.ScaleLaws.{natural_word}
 use Rattle.columns.proofs.put_places.Goals as goal

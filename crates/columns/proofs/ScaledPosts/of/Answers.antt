@@ -1,4 +1,4 @@
--- What `deck::ScaledPosts::of` owes.
+-- What `columns::ScaledPosts::of` owes.
 use mathlib.Core.Path.{refl}
 use Rattle.columns.proofs.PostLaws.{posts_x_scaled, posts_y_scaled, posts_scaled}
 use Rattle.columns.proofs.ScaleLaws.{natural_word}
