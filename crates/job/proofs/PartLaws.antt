@@ -10,11 +10,8 @@ use borrow.Author.Tests.{eq-eqb, eqb-true}
 use lib.Dec.{eqb}
 use lib.ListN.{length, set, length-append}
 use lib.IntN.{ℤ, pos}
-use mir.Syntax.{w64}
-use mir.Val.{SFits}
 use Rattle.std.specs.Prelude.{Result, Ok, Err, IsErrAnd, IfOk}
 use Rattle.numbers.proofs.Padded.{padded_none, padded_map}
-use Rattle.numbers.proofs.WordTests.{back, back_is}
 use Rattle.query.specs.Range.{posts_limit, stops_limit}
 use Rattle.text.specs.TextReading.{starts_with}
 use Rattle.deck.specs.declared.AxisCosts.{AxisCosts}

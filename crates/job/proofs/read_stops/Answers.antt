@@ -1,6 +1,5 @@
 -- What `job::read_stops` owes.
 use native.Mathlib.Omega.{arith}
-use borrow.Author.Rules.{rules}
 use Rattle.query.specs.Range.{stops_limit}
 use Rattle.text.specs.Ascii.{bytes}
 use Rattle.job_line.specs.Kinds.{stops, stop}
