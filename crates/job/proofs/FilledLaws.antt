@@ -2,21 +2,22 @@
 use mathlib.Core.Path.{◌≡◌, refl, sym, ap, subst, ◌∙◌}
 use mathlib.Core.Bool.{Bool, true, false, not}
 use mathlib.Core.List.{List, [], ◌∷◌, map, zip_with, Memᴰ}
-use Prim.Native.Nat.{ℕ, ◌+◌, ◌*◌, ◌≤◌}
+use Prim.Native.Nat.{ℕ, ◌+◌, ◌*◌}
 use native.Mathlib.Omega.{arith}
 use lib.Dec.{T}
 use lib.IntN.{ℤ}
-use lib.ListN.{length, get_or, take, length-map}
+use lib.ListN.{length, take, length-map}
+use lib.Seq.{length-take-le, get_or-take}
 use Rattle.std.specs.Prelude.{Ok}
 use Rattle.numbers.specs.Lists.{sum_of}
 use Rattle.numbers.specs.Padded.{padded}
 use Rattle.numbers.proofs.Members.{each_map}
-use Rattle.numbers.proofs.Padded.{padded_front, padded_at}
+use Rattle.numbers.proofs.Padded.{padded_front}
 use Rattle.query.specs.Place as Query
 use Rattle.query.specs.Deck as QueryDeck
 use Rattle.query.specs.Travel.{near}
 use Rattle.query.specs.Cost.{before}
-use Rattle.query.specs.Range.{PlaceInRange, StopInRange, stops_limit, travel_limit}
+use Rattle.query.specs.Range.{PlaceInRange, StopInRange, stops_limit}
 use Rattle.deck.specs.Values as Values
 use Rattle.deck.specs.Values.{held_axis, place_of}
 use Rattle.deck.specs.Ranges.{CostsInRange, PostsInRange, StopsInRange, NearsInRange}
@@ -83,6 +84,13 @@ module _ {unread left : Unread} {old new : Deck} where
   }
 
 -- ---- near and before, found of a deck
+-- near of the stops, without what stands behind
+pub nears_front : {nears : List ℕ} {n : ℕ} → NearsInRange nears n → NearsInRange (take n nears) n
+nears_front {nears} {n} range = record {
+  count = omega (arith, length-take-le n nears range.count);
+  range = λ i h. rw (get_or-take n nears i 0 h) (range.range i h);
+}
+
 paid_is : (near : QueryDeck.Stop → ℕ) (stops : List QueryDeck.Stop) → paid stops (map near stops) ≡ sum_of (λ s. s.visits * near s) stops
 unfolding paid sum_of zip_with
 paid_is near [] = refl
@@ -93,16 +101,8 @@ module _ (deck : QueryDeck.Deck) {column : List ℕ} (found : Nears deck.axis de
   unfolding near
   near_is = found.are
 
-  -- the near of the stops, without what stands behind
   near_front : take (length deck.stops) column ≡ map (near deck) deck.stops
   near_front = rw (near_is, ← length-map deck.stops (near deck)) (padded_front stops_limit 0 (map (near deck) deck.stops))
-
-  pub front_range : NearsInRange (take (length deck.stops) column) (length deck.stops)
-  front_range = rw near_front (record {
-    count = omega (arith, length-map deck.stops (near deck));
-    range = λ i h. subst (λ (m : ℕ). m ≤ travel_limit) (ap (λ l. get_or l i 0) near_is
-        ∙ padded_at stops_limit 0 (map (near deck) deck.stops) i (omega (arith, length-map deck.stops (near deck)))) (found.range.range i h);
-  })
 
   pub before_is : {sum : ℕ} → sum ≡ paid deck.stops (take (length deck.stops) column) → sum ≡ before deck
   unfolding before

@@ -44,7 +44,7 @@ use Rattle.refusal.specs.declared.Refusal.{Refusal}
 use Rattle.refusal.specs.declared.Refusal.TheVariants.{TooLong, EmptyArea, NoPosts, NoStops}
 use Rattle.numbers.proofs.WordTests.{back, back_is}
 use Rattle.job.proofs.Meaning.{read_short, job_with}
-use Rattle.job.proofs.FilledLaws.{posts_in, stops_in, near_is, front_range, before_is}
+use Rattle.job.proofs.FilledLaws.{posts_in, stops_in, nears_front, near_is, before_is}
 
 -- ---- refusal 4
 module _ {a : Rect} (xlo : SFits w64 a.xlo) (ylo : SFits w64 a.ylo) (xhi : SFits w64 a.xhi) (yhi : SFits w64 a.yhi) where
@@ -265,7 +265,7 @@ module _ {unread : Unread} {a : Rect} {c : AxisCosts} {d₁ : Deck} {left : Unre
       stops_listed = sym (length-map (take d₂.stop_count d₂.stops) Values.stop_of) ∙ ap length stops_are
 
       pub nears_held : NearsInRange (take d₂.stop_count near) (length (take d₂.stop_count d₂.stops))
-      nears_held = rw (stops_listed, count_is) (front_range deck found_deck)
+      nears_held = rw (stops_listed, count_is) (nears_front found_deck.range)
 
       deck_made : {sum : ℕ} → sum ≡ paid (map Values.stop_of (take d₂.stop_count d₂.stops)) (take d₂.stop_count near) →
           with_figures d₂ near sum ≡ deck_record deck
