@@ -1,15 +1,15 @@
 -- What was read of posts and stops: it is in range, and near and before found of it are those of the job's deck.
-use mathlib.Core.Path.{◌≡◌, refl, sym, ap, subst, ◌∙◌}
+use mathlib.Core.Path.{◌≡◌, sym, ap, subst, ◌∙◌}
 use mathlib.Core.Bool.{Bool, true, false, not}
-use mathlib.Core.List.{List, [], ◌∷◌, map, zip_with, Memᴰ}
-use Prim.Native.Nat.{ℕ, ◌+◌, ◌*◌}
+use mathlib.Core.List.{List, [], map, Memᴰ}
+use Prim.Native.Nat.{ℕ}
 use native.Mathlib.Omega.{arith}
 use lib.Dec.{T}
 use lib.IntN.{ℤ}
 use lib.ListN.{length, take, length-map}
 use lib.Seq.{length-take-le, get_or-take}
 use Rattle.std.specs.Prelude.{Ok}
-use Rattle.numbers.specs.Lists.{sum_of}
+use Rattle.std.proofs.lemmas.List.{append-nil}
 use Rattle.numbers.specs.Padded.{padded}
 use Rattle.numbers.proofs.Members.{each_map}
 use Rattle.numbers.proofs.Padded.{padded_front}
@@ -26,6 +26,7 @@ use Rattle.deck.specs.declared.Deck.{Deck}
 use Rattle.deck.specs.declared.Place.{Place}
 use Rattle.deck.specs.declared.Stop.{Stop}
 use Rattle.columns.specs.StopFigures.{Nears, paid}
+use Rattle.columns.proofs.PaidLaws.{paid_stops}
 use Rattle.job_line.specs.Kinds.{Kind, axis, posts, post, stops, stop, row}
 use Rattle.job_line.specs.OneLine.{line}
 use Rattle.job_line.specs.Reading.{cost_numbers}
@@ -91,11 +92,6 @@ nears_front {nears} {n} range = record {
   range = λ i h. rw (get_or-take n nears i 0 h) (range.range i h);
 }
 
-paid_is : (near : QueryDeck.Stop → ℕ) (stops : List QueryDeck.Stop) → paid stops (map near stops) ≡ sum_of (λ s. s.visits * near s) stops
-unfolding paid sum_of zip_with
-paid_is near [] = refl
-paid_is near (s ∷ ss) = ap (λ (m : ℕ). s.visits * near s + m) (paid_is near ss)
-
 module _ (deck : QueryDeck.Deck) {column : List ℕ} (found : Nears deck.axis deck.posts deck.stops column) where
   pub near_is : column ≡ padded stops_limit 0 (map (near deck) deck.stops)
   unfolding near
@@ -106,4 +102,4 @@ module _ (deck : QueryDeck.Deck) {column : List ℕ} (found : Nears deck.axis de
 
   pub before_is : {sum : ℕ} → sum ≡ paid deck.stops (take (length deck.stops) column) → sum ≡ before deck
   unfolding before
-  before_is e = e ∙ ap (paid deck.stops) near_front ∙ paid_is (near deck) deck.stops
+  before_is e = e ∙ ap (paid deck.stops) (near_front ∙ sym (append-nil (map (near deck) deck.stops))) ∙ paid_stops (near deck) deck.stops []
