@@ -14,7 +14,7 @@ use Rattle.numbers.proofs.Joined.{map_each}
 use Rattle.query.specs.Place.{Place}
 use Rattle.query.specs.Deck.{AxisCosts, plain}
 use Rattle.query.specs.Travel.{travel, closest}
-use Rattle.deck.specs.DeckOf.{places}
+use Rattle.columns.specs.Columns.{places}
 use Rattle.columns.specs.Objects.{scaled_place}
 use Rattle.columns.specs.Ranges.{CoordinatesInRange, ScaledPlaceInRange}
 use Rattle.columns.proofs.TravelLaws.{travel_scaled}

@@ -10,5 +10,3 @@ pub mod MadeColumns
 pub mod MadeNears
 pub mod PostLaws
 pub mod PaidLaws
-pub mod ColumnLoops
-pub mod Fronts

@@ -1,27 +1,24 @@
--- The columns of objects as they are made of columns of numbers, one behind another: x and y scaled, and behind them visits and near.
+-- The columns of objects as they are made, one behind another: x and y scaled, and behind them visits and near.
 use mathlib.Core.Path.{◌≡◌, refl, sym, ap, ◌∙◌}
 use mathlib.Core.List.{List, [], ◌∷◌, ◌++◌, map, append_assoc}
 use Prim.Native.Nat.{ℕ, ◌+◌, ◌-◌, ◌*◌, ◌≤◌}
 use native.Mathlib.Omega.{arith}
 use lib.IntN.{ℤ, pos}
 use lib.ListN.{length, take, drop, set, replicate, length-append, length-map, length-take}
-use lib.Seq.{paste, set_at, take-append-le, take_all, take-take, drop_at, length-take-le}
+use lib.Seq.{paste, set_at, take-append-le, take_all, drop_at, length-take-le}
 use borrow.Rule.Slice.PartMut.{put_mid}
 use Rattle.std.proofs.lemmas.Slice.{put_mid-paste}
 use Rattle.numbers.specs.Integer.{times}
 use Rattle.numbers.specs.Padded.{padded}
 use Rattle.numbers.proofs.Padded.{padded_length, padded_front}
-use Rattle.query.specs.Deck.{AxisCosts}
+use Rattle.query.specs.Deck.{AxisCosts, Stop}
 use Rattle.query.specs.Range.{stops_limit}
-use Rattle.columns.specs.Objects.{stored_pricing}
+use Rattle.columns.specs.Objects.{stored_objects, stored_pricing}
 use Rattle.columns.specs.ObjectColumns.{object_columns, columns_of}
-use Rattle.deck.specs.Ranges.{NearsInRange}
-use Rattle.columns.specs.Ranges.{VisitsInRange, PlacesInRange}
 use Rattle.columns.specs.Columns.{y_column, visits_column, near_column, x_cost_place, y_cost_place, columns_size}
 use Rattle.columns.proofs.CopyLaws.{put_column}
 use Rattle.columns.proofs.ColumnLaws.{columns_length}
-use Rattle.deck.proofs.DeckLaws.{map_take}
-use Rattle.columns.proofs.StoredLaws.{stored, stored_count, stored_columns}
+use Rattle.columns.proofs.StoredLaws.{stored_count, stored_columns}
 
 -- two numbers put behind others, where 0 was
 costs_put : (xs : List ℤ) (u v : ℤ) → length xs ≡ x_cost_place → set (set (xs ++ replicate 2 (pos 0)) x_cost_place u) y_cost_place v ≡ xs ++ (u ∷ v ∷ [])
@@ -65,86 +62,88 @@ module _ (n : ℕ) (few : n ≤ stops_limit) where
         )
         (take-append-le n (padded_column ws) _ (omega (arith, column_long ws)) ∙ column_front ws y)
 
--- ---- a part of an array that was filled: the first n numbers of a column at a place
-pub part_put : (at n : ℕ) (d xs : List ℤ) {part : List ℤ} → part ≡ take n xs → n ≤ length xs → put_mid at (at + n - at) d part ≡ paste d at xs n
-part_put at n d xs {part} e h = put_mid-paste at (at + n - at) d part (take n xs) n e (omega arith) (omega (arith, length-take-le n xs h))
-    ∙ ap (λ (l : List ℤ). take at d ++ l ++ drop (at + n) d) (take-take n n xs (omega arith))
+-- ---- parts of an array that were filled
+pub part_put : (at n : ℕ) (d xs : List ℤ) {part : List ℤ} → part ≡ xs → length xs ≡ n → put_mid at (at + n - at) d part ≡ paste d at xs n
+part_put at n d xs {part} e h = put_mid-paste at (at + n - at) d part xs n e (omega arith) (omega (arith, h))
 
-pub placed : (axis : AxisCosts) (d : List ℤ) {xs ys : List ℤ} → PlacesInRange stops_limit xs ys (length xs) → {u v : List ℤ} → u ≡ map (times axis.a) xs →
-    v ≡ map (times axis.b) (take (length xs) ys) →
-    put_mid y_column (y_column + length xs - y_column) (u ++ drop (length xs) d) v ≡ paste (paste d 0 (map (times axis.a) xs) (length xs)) y_column
-    (map (times axis.b) ys) (length xs)
-placed axis d {xs} {ys} range {u} {v} eu ev =
-    part_put y_column (length xs) (u ++ drop (length xs) d) (map (times axis.b) ys) (ev ∙ map_take (times axis.b) (length xs) ys)
-    (omega (arith, range.y.count, length-map ys (times axis.b)))
-    ∙ ap (λ (l : List ℤ). paste l y_column (map (times axis.b) ys) (length xs)) front
+-- n numbers at the front, and n more behind the first column
+pub placed : (n : ℕ) (d us ws : List ℤ) {u w : List ℤ} → u ≡ us → w ≡ ws → length us ≡ n → length ws ≡ n →
+    put_mid y_column (y_column + n - y_column) (u ++ drop n d) w ≡ paste (paste d 0 us n) y_column ws n
+placed n d us ws {u} eu ew lu lw =
+    part_put y_column n (u ++ drop n d) ws ew lw
+    ∙ ap (λ (l : List ℤ). paste l y_column ws n) (ap (λ (l : List ℤ). l ++ drop n d) (eu ∙ sym (take_all n us (omega (arith, lu))))
+    ∙ ap (λ (m : ℕ). take n us ++ drop m d) at)
   where
-    at : 0 + length xs ≡ length xs
+    at : n ≡ 0 + n
     at = omega arith
 
-    all : u ≡ take (length xs) (map (times axis.a) xs)
-    all = eu ∙ sym (take_all (length xs) (map (times axis.a) xs) (omega (arith, length-map xs (times axis.a))))
+-- ---- all columns
+module _ (axis : AxisCosts) (stops : List Stop) (nears : List ℕ) {n : ℕ} (stops-count : length stops ≡ n) (nears-count : length nears ≡ n)
+    (few : n ≤ stops_limit) where
+  abbrev us : List ℤ
+  us = map (λ s. times axis.a s.at.x) stops
 
-    front : u ++ drop (length xs) d ≡ paste d 0 (map (times axis.a) xs) (length xs)
-    front = ap (λ (l : List ℤ). l ++ drop (length xs) d) all
-        ∙ ap (λ (m : ℕ). take (length xs) (map (times axis.a) xs) ++ drop m d) (sym at)
+  abbrev ws : List ℤ
+  ws = map (λ s. times axis.b s.at.y) stops
 
--- ---- all columns, of what a record holds
-module _ (axis : AxisCosts) {xs ys : List ℤ} {vs ns : List ℕ} {n : ℕ} (places : PlacesInRange stops_limit xs ys n) (visits : VisitsInRange vs n)
-    (nears : NearsInRange ns n) where
-  scaled_x : n ≤ length (map (times axis.a) xs)
-  scaled_x = omega (arith, places.x.count, length-map xs (times axis.a))
+  abbrev vs : List ℤ
+  vs = map (λ s. pos s.visits) stops
 
-  scaled_y : n ≤ length (map (times axis.b) ys)
-  scaled_y = omega (arith, places.y.count, length-map ys (times axis.b))
+  counted : (f : Stop → ℤ) → n ≤ length (map f stops)
+  counted f = omega (arith, length-map stops f, stops-count)
 
-  naturals : (l : List ℕ) → n ≤ length l → n ≤ length (map pos l)
-  naturals l h = omega (arith, length-map {B = ℤ} l pos)
+  near_count : length (map pos nears) ≡ n
+  near_count = omega (arith, length-map {B = ℤ} nears pos, nears-count)
 
-  abbrev x : List ℤ
-  x = padded_column n places.few (map (times axis.a) xs)
+  all : (f : Stop → ℤ) → take n (map f stops) ≡ map f stops
+  all f = take_all n (map f stops) (omega (arith, length-map stops f, stops-count))
 
-  abbrev y : List ℤ
-  y = padded_column n places.few (map (times axis.b) ys)
-
-  abbrev v : List ℤ
-  v = padded_column n places.few (map pos vs)
-
-  -- a column of natural numbers put at its place
-  naturals_put : (at : ℕ) (d : List ℤ) (l : List ℕ) {part : List ℤ} → n ≤ length l → part ≡ map pos (take n l) →
-      put_mid at (at + n - at) d part ≡ paste d at (map pos l) n
-  naturals_put at d l h e = part_put at n d (map pos l) (e ∙ map_take pos n l) (naturals l h)
-
-  module _ {b us ws : List ℤ} (eb : b ≡ paste (paste (replicate columns_size (pos 0)) 0 (map (times axis.a) xs) n) y_column (map (times axis.b) ys) n)
-      (eu : us ≡ map pos (take n vs)) (ew : ws ≡ map pos (take n ns)) where
+  module _ {b v m : List ℤ} (eb : b ≡ paste (paste (replicate columns_size (pos 0)) 0 us n) y_column ws n) (ev : v ≡ vs) (em : m ≡ map pos nears) where
     -- the columns with visits in them, and those with near too
     abbrev c : List ℤ
-    c = put_mid visits_column (visits_column + n - visits_column) b us
+    c = put_mid visits_column (visits_column + n - visits_column) b v
 
     abbrev d : List ℤ
-    d = put_mid near_column (near_column + n - near_column) c ws
+    d = put_mid near_column (near_column + n - near_column) c m
+
+    abbrev x : List ℤ
+    x = padded_column n few us
+
+    abbrev y : List ℤ
+    y = padded_column n few ws
+
+    abbrev w : List ℤ
+    w = padded_column n few vs
 
     two : length (x ++ y) ≡ visits_column
-    two = two_columns n places.few _ _ scaled_x scaled_y refl eb
+    two = two_columns n few us ws (counted _) (counted _) refl eb
 
-    three : length (x ++ y ++ v) ≡ near_column
-    three = omega (arith, length-append (x ++ y) v, two, column_long n places.few (map pos vs))
+    three : length (x ++ y ++ w) ≡ near_column
+    three = omega (arith, length-append (x ++ y) w, two, column_long n few vs)
 
-    objects : d ≡ x ++ y ++ v ++ padded_column n places.few (map pos ns) ++ replicate 2 (pos 0)
+    objects : d ≡ x ++ y ++ w ++ padded_column n few (map pos nears) ++ replicate 2 (pos 0)
     objects =
-        naturals_put near_column c ns nears.count ew
-        ∙ ap (λ (l : List ℤ). paste l near_column (map pos ns) n)
-        (naturals_put visits_column b vs visits.count eu
-        ∙ ap (λ (l : List ℤ). paste l visits_column (map pos vs) n) (places_put n places.few _ _ scaled_x scaled_y refl eb)
-        ∙ put_column (x ++ y) visits_column (stops_limit + 2) n (map pos vs) two places.few (naturals vs visits.count))
-        ∙ put_column (x ++ y ++ v) near_column 2 n (map pos ns) three places.few (naturals ns nears.count)
+        part_put near_column n c (map pos nears) em near_count
+        ∙ ap (λ (l : List ℤ). paste l near_column (map pos nears) n)
+        (part_put visits_column n b vs ev (length-map stops (λ s. pos s.visits) ∙ stops-count)
+        ∙ ap (λ (l : List ℤ). paste l visits_column vs n) (places_put n few us ws (counted _) (counted _) refl eb)
+        ∙ put_column (x ++ y) visits_column (stops_limit + 2) n vs two few (counted _))
+        ∙ put_column (x ++ y ++ w) near_column 2 n (map pos nears) three few (omega (arith, near_count))
+
+    columns_are : d ≡ object_columns (stored_objects axis stops nears) ++ replicate 2 (pos 0)
+    columns_are = objects ∙ rw (
+      all (λ s. times axis.a s.at.x),
+      all (λ s. times axis.b s.at.y),
+      all (λ s. pos s.visits),
+      take_all n (map pos nears) (omega (arith, near_count)),
+      stored_columns axis stops nears (stops-count ∙ sym nears-count),
+    ) refl
 
     -- and the costs behind them
-    pub made_columns : {t u : ℤ} → t ≡ pos axis.a → u ≡ pos axis.b → set (set d x_cost_place t) y_cost_place u ≡ columns_of (stored_pricing axis xs ys vs ns n)
+    pub made_columns : {t u : ℤ} → t ≡ pos axis.a → u ≡ pos axis.b →
+        set (set d x_cost_place t) y_cost_place u ≡ columns_of (stored_pricing axis stops nears)
     unfolding columns_of
-    made_columns ex ey =
-        let held = stored axis places visits nears in
-        let count = stored_count axis places visits nears in
-        let columns = stored_columns axis places visits nears in
-        (λ i. set (set ((objects ∙ ap (λ (l : List ℤ). l ++ replicate 2 (pos 0)) (sym columns)) i) x_cost_place (ex i)) y_cost_place (ey i))
-        ∙ costs_put (object_columns held) (pos axis.a) (pos axis.b) (columns_length held (omega (arith, count, places.few)))
+    made_columns et eu =
+        let held = stored_objects axis stops nears in
+        (λ i. set (set (columns_are i) x_cost_place (et i)) y_cost_place (eu i))
+        ∙ costs_put (object_columns held) (pos axis.a) (pos axis.b) (columns_length held (omega (arith, stored_count axis stops nears (stops-count ∙ sym nears-count), stops-count, few)))

@@ -1,19 +1,19 @@
--- A coordinate multiplied by an axis cost, in 32-bit words; and columns of such coordinates.
+-- A coordinate multiplied by an axis cost, in 32-bit words.
 use mathlib.Core.Path.{◌≡◌, refl, ap, ◌∙◌}
-use mathlib.Core.List.{List, map}
 use Prim.Native.Nat.{ℕ, ◌≤◌}
 use native.Mathlib.Omega.{arith}
 use lib.IntN.{ℤ, pos, negsuc, nat_abs, ◌*ℤ◌}
-use lib.ListN.{get_or, length-map}
 use lib.Signed.{◌≤ℤ◌}
 use mir.Syntax.{w32, w64}
 use mir.Val.{to_z, of_z}
 use mir.ValLaws.{to_z_pos}
 use Rattle.numbers.specs.Integer.{times}
 use Rattle.numbers.proofs.Integer.{order}
-use Rattle.numbers.proofs.Scaling.{scaled_at, scale_most}
-use Rattle.query.specs.Range.{coordinate_limit, axis_cost_limit}
-use Rattle.columns.specs.Ranges.{AxisCostInRange, Scaled, CoordinatesUpTo, CoordinatesInRange, scaled_limit}
+use Rattle.numbers.proofs.Scaling.{scale_most}
+use Rattle.query.specs.Place.{Place, Axis, x_axis, y_axis}
+use Rattle.query.specs.Place.{coordinate as along}
+use Rattle.query.specs.Range.{PlaceInRange, coordinate_limit, axis_cost_limit}
+use Rattle.columns.specs.Ranges.{AxisCostInRange, Scaled, scaled_limit}
 use Rattle.columns.proofs.WordLaws.{coordinate, wide, narrowed}
 
 natural : (k : ℤ) → pos 1 ≤ℤ k → k ≡ pos (nat_abs k)
@@ -38,9 +38,7 @@ module _ (k v : ℤ) (cost : AxisCostInRange k) (h : nat_abs v ≤ coordinate_li
 pub scaled_word : {k r : ℤ} (v : ℤ) → nat_abs v ≤ coordinate_limit → Scaled k (to_z w64 (of_z w64 v)) r → to_z w32 (of_z w32 r) ≡ times (nat_abs k) v
 scaled_word {k} {r} v h e = coordinate r e.small ∙ e.is ∙ ap (times (nat_abs k)) (wide v (omega arith))
 
--- the first n coordinates of a column, scaled
-pub scaled_range : (k : ℕ) (xs : List ℤ) (n : ℕ) → k ≤ axis_cost_limit → CoordinatesUpTo coordinate_limit xs n → CoordinatesInRange (map (times k) xs) n
-scaled_range k xs n h range = record {
-  count = omega (arith, range.count, length-map xs (times k));
-  range = λ i l. rw (scaled_at k xs i) (scale_most k axis_cost_limit coordinate_limit (get_or xs i (pos 0)) h (range.range i l));
-}
+-- the coordinate along an axis of a place in range
+pub along_range : (axis : Axis) {p : Place} → PlaceInRange p → nat_abs (along axis p) ≤ coordinate_limit
+along_range x_axis range = range.x_range
+along_range y_axis range = range.y_range

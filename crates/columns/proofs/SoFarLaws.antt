@@ -19,9 +19,9 @@ use Rattle.query.specs.Place.{Place}
 use Rattle.query.specs.Deck.{plain}
 use Rattle.query.specs.Travel.{travel, closest}
 use Rattle.query.specs.Range.{travel_limit}
-use Rattle.deck.specs.DeckOf.{places}
+use Rattle.columns.specs.Columns.{places}
 use Rattle.columns.specs.ClosestSoFar.{closest_so_far, columns_so_far, improved, columns_improved}
-use Rattle.deck.specs.Ranges.{StopsInRange}
+use Rattle.columns.specs.Ranges.{RowsInRange}
 use Rattle.columns.specs.Ranges.{CoordinatesInRange, ScaledPlaceInRange, ColumnsFit, scaled_limit}
 use Rattle.columns.specs.Columns.{y_column, near_column}
 use Rattle.columns.proofs.WordLaws.{coordinate}
@@ -69,7 +69,7 @@ improved_so_far post p posts at new =
 abbrev stop : List ℤ → ℕ → Place
 stop columns i = place_at columns (drop y_column columns) i
 
-stop_range : {columns : List ℤ} {n : ℕ} → StopsInRange columns n → (i : ℕ) → i < n → ScaledPlaceInRange (stop columns i).x (stop columns i).y
+stop_range : {columns : List ℤ} {n : ℕ} → RowsInRange columns n → (i : ℕ) → i < n → ScaledPlaceInRange (stop columns i).x (stop columns i).y
 stop_range stops i h = record { x_range = stops.x.range i h; y_range = stops.y.range i h }
 
 -- the figures after some posts, and those improved by one more
@@ -163,7 +163,7 @@ module _ {columns : List ℤ} {n : ℕ} (fit : ColumnsFit columns n) where
           get_or-take n s i z l ∙ rows d i l ∙ sym (get_or-take n (figures columns new) i z l ∙ figures_at new d i l)
 
 -- ---- the first post, stop by stop
-module _ {columns : List ℤ} {n : ℕ} (stops : StopsInRange columns n) (post : Place) {to : List ℤ} {i : ℕ}
+module _ {columns : List ℤ} {n : ℕ} (stops : RowsInRange columns n) (post : Place) {to : List ℤ} {i : ℕ}
     (so_far : Copied columns near_column (figures columns (post ∷ [])) n to i) where
   pub first_row : i < n → ScaledPlaceInRange (to_z w32 (of_z w32 (get_or to i (pos 0)))) (to_z w32 (of_z w32 (get_or to (y_column + i) (pos 0))))
   first_row h = rw (x_kept stops.fit so_far i h, y_kept stops.fit so_far i h) (place_word (stop_range stops i h))
@@ -182,7 +182,7 @@ module _ {columns : List ℤ} {n : ℕ} (stops : StopsInRange columns n) (post :
       ) (sym (figures_at stops.fit (post ∷ []) (stop columns 0) i h ∙ ap pos (so_far_first post (stop columns i)))))
 
 -- ---- one more post, stop by stop
-module _ {columns : List ℤ} {n : ℕ} (stops : StopsInRange columns n) (post : Place) {to : List ℤ} {i : ℕ}
+module _ {columns : List ℤ} {n : ℕ} (stops : RowsInRange columns n) (post : Place) {to : List ℤ} {i : ℕ}
     (so_far : Copied columns near_column (better columns post) n to i) where
   pub place_row : i < n → ScaledPlaceInRange (to_z w32 (of_z w32 (get_or to i (pos 0)))) (to_z w32 (of_z w32 (get_or to (y_column + i) (pos 0))))
   place_row h = rw (x_kept stops.fit so_far i h, y_kept stops.fit so_far i h) (place_word (stop_range stops i h))
@@ -208,14 +208,14 @@ module _ {columns : List ℤ} {n : ℕ} (stops : StopsInRange columns n) (post :
   better_all h = copied_all columns near_column (better columns post) n so_far h
 
 -- ---- all stops, post by post
-module _ {columns : List ℤ} {n : ℕ} (stops : StopsInRange columns n) (posts : List Place) where
+module _ {columns : List ℤ} {n : ℕ} (stops : RowsInRange columns n) (posts : List Place) where
   abbrev now : List ℤ
   now = columns_so_far columns n posts
 
   kept : Copied columns near_column (figures columns posts) n now n
   kept = put stops.fit posts
 
-  pub so_far_ranged : StopsInRange now n
+  pub so_far_ranged : RowsInRange now n
   so_far_ranged = record {
     fit = so_far_fit stops.fit posts;
     x = record { count = omega (arith, kept.long, stops.x.count); range = λ j h. rw (x_kept stops.fit kept j h) (stops.x.range j h) };
@@ -254,19 +254,19 @@ columns_all columns n posts h = rw (map_each
     (λ p m. ap pos (so_far_some p posts h)))
 
 -- ---- posts in columns: after the first, after each further one, and after the last
-module _ {columns px py : List ℤ} {n k : ℕ} (stops : StopsInRange columns n) (some : 1 ≤ k) (gx : CoordinatesInRange px k) (gy : CoordinatesInRange py k)
+module _ {columns px py : List ℤ} {n k : ℕ} (stops : RowsInRange columns n) (some : 1 ≤ k) (gx : CoordinatesInRange px k) (gy : CoordinatesInRange py k)
     {first : List ℤ} (e : first ≡ columns_so_far columns n (place_at px py 0 ∷ [])) where
   first_is : first ≡ columns_so_far columns n (take 1 (places px py))
   first_is = e ∙ rw (posts_more gx gy 0 some)
 
-  first_ranged : StopsInRange first n
+  first_ranged : RowsInRange first n
   first_ranged = rw first_is (so_far_ranged stops _)
 
   pub posts_first : first ≡ columns_so_far first n (take 1 (places px py))
   posts_first = first_is ∙ rw first_is (sym (so_far_again stops _ _))
 
   module _ {now : List ℤ} (j : ℕ) (so_far : now ≡ columns_so_far first n (take j (places px py))) where
-    pub posts_ranged : StopsInRange now n
+    pub posts_ranged : RowsInRange now n
     posts_ranged = rw so_far (so_far_ranged first_ranged _)
 
     pub posts_next : {next : List ℤ} → j < k → next ≡ columns_improved now n (place_at px py j) → next ≡ columns_so_far first n (take (j + 1) (places px py))

@@ -1,67 +1,76 @@
--- The objects of what a record holds: their columns are the record's own, scaled.
-use mathlib.Core.Path.{◌≡◌, refl, ap, ◌∙◌}
-use mathlib.Core.List.{List, ◌++◌, map}
+-- The objects of stops as a record holds them: their columns; and what pricing reads of a sound record is what the definitions say.
+use mathlib.Core.Path.{◌≡◌, refl, sym, ap, ◌∙◌}
+use mathlib.Core.List.{List, [], ◌∷◌, ◌++◌, map, zip_with}
 use Prim.Native.Nat.{ℕ}
 use native.Mathlib.Omega.{arith}
-use lib.IntN.{ℤ, pos}
+use lib.IntN.{pos}
 use lib.ListN.{length, take, length-map}
-use lib.Seq.{take_all, length-take-le}
 use Rattle.numbers.specs.Integer.{times}
 use Rattle.numbers.specs.Padded.{padded}
+use Rattle.numbers.proofs.Padded.{padded_front}
 use Rattle.query.specs.Deck.{AxisCosts, Stop}
+use Rattle.query.specs.Travel.{near}
 use Rattle.query.specs.Range.{stops_limit}
-use Rattle.deck.specs.DeckOf.{places, stops_of}
-use Rattle.columns.specs.Objects.{scaled_place, Object, stored_objects}
-use Rattle.deck.specs.Ranges.{NearsInRange}
-use Rattle.columns.specs.Ranges.{VisitsInRange, PlacesInRange}
+use Rattle.deck.specs.declared.Deck.{Deck}
+use Rattle.deck.specs.DeckOf.{deck_of}
+use Rattle.deck.specs.Sound.{Sound}
+use Rattle.deck.specs.Values.{held_axis}
+use Rattle.deck.proofs.SoundLaws.{sound_near, sound_stops}
+use Rattle.columns.specs.Objects.{scaled_place, Object, objects_of, stored_objects, pricing_of, stored_pricing}
 use Rattle.columns.specs.ObjectColumns.{column, object_columns}
 use Rattle.columns.proofs.ClosestLaws.{zip_length}
-use Rattle.deck.proofs.DeckLaws.{zip_first, zip_second, by_x, by_y, by_visits, StopColumns, stops_length}
 
 abbrev pub object_of : AxisCosts → Stop → ℕ → Object
 object_of axis stop near = record { at = scaled_place axis stop.at; visits = stop.visits; near = near }
 
-module _ (axis : AxisCosts) {xs ys : List ℤ} {vs ns : List ℕ} {n : ℕ} (places-range : PlacesInRange stops_limit xs ys n) (visits : VisitsInRange vs n)
-    (nears : NearsInRange ns n) where
-  counted : StopColumns xs ys vs n
-  counted = record { x = places-range.x.count; y = places-range.y.count; visits = visits.count }
+-- a map that looks at the first, or the second, of two lists side by side
+module _ {A B C D : Type 0} (f : A → B → C) (g : C → D) where
+  zip_first : (h : A → D) → ((a : A) (b : B) → g (f a b) ≡ h a) → (xs : List A) (ys : List B) → length xs ≡ length ys →
+      map g (zip_with f xs ys) ≡ map h xs
+  unfolding zip_with
+  zip_first h e [] ys same = refl
+  zip_first h e (x ∷ xs) [] same = absurd (omega (arith, same))
+  zip_first h e (x ∷ xs) (y ∷ ys) same = rw (e x y, zip_first h e xs ys (omega (arith, same)))
 
-  abbrev stops : List Stop
-  stops = take n (stops_of (places xs ys) vs)
+  zip_second : (h : B → D) → ((a : A) (b : B) → g (f a b) ≡ h b) → (xs : List A) (ys : List B) → length xs ≡ length ys →
+      map g (zip_with f xs ys) ≡ map h ys
+  unfolding zip_with
+  zip_second h e [] [] same = refl
+  zip_second h e [] (y ∷ ys) same = absurd (omega (arith, same))
+  zip_second h e (x ∷ xs) [] same = absurd (omega (arith, same))
+  zip_second h e (x ∷ xs) (y ∷ ys) same = rw (e x y, zip_second h e xs ys (omega (arith, same)))
 
-  abbrev pub stored : List Object
-  stored = stored_objects axis stops ns
-
-  pub stops_count : length stops ≡ n
-  stops_count = length-take-le n (stops_of (places xs ys) vs) (omega (arith, stops_length xs ys vs, counted.x, counted.y, counted.visits))
-
-  pub stored_count : length stored ≡ n
+module _ (axis : AxisCosts) (stops : List Stop) (nears : List ℕ) (same : length stops ≡ length nears) where
+  pub stored_count : length (stored_objects axis stops nears) ≡ length stops
   unfolding stored_objects
-  stored_count = omega (arith, zip_length (object_of axis) stops ns, stops_count, nears.count)
+  stored_count = omega (arith, zip_length (object_of axis) stops nears, same)
 
-  -- what of an object depends on its stop alone
-  by_stop : {D : Type 0} (g : Object → D) (h : Stop → D) → ((s : Stop) (m : ℕ) → g (object_of axis s m) ≡ h s) → map g stored ≡ map h stops
-  unfolding stored_objects
-  by_stop g h e = zip_first (object_of axis) g h e stops ns ∙ take_all (length ns) (map h stops) (omega (arith, length-map stops h, stops_count, nears.count))
+  pub stored_columns : object_columns (stored_objects axis stops nears) ≡
+      padded stops_limit (pos 0) (map (λ (s : Stop). times axis.a s.at.x) stops) ++ padded stops_limit (pos 0) (map (λ (s : Stop). times axis.b s.at.y) stops)
+      ++ padded stops_limit (pos 0) (map (λ (s : Stop). pos s.visits) stops) ++ padded stops_limit (pos 0) (map pos nears)
+  unfolding object_columns column stored_objects
+  stored_columns = rw (
+    zip_first (object_of axis) (λ (s : Object). s.at.x) (λ (s : Stop). times axis.a s.at.x) (λ s m. refl) stops nears same,
+    zip_first (object_of axis) (λ (s : Object). s.at.y) (λ (s : Stop). times axis.b s.at.y) (λ s m. refl) stops nears same,
+    zip_first (object_of axis) (λ (s : Object). pos s.visits) (λ (s : Stop). pos s.visits) (λ s m. refl) stops nears same,
+    zip_second (object_of axis) (λ (s : Object). pos s.near) pos (λ s m. refl) stops nears same,
+  ) refl
 
-  stored_x : map (λ (s : Object). s.at.x) stored ≡ take n (map (times axis.a) xs)
-  stored_x = by_stop (λ (s : Object). s.at.x) (λ (s : Stop). times axis.a s.at.x) (λ s m. refl)
-      ∙ by_x counted (λ (s : Stop). times axis.a s.at.x) (times axis.a) (λ a b w. refl)
+-- ---- of a sound record
+module _ {deck : Deck} (sound : Sound deck) where
+  pub listed_near : take deck.stop_count deck.near ≡ map (near (deck_of deck)) (deck_of deck).stops
+  listed_near =
+      let nears = map (near (deck_of deck)) (deck_of deck).stops in
+      (λ i. take ((sound_stops sound ∙ sym (length-map (deck_of deck).stops (near (deck_of deck)))) i) (sound_near sound i)) ∙ padded_front stops_limit 0 nears
 
-  stored_y : map (λ (s : Object). s.at.y) stored ≡ take n (map (times axis.b) ys)
-  stored_y = by_stop (λ (s : Object). s.at.y) (λ (s : Stop). times axis.b s.at.y) (λ s m. refl)
-      ∙ by_y counted (λ (s : Stop). times axis.b s.at.y) (times axis.b) (λ a b w. refl)
-
-  stored_visits : map (λ (s : Object). pos s.visits) stored ≡ take n (map pos vs)
-  stored_visits = by_stop (λ (s : Object). pos s.visits) (λ (s : Stop). pos s.visits) (λ s m. refl)
-      ∙ by_visits counted (λ (s : Stop). pos s.visits) pos (λ p w. refl)
-
-  stored_near : map (λ (s : Object). pos s.near) stored ≡ take n (map pos ns)
-  unfolding stored_objects
-  stored_near = zip_second (object_of axis) (λ (s : Object). pos s.near) pos (λ s m. refl) stops ns ∙ ap (λ (m : ℕ). take m (map pos ns)) stops_count
-
-  pub stored_columns : object_columns stored ≡
-      padded stops_limit (pos 0) (take n (map (times axis.a) xs)) ++ padded stops_limit (pos 0) (take n (map (times axis.b) ys))
-      ++ padded stops_limit (pos 0) (take n (map pos vs)) ++ padded stops_limit (pos 0) (take n (map pos ns))
-  unfolding object_columns column
-  stored_columns = rw (stored_x, stored_y, stored_visits, stored_near)
+  pub sound_pricing : stored_pricing (held_axis deck.axis) (deck_of deck).stops (take deck.stop_count deck.near) ≡ pricing_of (deck_of deck)
+  unfolding deck_of objects_of stored_objects
+  sound_pricing = λ i. record {
+    axis = held_axis deck.axis;
+    objects = (ap (stored_objects (held_axis deck.axis) (deck_of deck).stops) listed_near ∙ each_stop (deck_of deck).stops) i;
+  }
+    where
+      each_stop : (stops : List Stop) → stored_objects (held_axis deck.axis) stops (map (near (deck_of deck)) stops)
+          ≡ map (λ stop. object_of (held_axis deck.axis) stop (near (deck_of deck) stop)) stops
+      each_stop [] = refl
+      each_stop (s ∷ ss) = ap (λ (l : List Object). object_of (held_axis deck.axis) s (near (deck_of deck) s) ∷ l) (each_stop ss)

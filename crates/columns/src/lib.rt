@@ -245,8 +245,8 @@ fn nears_in(columns: &[i32], n: usize) -> [u64; STOPS]
 fn put_places(axis: AxisCosts, stops: &[Stop], columns: &mut [i32])
     requires { CostsInRange (held_axis axis) × StopsInRange stops.now × (columns.old ≡ replicate columns_size (pos 0)) }
     ensures { columns.new
-        ≡ paste (paste columns.old 0 (map (λ s. times axis.a s.at.x) stops.now) (length stops.now)) y_column
-        (map (λ s. times axis.b s.at.y) stops.now) (length stops.now) }
+        ≡ paste (paste columns.old 0 (map (λ s. times axis.a s.at.x) (map stop_of stops.now)) (length stops.now)) y_column
+        (map (λ s. times axis.b s.at.y) (map stop_of stops.now)) (length stops.now) }
 {
     let n = stops.len();
     copy_coordinates(stops, Axis::X, axis.a as i32, &mut columns[..n]);

@@ -1,14 +1,16 @@
 -- The deck that a record holds: its posts and stops in number and in range; and the record that holds a deck.
-use mathlib.Core.Path.{◌≡◌, refl, sym, ap, ◌∙◌}
-use mathlib.Core.List.{List, [], ◌∷◌, map, map-map}
-use Prim.Native.Nat.{ℕ, zero, suc, ◌≤◌, min}
+use mathlib.Core.Path.{◌≡◌, refl, sym, ap, subst, ◌∙◌}
+use mathlib.Core.List.{List, [], ◌∷◌, map, map-map, Memᴰ}
+use Prim.Native.Nat.{ℕ, zero, suc, ◌≤◌, ◌<◌, min}
 use native.Mathlib.Omega.{arith}
-use lib.ListN.{length, take, length-take, length-map}
+use lib.ListN.{length, get_or, take, length-take, length-map, get_or-map}
 use Rattle.numbers.specs.Padded.{padded}
 use Rattle.numbers.proofs.Padded.{padded_front}
 use Rattle.query.specs.Deck as Query
-use Rattle.query.specs.Range.{InRange, posts_limit, stops_limit}
+use Rattle.query.specs.Range.{InRange, PlaceInRange, StopInRange, posts_limit, stops_limit}
 use Rattle.deck.specs.declared.Deck.{Deck}
+use Rattle.deck.specs.declared.Place.{Place}
+use Rattle.deck.specs.declared.Stop.{Stop}
 use Rattle.deck.specs.Values.{held_axis, place_of, place_record, stop_of, stop_record, no_place, no_stop}
 use Rattle.deck.specs.DeckOf.{Sized, deck_of, deck_record}
 use Rattle.deck.specs.Ranges.{CostsInRange, PostsInRange, StopsInRange}
@@ -18,6 +20,11 @@ pub map_take : {A B : Type 0} (f : A → B) (n : ℕ) (l : List A) → map f (ta
 map_take f zero l = refl
 map_take f (suc n) [] = refl
 map_take f (suc n) (x ∷ xs) = ap (λ r. f x ∷ r) (map_take f n xs)
+
+pub member_at : {A : Type 0} (z : A) (xs : List A) (i : ℕ) → i < length xs → Memᴰ (get_or xs i z) xs
+member_at z [] i h = absurd (omega arith)
+member_at z (x ∷ xs) zero h = Memᴰ.head refl
+member_at z (x ∷ xs) (suc i) h = Memᴰ.tail (member_at z xs i (omega arith))
 
 -- a list at the front of an array
 list_front : {A B : Type 0} (n : ℕ) (z : B) (f : A → B) (g : B → A) → ((a : A) → g (f a) ≡ a) → (xs : List A) →
@@ -66,6 +73,17 @@ module _ (deck : Deck) (range : InRange (deck_of deck)) where
     few = omega (arith, length-map (take deck.stop_count deck.stops) stop_of, range.most_stops);
     each = range.stops;
   }
+
+-- ---- posts and stops in range, by index
+mapped_at : {A B : Type 0} (f : A → B) (z : A) (xs : List A) (i : ℕ) → i < length xs → Memᴰ (f (get_or xs i z)) (map f xs)
+mapped_at f z xs i h =
+    subst (λ b. Memᴰ b (map f xs)) (get_or-map f xs i z) (member_at (f z) (map f xs) i (omega (arith, length-map xs f)))
+
+pub post_in_range : {posts : List Place} → PostsInRange posts → (i : ℕ) (z : Place) → i < length posts → PlaceInRange (place_of (get_or posts i z))
+post_in_range {posts} range i z h = range.each (place_of (get_or posts i z)) (mapped_at place_of z posts i h)
+
+pub stop_in_range : {stops : List Stop} → StopsInRange stops → (i : ℕ) (z : Stop) → i < length stops → StopInRange (stop_of (get_or stops i z))
+stop_in_range {stops} range i z h = range.each (stop_of (get_or stops i z)) (mapped_at stop_of z stops i h)
 
 -- ---- the record of a deck holds it
 pub held_deck : (deck : Query.Deck) → deck_of (deck_record deck) ≡ deck

@@ -1,5 +1,5 @@
 -- Posts and stops with equal values are equal; one is held exactly if it is in the list.
-use mathlib.Core.Path.{◌≡◌, refl, ap₂, subst}
+use mathlib.Core.Path.{◌≡◌, refl, subst}
 use mathlib.Core.Logic.{◌↔◌}
 use mathlib.Core.List.{List, Memᴰ}
 use Prim.Native.Nat.{ℕ}
@@ -11,7 +11,6 @@ use Rattle.numbers.proofs.Integer.{order}
 use Rattle.numbers.proofs.Truth.{and_left, and_right, and_intro}
 use Rattle.query.specs.Place.{Place}
 use Rattle.query.specs.Deck.{Stop}
-use Rattle.deck.proofs.DeckLaws.{place_of, stop_of}
 use Rattle.items.specs.Items.{is_same_place, is_same_stop, held}
 use Rattle.items.proofs.FirstRemoved.{held_member}
 
@@ -24,15 +23,19 @@ same_natural m n = (eqb→eq m n, λ e. subst (λ (k : ℕ). T (eqb m k)) e (eqb
 
 -- ---- equal items
 pub same_place : (p q : Place) → T (is_same_place p q) → p ≡ q
-same_place p q t = ap₂ place_of ((same_integer p.x q.x).0 (and_left (eq_z p.x q.x) (eq_z p.y q.y) t))
-    ((same_integer p.y q.y).0 (and_right (eq_z p.x q.x) (eq_z p.y q.y) t))
+same_place p q t = λ i. record {
+  x = (same_integer p.x q.x).0 (and_left (eq_z p.x q.x) (eq_z p.y q.y) t) i;
+  y = (same_integer p.y q.y).0 (and_right (eq_z p.x q.x) (eq_z p.y q.y) t) i;
+}
 
 pub place_same : (p : Place) → T (is_same_place p p)
 place_same p = and_intro (eq_z p.x p.x) (eq_z p.y p.y) ((same_integer p.x p.x).1 refl) ((same_integer p.y p.y).1 refl)
 
 pub same_stop : (s t : Stop) → T (is_same_stop s t) → s ≡ t
-same_stop s t u = ap₂ stop_of (same_place s.at t.at (and_left (is_same_place s.at t.at) (eqb s.visits t.visits) u))
-    (eqb→eq s.visits t.visits (and_right (is_same_place s.at t.at) (eqb s.visits t.visits) u))
+same_stop s t u = λ i. record {
+  at = same_place s.at t.at (and_left (is_same_place s.at t.at) (eqb s.visits t.visits) u) i;
+  visits = eqb→eq s.visits t.visits (and_right (is_same_place s.at t.at) (eqb s.visits t.visits) u) i;
+}
 
 pub stop_same : (s : Stop) → T (is_same_stop s s)
 stop_same s = and_intro (is_same_place s.at s.at) (eqb s.visits s.visits) (place_same s.at) (eqb_refl s.visits)

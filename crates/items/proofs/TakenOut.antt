@@ -1,4 +1,4 @@
--- An element taken out of an array that has a list at its front: the list without it is at the front, in each column of items alike.
+-- An element taken out of an array that has a list at its front: the list without it is at the front, and so it is with what is held of each item.
 use mathlib.Core.Path.{◌≡◌, refl, sym, ap, ◌∙◌}
 use mathlib.Core.Bool.{Bool}
 use mathlib.Core.List.{List, [], ◌∷◌, map, map-append, append_assoc}

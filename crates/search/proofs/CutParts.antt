@@ -18,12 +18,12 @@ use Rattle.query.specs.Cut.{Line, can_cut, cut_line, cut_before, cut_after}
 use Rattle.query.specs.Range.{RectInRange, coordinate_limit, cost_limit}
 use Rattle.query.proofs.CutLaws.{cut_law}
 use Rattle.deck.specs.declared.Rect as Deck
-use Rattle.deck.specs.Values.{rect_of}
+use Rattle.deck.specs.Values.{axis_of, rect_of}
 use Rattle.columns.specs.Objects.{Pricing}
 use Rattle.reach.specs.Columns.{Ranged}
 use Rattle.pricing.specs.declared.PartFigures.{PartFigures}
 use Rattle.pricing.specs.ObjectFigures.{Figure, PartsPriced}
-use Rattle.cuts.specs.CutRecord.{axis_of, axis_record, cut_at, cut_record}
+use Rattle.cuts.specs.CutRecord.{axis_record, cut_at, cut_record}
 use Rattle.cuts.specs.declared.Cut.{Cut}
 use Rattle.cuts.proofs.CutRecordLaws.{cut_record_found, cut_record_cut}
 use Rattle.priced_place.specs.declared.PricedPlace.{PricedPlace}

@@ -19,9 +19,10 @@ use Rattle.query.specs.Cut.{can_cut, cut_line}
 use Rattle.query.specs.Range.{stops_limit}
 use Rattle.job.specs.Format.{Job, Result, refused, accepted, read_job}
 use Rattle.deck.specs.DeckOf.{deck_of}
+use Rattle.deck.specs.Values.{axis_of}
 use Rattle.lines.proofs.DeckLines.{lines_in_order}
 use Rattle.prepare.specs.ProblemRecord.{Parts, problem_record}
-use Rattle.cuts.specs.CutRecord.{axis_of, axis_record, cut_at, cut_record}
+use Rattle.cuts.specs.CutRecord.{axis_record, cut_at, cut_record}
 use Rattle.cuts.specs.declared.Cut.{Cut}
 use Rattle.cuts.proofs.CutRecordLaws.{cut_record_found, cut_record_cut}
 use Rattle.trial.specs.Ranges.{rect_allowed}

@@ -9,8 +9,7 @@ ghost use Rattle.std.specs.Prelude.{◌≡◌, ◌+◌, ◌≤◌, cond, get_or,
 ghost use Rattle.std.specs.Option.{option_map};
 ghost use Rattle.refusal.specs.Refusal.{line_of};
 ghost use Rattle.job.specs.Format.{read_job, size_limit};
-ghost use Rattle.deck.specs.Values.{place_of, rect_of};
-ghost use Rattle.cuts.specs.CutRecord.{axis_of};
+ghost use Rattle.deck.specs.Values.{axis_of, place_of, rect_of};
 ghost use Rattle.trial.specs.Ranges.{rect_allowed};
 ghost use Rattle.trial.specs.Opened.{parts_of, opened_record};
 ghost use Rattle.trial.specs.Trial.{

@@ -1,4 +1,4 @@
--- What `deck::apart` owes.
+-- What `columns::apart` owes.
 use mathlib.Core.Path.{◌≡◌, ap, ◌∙◌}
 use native.Mathlib.Omega.{arith}
 use lib.IntN.{pos}

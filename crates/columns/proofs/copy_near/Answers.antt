@@ -1,4 +1,4 @@
--- What `deck::copy_near` owes.
+-- What `columns::copy_near` owes.
 use mathlib.Core.Path.{sym, ◌∙◌}
 use Prim.Native.Nat.{◌^◌, ◌<◌}
 use native.Mathlib.Omega.{arith}

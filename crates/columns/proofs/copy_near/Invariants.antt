@@ -1,4 +1,4 @@
--- The loop of `deck::copy_near`.
+-- The loop of `columns::copy_near`.
 use mathlib.Core.List.{map}
 use lib.IntN.{ℤ, pos}
 use lib.ListN.{length}

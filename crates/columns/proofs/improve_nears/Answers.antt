@@ -1,4 +1,4 @@
--- What `deck::improve_nears` owes.
+-- What `columns::improve_nears` owes.
 use Rattle.columns.proofs.CopyLaws.{copied_none}
 use Rattle.columns.proofs.SoFarLaws.{better_more, better_all, place_row}
 use Rattle.columns.proofs.improve_nears.Goals as goal

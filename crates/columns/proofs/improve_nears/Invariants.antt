@@ -1,4 +1,4 @@
--- The loops of `deck::improve_nears`.
+-- The loops of `columns::improve_nears`.
 use Rattle.columns.specs.Columns.{near_column}
 use Rattle.columns.proofs.CopyLaws.{Copied}
 use Rattle.columns.proofs.SoFarLaws.{better}

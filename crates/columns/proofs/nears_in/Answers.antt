@@ -1,4 +1,4 @@
--- What `deck::nears_in` owes.
+-- What `columns::nears_in` owes.
 use mathlib.Core.Path.{sym}
 use native.Mathlib.Omega.{arith}
 use Rattle.numbers.proofs.Padded.{padded_none}

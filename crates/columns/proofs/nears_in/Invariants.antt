@@ -1,4 +1,4 @@
--- The loops of `deck::nears_in`.
+-- The loops of `columns::nears_in`.
 use mathlib.Core.Path.{◌≡◌}
 use mathlib.Core.List.{map}
 use Prim.Native.Nat.{◌≤◌}

@@ -1,4 +1,4 @@
--- What `deck::put_nears` owes.
+-- What `columns::put_nears` owes.
 use native.Mathlib.Omega.{arith}
 use Rattle.columns.proofs.SoFarLaws.{posts_first, posts_ranged, posts_next, posts_all}
 use Rattle.columns.proofs.put_nears.Goals as goal

@@ -1,8 +1,8 @@
--- The loops of `deck::put_nears`.
+-- The loops of `columns::put_nears`.
 use mathlib.Core.Path.{◌≡◌}
 use Prim.Native.Nat.{◌≤◌}
 use lib.ListN.{take}
-use Rattle.deck.specs.DeckOf.{places}
+use Rattle.columns.specs.Columns.{places}
 use Rattle.columns.specs.ClosestSoFar.{columns_so_far}
 use Rattle.columns.proofs.put_nears.Given as goal
 

@@ -1,4 +1,4 @@
--- What `deck::scaled` owes.
+-- What `columns::scaled` owes.
 use Rattle.columns.proofs.ScaleLaws.{product_scaled}
 use Rattle.columns.proofs.scaled.Goals as goal
 

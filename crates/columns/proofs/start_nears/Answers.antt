@@ -1,4 +1,4 @@
--- What `deck::start_nears` owes.
+-- What `columns::start_nears` owes.
 use Rattle.columns.specs.ClosestSoFar.{columns_so_far}
 use Rattle.columns.proofs.CopyLaws.{copied_none, copied_all}
 use Rattle.columns.proofs.SoFarLaws.{first_row, first_more}

@@ -1,4 +1,4 @@
--- The loop of `deck::start_nears`.
+-- The loop of `columns::start_nears`.
 use mathlib.Core.List.{[], ◌∷◌}
 use Rattle.columns.specs.Columns.{near_column}
 use Rattle.columns.proofs.CopyLaws.{Copied}

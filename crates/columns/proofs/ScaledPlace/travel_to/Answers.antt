@@ -1,4 +1,4 @@
--- What `deck::ScaledPlace::travel_to` owes.
+-- What `columns::ScaledPlace::travel_to` owes.
 use mir.Syntax.{w32}
 use Rattle.numbers.proofs.Words.{natural_fits, result_is}
 use Rattle.columns.proofs.TravelLaws.{far_small, far_sum}

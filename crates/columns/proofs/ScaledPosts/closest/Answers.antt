@@ -1,4 +1,4 @@
--- What `deck::ScaledPosts::closest` owes.
+-- What `columns::ScaledPosts::closest` owes.
 use Rattle.columns.proofs.PostLaws.{closest_first, closest_next}
 use Rattle.columns.proofs.ScaledPosts.closest.Goals as goal
 

@@ -1,10 +1,10 @@
--- The loop of `deck::ScaledPosts::closest`.
+-- The loop of `columns::ScaledPosts::closest`.
 use mathlib.Core.Path.{◌≡◌}
 use lib.IntN.{pos}
 use lib.ListN.{take}
 use Rattle.query.specs.Deck.{plain}
 use Rattle.query.specs.Travel.{closest}
-use Rattle.deck.specs.DeckOf.{places}
+use Rattle.columns.specs.Columns.{places}
 use Rattle.columns.proofs.ScaledPosts.closest.Given as goal
 
 abbrev pub invariant-loop-j : goal.invariant-loop-j

@@ -1,7 +1,7 @@
 -- What `search::halves::halve` owes.
 use mathlib.Core.Path.{ap}
 use Rattle.query.specs.Place.{x_axis, y_axis}
-use Rattle.cuts.specs.CutRecord.{axis_of}
+use Rattle.deck.specs.Values.{axis_of}
 use Rattle.search.proofs.CutParts.{cut_there, words_ranged, halves_are}
 use Rattle.search.proofs.halves.halve.Goals as goal
 
