@@ -43,8 +43,6 @@ pub record Promise1 (job : List ℕ) (cells : List ℤ) (out : List ℕ) : Type 
   pub refused_cells : (number line : ℕ) → (report_call job cells out).answer ≡ refuses number line
       → (report_call job cells out).cells ≡ cells
   pub refused_out : (number line : ℕ) → (report_call job cells out).answer ≡ refuses number line → (report_call job cells out).out ≡ out
-  -- 9 and 10 are of changes alone
-  pub at_most_eight : (number line : ℕ) → (report_call job cells out).answer ≡ refuses number line → number ≤ 8
 
 -- ---- promise 2
 -- the figures of the rules for j, whole: as the answer, as the text in the output, and with the live cells in the cell space
