@@ -3,24 +3,18 @@ use Prim.Native.Nat.{ℕ}
 use mathlib.Core.Path.{◌≡◌, refl, sym, ap, subst, ◌∙◌}
 use mathlib.Core.Logic.{⊎_elim}
 use mathlib.Core.List.Memᴰ
-use mathlib.Core.List.{List, [], ◌∷◌, ◌++◌, flat_map, Memᴰ}
+use mathlib.Core.List.{List, [], ◌∷◌, ◌++◌, map, flat_map, Memᴰ}
 use lib.Dec.{ltb, ltb→lt, nltb→le}
 use lib.IntN.{ℤ, pos, neg_ℤ}
 use lib.ListN.{length, replicate, set}
 use Rattle.numbers.specs.Padded.{padded}
 use Rattle.numbers.proofs.Truth.{test}
-use Rattle.query.specs.Place.{Place}
-use Rattle.query.specs.Deck.{Stop}
-use Rattle.query.specs.Problem.{problem}
-use Rattle.query.specs.Exhaustive as Query
-use Rattle.query.specs.Estimate.{estimate}
 use Rattle.deck.specs.declared.Deck.{Deck}
 use Rattle.refusal.specs.Refusal.{number_of, line_of}
 use Rattle.refusal.specs.declared.Refusal.{Refusal}
 use Rattle.refusal.specs.declared.Refusal.TheVariants.{TooLong, Malformed, OutOfRange, EmptyArea, NoPosts, NoStops}
 use Rattle.job.specs.Format.{Job, Result, refused, accepted, missing_axis, read_text, read_job}
 use Rattle.job.specs.Meaning.{TextCondition, malformed, out_of_range, empty_area_law, no_posts, no_stops, Condition, too_long, in_text}
-use Rattle.job.specs.JobRecord.{job_record}
 use Rattle.job.specs.File.{file_text}
 use Rattle.job.proofs.Meaning.{refused_law, refused_job}
 use Rattle.report.specs.Text.{refusal_text}
@@ -37,7 +31,7 @@ use Rattle.calls.specs.ChangeCall.{change_call}
 use Rattle.calls.specs.Promises.{Applies, in_reading, small_space, short_output}
 use Rattle.calls.specs.CallRefusals.{text_refusals, own_refusals, Refuses, Exactly, CallRefusals}
 use Rattle.calls.specs.RefusalTable.{case_a, ended, many_posts, many_stops}
-use Rattle.calls.specs.WriteTable.{record_of, with_area, with_stop, counting, square, ten_digits}
+use Rattle.calls.specs.WriteTable.{with_area, with_stop, counting, square, ten_digits}
 use Rattle.calls.specs.ChangeTable.{place, stop}
 use Rattle.calls.proofs.AnswerLaws.{same_number, not_refused}
 use Rattle.calls.proofs.AcceptedCall as Call
@@ -47,15 +41,9 @@ use Rattle.calls.proofs.ProgramLaw.{program_law, text_which}
 use Rattle.calls.proofs.SavingLaw.{file_refused, file_short, file_written}
 use Rattle.calls.proofs.ChangeLaw.{list_refusals, number_listed}
 
--- a fact of each number of a list, one after another
-abbrev Each : (ℕ → Type 0) → List ℕ → Type 0
-Each P [] = Unit {0}
-Each P (n ∷ ns) = P n × Each P ns
-
-each : (P : ℕ → Type 0) (ns : List ℕ) → Each P ns → (number : ℕ) → Memᴰ number ns → P number
-each P [] facts number m = absurd (Memᴰ.not-nil m)
-each P (n ∷ ns) facts number (Memᴰ.head e) = subst P (sym e) facts.0
-each P (n ∷ ns) facts number (Memᴰ.tail m) = each P ns facts.1 number m
+-- a fact of each number of a list, by numbers that have it
+each : (P : ℕ → Type 0) (facts : List ((n : ℕ) × P n)) (number : ℕ) → Memᴰ number (map (λ f. f.0) facts) → P number
+each P facts number m = let (f, i, e) = Memᴰ.of_map (λ f. f.0) facts m in subst P e f.1
 
 -- ---- the job's own refusals
 text_listed : {text : List ℕ} {why : Refusal} → TextCondition text why → Memᴰ (number_of why) text_refusals
@@ -77,14 +65,12 @@ read_listed g = let (job, why, r, n) = g in subst (λ k. Memᴰ k own_refusals) 
 
 read_each : (number : ℕ) → Memᴰ number own_refusals → ReadRefuses number
 unfolding read_job flat_map
-read_each = each ReadRefuses own_refusals (
-  (replicate 16385 97, TooLong, refl, refl),
-  (([], Malformed 1, refl, refl),
-  ((many_posts "posts=65" 65, OutOfRange 2, refl, refl),
-  ((ended (set case_a 0 "area=8,2,2,8"), EmptyArea, refl, refl),
-  ((many_posts "posts=0" 0, NoPosts, refl, refl),
-  ((many_stops "stops=0" 0, NoStops, refl, refl), tt))))),
-)
+read_each = each ReadRefuses ((1, (replicate 16385 97, TooLong, refl, refl))
+    ∷ (2, ([], Malformed 1, refl, refl))
+    ∷ (3, (many_posts "posts=65" 65, OutOfRange 2, refl, refl))
+    ∷ (4, (ended (set case_a 0 "area=8,2,2,8"), EmptyArea, refl, refl))
+    ∷ (5, (many_posts "posts=0" 0, NoPosts, refl, refl))
+    ∷ (6, (many_stops "stops=0" 0, NoStops, refl, refl)) ∷ [])
 
 -- they are those of every call that gives something of an accepted job
 own_exactly : {A : Type 0} (f : Job → A) → Exactly own_refusals (λ number. (job : List ℕ) × Refuses (for_accepted f (read_job job)) number)
@@ -111,7 +97,8 @@ report_listed number g =
 
 report_lent : (number : ℕ) → Memᴰ number (7 ∷ 8 ∷ []) → ReportRefuses number
 unfolding report_call
-report_lent = each ReportRefuses (7 ∷ 8 ∷ []) ((ended case_a, [], [], (0, refl)), ((ended case_a, replicate 20 (pos 0), [], (0, refl)), tt))
+report_lent = each ReportRefuses ((7, (ended case_a, [], [], (0, refl)))
+    ∷ (8, (ended case_a, replicate 20 (pos 0), [], (0, refl))) ∷ [])
 
 report_own : (number : ℕ) → Memᴰ number own_refusals → ReportRefuses number
 report_own number m =
@@ -128,7 +115,7 @@ entry_listed number g = let (job, out, e) = g in ⊎_elim (λ own. Memᴰ.append
 
 entry_lent : (number : ℕ) → Memᴰ number (8 ∷ []) → EntryRefuses number
 unfolding entry
-entry_lent = each EntryRefuses (8 ∷ []) ((ended case_a, [], refl), tt)
+entry_lent = each EntryRefuses ((8, (ended case_a, [], refl)) ∷ [])
 
 entry_own : (number : ℕ) → Memᴰ number own_refusals → EntryRefuses number
 entry_own number m =
@@ -164,21 +151,16 @@ write_listed number g = let (deck, rounds, out, (line, e)) = g in go deck rounds
 
 write_each : (number : ℕ) → Memᴰ number (text_refusals ++ (8 ∷ [])) → WriteRefuses number
 unfolding write_call padded
-write_each = each WriteRefuses (text_refusals ++ (8 ∷ [])) (
-  (with_stop (pos ten_digits, pos 12, 1), 0, [], (6, refl)),
-  ((with_stop (pos 20001, pos 12, 1), 0, [], (6, refl)),
-  ((with_area (pos 8 ∷ []), 0, [], (0, refl)),
-  ((counting 0 (pos 0, pos 0) 0 (pos 0, pos 0, 0), 0, [], (0, refl)),
-  ((counting 1 (pos 0, pos 0) 0 (pos 0, pos 0, 0), 0, [], (0, refl)),
-  ((with_area square, 0, [], (0, refl)), tt))))),
-)
+write_each = each WriteRefuses ((2, (with_stop (pos ten_digits, pos 12, 1), 0, [], (6, refl)))
+    ∷ (3, (with_stop (pos 20001, pos 12, 1), 0, [], (6, refl)))
+    ∷ (4, (with_area (pos 8 ∷ []), 0, [], (0, refl)))
+    ∷ (5, (counting 0 (pos 0, pos 0) 1 (pos 4, pos 3, 2), 0, [], (0, refl)))
+    ∷ (6, (counting 1 (pos 0, pos 0) 0 (pos 4, pos 3, 2), 0, [], (0, refl)))
+    ∷ (8, (with_area square, 0, [], (0, refl))) ∷ [])
 
--- ---- changes, of case A's record, one with a single stop, and two with a full list
+-- ---- changes, some of them of case A's record
 abbrev held : Deck
 held = with_area square
-
-abbrev one_stop : Deck
-one_stop = record_of (1, 1) square 1 ((pos 0, pos 0) ∷ []) 1 ((pos 4, pos 3, 2) ∷ [])
 
 abbrev ChangeRefuses : {A : Type 0} → (A → Change) → ℕ → Type 0
 ChangeRefuses {A} by number = (deck : Deck) × (item : A) × Refuses (change_call deck (by item)).answer number
@@ -188,33 +170,25 @@ change_listed by number g = number_listed g.0 (by g.1) number g.2.0 g.2.1
 
 add_post_each : (number : ℕ) → Memᴰ number (3 ∷ 10 ∷ []) → ChangeRefuses add_post number
 unfolding change_call padded
-add_post_each = each (ChangeRefuses add_post) (3 ∷ 10 ∷ []) (
-  (held, place (pos 20001) (pos 0), (0, refl)),
-  ((counting 64 (pos 0, pos 0) 1 (pos 4, pos 3, 2), place (pos 0) (pos 0), (0, refl)), tt),
-)
+add_post_each = each (ChangeRefuses add_post) ((3, (held, place (pos 20001) (pos 0), (0, refl)))
+    ∷ (10, (counting 64 (pos 0, pos 0) 1 (pos 4, pos 3, 2), place (pos 0) (pos 0), (0, refl))) ∷ [])
 
 remove_post_each : (number : ℕ) → Memᴰ number (3 ∷ 5 ∷ 9 ∷ []) → ChangeRefuses remove_post number
 unfolding change_call padded
-remove_post_each = each (ChangeRefuses remove_post) (3 ∷ 5 ∷ 9 ∷ []) (
-  (held, place (pos 20001) (pos 0), (0, refl)),
-  ((held, place (pos 0) (pos 0), (0, refl)),
-  ((held, place (pos 1) (pos 0), (0, refl)), tt)),
-)
+remove_post_each = each (ChangeRefuses remove_post) ((3, (held, place (pos 20001) (pos 0), (0, refl)))
+    ∷ (5, (held, place (pos 0) (pos 0), (0, refl)))
+    ∷ (9, (held, place (pos 1) (pos 0), (0, refl))) ∷ [])
 
 add_stop_each : (number : ℕ) → Memᴰ number (3 ∷ 10 ∷ []) → ChangeRefuses add_stop number
 unfolding change_call padded
-add_stop_each = each (ChangeRefuses add_stop) (3 ∷ 10 ∷ []) (
-  (held, stop (pos 4) (pos 3) 0, (0, refl)),
-  ((counting 1 (pos 0, pos 0) 512 (pos 4, pos 3, 2), stop (pos 4) (pos 3) 2, (0, refl)), tt),
-)
+add_stop_each = each (ChangeRefuses add_stop) ((3, (held, stop (pos 4) (pos 3) 0, (0, refl)))
+    ∷ (10, (counting 1 (pos 0, pos 0) 512 (pos 4, pos 3, 2), stop (pos 4) (pos 3) 2, (0, refl))) ∷ [])
 
 remove_stop_each : (number : ℕ) → Memᴰ number (3 ∷ 6 ∷ 9 ∷ []) → ChangeRefuses remove_stop number
 unfolding change_call padded
-remove_stop_each = each (ChangeRefuses remove_stop) (3 ∷ 6 ∷ 9 ∷ []) (
-  (held, stop (pos 4) (pos 3) 0, (0, refl)),
-  ((one_stop, stop (pos 4) (pos 3) 2, (0, refl)),
-  ((held, stop (pos 4) (pos 3) 1, (0, refl)), tt)),
-)
+remove_stop_each = each (ChangeRefuses remove_stop) ((3, (held, stop (pos 4) (pos 3) 0, (0, refl)))
+    ∷ (6, (counting 1 (pos 0, pos 0) 1 (pos 4, pos 3, 2), stop (pos 4) (pos 3) 2, (0, refl)))
+    ∷ (9, (held, stop (pos 4) (pos 3) 1, (0, refl))) ∷ [])
 
 -- ---- all of them
 pub call_refusals : CallRefusals
@@ -223,9 +197,9 @@ call_refusals = record {
   report = λ number. (report_listed number, λ m. ⊎_elim (report_own number) (report_lent number) (Memᴰ.append_cases own_refusals m));
   entry = λ number. (entry_listed number, λ m. ⊎_elim (entry_own number) (entry_lent number) (Memᴰ.append_cases own_refusals m));
   program = program_exactly;
-  exhaustive = own_exactly (λ j. Query.exhaustive (problem j.deck));
-  estimate = own_exactly (λ j. estimate j.deck j.rounds);
-  read = own_exactly job_record;
+  exhaustive = own_exactly _;
+  estimate = own_exactly _;
+  read = own_exactly _;
   write = λ number. (write_listed number, write_each number);
   add_post = λ number. (change_listed add_post number, add_post_each number);
   remove_post = λ number. (change_listed remove_post number, remove_post_each number);

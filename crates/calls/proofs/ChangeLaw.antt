@@ -15,7 +15,7 @@ use Rattle.deck.specs.Sound.{Sound}
 use Rattle.deck.specs.declared.Deck.{Deck}
 use Rattle.refusal.specs.Refusal.{number_of, line_of}
 use Rattle.refusal.specs.declared.Refusal.{Refusal}
-use Rattle.refusal.specs.declared.Refusal.TheVariants.{OutOfRange, NoPosts, NoStops, NotHeld, Full}
+use Rattle.refusal.specs.declared.Refusal.TheVariants.{OutOfRange}
 use Rattle.change.specs.Change.{Change, add_post, remove_post, add_stop, remove_stop, altered, change_refusal, unless_refused}
 use Rattle.change.specs.ChangedRecord.{usable, altered_record, record_refusal, answered, changed_record}
 use Rattle.change.specs.Meaning.{ChangeApplies, out_of_range, no_such_post, no_such_stop, only_post, only_stop, posts_full, stops_full, Leaves}

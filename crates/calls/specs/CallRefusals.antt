@@ -16,7 +16,7 @@ use Rattle.calls.specs.ReadCall.{read_call}
 use Rattle.calls.specs.WriteCall.{write_call}
 use Rattle.calls.specs.ChangeCall.{change_call}
 
--- the job's own refusals, which reading gives: those of its text, and 1, of its size. A later one is added here
+-- the refusals of a job's text, and with that of its size the job's own ones, which are those of reading it. A later one is added here
 abbrev pub text_refusals : List ℕ
 text_refusals = 2 ∷ 3 ∷ 4 ∷ 5 ∷ 6 ∷ []
 
@@ -27,12 +27,13 @@ own_refusals = 1 ∷ text_refusals
 abbrev pub Refuses : {A : Type 0} → AnswerOf A → ℕ → Type 0
 Refuses answer number = (line : ℕ) × (answer ≡ refuses number line)
 
--- these numbers can be given, and no others
+-- a call can give the numbers of this list, and no others
 abbrev pub Exactly : List ℕ → (ℕ → Type 0) → Type 0
 Exactly numbers CanGive = (number : ℕ) → CanGive number ↔ Memᴰ number numbers
 
--- each number of a call's list is given for something that the call is lent or given, and no other number for anything
+-- a call can give a number where something that it is given or lent is answered by it
 pub record CallRefusals : Type 0 where
+  -- of a job; the C entry tells the number by its result, and the program by its text
   pub report : Exactly (own_refusals ++ (7 ∷ 8 ∷ []))
       (λ number. (job : List ℕ) × (cells : List ℤ) × (out : List ℕ) × Refuses (report_call job cells out).answer number)
   pub entry : Exactly (own_refusals ++ (8 ∷ []))
@@ -41,6 +42,7 @@ pub record CallRefusals : Type 0 where
   pub exhaustive : Exactly own_refusals (λ number. (job : List ℕ) × Refuses (exhaustive_call job) number)
   pub estimate : Exactly own_refusals (λ number. (job : List ℕ) × Refuses (estimate_call job) number)
   pub read : Exactly own_refusals (λ number. (job : List ℕ) × Refuses (read_call job) number)
+  -- of a record, whatever it holds
   pub write : Exactly (text_refusals ++ (8 ∷ []))
       (λ number. (deck : Deck) × (rounds : ℕ) × (out : List ℕ) × Refuses (write_call deck rounds out).answer number)
   pub add_post : Exactly (3 ∷ 10 ∷ [])

@@ -24,7 +24,7 @@ pub record Accepted (job : List ℕ) (cells : List ℤ) (out : List ℕ) (j : Jo
   pub output : output_size ≤ length out
 
 -- ---- promise 1
--- a refusal applies to a job and to what is lent (RULES "Refusals"): one of reading, 1 to 6; then 7, then 8
+-- a refusal applies to a job and to what is lent (RULES "Refusals"): one of the job's own, which reading gives; then 7, then 8
 pub data Applies (job : List ℕ) (cells : List ℤ) (out : List ℕ) : Refusal → Type 0 where
   in_reading : {why : Refusal} → Condition job why → Applies job cells out why
   small_space : (j : Job) → read_job job ≡ accepted j → length cells < space_needed j.deck j.rounds → Applies job cells out SmallSpace

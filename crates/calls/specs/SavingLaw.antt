@@ -52,7 +52,7 @@ pub record Saveable (deck : Deck) (rounds : ℕ) : Type 0 where
   pub few_posts : deck.posts ≤ posts_limit
   pub few_stops : deck.stops ≤ stops_limit
 
--- a refusal applies to a record, rounds and an output: 2 to 6 where reading the file's text gives it, then 8
+-- a refusal applies to a record, rounds and an output: one that reading the file's text gives, then 8
 pub data WriteApplies (deck : Deck) (rounds : ℕ) (out : List ℕ) : Refusal → Type 0 where
   in_file : {why : Refusal} → TextCondition (file_text deck rounds) why → WriteApplies deck rounds out why
   short_output : Saveable deck rounds → length out < length (saved_spelling (held_job deck rounds))
