@@ -28,7 +28,6 @@ use Rattle.job.specs.declared.Job as Held
 use Rattle.job.specs.File.{held_job, writes_axis, saved_spelling, file_text}
 use Rattle.job.proofs.JobLaws.{most_posts, most_stops}
 use Rattle.job.proofs.Meaning.{refused_law, refused_job, spelling_law, allowed_text}
-use Rattle.job.proofs.RefusalLaws.{text_number}
 use Rattle.job_check.specs.LineFaults.{refusal_in}
 use Rattle.job_check.proofs.AxisLaws.{left_out, saved_spells}
 use Rattle.job_check.proofs.FileFaults.{file_is, file_spelled, file_line}
@@ -93,26 +92,15 @@ module _ (job : List ℕ) where
   unfolding read_call
   read_given = Call.for_accepted_lem job_record job
 
-  pub read_refused : (why : Refusal) → read_job job ≡ refused why → read_call job ≡ refusal why
-  unfolding read_call
-  read_refused = Call.for_refused job_record job
-
   read_refuses : (why : Refusal) → (read_call job ≡ refusal why) ↔ Condition job why
   unfolding read_call
   read_refuses = Call.refused_exactly job_record job
-
-  read_few : (number line : ℕ) → read_call job ≡ refuses number line → number ≤ 6
-  unfolding read_call
-  read_few = Call.at_most_six job_record job
 
   -- an answer that refuses
   refused_one : (number line : ℕ) → read_call job ≡ refuses number line →
       (why : Refusal) × (read_job job ≡ refused why) × (number ≡ number_of why) × (line ≡ line_of why)
   unfolding read_call
-  refused_one number line e =
-      let (why, g, h) = Call.refused_one job_record job number line e in
-      let same = h ∙ read_refused why g in
-      (why, g, same_number {A = Held.Job} _ _ _ _ same, same_line {A = Held.Job} _ _ _ _ same)
+  refused_one = Call.refused_one job_record job
 
   -- and one that gives something
   pub read_accepted : (held : Held.Job) → read_call job ≡ gives held → (j : Job) × (read_job job ≡ accepted j) × (held ≡ job_record j)
@@ -209,14 +197,6 @@ module _ (deck : Deck) (rounds : ℕ) (out : List ℕ) (sized : Sized deck) wher
         go (too_short s h p) = let q = sym e ∙ answer_of p in (ShortOutput, same_number _ _ _ _ q, same_line _ _ _ _ q)
         go (writes s h p) = absurd (not_refused _ _ _ (sym (answer_of p) ∙ e))
 
-    two_to_eight : (2 ≤ number) × (number ≤ 8)
-    two_to_eight = go ends
-      where
-        go : Ends → (2 ≤ number) × (number ≤ 8)
-        go (refuses_file w r p) = let q = same_number _ _ _ _ (sym e ∙ answer_of p) in omega (arith, text_number (file_text deck rounds) w (condition w r))
-        go (too_short s h p) = let q = same_number _ _ _ _ (sym e ∙ answer_of p) in omega arith
-        go (writes s h p) = absurd (not_refused _ _ _ (sym (answer_of p) ∙ e))
-
     few_lines : line ≤ posts_limit + stops_limit + 5
     few_lines = go ends
       where
@@ -307,8 +287,6 @@ module _ (deck : Deck) (rounds : ℕ) (out : List ℕ) (sized : Sized deck) wher
     refused_listed = listed deck rounds out sized;
     as_its_file = as_file deck rounds out sized;
     few_lines = few_lines deck rounds out sized;
-    never_1 = λ line e. let h = two_to_eight deck rounds out sized 1 line e in absurd (omega arith);
-    at_most_eight = λ number line e. (two_to_eight deck rounds out sized number line e).1;
     refused_out = unchanged deck rounds out sized;
     written_exactly = (
       λ w. saveable deck rounds out sized w.0 w.1,
@@ -388,7 +366,6 @@ module _ (job : List ℕ) where
   read_law = record {
     refused_exactly = read_refuses job;
     refused_listed = λ number line f. let (why, e, n, l) = refused_one job number line f in (why, n, l);
-    at_most_six = read_few job;
     given_exactly = λ held. (
       read_accepted job held,
       λ w. let (j, e, same) = w in read_given job j e ∙ ap (λ (h : Held.Job). gives h) (sym same),

@@ -190,10 +190,10 @@ checked_same held job = go (empty_area held.deck.area) (non_empty held.deck.post
 
 -- ---- the file of a record
 module _ (deck : Deck) (rounds-held : ℕ) (sized : Sized deck) where
-  posts_held : deck.posts ≤ posts_limit → length (deck_of deck).posts ≡ deck.posts
+  posts_held : deck.post_count ≤ posts_limit → length (deck_of deck).posts ≡ deck.post_count
   posts_held h = omega (arith, posts_counted deck sized)
 
-  stops_held : deck.stops ≤ stops_limit → length (deck_of deck).stops ≡ deck.stops
+  stops_held : deck.stop_count ≤ stops_limit → length (deck_of deck).stops ≡ deck.stop_count
   stops_held h = omega (arith, stops_counted deck sized)
 
   file_follows : Follows all_due (file_lines deck rounds-held)
@@ -201,33 +201,33 @@ module _ (deck : Deck) (rounds-held : ℕ) (sized : Sized deck) where
   file_follows = (
     refl,
     refl,
-    λ t. axis_follows (writes_axis (deck_of deck).axis) (deck_of deck).axis (area_line (deck_of deck).area).numbers deck.posts _ _ (
+    λ t. axis_follows (writes_axis (deck_of deck).axis) (deck_of deck).axis (area_line (deck_of deck).area).numbers deck.post_count _ _ (
       refl,
       refl,
-      λ p. many_follow post (λ p. (post_line p).numbers) (λ a. refl) (λ ns rest. refl) (deck_of deck).posts deck.posts
-          (posts_held ((count_range posts_limit deck.posts).0 p)) (stops ∷ rounds ∷ []) _ (
+      λ p. many_follow post (λ p. (post_line p).numbers) (λ a. refl) (λ ns rest. refl) (deck_of deck).posts deck.post_count
+          (posts_held ((count_range posts_limit deck.post_count).0 p)) (stops ∷ rounds ∷ []) _ (
             refl,
             refl,
             λ q. many_follow stop (λ s. (stop_line s).numbers) (λ a. refl)
-                (λ ns rest. refl) (deck_of deck).stops deck.stops (stops_held ((count_range stops_limit deck.stops).0 q))
+                (λ ns rest. refl) (deck_of deck).stops deck.stop_count (stops_held ((count_range stops_limit deck.stop_count).0 q))
                 (rounds ∷ []) _ (refl, refl, λ r. refl),
           ),
     ),
   )
 
-  lines_held : deck.posts ≤ posts_limit → deck.stops ≤ stops_limit →
+  lines_held : deck.post_count ≤ posts_limit → deck.stop_count ≤ stops_limit →
       file_lines deck rounds-held ≡ lines_of (writes_axis (deck_of deck).axis) (held_job deck rounds-held)
   lines_held p s = ap₂ (λ (p s : ℕ). lines_counting (writes_axis (deck_of deck).axis) p s (held_job deck rounds-held)) (sym (posts_held p)) (sym (stops_held s))
 
   -- where the counts are those of the lists, the file is the spelling of the job that is held
-  pub file_spelled : deck.posts ≤ posts_limit → deck.stops ≤ stops_limit → file_text deck rounds-held ≡ saved_spelling (held_job deck rounds-held)
+  pub file_spelled : deck.post_count ≤ posts_limit → deck.stop_count ≤ stops_limit → file_text deck rounds-held ≡ saved_spelling (held_job deck rounds-held)
   unfolding file_text spell
   file_spelled p s = ap (flat_map spell_line) (lines_held p s)
 
   -- as it is where no line has a fault
   record AllFine : Type 0 where
-    posts_few : deck.posts ≤ posts_limit
-    stops_few : deck.stops ≤ stops_limit
+    posts_few : deck.post_count ≤ posts_limit
+    stops_few : deck.stop_count ≤ stops_limit
     writable : Writable (writes_axis (deck_of deck).axis) (held_job deck rounds-held)
     spelled : file_text deck rounds-held ≡ saved_spelling (held_job deck rounds-held)
 
@@ -235,10 +235,10 @@ module _ (deck : Deck) (rounds-held : ℕ) (sized : Sized deck) where
   unfolding InRanges
   all_fine e =
       let each = lines_fine (file_lines deck rounds-held) 1 e in
-      let later : (l : JobLine) → Memᴰ l (later_lines deck.posts deck.stops (held_job deck rounds-held)) → InRanges l
+      let later : (l : JobLine) → Memᴰ l (later_lines deck.post_count deck.stop_count (held_job deck rounds-held)) → InRanges l
       = λ l i. each l (Memᴰ.tail (Memᴰ.append_right (axis_lines (deck_of deck).axis) i)) in
-      let p : deck.posts ≤ posts_limit = (count_range posts_limit deck.posts).0 (later _ (Memᴰ.head refl)) in
-      let s : deck.stops ≤ stops_limit = (count_range stops_limit deck.stops).0
+      let p : deck.post_count ≤ posts_limit = (count_range posts_limit deck.post_count).0 (later _ (Memᴰ.head refl)) in
+      let s : deck.stop_count ≤ stops_limit = (count_range stops_limit deck.stop_count).0
       (later _ (Memᴰ.tail (Memᴰ.append_right (map post_line (deck_of deck).posts) (Memᴰ.head refl)))) in
       record {
         posts_few = p;
@@ -247,7 +247,7 @@ module _ (deck : Deck) (rounds-held : ℕ) (sized : Sized deck) where
         spelled = file_spelled p s;
       }
 
-  parts_is : AllFine → refusal_in (checked (held_job deck rounds-held)) ≡ parts_fault (deck_of deck).area deck.posts deck.stops
+  parts_is : AllFine → refusal_in (checked (held_job deck rounds-held)) ≡ parts_fault (deck_of deck).area deck.post_count deck.stop_count
   unfolding checked parts_fault
   parts_is f = go (empty_area (deck_of deck).area) (deck_of deck).posts (deck_of deck).stops
       ∙ ap₂ (parts_fault (deck_of deck).area) (posts_held f.posts_few) (stops_held f.stops_few)
@@ -265,12 +265,12 @@ module _ (deck : Deck) (rounds-held : ℕ) (sized : Sized deck) where
 
   -- what reading the file gives
   pub file_fault : refusal_in (read_text (file_text deck rounds-held))
-      ≡ or_else (first_fault 1 (file_lines deck rounds-held)) (parts_fault (deck_of deck).area deck.posts deck.stops)
+      ≡ or_else (first_fault 1 (file_lines deck rounds-held)) (parts_fault (deck_of deck).area deck.post_count deck.stop_count)
   unfolding file_text
   file_fault = go (first_fault 1 (file_lines deck rounds-held)) refl
     where
       go : (o : Option Refusal) → first_fault 1 (file_lines deck rounds-held) ≡ o →
-          refusal_in (read_text (file_text deck rounds-held)) ≡ or_else o (parts_fault (deck_of deck).area deck.posts deck.stops)
+          refusal_in (read_text (file_text deck rounds-held)) ≡ or_else o (parts_fault (deck_of deck).area deck.post_count deck.stop_count)
       go (some why) e = ap refusal_in (text_fault missing_axis _ why (lines_fault all_due (file_lines deck rounds-held) 1 why file_follows e))
       go none e = let f = all_fine e in ap refusal_in (all_read f) ∙ parts_is f
 
@@ -284,14 +284,14 @@ module _ (deck : Deck) (rounds-held : ℕ) (sized : Sized deck) where
   file_line why e = go (first_fault 1 (file_lines deck rounds-held)) refl (sym file_fault ∙ ap refusal_in e)
     where
       go : (o : Option Refusal) → first_fault 1 (file_lines deck rounds-held) ≡ o →
-          or_else o (parts_fault (deck_of deck).area deck.posts deck.stops) ≡ some why → line_of why ≤ 581
+          or_else o (parts_fault (deck_of deck).area deck.post_count deck.stop_count) ≡ some why → line_of why ≤ 581
       go (some found) p f = omega (arith, fault_line 1 (file_lines deck rounds-held) why (p ∙ f), lines_few)
-      go none p f = omega (arith, parts_line (deck_of deck).area deck.posts deck.stops why f)
+      go none p f = omega (arith, parts_line (deck_of deck).area deck.post_count deck.stop_count why f)
 
   -- and where it finds no fault: the job that is held, whose file has the record's own counts
   pub record FileIs : Type 0 where
-    pub few_posts : deck.posts ≤ posts_limit
-    pub few_stops : deck.stops ≤ stops_limit
+    pub few_posts : deck.post_count ≤ posts_limit
+    pub few_stops : deck.stop_count ≤ stops_limit
     pub text : file_text deck rounds-held ≡ saved_spelling (held_job deck rounds-held)
     pub allowed : Allowed (held_job deck rounds-held)
     pub read : read_text (file_text deck rounds-held) ≡ accepted (held_job deck rounds-held)
@@ -308,5 +308,5 @@ module _ (deck : Deck) (rounds-held : ℕ) (sized : Sized deck) where
           record { few_posts = f.posts_few; few_stops = f.stops_few; text = f.spelled; allowed = subst Allowed same allowed; read = p ∙ ap accepted same }
 
       go : (o : Option Refusal) → first_fault 1 (file_lines deck rounds-held) ≡ o → FileIs
-      go (some why) p = none_some (sym e ∙ file_fault ∙ ap (λ (o : Option Refusal). or_else o (parts_fault (deck_of deck).area deck.posts deck.stops)) p)
+      go (some why) p = none_some (sym e ∙ file_fault ∙ ap (λ (o : Option Refusal). or_else o (parts_fault (deck_of deck).area deck.post_count deck.stop_count)) p)
       go none p = held (read_text (file_text deck rounds-held)) refl (all_fine p)

@@ -2,5 +2,5 @@ pub mod AxisLaws
 pub mod CheckLaws
 pub mod FileFaults
 pub mod FirstFault
-pub mod Numbered
+pub mod LineLoops
 pub mod ShortLaws

@@ -12,14 +12,16 @@ use Rattle.numbers.proofs.WordTests.{back}
 use Rattle.query.specs.Place.{Place}
 use Rattle.query.specs.Deck.{AxisCosts}
 use Rattle.query.specs.Travel.{travel}
-use Rattle.query.specs.Range.{PlaceInRange, coordinate_limit, stops_limit, travel_limit}
-use Rattle.deck.specs.DeckOf.{places}
+use Rattle.query.specs.Range.{PlaceInRange, coordinate_limit, travel_limit}
 use Rattle.deck.specs.Ranges.{CostsInRange}
-use Rattle.columns.specs.Ranges.{PlacesInRange}
+use Rattle.deck.specs.declared.Stop.{Stop}
+use Rattle.deck.specs.Values.{stop_of, no_stop}
 use Rattle.columns.proofs.WordLaws.{wide}
-use Rattle.deck.proofs.DeckLaws.{place_of}
-use Rattle.columns.proofs.ClosestLaws.{zip_length, zip_at, place_at, places_length, places_at}
+use Rattle.columns.proofs.ClosestLaws.{zip_length, zip_at}
 use Rattle.columns.proofs.CopyLaws.{Copied, copied_more, copied_next}
+
+abbrev pub place_of : ℤ → ℤ → Place
+place_of x y = record { x = x; y = y }
 
 -- ---- travel between two places in range, of the distances that were found of words
 module _ {axis : AxisCosts} {ux uy vx vy : ℤ} (costs : CostsInRange axis) (p : PlaceInRange (place_of ux uy)) (q : PlaceInRange (place_of vx vy)) where
@@ -48,30 +50,22 @@ module _ {axis : AxisCosts} {ux uy vx vy : ℤ} (costs : CostsInRange axis) (p :
   travel_found f g = rw (f ∙ x_apart, g ∙ y_apart)
 
 -- ---- near, stop after stop: each by its place and what was stored
-module _ (f : Place → ℕ → ℕ) (near : List ℕ) {sx sy : List ℤ} {n : ℕ} (stops : PlacesInRange stops_limit sx sy n) (g : n ≤ length near) where
+module _ (f : Place → ℕ → ℕ) (near : List ℕ) (stops : List Stop) (g : length stops ≤ length near) where
+  abbrev target : List ℕ
+  target = zip_with (λ s n. f (stop_of s).at n) stops near
+
   abbrev Renewing : List ℕ → ℕ → Type 0
-  Renewing to i = Copied near 0 (zip_with f (places sx sy) near) n to i
+  Renewing to i = Copied near 0 target (length stops) to i
 
-  pub target_long : n ≤ length (zip_with f (places sx sy) near)
-  target_long = omega (arith, zip_length f (places sx sy) near, places_length sx sy, stops.x.count, stops.y.count)
+  target_long : length stops ≤ length target
+  target_long = omega (arith, zip_length (λ s n. f (stop_of s).at n) stops near)
 
-  pub target_at : (i : ℕ) → i < n → get_or (zip_with f (places sx sy) near) i 0 ≡ f (place_at sx sy i) (get_or near i 0)
-  target_at i h =
-      zip_at f (place_at sx sy i) 0 0 (places sx sy) near i (omega (arith, places_length sx sy, stops.x.count, stops.y.count)) (omega arith)
-      ∙ ap (λ (p : Place). f p (get_or near i 0)) (places_at sx sy i (place_at sx sy i) (omega (arith, stops.x.count)) (omega (arith, stops.y.count)))
-
-  pub renew_more : {to : List ℕ} {i : ℕ} → Renewing to i → i < n → {q : Place} → q ≡ place_at sx sy i → {v : ℕ} →
-      v ≡ f q (get_or to i 0) → Renewing (set to i v) (i + 1)
-  renew_more {to} {i} so_far h {q} p {v} e =
+  pub renew_more : {to : List ℕ} {i : ℕ} → Renewing to i → i < length stops → {v : ℕ} →
+      v ≡ f (stop_of (get_or stops i no_stop)).at (get_or to i 0) → Renewing (set to i v) (i + 1)
+  renew_more {to} {i} so_far h {v} e =
       let z : 0 + i ≡ i = omega arith in
       let same : get_or to i 0 ≡ get_or near i 0 = ap (λ (m : ℕ). get_or to m 0) (sym z)
-      ∙ copied_next near 0 (zip_with f (places sx sy) near) n so_far (omega arith) target_long 0 ∙ ap (λ (m : ℕ). get_or near m 0) z in
-      subst (λ (m : ℕ). Renewing (set to m v) (i + 1)) z (copied_more near 0 (zip_with f (places sx sy) near) n v 0 (omega arith) target_long so_far h
-      (e ∙ ap (λ (q : Place). f q (get_or to i 0)) p ∙ ap (f (place_at sx sy i)) same ∙ sym (target_at i h)))
-
-pub stop_in_range : {sx sy : List ℤ} {n : ℕ} → PlacesInRange stops_limit sx sy n → (i : ℕ) → i < n → PlaceInRange (place_at sx sy i)
-stop_in_range stops i h = record { x_range = stops.x.range i h; y_range = stops.y.range i h }
-
--- a place in range, as words hold it
-pub place_held : {x y : ℤ} → PlaceInRange (place_of x y) → place_of (back x) (back y) ≡ place_of x y
-place_held p = ap₂ place_of (wide _ (omega (arith, p.x_range))) (wide _ (omega (arith, p.y_range)))
+      ∙ copied_next near 0 target (length stops) so_far (omega arith) target_long 0 ∙ ap (λ (m : ℕ). get_or near m 0) z in
+      subst (λ (m : ℕ). Renewing (set to m v) (i + 1)) z (copied_more near 0 target (length stops) v 0 (omega arith) target_long so_far h
+      (e ∙ ap (f (stop_of (get_or stops i no_stop)).at) same
+      ∙ sym (zip_at (λ s n. f (stop_of s).at n) no_stop 0 0 stops near i h (omega arith))))

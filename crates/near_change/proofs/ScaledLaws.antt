@@ -9,16 +9,19 @@ use Rattle.numbers.proofs.Truth.{holds, fails}
 use Rattle.query.specs.Place.{Place}
 use Rattle.query.specs.Deck.{AxisCosts, plain}
 use Rattle.query.specs.Travel.{travel, closest}
+use Rattle.deck.specs.declared.Stop.{Stop}
+use Rattle.deck.specs.Values.{stop_of}
 use Rattle.columns.specs.Objects.{scaled_place}
 use Rattle.columns.proofs.ClosestLaws.{closest_scaled}
 use Rattle.near_change.specs.NearChange.{near_without, near_but}
 use Rattle.items.proofs.ItemValues.{same_natural}
 
-zip_each : {f g : Place → ℕ → ℕ} → ((p : Place) (m : ℕ) → f p m ≡ g p m) → (ps : List Place) (ms : List ℕ) → zip_with f ps ms ≡ zip_with g ps ms
+zip_each : {f g : Place → ℕ → ℕ} → ((p : Place) (m : ℕ) → f p m ≡ g p m) → (ss : List Stop) (ms : List ℕ) →
+    zip_with (λ s m. f (stop_of s).at m) ss ms ≡ zip_with (λ s m. g (stop_of s).at m) ss ms
 unfolding zip_with
 zip_each h [] ms = refl
-zip_each h (p ∷ ps) [] = refl
-zip_each h (p ∷ ps) (m ∷ ms) = ap₂ (λ (n : ℕ) (l : List ℕ). n ∷ l) (h p m) (zip_each h ps ms)
+zip_each h (s ∷ ss) [] = refl
+zip_each h (s ∷ ss) (m ∷ ms) = ap₂ (λ (n : ℕ) (l : List ℕ). n ∷ l) (h (stop_of s).at m) (zip_each h ss ms)
 
 -- ---- by posts at their scaled places, for the posts themselves
 module _ {axis axis' : AxisCosts} (e : axis' ≡ axis) (posts : List Place) {scaled : List Place} (f : scaled ≡ map (scaled_place axis) posts) where
@@ -33,8 +36,9 @@ module _ {axis axis' : AxisCosts} (e : axis' ≡ axis) (posts : List Place) {sca
   without_same post q near =
       ap₂ (λ (t n : ℕ). cond (eqb near t) n near) (ap (λ (c : AxisCosts). travel c q post) e) (closest_same q)
 
-  pub renewed_without : (post : Place) (near : List ℕ) (stops : List Place) (n : ℕ) {to : List ℕ} →
-      to ≡ paste near 0 (zip_with (near_but axis' post scaled) stops near) n → to ≡ paste near 0 (zip_with (near_without axis post posts) stops near) n
+  pub renewed_without : (post : Place) (near : List ℕ) (stops : List Stop) (n : ℕ) {to : List ℕ} →
+      to ≡ paste near 0 (zip_with (λ s m. near_but axis' post scaled (stop_of s).at m) stops near) n →
+      to ≡ paste near 0 (zip_with (λ s m. near_without axis post posts (stop_of s).at m) stops near) n
   renewed_without post near stops n g = g ∙ ap (λ (l : List ℕ). paste near 0 l n) (zip_each (without_same post) stops near)
 
 -- ---- near of one stop without a post, by the code's test on the travel t

@@ -72,13 +72,7 @@ fn reprice(near: &mut [u64], stops: &[Stop], post: Place, left: &ScaledPosts)
 
 /// Brings `near`, the near of these stops, up to date for a post that goes, where the posts `left` are left, one at least:
 /// it is found anew of just those stops whose held near is their travel to that post. What stands behind the last stop's near stays.
-pub fn renew_without(
-    near: &mut [u64],
-    stops: &[Stop],
-    axis: AxisCosts,
-    post: Place,
-    left: &[Place],
-)
+pub fn renew_without(near: &mut [u64], stops: &[Stop], axis: AxisCosts, post: Place, left: &[Place])
     requires { CostsInRange (held_axis axis) × StopsInRange stops.now × PlaceInRange (place_of post)
         × (length stops.now ≤ length near.old) × PostsInRange left.now × (1 ≤ length left.now) }
     ensures { near.new ≡ paste near.old 0

@@ -1,26 +1,25 @@
 -- The columns of a deck's objects: they can be priced where the deck is in range, and they hold the objects.
-use mathlib.Core.Path.{◌≡◌, sym, ap, subst, ◌∙◌}
+use mathlib.Core.Path.{◌≡◌, refl, sym, subst, ◌∙◌}
 use mathlib.Core.List.Memᴰ
 use mathlib.Core.List.{List, [], ◌∷◌, map, Memᴰ}
 use Prim.Native.Nat.{ℕ, suc, ◌≤◌, ◌<◌}
 use native.Mathlib.Omega.{arith}
 use lib.IntN.{ℤ, pos, nat_abs}
 use lib.ListN.{length, get_or, length-map}
-use Rattle.std.proofs.lemmas.List.{get_or-take}
 use lib.Signed.{◌≤ℤ◌}
 use Rattle.numbers.proofs.Integer.{order}
 use Rattle.numbers.proofs.Scaling.{scale_most}
+use Rattle.numbers.specs.Integer.{times}
+use Rattle.numbers.proofs.Members.{each_cons}
 use Rattle.numbers.proofs.Padded.{padded_each}
 use Rattle.query.specs.Deck.{AxisCosts, Stop, Deck}
-use Rattle.query.specs.Range.{InRange, coordinate_limit, stops_limit, visits_limit, axis_cost_limit, travel_limit}
+use Rattle.query.specs.Range.{InRange, StopInRange, coordinate_limit, stops_limit, visits_limit, axis_cost_limit, travel_limit}
 use Rattle.columns.specs.Objects.{Object, objects_of, Pricing, pricing_of, stored_objects, stored_pricing}
 use Rattle.deck.specs.Ranges.{CostsInRange, NearsInRange}
-use Rattle.columns.specs.Ranges.{PlacesInRange, VisitsInRange, scaled_limit}
-use Rattle.columns.proofs.ClosestLaws.{zip_at}
-use Rattle.deck.proofs.DeckLaws.{stop_in, stops_in}
-use Rattle.columns.proofs.StoredLaws.{object_of as object_stored, stops_count, stored, stored_count}
+use Rattle.columns.specs.Ranges.{scaled_limit}
+use Rattle.columns.proofs.StoredLaws.{stored_count}
 use Rattle.columns.specs.ObjectColumns.{column, columns_of, objects_in, pricing_in}
-use Rattle.columns.proofs.ColumnLaws.{nothing, pricing_length, x_cost_at, y_cost_at, columns_objects, columns_axis, x_row, y_row, visits_row, near_row}
+use Rattle.columns.proofs.ColumnLaws.{pricing_length, x_cost_at, y_cost_at, columns_objects, columns_axis, x_row, y_row, visits_row, near_row}
 use Rattle.reach.specs.Columns.{ObjectInRange, Priceable}
 use Rattle.reach.proofs.ReachLaws.{object_of, objects_of_map}
 
@@ -63,49 +62,43 @@ priceable P few some most each = record {
   };
 }
 
--- ---- the objects of what a record holds
 each_at : {A : Type 0} (Q : A → Type 0) (d : A) (l : List A) → ((i : ℕ) → i < length l → Q (get_or l i d)) → (x : A) → Memᴰ x l → Q x
 each_at Q d [] f x m = elim m [ ]
 each_at Q d (y ∷ ys) f x (Memᴰ.head e) = subst Q (sym e) (f 0 (omega arith))
 each_at Q d (y ∷ ys) f x (Memᴰ.tail m) = each_at Q d ys (λ i h. f (suc i) (omega arith)) x m
 
-module _ (axis : AxisCosts) {xs ys : List ℤ} {vs ns : List ℕ} {n : ℕ} (costs : CostsInRange axis) (places : PlacesInRange stops_limit xs ys n)
-    (visits : VisitsInRange vs n) (nears : NearsInRange ns n) where
-  abbrev objects : List Object
-  objects = stored axis places visits nears
+-- ---- the objects of stops in range, each with its near
+module _ (axis : AxisCosts) (stops : List Stop) (nears : List ℕ) (costs : CostsInRange axis) (stops-range : (s : Stop) → Memᴰ s stops → StopInRange s)
+    {n : ℕ} (stops-count : length stops ≡ n) (few : n ≤ stops_limit) (nears-range : NearsInRange nears (length nears)) (nears-count : length nears ≡ n) where
+  near-each : (m : ℕ) → Memᴰ m nears → m ≤ travel_limit
+  near-each = each_at (λ (m : ℕ). m ≤ travel_limit) 0 nears nears-range.range
 
-  abbrev stored_at : ℕ → Object
-  stored_at i = object_stored axis (stop_in xs ys vs i) (get_or ns i 0)
-
-  is_stored : (i : ℕ) → i < n → get_or objects i nothing ≡ stored_at i
+  objects_in_range : (stops : List Stop) (nears : List ℕ) → ((s : Stop) → Memᴰ s stops → StopInRange s) → ((m : ℕ) → Memᴰ m nears → m ≤ travel_limit) →
+      (o : Object) → Memᴰ o (stored_objects axis stops nears) → ObjectInRange o.at.x o.at.y (pos o.visits) (pos o.near)
   unfolding stored_objects
-  is_stored i h =
-      zip_at _ (stop_in xs ys vs 0) 0 nothing _ ns i (omega (arith, stops_count axis places visits nears)) (omega (arith, nears.count))
-      ∙ ap (λ (s : Stop). object_stored axis s (get_or ns i 0))
-      (get_or-take n _ i (stop_in xs ys vs 0) h
-      ∙ stops_in xs ys vs i (stop_in xs ys vs 0) (omega (arith, places.x.count)) (omega (arith, places.y.count)) (omega (arith, visits.count)))
-
-  stored_range : (s : Object) → Memᴰ s objects → ObjectInRange s.at.x s.at.y (pos s.visits) (pos s.near)
-  stored_range =
-      each_at (λ (s : Object). ObjectInRange s.at.x s.at.y (pos s.visits) (pos s.near)) nothing objects
-      (λ i h. let k : i < n = omega (arith, stored_count axis places visits nears) in
-      subst (λ (s : Object). ObjectInRange s.at.x s.at.y (pos s.visits) (pos s.near)) (sym (is_stored i k))
-      (record {
+  objects_in_range [] ms f g o m = absurd (Memᴰ.not-nil m)
+  objects_in_range (s ∷ ss) [] f g o m = absurd (Memᴰ.not-nil m)
+  objects_in_range (s ∷ ss) (near ∷ ms) f g o m =
+      each_cons (λ (o : Object). ObjectInRange o.at.x o.at.y (pos o.visits) (pos o.near)) (one (f s (Memᴰ.head refl)) (g near (Memᴰ.head refl)))
+      (objects_in_range ss ms (λ s m. f s (Memᴰ.tail m)) (λ m n. g m (Memᴰ.tail n))) o m
+    where
+      one : StopInRange s → near ≤ travel_limit → ObjectInRange (times axis.a s.at.x) (times axis.b s.at.y) (pos s.visits) (pos near)
+      one r h = record {
         place = record {
-          x_range = scale_most axis.a axis_cost_limit coordinate_limit (get_or xs i (pos 0)) costs.most.0 (places.x.range i k);
-          y_range = scale_most axis.b axis_cost_limit coordinate_limit (get_or ys i (pos 0)) costs.most.1 (places.y.range i k);
+          x_range = scale_most axis.a axis_cost_limit coordinate_limit s.at.x costs.most.0 r.place.x_range;
+          y_range = scale_most axis.b axis_cost_limit coordinate_limit s.at.y costs.most.1 r.place.y_range;
         };
         visits_some = omega (arith, order);
-        visits_range = visits.range i k;
+        visits_range = r.most_visits;
         near_some = omega (arith, order);
-        near_range = nears.range i k;
-      }))
+        near_range = h;
+      }
 
-  pub stored_priceable : Priceable (columns_of (stored_pricing axis xs ys vs ns n)) n
+  pub stored_priceable : Priceable (columns_of (stored_pricing axis stops nears)) n
   stored_priceable =
-      let count = stored_count axis places visits nears in
-      subst (Priceable (columns_of (stored_pricing axis xs ys vs ns n))) count
-      (priceable (stored_pricing axis xs ys vs ns n) (omega (arith, count, places.few)) costs.some costs.most stored_range)
+      let count = stored_count axis stops nears (stops-count ∙ sym nears-count) ∙ stops-count in
+      subst (Priceable (columns_of (stored_pricing axis stops nears))) count
+      (priceable (stored_pricing axis stops nears) (omega (arith, count, few)) costs.some costs.most (objects_in_range stops nears stops-range near-each))
 
 -- ---- the deck's
 module _ (deck : Deck) (range : InRange deck) where

@@ -11,9 +11,9 @@ ghost use Rattle.reach.specs.Held.{pricing_of_objects};
 mod objects;
 mod rectangle;
 
-pub use objects::{Objects, Row};
 use deck::Rect;
 use limits::STOPS;
+pub use objects::{Objects, Row};
 pub use rectangle::Edges;
 
 /// For each row of the objects whether it is within reach of the rectangle (RULES "Reach"); `false` behind the last object.

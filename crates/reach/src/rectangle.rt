@@ -4,9 +4,8 @@ ghost use Rattle.std.specs.Prelude.{◌≡◌, ◌+◌, ◌≤◌, ltb, pos, nat
 ghost use Rattle.numbers.specs.Integer.{dist, clamp};
 ghost use Rattle.query.specs.Range.{travel_limit};
 ghost use Rattle.deck.specs.Ranges.{CostsInRange};
-use Rattle.columns.specs.Ranges.{scaled_limit, ScaledPlaceInRange};
-ghost use Rattle.deck.specs.Values.{held_axis};
-ghost use Rattle.deck.specs.Values.{rect_of};
+ghost use Rattle.columns.specs.Ranges.{scaled_limit, ScaledPlaceInRange};
+ghost use Rattle.deck.specs.Values.{held_axis, rect_of};
 ghost use Rattle.reach.specs.Columns.{Ranged, EdgesInRange, excess_of};
 
 use columns::scaled;

@@ -1,8 +1,10 @@
 -- The loop of `job_file::put_posts`.
-use lib.ListN.{length}
+use mathlib.Core.List.{map}
+use lib.ListN.{take}
 use Rattle.write.specs.Written.{Wrote}
+use Rattle.deck.specs.Values.{place_of}
 use Rattle.job_file.specs.Texts.{post_texts}
 use Rattle.job_file.proofs.put_posts.Given as goal
 
-abbrev pub invariant-loop-x : goal.invariant-loop-x
-invariant-loop-x l = Wrote l.initial.w (post_texts l.posts.x.now l.posts.y.now (length l.yielded)) l.w
+abbrev pub invariant-loop-post : goal.invariant-loop-post
+invariant-loop-post l = Wrote l.initial.w (post_texts (map place_of (take l.post-index l.posts))) l.w

@@ -1,37 +1,26 @@
 -- What `job_file::put_stop` owes.
-use native.Mathlib.Omega.{arith}
-use Rattle.text.specs.Ascii.{bytes, comma, newline}
-use Rattle.write.proofs.WrittenLaws.{wrote_both}
-use Rattle.job_file.proofs.TextLaws.{stop_text_lem, nat_text, length_place, length_stop}
+use Rattle.text.specs.Ascii.{bytes, newline}
+use Rattle.deck.specs.Values.{stop_of}
+use Rattle.job_file.proofs.Parts.{all_due, part_room, part_written, all_written}
+use Rattle.job_file.proofs.TextLaws.{stop_joined, nat_written, nat_room}
 use Rattle.job_file.proofs.put_stop.Goals as goal
 
 pub put-requires : goal.put-requires
-put-requires c = omega (arith, c.requires, length_stop c.args.s.at.x c.args.s.at.y c.args.s.visits)
+unfolding bytes
+put-requires c = part_room (all_due c.args.w.now _ c.requires (stop_joined (stop_of c.args.s)))
 
 pub put_place-requires : goal.put_place-requires
-put_place-requires c = omega (
-  arith,
-  c.requires,
-  c.put.ensures.next,
-  c.put.ensures.size,
-  length_stop c.args.s.at.x c.args.s.at.y c.args.s.visits,
-  length_place c.args.s.at.x c.args.s.at.y comma,
-)
+unfolding bytes
+put_place-requires c = part_room (part_written (all_due c.args.w.now _ c.requires (stop_joined (stop_of c.args.s))) c.put.ensures)
 
 pub put_number-requires : goal.put_number-requires
-put_number-requires c = omega (
-  arith,
-  c.requires,
-  c.put.ensures.next,
-  c.put.ensures.size,
-  c.put_place.ensures.next,
-  c.put_place.ensures.size,
-  length_stop c.args.s.at.x c.args.s.at.y c.args.s.visits,
-  length_place c.args.s.at.x c.args.s.at.y comma,
-)
+unfolding bytes
+put_number-requires c =
+    let number = part_written (part_written (all_due c.args.w.now _ c.requires (stop_joined (stop_of c.args.s))) c.put.ensures) c.put_place.ensures in
+    nat_room c.args.s.visits newline number
 
 pub returns : goal.returns
 unfolding bytes
 returns c =
-    rw (stop_text_lem c.args.s.at.x c.args.s.at.y c.args.s.visits, nat_text c.args.s.visits newline)
-    (wrote_both (wrote_both c.put.ensures c.put_place.ensures) c.put_number.ensures)
+    let number = part_written (part_written (all_due c.args.w.now _ c.requires (stop_joined (stop_of c.args.s))) c.put.ensures) c.put_place.ensures in
+    all_written (part_written number (nat_written c.args.s.visits newline c.put_number.ensures))
