@@ -85,13 +85,6 @@ module _ {unread left : Unread} {old new : Deck} where
   }
 
 -- ---- near and before, found of a deck
--- near of the stops, without what stands behind
-pub nears_front : {nears : List ℕ} {n : ℕ} → NearsInRange nears n → NearsInRange (take n nears) n
-nears_front {nears} {n} range = record {
-  count = omega (arith, length-take-le n nears range.count);
-  range = λ i h. rw (get_or-take n nears i 0 h) (range.range i h);
-}
-
 module _ (deck : QueryDeck.Deck) {column : List ℕ} (found : Nears deck.axis deck.posts deck.stops column) where
   pub near_is : column ≡ padded stops_limit 0 (map (near deck) deck.stops)
   unfolding near
