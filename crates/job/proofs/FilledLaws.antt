@@ -7,7 +7,6 @@ use native.Mathlib.Omega.{arith}
 use lib.Dec.{T}
 use lib.IntN.{ℤ}
 use lib.ListN.{length, take, length-map}
-use lib.Seq.{length-take-le, get_or-take}
 use Rattle.std.specs.Prelude.{Ok}
 use Rattle.std.proofs.lemmas.List.{append-nil}
 use Rattle.numbers.specs.Padded.{padded}
@@ -20,7 +19,7 @@ use Rattle.query.specs.Cost.{before}
 use Rattle.query.specs.Range.{PlaceInRange, StopInRange, stops_limit}
 use Rattle.deck.specs.Values as Values
 use Rattle.deck.specs.Values.{held_axis, place_of}
-use Rattle.deck.specs.Ranges.{CostsInRange, PostsInRange, StopsInRange, NearsInRange}
+use Rattle.deck.specs.Ranges.{CostsInRange, PostsInRange, StopsInRange}
 use Rattle.deck.specs.declared.AxisCosts.{AxisCosts}
 use Rattle.deck.specs.declared.Deck.{Deck}
 use Rattle.deck.specs.declared.Place.{Place}

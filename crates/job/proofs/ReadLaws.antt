@@ -37,7 +37,7 @@ use Rattle.deck.specs.Ranges.{PostsInRange, StopsInRange, NearsInRange}
 use Rattle.deck.specs.declared.AxisCosts.{AxisCosts}
 use Rattle.deck.specs.declared.Deck.{Deck}
 use Rattle.deck.specs.declared.Rect.{Rect}
-use Rattle.deck.proofs.DeckLaws.{held_deck}
+use Rattle.deck.proofs.DeckLaws.{held_deck, nears_front}
 use Rattle.columns.specs.StopFigures.{Nears, paid}
 use Rattle.job.specs.declared.Job.{Job}
 use Rattle.refusal.specs.declared.Refusal.{Refusal}
