@@ -90,9 +90,9 @@ fn respond_alone(job: &[u8], out: &mut [u8]) -> Result<Response, Refusal>
 }
 
 /// Searches a job's area (RULES "Calls", "Refusals"): the report, with its text at the start of the output, which ends with its sixth byte
-/// 10, and its live cells in the cell space with 0 behind them; or the first refusal that applies, the job's own, 7 or 8, and both as they were. The cell
-/// space that is enough for a job is five numbers for each of the `cells` that `estimate` gives, and the output `limits::REPORT_BYTES`
-/// bytes.
+/// 10, and its live cells in the cell space with 0 behind them; or the first refusal that applies, the job's own, 7 or 8, and both as they
+/// were. The cell space that is enough for a job is five numbers for each of the `cells` that `estimate` gives, and the output
+/// `limits::REPORT_BYTES` bytes.
 pub fn report(job: &[u8], cells: &mut [i64], out: &mut [u8]) -> Answer
     ensures { record { answer = report_answer result; cells = cells.new; out = out.new }
         ≡ report_call job.now cells.old out.old }
@@ -138,8 +138,8 @@ pub fn read(job: &[u8]) -> Result<Job, Refusal>
 }
 
 /// Writes the job of a record and rounds (RULES "Change 1") to the start of the output, and gives how many bytes it has; or the first
-/// refusal that applies: the number and line that the text of this job's bytes would get in reading, or 8 where it does not fit. Bytes behind the
-/// job stay; after a refusal every byte does. Near and before of the record do not count.
+/// refusal that applies: the number and line that the text of this job's bytes would get in reading, or 8 where it does not fit. Bytes
+/// behind the job stay; after a refusal every byte does. Near and before of the record do not count.
 pub fn write(deck: &Deck, rounds: u64, out: &mut [u8]) -> Result<usize, Refusal>
     ensures { record { answer = written_answer result; out = out.new } ≡ write_call deck.now rounds out.old }
 {
