@@ -9,7 +9,7 @@ use Rattle.query.specs.Deck.{Stop}
 use Rattle.deck.specs.DeckOf.{deck_of, with_figures}
 use Rattle.deck.specs.Values.{stop_of}
 use Rattle.columns.specs.StopFigures.{paid}
-use Rattle.change.proofs.FrontChanges.{nears_front}
+use Rattle.deck.proofs.DeckLaws.{nears_front}
 use Rattle.change.proofs.renew_before.Goals as goal
 
 -- near behind that of the last stop does not count
