@@ -2,7 +2,7 @@
 use mathlib.Core.Path.{◌≡◌, refl, sym, ap, subst, ◌∙◌}
 use mathlib.Core.Bool.{Bool, not, cond}
 use mathlib.Core.Logic.{◌↔◌, ⊎_elim}
-use mathlib.Core.List.{[], ◌∷◌, Memᴰ}
+use mathlib.Core.List.{List, [], ◌∷◌, Memᴰ}
 use mathlib.Core.Option.{Option, none, some, none-ne-some, some-injective}
 use Prim.Native.Nat.{ℕ, ◌≤◌, ◌<◌}
 use lib.Dec.{T}
@@ -15,7 +15,7 @@ use Rattle.deck.specs.Sound.{Sound}
 use Rattle.deck.specs.declared.Deck.{Deck}
 use Rattle.refusal.specs.Refusal.{number_of, line_of}
 use Rattle.refusal.specs.declared.Refusal.{Refusal}
-use Rattle.refusal.specs.declared.Refusal.TheVariants.{OutOfRange, NoPosts, NoStops, NotHeld, Full}
+use Rattle.refusal.specs.declared.Refusal.TheVariants.{OutOfRange}
 use Rattle.change.specs.Change.{Change, add_post, remove_post, add_stop, remove_stop, altered, change_refusal, unless_refused}
 use Rattle.change.specs.ChangedRecord.{usable, altered_record, record_refusal, answered, changed_record}
 use Rattle.change.specs.Meaning.{ChangeApplies, out_of_range, no_such_post, no_such_stop, only_post, only_stop, posts_full, stops_full, Leaves}
@@ -85,36 +85,25 @@ module _ (deck : Deck) (change : Change) where
   unfolding change_call
   deck_is = refl
 
--- ---- the five refusals
-data Listed : Refusal → Type 0 where
-  three : Listed (OutOfRange 0)
-  five : Listed NoPosts
-  six : Listed NoStops
-  nine : Listed NotHeld
-  ten : Listed Full
+-- ---- the numbers of a change's refusals: 3, and those that its list gives
+abbrev pub list_refusals : Change → List ℕ
+list_refusals (add_post p) = 10 ∷ []
+list_refusals (remove_post p) = 5 ∷ 9 ∷ []
+list_refusals (add_stop s) = 10 ∷ []
+list_refusals (remove_stop s) = 6 ∷ 9 ∷ []
 
-listed_line : {why : Refusal} → Listed why → line_of why ≡ 0
-listed_line three = refl
-listed_line five = refl
-listed_line six = refl
-listed_line nine = refl
-listed_line ten = refl
+-- a refusal has one of them, and line 0
+abbrev Listed : Change → Refusal → Type 0
+Listed change why = Memᴰ (number_of why) (3 ∷ list_refusals change) × (line_of why ≡ 0)
 
-listed_number : {why : Refusal} → Listed why → Memᴰ (number_of why) (3 ∷ 5 ∷ 6 ∷ 9 ∷ 10 ∷ [])
-listed_number three = Memᴰ.head refl
-listed_number five = Memᴰ.tail (Memᴰ.head refl)
-listed_number six = Memᴰ.tail (Memᴰ.tail (Memᴰ.head refl))
-listed_number nine = Memᴰ.tail (Memᴰ.tail (Memᴰ.tail (Memᴰ.head refl)))
-listed_number ten = Memᴰ.tail (Memᴰ.tail (Memᴰ.tail (Memᴰ.tail (Memᴰ.head refl))))
-
-applies_listed : {deck : Query.Deck} {change : Change} {why : Refusal} → ChangeApplies deck change why → Listed why
-applies_listed (out_of_range n) = three
-applies_listed (no_such_post p n) = nine
-applies_listed (no_such_stop s n) = nine
-applies_listed (only_post p e) = five
-applies_listed (only_stop s e) = six
-applies_listed (posts_full p h) = ten
-applies_listed (stops_full s h) = ten
+applies_listed : {deck : Query.Deck} {change : Change} {why : Refusal} → ChangeApplies deck change why → Listed change why
+applies_listed (out_of_range n) = (Memᴰ.head refl, refl)
+applies_listed (no_such_post p n) = (Memᴰ.tail (Memᴰ.tail (Memᴰ.head refl)), refl)
+applies_listed (no_such_stop s n) = (Memᴰ.tail (Memᴰ.tail (Memᴰ.head refl)), refl)
+applies_listed (only_post p e) = (Memᴰ.tail (Memᴰ.head refl), refl)
+applies_listed (only_stop s e) = (Memᴰ.tail (Memᴰ.head refl), refl)
+applies_listed (posts_full p h) = (Memᴰ.tail (Memᴰ.head refl), refl)
+applies_listed (stops_full s h) = (Memᴰ.tail (Memᴰ.head refl), refl)
 
 -- ---- area and axis costs
 same_area : (deck : Deck) (change : Change) → (deck_of (altered_record change deck)).area ≡ (deck_of deck).area
@@ -138,13 +127,17 @@ module _ (deck : Deck) (change : Change) where
   unfolding change_call changed_record
   record_ind P = unless_ind P (record_refusal change deck)
 
-  why_listed : (why : Refusal) → record_refusal change deck ≡ some why → Listed why
+  why_listed : (why : Refusal) → record_refusal change deck ≡ some why → Listed change why
   why_listed why e = ⊎_elim
       (λ t. applies_listed ((refusal_some change (deck_of deck) why).0 (sym (when_usable change deck t) ∙ e)))
-      (λ t. subst Listed (same_some (sym (not_usable deck change t) ∙ e)) three) (test (usable deck))
+      (λ t. subst (Listed change) (same_some (sym (not_usable deck change t) ∙ e)) (Memᴰ.head refl, refl)) (test (usable deck))
     where
       same_some : {a b : Refusal} → ◌≡◌ {A = Option Refusal} (some a) (some b) → a ≡ b
       same_some {a} {b} f = some-injective a b f
+
+  pub number_listed : (number line : ℕ) → (change_call deck change).answer ≡ refuses number line → Memᴰ number (3 ∷ list_refusals change)
+  number_listed number line e = let (why, f, n, l) = refused_why deck change number line e in
+      subst (λ m. Memᴰ m (3 ∷ list_refusals change)) (sym n) (why_listed why f).0
 
   module _ (t : T (usable deck)) where
     exactly : (why : Refusal) → ((change_call deck change).answer ≡ refusal why) ↔ ChangeApplies (deck_of deck) change why
@@ -177,7 +170,7 @@ module _ (deck : Deck) (change : Change) where
   made_as : Sound deck → (change_call deck change).answer ≡ gives tt → (change_call deck change).deck ≡ deck_record (altered change (deck_of deck))
   made_as sound e = deck_is deck change ∙ ap (λ r. r.deck) (made_answer deck change sound (none_of (sound_usable deck sound) e))
 
-  can_change : Sized deck → T (usable deck) ↔ (Saveable deck 0 × ((i : ℕ) → i < deck.stops → get_or deck.near i 0 ≤ travel_limit))
+  can_change : Sized deck → T (usable deck) ↔ (Saveable deck 0 × ((i : ℕ) → i < deck.stop_count → get_or deck.near i 0 ≤ travel_limit))
   can_change sized = let both = usable_exactly deck sized in (
     λ t. let c = both.0 t in (record { allowed = c.0; few_posts = c.1; few_stops = c.2 }, c.3),
     λ s. both.1 (s.0.allowed, s.0.few_posts, s.0.few_stops, s.1),
@@ -186,9 +179,7 @@ module _ (deck : Deck) (change : Change) where
   pub change_law : ChangeLaw deck change
   change_law = record {
     refused_deck = λ number line e. ap (λ (r : AfterChange). r.deck) (refused_kept deck change (refused_why deck change number line e).1);
-    line_0 = λ number line e. let (why, f, n, l) = refused_why deck change number line e in l ∙ listed_line (why_listed why f);
-    numbers = λ number line e. let (why, f, n, l) = refused_why deck change number line e in
-        subst (λ m. Memᴰ m (3 ∷ 5 ∷ 6 ∷ 9 ∷ 10 ∷ [])) (sym n) (listed_number (why_listed why f));
+    line_0 = λ number line e. let (why, f, n, l) = refused_why deck change number line e in l ∙ (why_listed why f).1;
     area_kept = record_ind (λ d. (deck_of d).area ≡ (deck_of deck).area) refl (λ e. same_area deck change);
     axis_kept = record_ind (λ d. (deck_of d).axis ≡ (deck_of deck).axis) refl (λ e. same_axis deck change);
     usable_exactly = can_change;

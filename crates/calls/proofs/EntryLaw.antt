@@ -16,7 +16,6 @@ use Rattle.refusal.specs.declared.Refusal.TheVariants.{ShortOutput}
 use Rattle.job.specs.Format.{Job, Result, refused, accepted, read_job}
 use Rattle.job.specs.Meaning.{Condition}
 use Rattle.job.proofs.Meaning.{refused_job}
-use Rattle.job.proofs.RefusalLaws.{condition_number}
 use Rattle.write.specs.Written.{overwritten}
 use Rattle.report.specs.Limits.{output_size}
 use Rattle.report.specs.Text.{report_text}
@@ -43,10 +42,14 @@ minus_size (suc n) = refl
 minus_same : (m n : ℕ) → neg_ℤ (pos m) ≡ neg_ℤ (pos n) → m ≡ n
 minus_same m n e = sym (minus_size m) ∙ ap nat_abs e ∙ minus_size n
 
--- a number of bytes is minus a number only at 0
-minus_zero : (m n : ℕ) → pos m ≡ neg_ℤ (pos n) → n ≡ 0
-minus_zero m zero e = refl
-minus_zero m (suc n) e = absurd (subst (λ (z : ℤ). T (non_neg z)) e tt)
+-- a report has some bytes, and so many are not minus a number
+some_text : (f : Figures) → 1 ≤ length (report_text f)
+unfolding report_text
+some_text f = omega arith
+
+minus_none : (m n : ℕ) → 1 ≤ m → pos m ≡ neg_ℤ (pos n) → ⊥
+minus_none m zero h e = omega (arith, ap nat_abs e)
+minus_none m (suc n) h e = subst (λ (z : ℤ). T (non_neg z)) e tt
 
 module _ (job out : List ℕ) where
   entry_of : entry job out ≡ returned (report_call job own_space out)
@@ -72,18 +75,17 @@ module _ (job out : List ℕ) where
   entry_short : (j : Job) → read_job job ≡ accepted j → length out < output_size → entry job out ≡ record { result = neg_ℤ (pos 8); out = out }
   entry_short j e h = turned_down_lem ShortOutput (refuses_so job own_space out ShortOutput (short_output j e (own_enough job out j e) h))
 
-  -- the numbers n with minus n as the result: those of reading, and 8
-  minus_which : (n : ℕ) → (entry job out).result ≡ neg_ℤ (pos n) → (n ≤ 6) ⊎ (n ≡ 8)
+  -- a result that is minus a number is that of a refusal of reading, or of 8
+  pub minus_which : (n : ℕ) → (entry job out).result ≡ neg_ℤ (pos n) → ((why : Refusal) × (read_job job ≡ refused why) × (n ≡ number_of why)) ⊎ (n ≡ 8)
   minus_which n f = go (read_job job) refl
     where
       same : {z : ℤ} {o : List ℕ} → entry job out ≡ record { result = z; out = o } → z ≡ neg_ℤ (pos n)
       same e = sym (ap (λ (r : Returned). r.result) e) ∙ f
 
-      go : (r : Result) → read_job job ≡ r → (n ≤ 6) ⊎ (n ≡ 8)
-      go (refused why) e = let c = (refused_job job why).0 e in
-          inl (omega (arith, minus_same (number_of why) n (same (entry_refuses why c)), condition_number job why c))
+      go : (r : Result) → read_job job ≡ r → ((why : Refusal) × (read_job job ≡ refused why) × (n ≡ number_of why)) ⊎ (n ≡ 8)
+      go (refused why) e = inl (why, e, sym (minus_same (number_of why) n (same (entry_refuses why ((refused_job job why).0 e)))))
       go (accepted j) e = ⊎_elim (λ t. inr (sym (minus_same 8 n (same (entry_short j e (ltb→lt _ _ t))))))
-          (λ t. inl (omega (arith, minus_zero _ n (same (entry_reports j e (nltb→le _ _ t))))))
+          (λ t. absurd (minus_none _ n (some_text (job_figures j)) (same (entry_reports j e (nltb→le _ _ t)))))
           (test (ltb (length out) output_size))
 
   pub entry_law : EntryLaw job out
@@ -91,6 +93,4 @@ module _ (job out : List ℕ) where
     report = entry_reports;
     refusal = entry_refuses;
     short_output = entry_short;
-    never_7 = λ e. ⊎_elim (λ h. omega arith) (λ h. omega arith) (minus_which 7 e);
-    at_most_eight = λ n e. ⊎_elim (λ h. omega arith) (λ h. omega arith) (minus_which n e);
   }

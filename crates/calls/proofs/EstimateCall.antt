@@ -10,7 +10,7 @@ use Rattle.query.specs.Figures.{Figures}
 use Rattle.query.specs.Space.{space_needed}
 use Rattle.query.specs.Estimate.{Estimate, estimate}
 use Rattle.query.proofs.EstimateLaws.{estimate_law}
-use Rattle.refusal.specs.Refusal.{number_of}
+use Rattle.refusal.specs.Refusal.{number_of, line_of}
 use Rattle.refusal.specs.declared.Refusal.{Refusal}
 use Rattle.refusal.specs.declared.Refusal.TheVariants.{SmallSpace}
 use Rattle.job.specs.Format.{Job, refused, accepted, read_job}
@@ -21,7 +21,7 @@ use Rattle.calls.specs.Call.{Left, report_call}
 use Rattle.calls.specs.Promises.{Applies, in_reading, small_space, short_output}
 use Rattle.calls.specs.EstimateCall.{estimate_call}
 use Rattle.calls.specs.EstimateCallLaw.{EstimateCallLaw}
-use Rattle.calls.proofs.AnswerLaws.{same_number, same_line, same_given}
+use Rattle.calls.proofs.AnswerLaws.{same_given}
 use Rattle.calls.proofs.AcceptedCall as Call
 use Rattle.calls.proofs.Promises.{refused_call, accepted_one, promises}
 
@@ -42,21 +42,15 @@ module _ (job : List ℕ) where
   call_refuses = Call.refused_exactly needed job
 
   -- a number and line that are refused are those of a refusal in reading
-  refused_one : (number line : ℕ) → estimate_call job ≡ refuses number line → (why : Refusal) × (read_job job ≡ refused why)
+  refused_one : (number line : ℕ) → estimate_call job ≡ refuses number line →
+      (why : Refusal) × (read_job job ≡ refused why) × (number ≡ number_of why) × (line ≡ line_of why)
   unfolding estimate_call
-  refused_one number line e = let (why, g, h) = Call.refused_one needed job number line e in (why, g)
-
-  at_most_six : (number line : ℕ) → estimate_call job ≡ refuses number line → number ≤ 6
-  unfolding estimate_call
-  at_most_six = Call.at_most_six needed job
+  refused_one = Call.refused_one needed job
 
   own_refusal : (number line : ℕ) → estimate_call job ≡ refuses number line → (cells : List ℤ) (out : List ℕ) →
       (report_call job cells out).answer ≡ refuses number line
   own_refusal number line e cells out =
-      let (why, g) = refused_one number line e in
-      let same = sym (call_refused why g) ∙ e in
-      ap (λ (l : Left). l.answer) (refused_call job cells out why g)
-      ∙ ap₂ refuses (same_number {A = Estimate} _ _ _ _ same) (same_line {A = Estimate} _ _ _ _ same)
+      let (why, g, n, l) = refused_one number line e in ap (λ (l : Left). l.answer) (refused_call job cells out why g) ∙ ap₂ refuses (sym n) (sym l)
 
   -- the estimate that is given is that of the job that was read
   pub given_one : (e : Estimate) → estimate_call job ≡ gives e → (j : Job) × (read_job job ≡ accepted j) × (needed j ≡ e)
@@ -92,7 +86,7 @@ module _ (job : List ℕ) where
   pub estimate_call_law : EstimateCallLaw job
   estimate_call_law = record {
     refused_exactly = call_refuses;
-    at_most_six = at_most_six;
+    refused_listed = λ number line e. let (why, g, n, l) = refused_one number line e in (why, n, l);
     own_refusal = own_refusal;
     given = call_accepted;
     law = λ j e. estimate_law j.deck j.rounds;

@@ -1,7 +1,7 @@
 -- What the call `exhaustive` is held to, over a job's bytes.
 use mathlib.Core.Path.{◌≡◌, sym, ap, ◌∙◌}
 use mathlib.Core.Logic.{◌↔◌}
-use Prim.Native.Nat.{ℕ, ◌≤◌}
+use Prim.Native.Nat.{ℕ}
 use mathlib.Core.List.{List}
 use lib.IntN.{ℤ}
 use Rattle.query.specs.Order.{Priced}
@@ -10,6 +10,7 @@ use Rattle.query.specs.Problem.{problem}
 use Rattle.query.specs.Exhaustive as Query
 use Rattle.query.specs.ExhaustiveLaw.{ExhaustiveLaw}
 use Rattle.query.proofs.ExhaustiveLaws.{exhaustive_law}
+use Rattle.refusal.specs.Refusal.{number_of, line_of}
 use Rattle.refusal.specs.declared.Refusal.{Refusal}
 use Rattle.job.specs.Format.{Job, refused, accepted, read_job}
 use Rattle.job.specs.Meaning.{Condition}
@@ -33,9 +34,9 @@ module _ (job : List ℕ) where
   unfolding exhaustive_call
   call_refuses = Call.refused_exactly (λ j. Query.exhaustive (problem j.deck)) job
 
-  at_most_six : (number line : ℕ) → exhaustive_call job ≡ refuses number line → number ≤ 6
+  refused_listed : (number line : ℕ) → exhaustive_call job ≡ refuses number line → (why : Refusal) × (number ≡ number_of why) × (line ≡ line_of why)
   unfolding exhaustive_call
-  at_most_six = Call.at_most_six (λ j. Query.exhaustive (problem j.deck)) job
+  refused_listed = Call.refused_listed (λ j. Query.exhaustive (problem j.deck)) job
 
   law : (j : Job) → read_job job ≡ accepted j → ExhaustiveLaw j.deck
   law j e = exhaustive_law j.deck ((read_exactly job j).0 e).1.area_full
@@ -53,7 +54,7 @@ module _ (job : List ℕ) where
   pub exhaustive_call_law : ExhaustiveCallLaw job
   exhaustive_call_law = record {
     refused_exactly = call_refuses;
-    at_most_six = at_most_six;
+    refused_listed = refused_listed;
     given = call_accepted;
     law = law;
     done_report = done_report;

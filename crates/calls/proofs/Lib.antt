@@ -18,4 +18,5 @@ pub mod AxisTable
 pub mod EstimateCall
 pub mod EstimateTable
 pub mod AnswerRows
+pub mod CallRefusals
 pub mod Theorems

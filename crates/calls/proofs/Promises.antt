@@ -22,7 +22,6 @@ use Rattle.query.specs.Deck.{AxisCosts}
 use Rattle.job.specs.Spelling.{spell, Spells, with_line, without_line, Allowed}
 use Rattle.job.proofs.JobLaws.{most_rounds, other_rounds}
 use Rattle.job.proofs.Meaning.{accepted_job, refused_job, spelling_law, allowed_in_range}
-use Rattle.job.proofs.RefusalLaws.{condition_number}
 use Rattle.refusal.specs.Refusal.{number_of, line_of}
 use Rattle.refusal.specs.declared.Refusal.{Refusal}
 use Rattle.refusal.specs.declared.Refusal.TheVariants.{SmallSpace, ShortOutput}
@@ -179,20 +178,12 @@ module _ (job : List ℕ) (cells : List ℤ) (out : List ℕ) where
   given why e = let (w, c, f) = refused_one (number_of why) (line_of why) e in
       subst (λ (w : Refusal). Applies job cells out w) (same_refusal w why (sym (answer_of _ f) ∙ e)) c
 
-  -- 1 to 8
-  applies_number : (why : Refusal) → Applies job cells out why → number_of why ≤ 8
-  applies_number why (in_reading c) = omega (arith, condition_number job why c)
-  applies_number _ (small_space j e h) = omega arith
-  applies_number _ (short_output j e h k) = omega arith
-
   promise_1 : Promise1 job cells out
   promise_1 = record {
     reported_exactly = (λ r. accepted_one r.0 r.1, λ r. (job_figures r.0, (reports r.0 r.1).answer));
     refused_exactly = λ why. (given why, λ h. answer_of (turned_down why cells out) (refuses_so why h));
     refused_listed = λ number line e. let (w, c, f) = refused_one number line e in let g = sym e ∙ answer_of _ f in
         (w, same_number number line (number_of w) (line_of w) g, same_line number line (number_of w) (line_of w) g);
-    at_most_eight = λ number line e. let (w, c, f) = refused_one number line e in
-        omega (arith, same_number number line (number_of w) (line_of w) (sym e ∙ answer_of _ f), applies_number w c);
     refused_cells = λ number line e. ap (λ (l : Left). l.cells) (refused_one number line e).2;
     refused_out = λ number line e. ap (λ (l : Left). l.out) (refused_one number line e).2;
   }

@@ -15,6 +15,7 @@ use Rattle.calls.proofs.SavingLaw.{read_law, write_law}
 use Rattle.calls.proofs.RecordLaw.{record_law}
 use Rattle.calls.proofs.ChangeLaw.{change_law}
 use Rattle.calls.proofs.RunLaw.{run_law}
+use Rattle.calls.proofs.CallRefusals.{call_refusals}
 use Rattle.calls.proofs.RefusalTable.{refusal_table}
 use Rattle.calls.proofs.CaseA.{case_a_law}
 use Rattle.calls.proofs.WriteTable.{write_table}
@@ -38,6 +39,7 @@ theorems = record {
   reading = accepted_law;
   refusing = refused_law;
   estimate = estimate_call_law;
+  refusals = call_refusals;
   spelling = spelling_law;
   report_fits = report_fits;
   refusal_table = refusal_table;

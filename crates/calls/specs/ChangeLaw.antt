@@ -1,6 +1,5 @@
 -- What the four changes are held to (RULES "Change 6"), of every record that the code can hold.
 use Rattle.std.specs.Prelude.{ℕ, ◌≤◌, ◌<◌, ◌≡◌, not, ◌↔◌, T, get_or}
-use mathlib.Core.List.{[], ◌∷◌, Memᴰ}
 use Rattle.query.specs.Range.{travel_limit}
 use Rattle.deck.specs.DeckOf.{Sized, deck_of, deck_record}
 use Rattle.deck.specs.Sound.{Sound}
@@ -14,10 +13,9 @@ use Rattle.calls.specs.SavingLaw.{Saveable}
 use Rattle.calls.specs.ChangeCall.{change_call}
 
 pub record ChangeLaw (deck : Deck) (change : Change) : Type 0 where
-  -- of any record: a refused change leaves it as it was, and has line 0 and one of five numbers
+  -- of any record: a refused change leaves it as it was, and has line 0
   pub refused_deck : (number line : ℕ) → (change_call deck change).answer ≡ refuses number line → (change_call deck change).deck ≡ deck
   pub line_0 : (number line : ℕ) → (change_call deck change).answer ≡ refuses number line → line ≡ 0
-  pub numbers : (number line : ℕ) → (change_call deck change).answer ≡ refuses number line → Memᴰ number (3 ∷ 5 ∷ 6 ∷ 9 ∷ 10 ∷ [])
   -- whatever the answer, the area and the axis costs stay
   pub area_kept : (deck_of (change_call deck change).deck).area ≡ (deck_of deck).area
   pub axis_kept : (deck_of (change_call deck change).deck).axis ≡ (deck_of deck).axis

@@ -1,5 +1,5 @@
 -- What is promised of the C entry (RULES "Calls"), over every job's bytes and every output.
-use Rattle.std.specs.Prelude.{ℕ, ◌≤◌, ◌<◌, ◌≡◌, ◌≢◌, List, pos, neg_ℤ, length}
+use Rattle.std.specs.Prelude.{ℕ, ◌≤◌, ◌<◌, ◌≡◌, List, pos, neg_ℤ, length}
 use Rattle.refusal.specs.Refusal.{number_of}
 use Rattle.refusal.specs.declared.Refusal.{Refusal}
 use Rattle.job.specs.Format.{Job, accepted, read_job}
@@ -18,6 +18,3 @@ pub record EntryLaw (job out : List ℕ) : Type 0 where
   pub refusal : (why : Refusal) → Condition job why → entry job out ≡ record { result = neg_ℤ (pos (number_of why)); out = out }
   pub short_output : (j : Job) → read_job job ≡ accepted j → length out < output_size →
       entry job out ≡ record { result = neg_ℤ (pos 8); out = out }
-  -- no other numbers
-  pub never_7 : (entry job out).result ≢ neg_ℤ (pos 7)
-  pub at_most_eight : (n : ℕ) → (entry job out).result ≡ neg_ℤ (pos n) → n ≤ 8

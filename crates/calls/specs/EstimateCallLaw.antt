@@ -3,6 +3,7 @@ use Rattle.std.specs.Prelude.{ℕ, ◌*◌, ◌≤◌, ◌<◌, ◌≡◌, ◌�
 use Rattle.query.specs.Figures.{Figures}
 use Rattle.query.specs.Estimate.{Estimate, estimate}
 use Rattle.query.specs.Laws.{EstimateLaw}
+use Rattle.refusal.specs.Refusal.{number_of, line_of}
 use Rattle.refusal.specs.declared.Refusal.{Refusal}
 use Rattle.job.specs.Format.{Job, accepted, read_job}
 use Rattle.job.specs.Meaning.{Condition}
@@ -11,9 +12,11 @@ use Rattle.calls.specs.Call.{report_call}
 use Rattle.calls.specs.EstimateCall.{estimate_call}
 
 pub record EstimateCallLaw (job : List ℕ) : Type 0 where
-  -- the refusals of reading, each exactly under its condition, and so those of the call `report` with the same bytes
+  -- the refusals of reading, each exactly under its condition, and no other number and line; so those of the call `report` with the same
+  -- bytes
   pub refused_exactly : (why : Refusal) → (estimate_call job ≡ refusal why) ↔ Condition job why
-  pub at_most_six : (number line : ℕ) → estimate_call job ≡ refuses number line → number ≤ 6
+  pub refused_listed : (number line : ℕ) → estimate_call job ≡ refuses number line → (why : Refusal)
+      × (number ≡ number_of why) × (line ≡ line_of why)
   pub own_refusal : (number line : ℕ) → estimate_call job ≡ refuses number line → (cells : List ℤ) (out : List ℕ) →
       (report_call job cells out).answer ≡ refuses number line
   -- an accepted job gets the estimate of its deck and rounds; what the search of the deck keeps to by it

@@ -60,7 +60,7 @@ pub record EstimateTable : Type 0 where
   pub axis_y : estimate_call (beside "axis=1,2") ≡ gives (needs 1 3 2 3)
   -- more gaps than rounds
   pub most : estimate_call many_gaps ≡ gives (needs 32 32 1023 1001)
-  -- refusals 1 to 6
+  -- the job's own refusals
   pub refused_1 : estimate_call (replicate 16385 97) ≡ refuses 1 0
   pub refused_2 : estimate_call [] ≡ refuses 2 1
   pub refused_3 : estimate_call (with_rounds "rounds=1001") ≡ refuses 3 7

@@ -25,4 +25,5 @@ pub mod ChangeTable
 pub mod AxisTable
 pub mod EstimateTable
 pub mod AnswerRows
+pub mod CallRefusals
 pub mod Theorems

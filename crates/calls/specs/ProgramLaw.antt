@@ -1,5 +1,5 @@
 -- What is promised of what the program prints (RULES "Calls", "Report"), over every input.
-use Rattle.std.specs.Prelude.{ℕ, ◌≡◌, ◌≢◌, List}
+use Rattle.std.specs.Prelude.{ℕ, ◌≡◌, List}
 use Rattle.refusal.specs.Refusal.{number_of, line_of}
 use Rattle.refusal.specs.declared.Refusal.{Refusal}
 use Rattle.job.specs.Format.{Job, accepted, read_job}
@@ -12,8 +12,3 @@ pub record ProgramLaw (job : List ℕ) : Type 0 where
   -- the report of the rules of a job that is read, or the refusal of reading
   pub report : (j : Job) → read_job job ≡ accepted j → answer_text job ≡ report_text (job_figures j)
   pub refusal : (why : Refusal) → Condition job why → answer_text job ≡ refusal_text (number_of why) (line_of why)
-  -- so no refusals but 1 to 6
-  pub never_7 : (line : ℕ) → answer_text job ≢ refusal_text 7 line
-  pub never_8 : (line : ℕ) → answer_text job ≢ refusal_text 8 line
-  pub never_9 : (line : ℕ) → answer_text job ≢ refusal_text 9 line
-  pub never_10 : (line : ℕ) → answer_text job ≢ refusal_text 10 line

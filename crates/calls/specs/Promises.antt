@@ -24,7 +24,7 @@ pub record Accepted (job : List ℕ) (cells : List ℤ) (out : List ℕ) (j : Jo
   pub output : output_size ≤ length out
 
 -- ---- promise 1
--- a refusal applies to a job and to what is lent (RULES "Refusals"): one of reading, 1 to 6; then 7, then 8
+-- a refusal applies to a job and to what is lent (RULES "Refusals"): one of the job's own, which reading gives; then 7, then 8
 pub data Applies (job : List ℕ) (cells : List ℤ) (out : List ℕ) : Refusal → Type 0 where
   in_reading : {why : Refusal} → Condition job why → Applies job cells out why
   small_space : (j : Job) → read_job job ≡ accepted j → length cells < space_needed j.deck j.rounds → Applies job cells out SmallSpace
@@ -43,8 +43,6 @@ pub record Promise1 (job : List ℕ) (cells : List ℤ) (out : List ℕ) : Type 
   pub refused_cells : (number line : ℕ) → (report_call job cells out).answer ≡ refuses number line
       → (report_call job cells out).cells ≡ cells
   pub refused_out : (number line : ℕ) → (report_call job cells out).answer ≡ refuses number line → (report_call job cells out).out ≡ out
-  -- 9 and 10 are of changes alone
-  pub at_most_eight : (number line : ℕ) → (report_call job cells out).answer ≡ refuses number line → number ≤ 8
 
 -- ---- promise 2
 -- the figures of the rules for j, whole: as the answer, as the text in the output, and with the live cells in the cell space

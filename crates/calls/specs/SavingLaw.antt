@@ -30,7 +30,6 @@ pub record ReadLaw (job : List ℕ) : Type 0 where
   pub refused_exactly : (why : Refusal) → (read_call job ≡ refusal why) ↔ Condition job why
   pub refused_listed : (number line : ℕ) → read_call job ≡ refuses number line → (why : Refusal)
       × (number ≡ number_of why) × (line ≡ line_of why)
-  pub at_most_six : (number line : ℕ) → read_call job ≡ refuses number line → number ≤ 6
   -- an accepted job, and no other, is read as the record of its deck and its rounds; that record holds the deck, and its arrays are whole
   pub given_exactly : (held : Held.Job) →
       (read_call job ≡ gives held) ↔ ((j : Job) × (read_job job ≡ accepted j) × (held ≡ job_record j))
@@ -53,7 +52,7 @@ pub record Saveable (deck : Deck) (rounds : ℕ) : Type 0 where
   pub few_posts : deck.post_count ≤ posts_limit
   pub few_stops : deck.stop_count ≤ stops_limit
 
--- a refusal applies to a record, rounds and an output: 2 to 6 where reading the file's text gives it, then 8
+-- a refusal applies to a record, rounds and an output: one that reading the file's text gives, then 8
 pub data WriteApplies (deck : Deck) (rounds : ℕ) (out : List ℕ) : Refusal → Type 0 where
   in_file : {why : Refusal} → TextCondition (file_text deck rounds) why → WriteApplies deck rounds out why
   short_output : Saveable deck rounds → length out < length (saved_spelling (held_job deck rounds))
@@ -77,14 +76,11 @@ pub record WriteLaw (deck : Deck) (rounds : ℕ) (out : List ℕ) : Type 0 where
   pub refused_exactly : (why : Refusal) → ((write_call deck rounds out).answer ≡ refusal why) ↔ WriteApplies deck rounds out why
   pub refused_listed : (number line : ℕ) → (write_call deck rounds out).answer ≡ refuses number line → (why : Refusal)
       × (number ≡ number_of why) × (line ≡ line_of why)
-  -- 9 and 10 are of changes alone
-  pub at_most_eight : (number line : ℕ) → (write_call deck rounds out).answer ≡ refuses number line → number ≤ 8
   -- those but for 8 exactly where reading the file's text gives them; so a record gets what the call `read` gives for its file, 1 aside
   pub refused_as_read : (why : Refusal) → why ≢ ShortOutput → ((write_call deck rounds out).answer ≡ refusal why)
       ↔ (read_text (file_text deck rounds) ≡ refused why)
   pub as_its_file : (number line : ℕ) → read_call (file_text deck rounds) ≡ refuses number line → number ≢ 1 →
       (write_call deck rounds out).answer ≡ refuses number line
-  pub never_1 : (line : ℕ) → (write_call deck rounds out).answer ≢ refuses 1 line
   -- no job has more lines: five beside the posts and the stops
   pub few_lines : (number line : ℕ) → (write_call deck rounds out).answer ≡ refuses number line → line ≤ posts_limit + stops_limit + 5
   -- a refusal leaves the output as it was

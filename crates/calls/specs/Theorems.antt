@@ -21,6 +21,7 @@ use Rattle.calls.specs.SavingLaw.{ReadLaw, WriteLaw}
 use Rattle.calls.specs.RecordLaw.{RecordLaw}
 use Rattle.calls.specs.ChangeLaw.{ChangeLaw}
 use Rattle.calls.specs.RunLaw.{RunLaw}
+use Rattle.calls.specs.CallRefusals.{CallRefusals}
 use Rattle.calls.specs.RefusalTable.{RefusalTable}
 use Rattle.calls.specs.CaseA.{CaseA}
 use Rattle.calls.specs.WriteTable.{WriteTable}
@@ -50,6 +51,8 @@ pub record Theorems : Type 0 where
   pub runs : (changes : List Change) (job : List ℕ) (j : Job) → read_job job ≡ accepted j → RunLaw changes job j
   -- what a job needs (RULES "Change 3")
   pub estimate : (job : List ℕ) → EstimateCallLaw job
+  -- which refusals each call can give (RULES "Calls")
+  pub refusals : CallRefusals
   -- no bytes spell two allowed jobs, and every report fits the output (RULES "Job", "Report")
   pub spelling : (job : Job) → SpellingLaw job
   pub report_fits : ReportFits

@@ -10,18 +10,18 @@ use borrow.Author.Tests.{eq-eqb, eqb-true}
 use lib.Dec.{eqb}
 use lib.ListN.{length, set, length-append}
 use lib.IntN.{ℤ, pos}
-use mir.Syntax.{w64}
-use mir.Val.{SFits}
 use Rattle.std.specs.Prelude.{Result, Ok, Err, IsErrAnd, IfOk}
 use Rattle.numbers.proofs.Padded.{padded_none, padded_map}
-use Rattle.numbers.proofs.WordTests.{back, back_is}
 use Rattle.query.specs.Range.{posts_limit, stops_limit}
 use Rattle.text.specs.TextReading.{starts_with}
 use Rattle.deck.specs.declared.AxisCosts.{AxisCosts}
 use Rattle.deck.specs.declared.Deck.{Deck}
+use Rattle.deck.specs.declared.Place.{Place}
+use Rattle.deck.specs.declared.Stop.{Stop}
+use Rattle.deck.specs.Values.{place_record, stop_record, no_place, no_stop}
 use Rattle.job_line.specs.Kinds.{Kind, axis, rounds, row}
 use Rattle.job_line.specs.OneLine.{Reading, fault, got, Reader, line}
-use Rattle.job_line.specs.Reading.{cost_numbers, reading_of, LineAt}
+use Rattle.job_line.specs.Reading.{cost_numbers, place_numbers, stop_numbers, reading_of, LineAt}
 use Rattle.job_line.specs.declared.Unread.{Unread}
 use Rattle.job_line.proofs.LineLaws.{line_at_is, line_counts}
 use Rattle.job.specs.Reader.{and_then, repeated, end}
@@ -107,49 +107,32 @@ module _ {kind : Kind} {put : Put} {old : Deck} {start : Unread} {count : ℕ} w
 
 -- ---- the record that holds them
 pub posts_none : {deck : Deck} → NoPostsYet deck → deck ≡ with_post_lines deck []
-posts_none {deck} none = λ i. record deck {
-  post_x = (none.x_is ∙ sym (padded_none posts_limit (pos 0))) i;
-  post_y = (none.y_is ∙ sym (padded_none posts_limit (pos 0))) i;
-}
+posts_none {deck} none = λ i. record deck { posts = (none.are ∙ sym (padded_none posts_limit no_place)) i }
 
 pub stops_none : {deck : Deck} → NoStopsYet deck → deck ≡ with_stop_lines deck []
-stops_none {deck} none = λ i. record deck {
-  stop_x = (none.x_is ∙ sym (padded_none stops_limit (pos 0))) i;
-  stop_y = (none.y_is ∙ sym (padded_none stops_limit (pos 0))) i;
-  visits = (none.visits_is ∙ sym (padded_none stops_limit 0)) i;
-}
+stops_none {deck} none = λ i. record deck { stops = (none.are ∙ sym (padded_none stops_limit no_stop)) i }
 
-module _ (old now : Deck) {i : ℕ} (lines : List (List ℤ)) (count_is : i ≡ length lines) {px py : ℤ} (fx : SFits w64 px) (fy : SFits w64 py) where
-  pub posts_more : now ≡ with_post_lines old lines → i < posts_limit →
-      record now { post_x = set now.post_x i (back px); post_y = set now.post_y i (back py) } ≡ with_post_lines old (lines ++ ((px ∷ py ∷ []) ∷ []))
-  posts_more e h =
-      rw (back_is fx, back_is fy)
-      (ap (λ (d : Deck). record d { post_x = set d.post_x i px; post_y = set d.post_y i py }) e ∙ (λ k. record old {
-        post_x = padded_map posts_limit (pos 0) (λ l. (post_of l).x) lines (px ∷ py ∷ []) count_is h refl k;
-        post_y = padded_map posts_limit (pos 0) (λ l. (post_of l).y) lines (px ∷ py ∷ []) count_is h refl k;
-      }))
+module _ (old now : Deck) {i : ℕ} (lines : List (List ℤ)) (count_is : i ≡ length lines) where
+  pub posts_more : (p : Place) → now ≡ with_post_lines old lines → i < posts_limit →
+      record now { posts = set now.posts i p } ≡ with_post_lines old (lines ++ (place_numbers p ∷ []))
+  posts_more p e h = ap (λ (d : Deck). record d { posts = set d.posts i p }) e
+      ∙ (λ k. record old { posts = padded_map posts_limit no_place (λ l. place_record (post_of l)) lines (place_numbers p) count_is h refl k })
 
-  pub stops_more : (v : ℕ) → now ≡ with_stop_lines old lines → i < stops_limit →
-      record now { stop_x = set now.stop_x i (back px); stop_y = set now.stop_y i (back py); visits = set now.visits i v }
-      ≡ with_stop_lines old (lines ++ ((px ∷ py ∷ pos v ∷ []) ∷ []))
-  stops_more v e h =
-      rw (back_is fx, back_is fy)
-      (ap (λ (d : Deck). record d { stop_x = set d.stop_x i px; stop_y = set d.stop_y i py; visits = set d.visits i v }) e ∙ (λ k. record old {
-        stop_x = padded_map stops_limit (pos 0) (λ l. (post_of l).x) lines (px ∷ py ∷ pos v ∷ []) count_is h refl k;
-        stop_y = padded_map stops_limit (pos 0) (λ l. (post_of l).y) lines (px ∷ py ∷ pos v ∷ []) count_is h refl k;
-        visits = padded_map stops_limit 0 (λ l. (stop_of l).visits) lines (px ∷ py ∷ pos v ∷ []) count_is h refl k;
-      }))
+  pub stops_more : (s : Stop) → now ≡ with_stop_lines old lines → i < stops_limit →
+      record now { stops = set now.stops i s } ≡ with_stop_lines old (lines ++ (stop_numbers s ∷ []))
+  stops_more s e h = ap (λ (d : Deck). record d { stops = set d.stops i s }) e
+      ∙ (λ k. record old { stops = padded_map stops_limit no_stop (λ l. stop_record (stop_of l)) lines (stop_numbers s) count_is h refl k })
 
 -- all of them
 module _ {count i : ℕ} (lines : List (List ℤ)) (count_is : i ≡ length lines) (low : count ≤ i) (high : i ≤ count) where
   all_counted : count ≡ length lines
   all_counted = omega (arith, count_is)
 
-  pub posts_all : (old now : Deck) → now ≡ with_post_lines old lines → record now { posts = count } ≡ with_posts old lines
-  posts_all old now e = λ k. record (e k) { posts = all_counted k }
+  pub posts_all : (old now : Deck) → now ≡ with_post_lines old lines → record now { post_count = count } ≡ with_posts old lines
+  posts_all old now e = λ k. record (e k) { post_count = all_counted k }
 
-  pub stops_all : (old now : Deck) → now ≡ with_stop_lines old lines → record now { stops = count } ≡ with_stops old lines
-  stops_all old now e = λ k. record (e k) { stops = all_counted k }
+  pub stops_all : (old now : Deck) → now ≡ with_stop_lines old lines → record now { stop_count = count } ≡ with_stops old lines
+  stops_all old now e = λ k. record (e k) { stop_count = all_counted k }
 
 -- ---- a line of a count, and what follows it
 counted_is : (k kind : Kind) (n : ℕ) (bs : List ℕ) → and_then (line (row k) n bs) (λ c. many_lines kind (count_of c)) ≡ counted_lines k kind n bs

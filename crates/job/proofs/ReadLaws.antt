@@ -1,5 +1,5 @@
 -- From the parts to the job: refusals 4, 5 and 6, and the whole reading.
-use mathlib.Core.Path.{◌≡◌, refl, sym, ap, subst, ◌∙◌}
+use mathlib.Core.Path.{◌≡◌, refl, sym, ap, ◌∙◌}
 use mathlib.Core.Bool.{Bool, true, false, cond, not}
 use mathlib.Core.List.{List, [], ◌∷◌, map, map-map}
 use Prim.Native.Nat.{ℕ, zero, suc, ◌≤◌, ◌<◌}
@@ -22,28 +22,29 @@ use Rattle.job_line.specs.declared.Unread.{Unread}
 use Rattle.job_line.proofs.LineLaws.{line_at_is, line_counts}
 use Rattle.job.specs.Reader.{and_then, optional, end}
 use Rattle.job.specs.Format as Format
-use Rattle.job.specs.Format.{refused, accepted, area_of, axis_costs_of, axis_numbers, count_of, post_of, stop_of, job_of, empty_area, check_parts, checked}
-use Rattle.job.specs.Format.{job_lines, reading_result, size_limit, read_with, missing_axis, read_job}
+use Rattle.job.specs.Format.{refused, accepted, area_of, axis_numbers, count_of, post_of, stop_of, job_of, empty_area, check_parts, checked}
+use Rattle.job.specs.Format.{job_lines, size_limit, read_with, missing_axis, read_job}
 use Rattle.job.specs.JobRecord.{job_result}
 use Rattle.job.specs.ManyLines.{post_lines, stop_lines, counted_lines, all_posts, all_stops, last_line, rest_lines, with_posts, with_stops}
 use Rattle.job.specs.ManyLines.{lines_read, last_read, job_unless, AxisAt, PostsAt, StopsAt, LastAt, CheckedAt, RestAt}
 use Rattle.query.specs.Deck as Query
 use Rattle.query.specs.Place as Place
-use Rattle.query.specs.Travel as Travel
-use Rattle.query.specs.Cost.{before}
 use Rattle.query.specs.Range.{posts_limit, stops_limit}
-use Rattle.deck.specs.DeckOf.{held_axis, axis_record, places}
-use Rattle.columns.specs.Ranges.{PlacesInRange, VisitsInRange}
-use Rattle.columns.specs.StopFigures.{Nears, paid}
+use Rattle.deck.specs.Values as Values
+use Rattle.deck.specs.Values.{held_axis, rect_of, place_of, place_record, stop_record, no_place, no_stop}
+use Rattle.deck.specs.DeckOf.{deck_of, deck_record, with_figures}
+use Rattle.deck.specs.Ranges.{PostsInRange, StopsInRange, NearsInRange}
 use Rattle.deck.specs.declared.AxisCosts.{AxisCosts}
 use Rattle.deck.specs.declared.Deck.{Deck}
 use Rattle.deck.specs.declared.Rect.{Rect}
+use Rattle.deck.proofs.DeckLaws.{held_deck, nears_front}
+use Rattle.columns.specs.StopFigures.{Nears, paid}
 use Rattle.job.specs.declared.Job.{Job}
 use Rattle.refusal.specs.declared.Refusal.{Refusal}
 use Rattle.refusal.specs.declared.Refusal.TheVariants.{TooLong, EmptyArea, NoPosts, NoStops}
 use Rattle.numbers.proofs.WordTests.{back, back_is}
 use Rattle.job.proofs.Meaning.{read_short, job_with}
-use Rattle.job.proofs.FilledLaws.{posts_in, stops_in, visits_in, near_filled, before_filled}
+use Rattle.job.proofs.FilledLaws.{posts_in, stops_in, near_is, before_is}
 
 -- ---- refusal 4
 module _ {a : Rect} (xlo : SFits w64 a.xlo) (ylo : SFits w64 a.ylo) (xhi : SFits w64 a.xhi) (yhi : SFits w64 a.yhi) where
@@ -171,106 +172,110 @@ lines_are missing n bs = then_same (line (row area) n bs) _ _
 
 -- ---- the lines behind those of the area and the axis costs
 -- the record that has none of them
-abbrev pub start_deck : Rect → AxisCosts → Deck
+abbrev start_deck : Rect → AxisCosts → Deck
 start_deck a c = record {
+  area = a;
   axis = c;
-  xlo = back a.xlo;
-  ylo = back a.ylo;
-  xhi = back a.xhi;
-  yhi = back a.yhi;
-  posts = 0;
-  post_x = replicate posts_limit (pos 0);
-  post_y = replicate posts_limit (pos 0);
-  stops = 0;
-  stop_x = replicate stops_limit (pos 0);
-  stop_y = replicate stops_limit (pos 0);
-  visits = replicate stops_limit 0;
+  post_count = 0;
+  posts = replicate posts_limit no_place;
+  stop_count = 0;
+  stops = replicate stops_limit no_stop;
   near = replicate stops_limit 0;
   before = 0;
 }
 
-accepted_is : (a c : List ℤ) (ps ss : List (List ℤ)) (n : List ℤ) → job_result (accepted (job_of a c ps ss n)) ≡ Ok (record {
-  rounds = count_of n;
-  deck = record {
-    axis = axis_record (axis_costs_of c);
-    xlo = (area_of a).xlo;
-    ylo = (area_of a).ylo;
-    xhi = (area_of a).xhi;
-    yhi = (area_of a).yhi;
-    posts = length (map post_of ps);
-    post_x = padded posts_limit (pos 0) (map (λ p. p.x) (map post_of ps));
-    post_y = padded posts_limit (pos 0) (map (λ p. p.y) (map post_of ps));
-    stops = length (map stop_of ss);
-    stop_x = padded stops_limit (pos 0) (map (λ s. s.at.x) (map stop_of ss));
-    stop_y = padded stops_limit (pos 0) (map (λ s. s.at.y) (map stop_of ss));
-    visits = padded stops_limit 0 (map (λ s. s.visits) (map stop_of ss));
-    near = padded stops_limit 0 (map (Travel.near (job_of a c ps ss n).deck) (map stop_of ss));
-    before = before (job_of a c ps ss n).deck;
-  };
-})
-unfolding job_result
-accepted_is a c ps ss n = refl
+-- the deck of the lines that were read
+abbrev read_as_deck : Rect → AxisCosts → List (List ℤ) → List (List ℤ) → Query.Deck
+read_as_deck a c ps ss = record { axis = held_axis c; area = rect_of a; posts = map post_of ps; stops = map stop_of ss }
+
+module _ (a : Rect) (c : AxisCosts) (ps ss : List (List ℤ)) where
+  -- the record that holds them is that of the deck, but for near and before
+  lines_held : with_stops (with_posts (start_deck a c) ps) ss ≡ with_figures (deck_record (read_as_deck a c ps ss)) (replicate stops_limit 0) 0
+  unfolding deck_record
+  lines_held = λ i. record {
+    area = a;
+    axis = c;
+    post_count = sym (length-map ps post_of) i;
+    posts = padded posts_limit no_place (sym (map-map place_record post_of ps) i);
+    stop_count = sym (length-map ss stop_of) i;
+    stops = padded stops_limit no_stop (sym (map-map stop_record stop_of ss) i);
+    near = replicate stops_limit 0;
+    before = 0;
+  }
+
+  held_is : deck_of (with_stops (with_posts (start_deck a c) ps) ss) ≡ read_as_deck a c ps ss
+  unfolding deck_of
+  held_is = ap deck_of lines_held ∙ held_deck (read_as_deck a c ps ss)
+
+  accepted_is : (n : ℕ) → job_result (accepted (job_of (area_numbers a) (cost_numbers c) ps ss (pos n ∷ [])))
+      ≡ Ok (record { rounds = n; deck = deck_record (read_as_deck a c ps ss) })
+  unfolding job_result
+  accepted_is n = refl
 
 -- the record that holds those that were read
-module _ {unread : Unread} {d₀ d₁ : Deck} {left : Unread} (posts_at : PostsAt unread d₀ d₁ (Ok left)) where
+module _ {unread : Unread} {a : Rect} {c : AxisCosts} {d₁ : Deck} {left : Unread} (posts_at : PostsAt unread (start_deck a c) d₁ (Ok left)) where
   module _ {d₂ : Deck} {last : Unread} (stops_at : StopsAt left d₁ d₂ (Ok last)) where
-    stops_are : d₂.stops ≡ length stops_at.lines
-    stops_are = ap (λ (d : Deck). d.stops) stops_at.held
+    abbrev deck : Query.Deck
+    deck = read_as_deck a c posts_at.lines stops_at.lines
 
-    filled : d₂ ≡ with_stops (with_posts d₀ posts_at.lines) stops_at.lines
+    filled : d₂ ≡ with_stops (with_posts (start_deck a c) posts_at.lines) stops_at.lines
     filled = stops_at.held ∙ ap (λ d. with_stops d stops_at.lines) posts_at.held
 
-    posts_count : d₂.posts ≡ length posts_at.lines
-    posts_count = ap (λ (d : Deck). d.posts) filled
+    posts_count : d₂.post_count ≡ length posts_at.lines
+    posts_count = ap (λ (d : Deck). d.post_count) filled
 
-    pub filled_posts : PlacesInRange posts_limit d₂.post_x d₂.post_y d₂.posts
-    filled_posts = subst (λ (d : Deck). PlacesInRange posts_limit d.post_x d.post_y d.posts) (sym filled) (posts_in posts_at)
+    stops_count : d₂.stop_count ≡ length stops_at.lines
+    stops_count = ap (λ (d : Deck). d.stop_count) filled
 
-    pub filled_stops : PlacesInRange stops_limit d₂.stop_x d₂.stop_y d₂.stops
-    filled_stops = subst (λ (d : Deck). PlacesInRange stops_limit d.stop_x d.stop_y d.stops) (sym filled) (stops_in stops_at)
+    filled_deck : deck_of d₂ ≡ deck
+    filled_deck = ap deck_of filled ∙ held_is a c posts_at.lines stops_at.lines
 
-    pub filled_visits : VisitsInRange d₂.visits d₂.stops
-    filled_visits = subst (λ (d : Deck). VisitsInRange d.visits d.stops) (sym filled) (visits_in stops_at)
+    posts_are : map place_of (take d₂.post_count d₂.posts) ≡ deck.posts
+    unfolding deck_of
+    posts_are = ap (λ (d : Query.Deck). d.posts) filled_deck
 
-    checked_is : {a : Rect} {r : Std.Result (Unit {0}) Refusal} (c : AxisCosts) (k : ℕ) → CheckedAt a d₂.posts d₂.stops r →
+    stops_are : map Values.stop_of (take d₂.stop_count d₂.stops) ≡ deck.stops
+    unfolding deck_of
+    stops_are = ap (λ (d : Query.Deck). d.stops) filled_deck
+
+    pub filled_posts : PostsInRange (take d₂.post_count d₂.posts)
+    filled_posts = posts_in posts_at posts_are
+
+    pub filled_stops : StopsInRange (take d₂.stop_count d₂.stops)
+    filled_stops = stops_in stops_at stops_are
+
+    pub filled_some : 1 ≤ d₂.post_count → 1 ≤ length (take d₂.post_count d₂.posts)
+    filled_some h = omega (arith, h, posts_count, length-map (take d₂.post_count d₂.posts) place_of, ap length posts_are, length-map posts_at.lines post_of)
+
+    checked_is : {r : Std.Result (Unit {0}) Refusal} (k : ℕ) → CheckedAt a d₂.post_count d₂.stop_count r →
         checked (job_of (area_numbers a) (cost_numbers c) posts_at.lines stops_at.lines (pos k ∷ []))
         ≡ job_unless (job_of (area_numbers a) (cost_numbers c) posts_at.lines stops_at.lines (pos k ∷ [])) r
-    checked_is c k checked_at = checked_at.is (cost_numbers c) posts_at.lines stops_at.lines (pos k ∷ []) posts_count stops_are
+    checked_is k checked_at = checked_at.is (cost_numbers c) posts_at.lines stops_at.lines (pos k ∷ []) posts_count stops_count
+
+    -- with near and before, found of them
+    module _ {near : List ℕ} (found : Nears (held_axis c) (map place_of (take d₂.post_count d₂.posts))
+        (map Values.stop_of (take d₂.stop_count d₂.stops)) near) where
+      found_deck : Nears deck.axis deck.posts deck.stops near
+      found_deck = rw (← posts_are, ← stops_are) found
+
+      count_is : d₂.stop_count ≡ length deck.stops
+      count_is = stops_count ∙ sym (length-map stops_at.lines stop_of)
+
+      stops_listed : length (take d₂.stop_count d₂.stops) ≡ length deck.stops
+      stops_listed = sym (length-map (take d₂.stop_count d₂.stops) Values.stop_of) ∙ ap length stops_are
+
+      pub nears_held : NearsInRange (take d₂.stop_count near) (length (take d₂.stop_count d₂.stops))
+      nears_held = rw (stops_listed, count_is) (nears_front found_deck.range)
+
+      deck_made : {sum : ℕ} → sum ≡ paid (map Values.stop_of (take d₂.stop_count d₂.stops)) (take d₂.stop_count near) →
+          with_figures d₂ near sum ≡ deck_record deck
+      unfolding deck_record
+      deck_made {sum} e = ap (λ (d : Deck). with_figures d near sum) (filled ∙ lines_held a c posts_at.lines stops_at.lines)
+          ∙ (λ i. with_figures (deck_record deck) (near_is deck found_deck i) (before_is deck found_deck {sum = sum} (rw (← count_is, ← stops_are) e) i))
 
 -- the job as the code makes it of the record
 abbrev as_read : Job → Std.Result Job Refusal
 as_read job = Ok job
-
-job_made : {a : Rect} (c : AxisCosts) (ps ss : List (List ℤ)) (n : ℕ) {d : Deck} → d ≡ with_stops (with_posts (start_deck a c) ps) ss → SFits w64 a.xlo →
-    SFits w64 a.ylo → SFits w64 a.xhi → SFits w64 a.yhi → {near : List ℕ} {sum : ℕ} →
-    Nears (held_axis c) (take d.posts (places d.post_x d.post_y)) (take d.stops (places d.stop_x d.stop_y)) near → sum ≡ paid d.visits near d.stops →
-    Ok (record { rounds = n; deck = record d { near = near; before = sum } })
-    ≡ job_result (accepted (job_of (area_numbers a) (cost_numbers c) ps ss (pos n ∷ [])))
-job_made {a} c ps ss n held xlo ylo xhi yhi {near} {sum} found summed =
-    ap (λ (d : Deck). as_read (record { rounds = n; deck = record d { near = near; before = sum } })) held ∙ rw (
-      accepted_is (area_numbers a) (cost_numbers c) ps ss (pos n ∷ []),
-      before_filled c ps ss (area_numbers a) (pos n ∷ []) found_in paid_in,
-      near_filled c ps ss (area_numbers a) (pos n ∷ []) found_in,
-      back_is xlo,
-      back_is ylo,
-      back_is xhi,
-      back_is yhi,
-      length-map ps post_of,
-      map-map (λ p. p.x) post_of ps,
-      map-map (λ p. p.y) post_of ps,
-      length-map ss stop_of,
-      map-map (λ s. s.at.x) stop_of ss,
-      map-map (λ s. s.at.y) stop_of ss,
-      map-map (λ s. s.visits) stop_of ss,
-    )
-  where
-    found_in : Nears (held_axis c) (take (length ps) (places (padded posts_limit (pos 0) (map (λ l. (post_of l).x) ps))
-        (padded posts_limit (pos 0) (map (λ l. (post_of l).y) ps))))
-        (take (length ss) (places (padded stops_limit (pos 0) (map (λ l. (post_of l).x) ss)) (padded stops_limit (pos 0) (map (λ l. (post_of l).y) ss)))) near
-    found_in = subst (λ (d : Deck). Nears (held_axis c) (take d.posts (places d.post_x d.post_y)) (take d.stops (places d.stop_x d.stop_y)) near) held found
-
-    paid_in : sum ≡ paid (padded stops_limit 0 (map (λ l. (stop_of l).visits) ss)) near (length ss)
-    paid_in = subst (λ (d : Deck). sum ≡ paid d.visits near d.stops) held summed
 
 -- the reading that they come to
 record RestIs (unread : Unread) (a : Rect) (c : AxisCosts) (reading : Reading Format.Job) : Type 0 where
@@ -310,18 +315,20 @@ module _ {unread : Unread} {a : Rect} {c : AxisCosts} where
       pub rest_no_rounds : {why : Refusal} → LastAt last (Err why) → RestAt unread a c (Err why)
       rest_no_rounds last_at = rest_refused (from_last last_at)
 
-      module _ {n : ℕ} (last_at : LastAt last (Ok n)) where
-        pub rest_unchecked : {why : Refusal} → CheckedAt a d₂.posts d₂.stops (Err why) → RestAt unread a c (Err why)
-        unfolding job_result
-        rest_unchecked checked_at = rest_made (from_last last_at) (ap job_result (sym (checked_is posts_at stops_at c n checked_at)))
+  -- every line was read
+  module _ {d₁ d₂ : Deck} {left last : Unread} (posts_at : PostsAt unread (start_deck a c) d₁ (Ok left)) (stops_at : StopsAt left d₁ d₂ (Ok last))
+      {n : ℕ} (last_at : LastAt last (Ok n)) where
+    pub rest_unchecked : {why : Refusal} → CheckedAt a d₂.post_count d₂.stop_count (Err why) → RestAt unread a c (Err why)
+    unfolding job_result
+    rest_unchecked checked_at = rest_made (from_last posts_at stops_at last_at) (ap job_result (sym (checked_is posts_at stops_at n checked_at)))
 
-        pub rest_read : CheckedAt a d₂.posts d₂.stops (Ok tt) → d₀ ≡ start_deck a c → SFits w64 a.xlo → SFits w64 a.ylo → SFits w64 a.xhi → SFits w64 a.yhi →
-            {near : List ℕ} {sum : ℕ} → Nears (held_axis c) (take d₂.posts (places d₂.post_x d₂.post_y)) (take d₂.stops (places d₂.stop_x d₂.stop_y)) near →
-            sum ≡ paid d₂.visits near d₂.stops → RestAt unread a c (Ok (record { rounds = n; deck = record d₂ { near = near; before = sum } }))
-        rest_read checked_at start xlo ylo xhi yhi found summed =
-            rest_made (from_last last_at)
-            (job_made c posts_at.lines stops_at.lines n (filled posts_at stops_at ∙ ap (λ d. with_stops (with_posts d posts_at.lines) stops_at.lines) start)
-            xlo ylo xhi yhi found summed ∙ ap job_result (sym (checked_is posts_at stops_at c n checked_at)))
+    pub rest_read : CheckedAt a d₂.post_count d₂.stop_count (Ok tt) → {near : List ℕ} {sum : ℕ} →
+        Nears (held_axis c) (map place_of (take d₂.post_count d₂.posts)) (map Values.stop_of (take d₂.stop_count d₂.stops)) near →
+        sum ≡ paid (map Values.stop_of (take d₂.stop_count d₂.stops)) (take d₂.stop_count near) →
+        RestAt unread a c (Ok (record { rounds = n; deck = with_figures d₂ near sum }))
+    rest_read checked_at found summed = rest_made (from_last posts_at stops_at last_at)
+        (ap (λ (d : Deck). as_read (record { rounds = n; deck = d })) (deck_made posts_at stops_at found summed)
+        ∙ sym (accepted_is a c posts_at.lines stops_at.lines n) ∙ ap job_result (sym (checked_is posts_at stops_at n checked_at)))
 
 -- ---- the whole reading
 pub read_long : (missing : Query.AxisCosts) (s : List ℕ) → size_limit < length s → Err TooLong ≡ job_result (read_with missing s)

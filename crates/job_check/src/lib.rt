@@ -155,8 +155,8 @@ fn posts_at(c: AxisCosts) -> u64
     if job::writes_axis(c) { 3 } else { 2 }
 }
 
-/// The refusal, of 2 to 6, that reading the file of a record and these rounds would give, with the line that it would have there. The
-/// file's size is not looked at, nor are the record's near and before, which no file holds.
+/// The refusal of its text that reading the file of a record and these rounds would give (RULES "Refusals"), with the line that it would
+/// have there. The file's size is not looked at, nor are the record's near and before, which no file holds.
 pub fn check(deck: &Deck, rounds: u64) -> Result<(), Refusal>
     ensures refusal { checked_as result ≡ refusal_in (read_text (file_text deck.now rounds)) }
     // as any record of the code is, for callers that read none of its posts and stops themselves

@@ -1,21 +1,27 @@
--- What `of_deck` makes of a sound record: the columns and the flags give the deck's lines.
-use mathlib.Core.Path.{◌≡◌, sym, ap, ◌∙◌}
+-- What `of_deck` makes of a sound record: the objects, and the lines by their flags, are the deck's.
+use mathlib.Core.Path.{◌≡◌, refl, sym, ap, ◌∙◌}
 use mathlib.Core.Bool.{Bool, false}
-use mathlib.Core.List.{List}
+use mathlib.Core.List.{List, map}
+use native.Mathlib.Omega.{arith}
 use lib.IntN.{ℤ}
-use lib.ListN.{length, take}
+use lib.ListN.{length, take, length-map}
+use lib.Seq.{length-take-le}
 use Rattle.numbers.specs.Padded.{padded}
-use Rattle.query.specs.Place.{Axis, x_axis, y_axis, low_edge, high_edge}
+use Rattle.query.specs.Place.{Axis, x_axis, y_axis, coordinate, low_edge, high_edge}
 use Rattle.query.specs.Lines.{lines}
+use Rattle.query.specs.Reach.{reach}
+use Rattle.query.specs.Range.{stops_limit}
 use Rattle.deck.specs.declared.Deck.{Deck}
-use Rattle.deck.specs.declared.Rect.{Rect}
+use Rattle.deck.specs.Values.{held_axis, rect_of, stop_of}
 use Rattle.deck.specs.DeckOf.{deck_of}
-use Rattle.deck.specs.Values.{rect_of, rect_record}
-use Rattle.columns.specs.Objects.{pricing_of}
-use Rattle.columns.specs.ObjectColumns.{columns_of, pricing_in}
 use Rattle.deck.specs.Sound.{Sound}
-use Rattle.deck.proofs.DeckLaws.{stops_x, stops_y}
-use Rattle.deck.proofs.SoundLaws.{sound_columns, sound_stops}
+use Rattle.deck.specs.Ranges.{CostsInRange, StopsInRange, NearsInRange}
+use Rattle.deck.proofs.DeckLaws.{costs_range, stops_range}
+use Rattle.deck.proofs.SoundLaws.{sound_listed, sound_nears}
+use Rattle.columns.specs.Objects.{pricing_of, stored_pricing}
+use Rattle.columns.specs.ObjectColumns.{columns_of, pricing_in}
+use Rattle.columns.proofs.StoredLaws.{sound_pricing}
+use Rattle.job.proofs.FilledLaws.{nears_front}
 use Rattle.reach.specs.ObjectReach.{flags_of}
 use Rattle.reach.specs.Columns.{Ranged}
 use Rattle.reach.specs.Held.{columns_of_objects, count_of_objects, pricing_of_objects}
@@ -23,79 +29,68 @@ use Rattle.reach.specs.declared.objects.Objects.{Objects}
 use Rattle.reach.proofs.ReachLaws.{flags_law}
 use Rattle.reach.proofs.RecordLaws.{made_pricing}
 use Rattle.lines.specs.LineRecord.{flagged, lines_between}
-use Rattle.lines.proofs.DeckLines.{coordinates, reached, lines_flagged, padded_reached}
-use Rattle.numbers.proofs.WordTests.{back}
-use Rattle.query.specs.Range.{stops_limit}
+use Rattle.lines.proofs.DeckLines.{lines_found}
 use Rattle.prepare.specs.ProblemRecord.{Parts, problem_record}
-use Rattle.prepare.proofs.Coordinates.{near_back}
 
-module _ (deck : Deck) (h : Sound deck) (a : Rect) (ea : a ≡ record { xlo = deck.xlo; ylo = deck.ylo; xhi = deck.xhi; yhi = deck.yhi }) where
-  stops_count : length (deck_of deck).stops ≡ deck.stops
-  stops_count = sym (sound_stops h)
-
-  -- the columns of coordinates
-  x_coordinates : take deck.stops deck.stop_x ≡ coordinates (deck_of deck) x_axis
-  x_coordinates = sym (stops_x deck (sound_columns h))
-
-  y_coordinates : take deck.stops deck.stop_y ≡ coordinates (deck_of deck) y_axis
-  y_coordinates = sym (stops_y deck (sound_columns h))
-
-  -- the area, and its edges as `find_lines` gets them
-  area_is : rect_of a ≡ (deck_of deck).area
+module _ (deck : Deck) (sound : Sound deck) where
+  pub area_ranged : Ranged (rect_of deck.area)
   unfolding deck_of
-  area_is = ap rect_of ea
+  area_ranged = record { range = sound.range.area; full = sound.full }
 
-  edges : (back a.xlo ≡ (deck_of deck).area.xlo) × (back a.ylo ≡ (deck_of deck).area.ylo)
-      × (back a.xhi ≡ (deck_of deck).area.xhi) × (back a.yhi ≡ (deck_of deck).area.yhi)
-  unfolding deck_of
-  edges =
-      let r = h.range.area in (
-        ap (λ (a : Rect). back a.xlo) ea ∙ near_back deck.xlo r.low_corner_law.x_range,
-        ap (λ (a : Rect). back a.ylo) ea ∙ near_back deck.ylo r.low_corner_law.y_range,
-        ap (λ (a : Rect). back a.xhi) ea ∙ near_back deck.xhi r.high_corner_law.x_range,
-        ap (λ (a : Rect). back a.yhi) ea ∙ near_back deck.yhi r.high_corner_law.y_range,
-      )
+  -- what its objects are made of, in range
+  near_count : length (take deck.stop_count deck.near) ≡ deck.stop_count
+  near_count = length-take-le deck.stop_count deck.near (sound_nears sound).count
 
-  pub area_ranged : Ranged (rect_of a)
-  area_ranged = rw area_is (record { range = h.range.area; full = h.full })
+  pub objects_range : CostsInRange (held_axis deck.axis) × StopsInRange (take deck.stop_count deck.stops)
+      × NearsInRange (take deck.stop_count deck.near) (length (take deck.stop_count deck.near))
+      × (length (take deck.stop_count deck.near) ≡ length (take deck.stop_count deck.stops))
+  objects_range = (
+    costs_range deck sound.range,
+    stops_range deck sound.range,
+    rw near_count (nears_front (sound_nears sound)),
+    near_count ∙ sym (length-take-le deck.stop_count deck.stops (omega (arith, (sound_listed sound).sized.stops, (sound_listed sound).stops))),
+  )
 
   -- its objects, and which of them reach the area
-  module _ (objects : Objects) (e : columns_of_objects objects ≡ columns_of (pricing_of (deck_of deck)))
-      (n : count_of_objects objects ≡ deck.stops) (flags : List Bool) (f : flags ≡ flags_of (pricing_of_objects objects) (rect_of a)) where
-    flags_are : flags ≡ padded stops_limit false (reached (deck_of deck) x_axis)
+  module _ (objects : Objects) (made : (columns_of_objects objects ≡ columns_of (stored_pricing (held_axis deck.axis)
+      (map stop_of (take deck.stop_count deck.stops)) (take deck.stop_count deck.near)))
+      × (count_of_objects objects ≡ length (take deck.stop_count deck.stops))) (flags : List Bool)
+      (f : flags ≡ flags_of (pricing_of_objects objects) (rect_of deck.area)) where
+    columns_are : columns_of_objects objects ≡ columns_of (pricing_of (deck_of deck))
     unfolding deck_of
-    flags_are =
-        f ∙ ap (flags_of (pricing_of_objects objects)) area_is
-        ∙ (λ i. flags_of (pricing_in (e i) ((n ∙ sym stops_count) i)) (deck_of deck).area)
-        ∙ ap (λ P. flags_of P (deck_of deck).area) (made_pricing (deck_of deck) h.range)
-        ∙ flags_law (deck_of deck) (deck_of deck).area
+    columns_are = made.0 ∙ ap columns_of (sound_pricing sound)
 
-    flags_front : (axis : Axis) → take deck.stops flags ≡ reached (deck_of deck) axis
-    flags_front axis = (λ i. take (sym stops_count i) (flags_are i)) ∙ padded_reached (deck_of deck) axis
+    count_is : count_of_objects objects ≡ length (deck_of deck).stops
+    unfolding deck_of
+    count_is = made.1 ∙ sym (length-map (take deck.stop_count deck.stops) stop_of)
 
-    -- the lines that `find_lines` finds along an axis, in a column of the stops' coordinates
-    lines_found : (axis : Axis) (coords ws : List ℤ) (lo hi : ℤ) → take deck.stops coords ≡ coordinates (deck_of deck) axis →
-        lo ≡ low_edge axis (deck_of deck).area → hi ≡ high_edge axis (deck_of deck).area →
-        ws ≡ lines_between lo hi (flagged (take deck.stops coords) (take deck.stops flags)) → ws ≡ lines (deck_of deck) axis
-    lines_found axis coords ws lo hi same g k found =
-        found ∙ (λ i. lines_between (g i) (k i) (flagged (same i) (flags_front axis i))) ∙ lines_flagged (deck_of deck) axis
+    flags_are : flags ≡ padded stops_limit false (map (reach (deck_of deck) (deck_of deck).area) (deck_of deck).stops)
+    unfolding deck_of
+    flags_are = f ∙ (λ i. flags_of (pricing_in (columns_are i) (count_is i)) (rect_of deck.area))
+        ∙ ap (λ P. flags_of P (rect_of deck.area)) (made_pricing (deck_of deck) sound.range) ∙ flags_law (deck_of deck) (deck_of deck).area
+
+    -- the lines of all stops along an axis, by the flags
+    abbrev found : Axis → List ℤ
+    found axis = lines_between (low_edge axis (rect_of deck.area)) (high_edge axis (rect_of deck.area))
+        (flagged (map (λ s. coordinate axis (stop_of s).at) (take deck.stop_count deck.stops)) flags)
+
+    found_are : (axis : Axis) → found axis ≡ lines (deck_of deck) axis
+    unfolding deck_of
+    found_are axis = lines_found (deck_of deck) axis (take deck.stop_count deck.stops) refl flags_are
 
     -- the record
-    pub made_problem : (v w : List ℤ) →
-        v ≡ lines_between (back a.xlo) (back a.xhi) (flagged (take deck.stops deck.stop_x) (take deck.stops flags)) →
-        w ≡ lines_between (back a.ylo) (back a.yhi) (flagged (take deck.stops deck.stop_y) (take deck.stops flags)) →
-        ◌≡◌ {A = Parts} (record {
-          area = a;
-          count = count_of_objects objects;
-          columns = columns_of_objects objects;
-          vertical = v;
-          horizontal = w;
-        }) (problem_record (deck_of deck))
-    unfolding problem_record
-    made_problem v w found_x found_y = λ i. record {
-      area = rect_record (area_is i);
-      count = (n ∙ sym stops_count) i;
-      columns = e i;
-      vertical = lines_found x_axis deck.stop_x v _ _ x_coordinates edges.0 edges.2 found_x i;
-      horizontal = lines_found y_axis deck.stop_y w _ _ y_coordinates edges.1 edges.3 found_y i;
+    pub made_problem : (v w : List ℤ) → v ≡ found x_axis → w ≡ found y_axis → ◌≡◌ {A = Parts} (record {
+      area = deck.area;
+      count = count_of_objects objects;
+      columns = columns_of_objects objects;
+      vertical = v;
+      horizontal = w;
+    }) (problem_record (deck_of deck))
+    unfolding deck_of problem_record
+    made_problem v w across deep = λ i. record {
+      area = deck.area;
+      count = count_is i;
+      columns = columns_are i;
+      vertical = (across ∙ found_are x_axis) i;
+      horizontal = (deep ∙ found_are y_axis) i;
     }

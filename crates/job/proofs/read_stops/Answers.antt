@@ -1,6 +1,5 @@
 -- What `job::read_stops` owes.
 use native.Mathlib.Omega.{arith}
-use borrow.Author.Rules.{rules}
 use Rattle.query.specs.Range.{stops_limit}
 use Rattle.text.specs.Ascii.{bytes}
 use Rattle.job_line.specs.Kinds.{stops, stop}
@@ -43,8 +42,7 @@ loop-i-preserved c =
       c.loop-i.invariant.0,
       filled_more f c.loop-i-test.true (line_small stops stop c.requires.0 _ c.in_ok-count.ensures f (omega (arith, c.loop-i.invariant.0, c.loop-i-test.true)))
           c.in_ok-stop.ensures
-          (stops_more c.args.deck.now c.loop-i.deck f.lines f.count_is (search rules) (search rules) _ f.deck_is
-          (omega (arith, c.loop-i.invariant.0))),
+          (stops_more c.args.deck.now c.loop-i.deck f.lines f.count_is _ f.deck_is (omega (arith, c.loop-i.invariant.0))),
     )
 
 pub returns : goal.returns
