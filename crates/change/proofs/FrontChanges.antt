@@ -7,7 +7,7 @@ use native.Mathlib.Numerals.{add-one}
 use native.Mathlib.Omega.{arith}
 use lib.Dec.{T, leb, leb→le, le→leb}
 use lib.ListN.{length, get_or, take, drop, set, length-set, length-take}
-use lib.Seq.{take-take, take-length, drop-length, get_or-take}
+use lib.Seq.{take-take, take-length, drop-length}
 use Rattle.std.specs.List.{list_all}
 use Rattle.numbers.proofs.Truth.{and_left, and_right, and_intro}
 use Rattle.std.proofs.Math.Seq.{take-suc-set}
@@ -76,13 +76,6 @@ taken_up_to most (suc n) (suc i) (x ∷ xs) each (suc j) l = taken_up_to most n 
 pub nears_more : {near : List ℕ} {n v : ℕ} → NearsInRange near n → n < length near → v ≤ travel_limit → NearsInRange (set near n v) (n + 1)
 nears_more {near} {n} {v} range room h =
     record { count = omega (arith, length-set near n v); range = rw (add-one n) (set_up_to travel_limit n v near h range.range) }
-
--- of the first n alone
-pub nears_front : {near : List ℕ} {n k : ℕ} → k ≤ n → NearsInRange near n → NearsInRange (take n near) k
-nears_front {near} {n} {k} h range = record {
-  count = omega (arith, length-take n near, range.count);
-  range = λ i l. rw (get_or-take n near i 0 (omega arith)) (range.range i (omega arith));
-}
 
 -- an element taken out: the first n without it
 abbrev pub FrontWithout : {A : Type 0} → ℕ → ℕ → A → List A → List A → Type 0
