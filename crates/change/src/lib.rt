@@ -82,7 +82,8 @@ fn put_post(deck: &mut Deck, post: Place)
 // Takes out post i, counted from 0, which is the first at this place.
 fn take_post(deck: &mut Deck, post: Place, i: usize)
     requires { T (usable deck.old) × PlaceInRange (place_of post)
-        × (i ≡ first_place (is_same_place (place_of post)) (deck_of deck.old).posts) × (i < deck.old.post_count) × (2 ≤ deck.old.post_count) }
+        × (i ≡ first_place (is_same_place (place_of post)) (deck_of deck.old).posts) × (i < deck.old.post_count)
+        × (2 ≤ deck.old.post_count) }
     ensures { deck.new ≡ altered_record (remove_post (place_of post)) deck.old }
 {
     let k = deck.post_count;

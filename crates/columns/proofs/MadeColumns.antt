@@ -146,4 +146,5 @@ module _ (axis : AxisCosts) (stops : List Stop) (nears : List ℕ) {n : ℕ} (st
     made_columns et eu =
         let held = stored_objects axis stops nears in
         (λ i. set (set (columns_are i) x_cost_place (et i)) y_cost_place (eu i))
-        ∙ costs_put (object_columns held) (pos axis.a) (pos axis.b) (columns_length held (omega (arith, stored_count axis stops nears (stops-count ∙ sym nears-count), stops-count, few)))
+        ∙ costs_put (object_columns held) (pos axis.a) (pos axis.b)
+        (columns_length held (omega (arith, stored_count axis stops nears (stops-count ∙ sym nears-count), stops-count, few)))

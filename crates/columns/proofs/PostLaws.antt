@@ -82,7 +82,9 @@ module _ {axis : AxisCosts} {posts : List Code.Place} (costs : CostsInRange axis
     column_range : (number : Place → ℤ) {column : List ℤ} → column ≡ padded posts_limit (pos 0) (take j (column_of number posts)) →
         ((p : Place) → PlaceInRange p → nat_abs (number p) ≤ scaled_limit) → CoordinatesInRange column (length posts)
     column_range number e in_range = record {
-      count = rw (whole number e) (omega (arith, padded_length posts_limit (pos 0) (column_of number posts) (omega (arith, long number, range.few)), range.few));
+      count =
+          rw (whole number e)
+          (omega (arith, padded_length posts_limit (pos 0) (column_of number posts) (omega (arith, long number, range.few)), range.few));
       range = λ i g. rw (
         whole number e,
         padded_at posts_limit (pos 0) (column_of number posts) i (omega (arith, long number)),

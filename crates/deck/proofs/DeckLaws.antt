@@ -4,6 +4,7 @@ use mathlib.Core.List.{List, [], ◌∷◌, map, map-map, Memᴰ}
 use Prim.Native.Nat.{ℕ, zero, suc, ◌≤◌, ◌<◌, min}
 use native.Mathlib.Omega.{arith}
 use lib.ListN.{length, get_or, take, length-take, length-map, get_or-map}
+use lib.Seq.{length-take-le, get_or-take}
 use Rattle.numbers.specs.Padded.{padded}
 use Rattle.numbers.proofs.Padded.{padded_front}
 use Rattle.query.specs.Deck as Query
@@ -13,7 +14,7 @@ use Rattle.deck.specs.declared.Place.{Place}
 use Rattle.deck.specs.declared.Stop.{Stop}
 use Rattle.deck.specs.Values.{held_axis, place_of, place_record, stop_of, stop_record, no_place, no_stop}
 use Rattle.deck.specs.DeckOf.{Sized, deck_of, deck_record}
-use Rattle.deck.specs.Ranges.{CostsInRange, PostsInRange, StopsInRange}
+use Rattle.deck.specs.Ranges.{CostsInRange, PostsInRange, StopsInRange, NearsInRange}
 
 -- ---- lists
 pub map_take : {A B : Type 0} (f : A → B) (n : ℕ) (l : List A) → map f (take n l) ≡ take n (map f l)
@@ -84,6 +85,13 @@ post_in_range {posts} range i z h = range.each (place_of (get_or posts i z)) (ma
 
 pub stop_in_range : {stops : List Stop} → StopsInRange stops → (i : ℕ) (z : Stop) → i < length stops → StopInRange (stop_of (get_or stops i z))
 stop_in_range {stops} range i z h = range.each (stop_of (get_or stops i z)) (mapped_at stop_of z stops i h)
+
+-- near of the stops, without what stands behind
+pub nears_front : {nears : List ℕ} {n : ℕ} → NearsInRange nears n → NearsInRange (take n nears) n
+nears_front {nears} {n} range = record {
+  count = omega (arith, length-take-le n nears range.count);
+  range = λ i h. rw (get_or-take n nears i 0 h) (range.range i h);
+}
 
 -- ---- the record of a deck holds it
 pub held_deck : (deck : Query.Deck) → deck_of (deck_record deck) ≡ deck

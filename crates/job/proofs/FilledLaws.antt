@@ -7,7 +7,6 @@ use native.Mathlib.Omega.{arith}
 use lib.Dec.{T}
 use lib.IntN.{ℤ}
 use lib.ListN.{length, take, length-map}
-use lib.Seq.{length-take-le, get_or-take}
 use Rattle.std.specs.Prelude.{Ok}
 use Rattle.std.proofs.lemmas.List.{append-nil}
 use Rattle.numbers.specs.Padded.{padded}
@@ -20,7 +19,7 @@ use Rattle.query.specs.Cost.{before}
 use Rattle.query.specs.Range.{PlaceInRange, StopInRange, stops_limit}
 use Rattle.deck.specs.Values as Values
 use Rattle.deck.specs.Values.{held_axis, place_of}
-use Rattle.deck.specs.Ranges.{CostsInRange, PostsInRange, StopsInRange, NearsInRange}
+use Rattle.deck.specs.Ranges.{CostsInRange, PostsInRange, StopsInRange}
 use Rattle.deck.specs.declared.AxisCosts.{AxisCosts}
 use Rattle.deck.specs.declared.Deck.{Deck}
 use Rattle.deck.specs.declared.Place.{Place}
@@ -85,13 +84,6 @@ module _ {unread left : Unread} {old new : Deck} where
   }
 
 -- ---- near and before, found of a deck
--- near of the stops, without what stands behind
-pub nears_front : {nears : List ℕ} {n : ℕ} → NearsInRange nears n → NearsInRange (take n nears) n
-nears_front {nears} {n} range = record {
-  count = omega (arith, length-take-le n nears range.count);
-  range = λ i h. rw (get_or-take n nears i 0 h) (range.range i h);
-}
-
 module _ (deck : QueryDeck.Deck) {column : List ℕ} (found : Nears deck.axis deck.posts deck.stops column) where
   pub near_is : column ≡ padded stops_limit 0 (map (near deck) deck.stops)
   unfolding near

@@ -37,14 +37,14 @@ use Rattle.deck.specs.Ranges.{PostsInRange, StopsInRange, NearsInRange}
 use Rattle.deck.specs.declared.AxisCosts.{AxisCosts}
 use Rattle.deck.specs.declared.Deck.{Deck}
 use Rattle.deck.specs.declared.Rect.{Rect}
-use Rattle.deck.proofs.DeckLaws.{held_deck}
+use Rattle.deck.proofs.DeckLaws.{held_deck, nears_front}
 use Rattle.columns.specs.StopFigures.{Nears, paid}
 use Rattle.job.specs.declared.Job.{Job}
 use Rattle.refusal.specs.declared.Refusal.{Refusal}
 use Rattle.refusal.specs.declared.Refusal.TheVariants.{TooLong, EmptyArea, NoPosts, NoStops}
 use Rattle.numbers.proofs.WordTests.{back, back_is}
 use Rattle.job.proofs.Meaning.{read_short, job_with}
-use Rattle.job.proofs.FilledLaws.{posts_in, stops_in, nears_front, near_is, before_is}
+use Rattle.job.proofs.FilledLaws.{posts_in, stops_in, near_is, before_is}
 
 -- ---- refusal 4
 module _ {a : Rect} (xlo : SFits w64 a.xlo) (ylo : SFits w64 a.ylo) (xhi : SFits w64 a.xhi) (yhi : SFits w64 a.yhi) where

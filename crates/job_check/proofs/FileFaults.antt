@@ -308,5 +308,6 @@ module _ (deck : Deck) (rounds-held : ℕ) (sized : Sized deck) where
           record { few_posts = f.posts_few; few_stops = f.stops_few; text = f.spelled; allowed = subst Allowed same allowed; read = p ∙ ap accepted same }
 
       go : (o : Option Refusal) → first_fault 1 (file_lines deck rounds-held) ≡ o → FileIs
-      go (some why) p = none_some (sym e ∙ file_fault ∙ ap (λ (o : Option Refusal). or_else o (parts_fault (deck_of deck).area deck.post_count deck.stop_count)) p)
+      go (some why) p =
+          none_some (sym e ∙ file_fault ∙ ap (λ (o : Option Refusal). or_else o (parts_fault (deck_of deck).area deck.post_count deck.stop_count)) p)
       go none p = held (read_text (file_text deck rounds-held)) refl (all_fine p)

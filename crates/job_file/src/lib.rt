@@ -183,7 +183,8 @@ fn put_stops(w: &mut Writer, stops: &[Stop])
 /// Writes the file of a record and these rounds over the first bytes of `out`, which has room for it, and gives how many bytes it takes.
 /// Any numbers are written, also those that a reader would refuse; the bytes of `out` behind the file stay.
 pub fn put_file(deck: &Deck, rounds: u64, out: &mut [u8]) -> usize
-    requires { (deck.now.post_count ≤ posts_limit) × (deck.now.stop_count ≤ stops_limit) × (length (file_text deck.now rounds) ≤ length out.old) }
+    requires { (deck.now.post_count ≤ posts_limit) × (deck.now.stop_count ≤ stops_limit)
+        × (length (file_text deck.now rounds) ≤ length out.old) }
     ensures { Overwrote out.old (file_text deck.now rounds) out.new result }
 {
     let mut w = Writer::new(out);

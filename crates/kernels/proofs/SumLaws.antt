@@ -29,7 +29,7 @@ use Rattle.pricing.proofs.ObjectLaws.{cost_law, bound_law}
 use Rattle.corner_bound.specs.ObjectCornerBound.{load_of, corner_bound_of, CornerBound}
 use Rattle.corner_bound.proofs.LoadLaws.{load_law}
 use Rattle.corner_bound.proofs.CornerLaws.{corner_bound_law}
-use Rattle.prepare.proofs.Coordinates.{rect_back}
+use Rattle.priced_place.proofs.Coordinates.{rect_back}
 use Rattle.std.specs.Prelude.{Option, None}
 use Rattle.std.specs.Option.{option_map}
 use Rattle.trial.specs.Opened.{parts_of, opened_record}

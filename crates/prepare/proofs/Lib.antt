@@ -1,3 +1,2 @@
-pub mod Coordinates
 pub mod JobProblem
 pub mod MadeProblem

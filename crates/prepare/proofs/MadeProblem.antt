@@ -37,7 +37,7 @@ module _ (deck : Deck) (sound : Sound deck) where
   unfolding deck_of
   area_ranged = record { range = sound.range.area; full = sound.full }
 
-  -- what objects are made of
+  -- what its objects are made of, in range
   near_count : length (take deck.stop_count deck.near) ≡ deck.stop_count
   near_count = length-take-le deck.stop_count deck.near (sound_nears sound).count
 

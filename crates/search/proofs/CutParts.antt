@@ -25,7 +25,7 @@ use Rattle.pricing.specs.declared.PartFigures.{PartFigures}
 use Rattle.pricing.specs.ObjectFigures.{Figure, PartsPriced}
 use Rattle.cuts.specs.CutRecord.{axis_record, cut_at, cut_record}
 use Rattle.cuts.specs.declared.Cut.{Cut}
-use Rattle.cuts.proofs.CutRecordLaws.{cut_record_found, cut_record_cut}
+use Rattle.cuts.proofs.CutRecordLaws.{axis_back, cut_record_found, cut_record_cut}
 use Rattle.priced_place.specs.declared.PricedPlace.{PricedPlace}
 use Rattle.priced_place.specs.ObjectProblem.{priced_place_at}
 use Rattle.search.specs.declared.halves.Halves.{Halves}
@@ -108,10 +108,6 @@ halves_by : (axis : Axis) (P : Pricing) (v : ℤ) (r : Rect)
 unfolding parts_of halves_of
 halves_by x_axis P v r = refl
 halves_by y_axis P v r = refl
-
-axis_back : (axis : Axis) → axis_of (axis_record axis) ≡ axis
-axis_back x_axis = refl
-axis_back y_axis = refl
 
 -- ---- a cell that is cut
 module _ (G : Grid) (r : Rect) (h : Cutting G r) where

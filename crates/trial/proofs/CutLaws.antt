@@ -24,7 +24,7 @@ use Rattle.lines.proofs.DeckLines.{lines_in_order}
 use Rattle.prepare.specs.ProblemRecord.{Parts, problem_record}
 use Rattle.cuts.specs.CutRecord.{axis_record, cut_at, cut_record}
 use Rattle.cuts.specs.declared.Cut.{Cut}
-use Rattle.cuts.proofs.CutRecordLaws.{cut_record_found, cut_record_cut}
+use Rattle.cuts.proofs.CutRecordLaws.{axis_back, cut_record_found, cut_record_cut}
 use Rattle.trial.specs.Ranges.{rect_allowed}
 use Rattle.trial.specs.Trial.{on_job, minus_one, least, axis_number, cut_axis_figure, cut_line_figure, Written, lines_axis, lines_written}
 use Rattle.trial.specs.declared.opened.Opened.{Opened}
@@ -34,10 +34,6 @@ use Rattle.trial.proofs.OpenLaws.{Open, OpenIn, open_deck, open_problem, on_job_
 -- ---- the answers
 same_cut : {c d : Cut} → ◌≡◌ {A = Option Cut} (Some c) (Some d) → c ≡ d
 same_cut e = cc
-
-axis_back : (axis : Axis) → axis_of (axis_record axis) ≡ axis
-axis_back x_axis = refl
-axis_back y_axis = refl
 
 -- no line where the job is refused or the rectangle is not allowed
 pub no_line : (rect : Rect) (r : Result) →

@@ -16,5 +16,7 @@ pub reach_flags-flags-requires : goal.reach_flags-flags-requires
 reach_flags-flags-requires c = area_ranged _ c.requires
 
 pub returns : goal.returns
-returns c = made_problem _ c.requires c.of_stops-objects.result (rw (c.listed_stops-stops.ensures, c.listed_near.ensures) at c.of_stops-objects.ensures) _ c.reach_flags-flags.ensures
-    _ _ (rw c.listed_stops-stops.ensures at c.find_lines-vertical.ensures.whole) (rw c.listed_stops-stops.ensures at c.find_lines-horizontal.ensures.whole)
+returns c =
+    let stops = c.listed_stops-stops.ensures in
+    made_problem _ c.requires c.of_stops-objects.result (rw (stops, c.listed_near.ensures) at c.of_stops-objects.ensures) _ c.reach_flags-flags.ensures _ _
+    (rw stops at c.find_lines-vertical.ensures.whole) (rw stops at c.find_lines-horizontal.ensures.whole)
