@@ -391,9 +391,11 @@ impl State {
         let (job, start) = place_job(&mut self.job, bytes, at_end, fill);
         let job_before = job.to_vec();
         let mut held = Held::new(&mut self.deck, at_end, fill);
-        let after = want.as_ref().map_or_else(|_| held.bytes.to_vec(), |record| held.with(record));
+        let before = held.bytes.to_vec();
+        let after = want.as_ref().map_or_else(|_| before.clone(), |record| held.with(record));
         let answer = want.as_ref().map_or_else(|why| Err(*why), |record| Ok(record.rounds as i64));
         for (which, figure) in (0..).zip(figures(answer)) {
+            held.bytes.copy_from_slice(&before);
             let got = unsafe { trial_read(job[start..].as_ptr(), bytes.len(), held.pointer(), which) };
             if got != figure {
                 differs(&format!("number {which} of reading"), &got.to_string(), &figure.to_string());
