@@ -170,7 +170,7 @@ module _ (deck : Deck) (change : Change) where
   made_as : Sound deck → (change_call deck change).answer ≡ gives tt → (change_call deck change).deck ≡ deck_record (altered change (deck_of deck))
   made_as sound e = deck_is deck change ∙ ap (λ r. r.deck) (made_answer deck change sound (none_of (sound_usable deck sound) e))
 
-  can_change : Sized deck → T (usable deck) ↔ (Saveable deck 0 × ((i : ℕ) → i < deck.stops → get_or deck.near i 0 ≤ travel_limit))
+  can_change : Sized deck → T (usable deck) ↔ (Saveable deck 0 × ((i : ℕ) → i < deck.stop_count → get_or deck.near i 0 ≤ travel_limit))
   can_change sized = let both = usable_exactly deck sized in (
     λ t. let c = both.0 t in (record { allowed = c.0; few_posts = c.1; few_stops = c.2 }, c.3),
     λ s. both.1 (s.0.allowed, s.0.few_posts, s.0.few_stops, s.1),

@@ -4,7 +4,7 @@ use mathlib.Core.Path.{◌≡◌, sym, ap, subst, ◌∙◌}
 use mathlib.Core.List.{List, map}
 use Prim.Native.Nat.{ℕ, ◌≤◌, ◌<◌}
 use native.Mathlib.Omega.{arith}
-use lib.ListN.{get_or, length-map}
+use lib.ListN.{get_or, take, length-map}
 use lib.Seq.{get_or-take}
 use Rattle.numbers.proofs.Joined.{map_at}
 use Rattle.numbers.proofs.Padded.{padded_at, padded_behind}
@@ -13,8 +13,8 @@ use Rattle.query.specs.Range.{stops_limit}
 use Rattle.deck.specs.DeckOf.{deck_of, deck_record}
 use Rattle.deck.specs.Sound.{Sound}
 use Rattle.deck.specs.declared.Deck.{Deck}
-use Rattle.deck.proofs.DeckLaws.{all_stops, stops_at}
-use Rattle.deck.proofs.SoundLaws.{record_sound, sound_columns, sound_near, sound_stops, sound_before}
+use Rattle.deck.specs.Values.{stop_of, no_stop}
+use Rattle.deck.proofs.SoundLaws.{record_sound, sound_near, sound_stops, sound_before}
 use Rattle.job.specs.declared.Job as Held
 use Rattle.job.specs.File.{held_job, saved_spelling}
 use Rattle.job.proofs.Meaning.{allowed_in_range}
@@ -49,7 +49,7 @@ sound_made deck sound = let (job, held, given, same) = sound_read deck sound in 
 
 -- ---- near, number by number
 module _ (deck : Deck) (sound : Sound deck) (i : ℕ) where
-  near_at_lem : i < deck.stops → get_or deck.near i 0 ≡ near (deck_of deck) (stop_in deck i)
+  near_at_lem : i < deck.stop_count → get_or deck.near i 0 ≡ near (deck_of deck) (stop_in deck i)
   unfolding deck_of
   near_at_lem h =
       rw (sound_near sound)
@@ -58,13 +58,15 @@ module _ (deck : Deck) (sound : Sound deck) (i : ℕ) where
       ∙ each)
     where
       stop_at_lem : get_or (deck_of deck).stops i (stop_in deck i) ≡ stop_in deck i
-      stop_at_lem = get_or-take deck.stops (all_stops deck) i (stop_in deck i) h
-          ∙ stops_at deck (sound_columns sound) i (stop_in deck i) (omega (arith, (sound_columns sound).stops))
+      stop_at_lem =
+          map_at stop_of (take deck.stop_count deck.stops) i (stop_in deck i) no_stop
+          (omega (arith, length-map (take deck.stop_count deck.stops) stop_of, sound_stops sound))
+          ∙ ap stop_of (get_or-take deck.stop_count deck.stops i no_stop h)
 
       each : get_or (map (near (deck_of deck)) (deck_of deck).stops) i 0 ≡ near (deck_of deck) (stop_in deck i)
       each = map_at (near (deck_of deck)) (deck_of deck).stops i 0 (stop_in deck i) (omega (arith, sound_stops sound)) ∙ ap (near (deck_of deck)) stop_at_lem
 
-  near_past : deck.stops ≤ i → get_or deck.near i 0 ≡ 0
+  near_past : deck.stop_count ≤ i → get_or deck.near i 0 ≡ 0
   near_past h = rw (sound_near sound) (padded_behind stops_limit 0 (map (near (deck_of deck)) (deck_of deck).stops) i
       (omega (arith, length-map (deck_of deck).stops (near (deck_of deck)), sound_stops sound)))
 

@@ -11,13 +11,14 @@ use lib.ListN.{length, take, drop, length-append, length-drop, length-map}
 use lib.Seq.{take_at, drop_at}
 use Rattle.numbers.specs.Padded.{padded}
 use Rattle.numbers.proofs.Truth.{test, cond-true, cond-false}
-use Rattle.numbers.proofs.Padded.{padded_length}
+use Rattle.job.proofs.Meaning.{allowed_in_range}
 use Rattle.query.specs.Deck as Query
 use Rattle.query.specs.Deck.{AxisCosts, plain}
 use Rattle.query.specs.Range.{posts_limit, stops_limit}
 use Rattle.deck.specs.DeckOf.{Sized, deck_of, deck_record, with_figures}
 use Rattle.deck.specs.declared.Deck.{Deck}
 use Rattle.deck.proofs.DeckLaws.{held_deck}
+use Rattle.deck.proofs.SoundLaws.{record_sized}
 use Rattle.refusal.specs.Refusal.{number_of, line_of}
 use Rattle.refusal.specs.declared.Refusal.{Refusal}
 use Rattle.refusal.specs.declared.Refusal.TheVariants.{ShortOutput}
@@ -249,7 +250,8 @@ module _ (deck : Deck) (rounds : ℕ) (out : List ℕ) (sized : Sized deck) wher
 text_for : Query.Deck → ℕ → ℕ → ℕ → List ℕ
 text_for d rounds p s = flat_map spell_line (lines_counting (writes_axis d.axis) p s (record { deck = d; rounds = rounds }))
 
-same_file : (other deck : Deck) (rounds : ℕ) (out : List ℕ) → deck_of other ≡ deck_of deck → other.posts ≡ deck.posts → other.stops ≡ deck.stops →
+same_file : (other deck : Deck) (rounds : ℕ) (out : List ℕ) → deck_of other ≡ deck_of deck → other.post_count ≡ deck.post_count →
+    other.stop_count ≡ deck.stop_count →
     write_call other rounds out ≡ write_call deck rounds out
 unfolding write_call file_text text_for
 same_file other deck rounds out held p s =
@@ -299,26 +301,13 @@ module _ (deck : Deck) (rounds : ℕ) (out : List ℕ) (sized : Sized deck) wher
     other_figures = λ nears paid. same_file (with_figures deck nears paid) deck rounds out (figures_apart deck nears paid) refl refl;
   }
 
-column_sized : {A B : Type 0} (f : A → B) (z : B) (size : ℕ) (xs : List A) → length xs ≤ size → length (padded size z (map f xs)) ≡ size
-column_sized f z size xs h = padded_length size z (map f xs) (rw (length-map xs f) h)
-
 -- the record of an allowed job's deck, and the job that it holds
 module _ (j : Job) (a : Allowed j) where
   record_held : held_job (deck_record j.deck) j.rounds ≡ j
   record_held = ap (λ (d : Query.Deck). record { deck = d; rounds = j.rounds }) (held_deck j.deck)
 
-  record_sized : Sized (deck_record j.deck)
-  unfolding deck_record
-  record_sized =
-      let p = most_posts a.writable in
-      let s = most_stops a.writable in
-      record {
-        post_x = column_sized _ _ posts_limit j.deck.posts p;
-        post_y = column_sized _ _ posts_limit j.deck.posts p;
-        stop_x = column_sized _ _ stops_limit j.deck.stops s;
-        stop_y = column_sized _ _ stops_limit j.deck.stops s;
-        visits = column_sized _ _ stops_limit j.deck.stops s;
-      }
+  sized : Sized (deck_record j.deck)
+  sized = record_sized j.deck (allowed_in_range j a)
 
   record_saveable : Saveable (deck_record j.deck) j.rounds
   unfolding deck_record
@@ -328,7 +317,7 @@ module _ (j : Job) (a : Allowed j) where
       write_call (deck_record j.deck) j.rounds out ≡ record { answer = gives (length (saved_spelling j)); out = overwritten (saved_spelling j) out }
   record_written out h = subst (λ (k : Job). length (saved_spelling k) ≤ length out → write_call (deck_record j.deck) j.rounds out
       ≡ record { answer = gives (length (saved_spelling k)); out = overwritten (saved_spelling k) out }) record_held
-      (written_ends (deck_record j.deck) j.rounds out record_sized record_saveable) h
+      (written_ends (deck_record j.deck) j.rounds out sized record_saveable) h
 
 module _ (job : List ℕ) where
   read_held : (held : Held.Job) → read_call job ≡ gives held → read_job job ≡ accepted (held_job held.deck held.rounds)
@@ -339,7 +328,7 @@ module _ (job : List ℕ) where
   read_sized : (held : Held.Job) → read_call job ≡ gives held → Sized held.deck
   read_sized held e =
       let (j, g, same) = read_accepted job held e in
-      subst (λ (h : Held.Job). Sized h.deck) (sym same) (record_sized j ((read_exactly job j).0 g).1)
+      subst (λ (h : Held.Job). Sized h.deck) (sym same) (sized j ((read_exactly job j).0 g).1)
 
   -- an accepted job, saved as a text that is its saved spelling
   saved_as_lem : (j : Job) (out text : List ℕ) → read_job job ≡ accepted j → text ≡ saved_spelling j → length text ≤ length out →

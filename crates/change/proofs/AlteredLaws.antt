@@ -22,7 +22,7 @@ use Rattle.change.proofs.Conditions.{Allows, refusal_none}
 pub length_more : {A : Type 0} (xs : List A) (x : A) → length (xs ++ (x ∷ [])) ≡ suc (length xs)
 length_more xs x = omega (arith, length-append xs (x ∷ []))
 
-each_more : {A : Type 0} (P : A → Type 0) (xs : List A) (x : A) → ((a : A) → Memᴰ a xs → P a) → P x → (a : A) → Memᴰ a (xs ++ (x ∷ [])) → P a
+pub each_more : {A : Type 0} (P : A → Type 0) (xs : List A) (x : A) → ((a : A) → Memᴰ a xs → P a) → P x → (a : A) → Memᴰ a (xs ++ (x ∷ [])) → P a
 each_more P xs x each last = each_append P xs each (each_cons P last (λ a m. absurd (Memᴰ.not-nil m)))
 
 -- ---- a deck in range with other posts, and with other stops

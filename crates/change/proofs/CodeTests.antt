@@ -1,12 +1,11 @@
 -- What a change answers: first that its values or the record are out of range, then by the tests of the code in their order.
-use mathlib.Core.Path.{◌≡◌, refl, sym, subst, ◌∙◌}
+use mathlib.Core.Path.{◌≡◌, refl, sym, ap, subst, ◌∙◌}
 use mathlib.Core.Bool.{Bool, true, false, not, cond, ◌&&◌}
-use mathlib.Core.List.{List}
+use mathlib.Core.List.{List, map}
 use mathlib.Core.Option.{Option, none, some, none-ne-some}
 use Prim.Native.Nat.{ℕ, ◌-◌, ◌≤◌, ◌<◌}
 use native.Mathlib.Omega.{arith}
 use lib.Dec.{T, leb, ltb, eqb, le→leb, leb→le, ltb→lt, eqb→eq, not_T}
-use lib.IntN.{ℤ, pos}
 use lib.ListN.{length, take}
 use Rattle.std.specs.Prelude as Std
 use Rattle.std.specs.Prelude.{Ok, Err, Some, None, IsErrAnd}
@@ -14,10 +13,11 @@ use Rattle.std.specs.Option.{ok_or}
 use Rattle.std.proofs.lemmas.Option.{none-some, same_Some}
 use Rattle.numbers.proofs.Truth.{cond-true, cond-false}
 use Rattle.query.specs.Deck as Query
-use Rattle.query.specs.Deck.{Stop}
 use Rattle.deck.specs.declared.Deck.{Deck}
-use Rattle.deck.specs.DeckOf.{places, stops_of, deck_of}
-use Rattle.columns.proofs.ClosestLaws.{zip_take}
+use Rattle.deck.specs.declared.Place.{Place}
+use Rattle.deck.specs.declared.Stop.{Stop}
+use Rattle.deck.specs.DeckOf.{deck_of}
+use Rattle.deck.specs.Values.{place_of, stop_of, no_stop}
 use Rattle.job_line.proofs.LineLaws.{ok_or_some, ok_or_none}
 use Rattle.job.proofs.PartLaws.{handed}
 use Rattle.refusal.specs.declared.Refusal.{Refusal}
@@ -25,7 +25,7 @@ use Rattle.refusal.specs.declared.Refusal.TheVariants.{OutOfRange, NotHeld, Full
 use Rattle.items.specs.Items.{is_same_stop, held, first_place, first_found, taken_out_at}
 use Rattle.items.proofs.FirstPlace.{held_place}
 use Rattle.change.specs.Change.{Change, remove_stop, line_in_range, item_line, list_conditions, conditions, first_refusal, change_refusal}
-use Rattle.change.specs.ChangedRecord.{usable, with_stop_columns, altered_record, record_refusal, Changed, changed_record}
+use Rattle.change.specs.ChangedRecord.{usable, with_stop_list, altered_record, record_refusal, Changed, changed_record}
 use Rattle.change.proofs.Answered.{answer_refused, answer_made}
 
 -- ---- what is refused of a change whose values are in range
@@ -123,20 +123,18 @@ module _ {A : Type 0} (same : A → Bool) (xs : List A) (why : Refusal) {o : Std
       go false p h = absurd (none-some i h)
 
 module _ (deck : Deck) where
-  -- in columns of the first posts, and of the first stops, alone
-  pub posts_in : {xs ys : List ℤ} → xs ≡ take deck.posts deck.post_x → ys ≡ take deck.posts deck.post_y → places xs ys ≡ (deck_of deck).posts
-  unfolding deck_of places
-  posts_in e f = rw (e, f, zip_take)
+  -- in the first posts, and in the first stops
+  pub posts_in : {posts : List Place} → posts ≡ take deck.post_count deck.posts → map place_of posts ≡ (deck_of deck).posts
+  unfolding deck_of
+  posts_in e = ap (map place_of) e
 
-  pub stops_in : {xs ys : List ℤ} {vs : List ℕ} → xs ≡ take deck.stops deck.stop_x → ys ≡ take deck.stops deck.stop_y →
-      vs ≡ take deck.stops deck.visits → stops_of (places xs ys) vs ≡ (deck_of deck).stops
-  unfolding deck_of places stops_of
-  stops_in e f g = rw (e, f, g, zip_take _ deck.stops (places deck.stop_x deck.stop_y), zip_take _ deck.stops deck.stop_x)
+  pub stops_in : {stops : List Stop} → stops ≡ take deck.stop_count deck.stops → map stop_of stops ≡ (deck_of deck).stops
+  unfolding deck_of
+  stops_in e = ap (map stop_of) e
 
 -- the record without stop i
-pub without_stop : (deck : Deck) (s : Stop) {i : ℕ} → i ≡ first_place (is_same_stop s) (deck_of deck).stops → {next : Deck} →
-    next ≡ with_stop_columns deck (deck.stops - 1) (taken_out_at deck.stops i (pos 0) deck.stop_x)
-    (taken_out_at deck.stops i (pos 0) deck.stop_y) (taken_out_at deck.stops i 0 deck.visits) (taken_out_at deck.stops i 0 deck.near) →
+pub without_stop : (deck : Deck) (s : Query.Stop) {i : ℕ} → i ≡ first_place (is_same_stop s) (deck_of deck).stops → {next : Deck} →
+    next ≡ with_stop_list deck (deck.stop_count - 1) (taken_out_at deck.stop_count i no_stop deck.stops) (taken_out_at deck.stop_count i 0 deck.near) →
     next ≡ altered_record (remove_stop s) deck
 unfolding altered_record
 without_stop deck s e f = rw e at f

@@ -1,19 +1,28 @@
--- The first n of a column: one more behind them, one taken out, and their range.
-use mathlib.Core.Path.{◌≡◌, ap, ◌∙◌}
+-- The first n of an array: one more behind them, one taken out, and their range.
+use mathlib.Core.Path.{◌≡◌, refl, sym, ap, subst, ◌∙◌}
 use mathlib.Core.Logic.{◌↔◌}
-use mathlib.Core.List.{List, [], ◌∷◌, ◌++◌, append_assoc}
+use mathlib.Core.List.{List, [], ◌∷◌, ◌++◌, map, map-append, append_assoc, Memᴰ}
 use Prim.Native.Nat.{ℕ, zero, suc, ◌+◌, ◌-◌, ◌≤◌, ◌<◌}
 use native.Mathlib.Numerals.{add-one}
 use native.Mathlib.Omega.{arith}
 use lib.Dec.{T, leb, leb→le, le→leb}
-use lib.IntN.{ℤ, pos, nat_abs}
-use lib.ListN.{length, get_or, take, drop, set, length-set}
-use lib.Seq.{take-take, take-length, drop-length}
+use lib.ListN.{length, get_or, take, drop, set, length-set, length-take}
+use lib.Seq.{take-take, take-length, drop-length, get_or-take}
 use Rattle.std.specs.List.{list_all}
 use Rattle.numbers.proofs.Truth.{and_left, and_right, and_intro}
-use Rattle.columns.specs.Ranges.{CoordinatesUpTo, PlacesInRange, NaturalsUpTo}
+use Rattle.std.proofs.Math.Seq.{take-suc-set}
+use Rattle.numbers.proofs.Members.{each_cons}
+use Rattle.query.specs.Place as Query
+use Rattle.query.specs.Deck as QueryDeck
+use Rattle.query.specs.Range.{PlaceInRange, StopInRange, posts_limit, stops_limit, travel_limit}
+use Rattle.deck.specs.declared.Place.{Place}
+use Rattle.deck.specs.declared.Stop.{Stop}
+use Rattle.deck.specs.Values.{place_of, stop_of, no_place, no_stop}
+use Rattle.deck.specs.Ranges.{PostsInRange, StopsInRange, NearsInRange}
 use Rattle.items.specs.Items.{taken_out_at}
-use Rattle.items.proofs.Removal.{taken_length, taken_each}
+use Rattle.items.proofs.Removal.{removed, taken_front, taken_length}
+use Rattle.items.proofs.TakenOut.{map_removed}
+use Rattle.change.proofs.AlteredLaws.{each_more}
 
 -- ---- the first n numbers of a list, where those past its end are 0
 abbrev pub EachUpTo : ℕ → List ℕ → ℕ → Type 0
@@ -62,11 +71,18 @@ taken_up_to most (suc n) (suc i) [] each (suc j) l = omega arith
 taken_up_to most (suc n) (suc i) (x ∷ xs) each zero l = each zero (omega arith)
 taken_up_to most (suc n) (suc i) (x ∷ xs) each (suc j) l = taken_up_to most n i xs (λ k m. each (suc k) (omega arith)) j (omega arith)
 
--- ---- columns
--- in range with one more number behind the first n
-module _ {most n v : ℕ} {xs : List ℕ} (range : NaturalsUpTo most xs n) (room : n < length xs) (h : v ≤ most) where
-  pub one_more : NaturalsUpTo most (set xs n v) (n + 1)
-  one_more = record { count = omega (arith, length-set xs n v); range = rw (add-one n) (set_up_to most n v xs h range.range) }
+-- ---- near
+-- in range with one more behind the first n
+pub nears_more : {near : List ℕ} {n v : ℕ} → NearsInRange near n → n < length near → v ≤ travel_limit → NearsInRange (set near n v) (n + 1)
+nears_more {near} {n} {v} range room h =
+    record { count = omega (arith, length-set near n v); range = rw (add-one n) (set_up_to travel_limit n v near h range.range) }
+
+-- of the first n alone
+pub nears_front : {near : List ℕ} {n k : ℕ} → k ≤ n → NearsInRange near n → NearsInRange (take n near) k
+nears_front {near} {n} {k} h range = record {
+  count = omega (arith, length-take n near, range.count);
+  range = λ i l. rw (get_or-take n near i 0 (omega arith)) (range.range i (omega arith));
+}
 
 -- an element taken out: the first n without it
 abbrev pub FrontWithout : {A : Type 0} → ℕ → ℕ → A → List A → List A → Type 0
@@ -81,20 +97,50 @@ taken_here xs n i z h g e =
     (append_assoc (take i xs) (drop (suc i) (take n xs) ++ (z ∷ [])) (drop n xs)
     ∙ ap (λ l. take i xs ++ l) (append_assoc (drop (suc i) (take n xs)) (z ∷ []) (drop n xs)))
 
--- what is left is in range
-module _ {i n : ℕ} (h : i < n) where
-  pub naturals_left : {most : ℕ} {xs ys : List ℕ} → NaturalsUpTo most xs n → FrontWithout n i 0 xs ys → NaturalsUpTo most (ys ++ drop n xs) (n - 1)
-  naturals_left {most} {xs} range e = rw (taken_here xs n i 0 h range.count e) (record {
-    count = omega (arith, taken_length xs i n 0 h range.count, range.count);
-    range = taken_up_to most n i xs range.range;
-  })
+pub nears_left : {near : List ℕ} {n i : ℕ} → i < n → NearsInRange near n → NearsInRange (taken_out_at n i 0 near) (n - 1)
+nears_left {near} {n} {i} h range = record {
+  count = omega (arith, taken_length near i n 0 h range.count, range.count);
+  range = taken_up_to travel_limit n i near range.range;
+}
 
-  coordinates_left : {most : ℕ} {xs : List ℤ} → CoordinatesUpTo most xs n → CoordinatesUpTo most (taken_out_at n i (pos 0) xs) (n - 1)
-  coordinates_left {most} {xs} range = record {
-    count = omega (arith, taken_length xs i n (pos 0) h range.count, range.count);
-    range = taken_each xs i n (pos 0) h range.count (λ (z : ℤ). nat_abs z ≤ most) range.range;
+-- ---- the first n values of an array, and what they hold
+module _ {A B : Type 0} (held : A → B) (n : ℕ) (xs : List A) where
+  -- one more
+  pub front_more : (x : A) → n < length xs → map held (take (suc n) (set xs n x)) ≡ map held (take n xs) ++ (held x ∷ [])
+  front_more x h = ap (map held) (take-suc-set xs n x h) ∙ map-append held (take n xs) (x ∷ [])
+
+  -- one less
+  pub front_less : (i : ℕ) (z : A) → i < n → n ≤ length xs → map held (take (n - 1) (taken_out_at n i z xs)) ≡ removed i (map held (take n xs))
+  front_less i z h g = ap (map held) (taken_front xs i n z h g) ∙ map_removed held i (take n xs)
+
+each_removed : {A : Type 0} (P : A → Type 0) (i : ℕ) (xs : List A) → ((a : A) → Memᴰ a xs → P a) → (a : A) → Memᴰ a (removed i xs) → P a
+each_removed P zero [] each a m = each a m
+each_removed P zero (x ∷ xs) each a m = each a (Memᴰ.tail m)
+each_removed P (suc i) [] each a m = each a m
+each_removed P (suc i) (x ∷ xs) each a m = each_cons P (each x (Memᴰ.head refl)) (each_removed P i xs (λ b l. each b (Memᴰ.tail l))) a m
+
+-- they stay in range
+pub stops_more : (stops : List Stop) {n : ℕ} (s : Stop) → StopsInRange (take n stops) → n < length stops → n < stops_limit → StopInRange (stop_of s) →
+    StopsInRange (take (n + 1) (set stops n s))
+stops_more stops {n} s range room few h = rw (add-one n) (record {
+  few = omega (arith, length-take (suc n) (set stops n s));
+  each = subst (λ l. (t : QueryDeck.Stop) → Memᴰ t l → StopInRange t) (sym (front_more stop_of n stops s room))
+      (each_more StopInRange (map stop_of (take n stops)) (stop_of s) range.each h);
+})
+
+module _ {n i : ℕ} (h : i < n) where
+  pub stops_left : (stops : List Stop) → n ≤ length stops → n ≤ stops_limit → StopsInRange (take n stops) →
+      StopsInRange (take (n - 1) (taken_out_at n i no_stop stops))
+  stops_left stops long most range = record {
+    few = omega (arith, length-take (n - 1) (taken_out_at n i no_stop stops), most);
+    each = subst (λ l. (s : QueryDeck.Stop) → Memᴰ s l → StopInRange s) (sym (front_less stop_of n stops i no_stop h long))
+        (each_removed StopInRange i (map stop_of (take n stops)) range.each);
   }
 
-  pub places_left : {most : ℕ} {xs ys : List ℤ} → PlacesInRange most xs ys n →
-      PlacesInRange most (taken_out_at n i (pos 0) xs) (taken_out_at n i (pos 0) ys) (n - 1)
-  places_left range = record { x = coordinates_left range.x; y = coordinates_left range.y; few = omega (arith, range.few) }
+  pub posts_left : (posts : List Place) → n ≤ length posts → n ≤ posts_limit → PostsInRange (take n posts) →
+      PostsInRange (take (n - 1) (taken_out_at n i no_place posts))
+  posts_left posts long most range = record {
+    few = omega (arith, length-take (n - 1) (taken_out_at n i no_place posts), most);
+    each = subst (λ l. (p : Query.Place) → Memᴰ p l → PlaceInRange p) (sym (front_less place_of n posts i no_place h long))
+        (each_removed PlaceInRange i (map place_of (take n posts)) range.each);
+  }

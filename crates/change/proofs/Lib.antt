@@ -3,7 +3,6 @@ pub mod AlteredRecord
 pub mod Answered
 pub mod ChangedLaws
 pub mod CodeTests
-pub mod ColumnChanges
 pub mod Conditions
 pub mod FrontChanges
 pub mod KeptLaws

@@ -11,11 +11,12 @@ use Rattle.numbers.proofs.Truth.{and_iff}
 use Rattle.query.specs.Place.{NonEmpty}
 use Rattle.query.specs.Range.{InRange, posts_limit, stops_limit, travel_limit}
 use Rattle.deck.specs.DeckOf.{Sized, deck_of}
-use Rattle.deck.specs.Ranges.{NearsInRange}
+use Rattle.deck.specs.Values.{held_axis}
+use Rattle.deck.specs.Ranges.{CostsInRange, PostsInRange, StopsInRange, NearsInRange}
 use Rattle.deck.specs.Sound.{Sound}
 use Rattle.deck.specs.declared.Deck.{Deck}
-use Rattle.deck.proofs.DeckLaws.{DeckColumns}
-use Rattle.deck.proofs.SoundLaws.{sound_columns, sound_nears}
+use Rattle.deck.proofs.DeckLaws.{Listed, costs_range, posts_range, stops_range}
+use Rattle.deck.proofs.SoundLaws.{sound_listed, sound_nears}
 use Rattle.job.specs.Format.{Result, refused, accepted, missing_axis, read_text}
 use Rattle.job.specs.File.{held_job, file_text}
 use Rattle.job.specs.Spelling.{Allowed}
@@ -33,19 +34,19 @@ accepts (refused why) = (λ t. absurd t, λ e. absurd (none-ne-some why (sym e))
 accepts (accepted job) = (λ t. refl, λ e. tt)
 
 tests : (deck : Deck) → T (usable deck)
-    ↔ ((refusal_in (read_text (file_text deck 0)) ≡ none) × T (list_all (λ n. leb n travel_limit) (take deck.stops deck.near)))
+    ↔ ((refusal_in (read_text (file_text deck 0)) ≡ none) × T (list_all (λ n. leb n travel_limit) (take deck.stop_count deck.near)))
 unfolding usable
 tests deck =
-    and_iff (is_accepted (read_text (file_text deck 0))) (list_all (λ n. leb n travel_limit) (take deck.stops deck.near))
+    and_iff (is_accepted (read_text (file_text deck 0))) (list_all (λ n. leb n travel_limit) (take deck.stop_count deck.near))
     (accepts (read_text (file_text deck 0))) (λ t. t, λ t. t)
 
 -- ---- what they say
 -- whatever the length of near, which is 0 past its end
 abbrev pub CanChange : Deck → Type 0
-CanChange deck = Allowed (held_job deck 0) × (deck.posts ≤ posts_limit) × (deck.stops ≤ stops_limit) × EachUpTo travel_limit deck.near deck.stops
+CanChange deck = Allowed (held_job deck 0) × (deck.post_count ≤ posts_limit) × (deck.stop_count ≤ stops_limit) × EachUpTo travel_limit deck.near deck.stop_count
 
 module _ (deck : Deck) (sized : Sized deck) where
-  accepted_file : Allowed (held_job deck 0) → deck.posts ≤ posts_limit → deck.stops ≤ stops_limit → refusal_in (read_text (file_text deck 0)) ≡ none
+  accepted_file : Allowed (held_job deck 0) → deck.post_count ≤ posts_limit → deck.stop_count ≤ stops_limit → refusal_in (read_text (file_text deck 0)) ≡ none
   accepted_file allowed posts stops = ap refusal_in (ap read_text (file_spelled deck 0 sized posts stops)
       ∙ allowed_text missing_axis _ (held_job deck 0) (saved_spells (held_job deck 0)) allowed)
 
@@ -53,13 +54,13 @@ module _ (deck : Deck) (sized : Sized deck) where
   usable_exactly = (
     λ t. let (fine, few) = (tests deck).0 t in
         let file = file_is deck 0 sized fine in
-        (file.allowed, file.few_posts, file.few_stops, (front_up_to travel_limit deck.stops deck.near).0 few),
-    λ h. (tests deck).1 (accepted_file h.0 h.1 h.2, (front_up_to travel_limit deck.stops deck.near).1 h.3),
+        (file.allowed, file.few_posts, file.few_stops, (front_up_to travel_limit deck.stop_count deck.near).0 few),
+    λ h. (tests deck).1 (accepted_file h.0 h.1 h.2, (front_up_to travel_limit deck.stop_count deck.near).1 h.3),
   )
 
   -- ---- of a record that can be changed
   module _ (t : T (usable deck)) where
-    pub usable_counts : DeckColumns deck
+    pub usable_counts : Listed deck
     usable_counts = let h = usable_exactly.0 t in record { sized = sized; posts = h.1; stops = h.2 }
 
     pub usable_range : InRange (deck_of deck)
@@ -68,32 +69,34 @@ module _ (deck : Deck) (sized : Sized deck) where
     pub usable_area : NonEmpty (deck_of deck).area
     usable_area = (usable_exactly.0 t).0.area_full
 
-    pub usable_near : EachUpTo travel_limit deck.near deck.stops
+    pub usable_near : EachUpTo travel_limit deck.near deck.stop_count
     usable_near = (usable_exactly.0 t).3
 
 -- ---- its numbers are in range
 pub record Usable (deck : Deck) : Type 0 where
-  pub few_posts : deck.posts ≤ posts_limit
-  pub few_stops : deck.stops ≤ stops_limit
+  pub listed : Listed deck
   pub range : InRange (deck_of deck)
-  pub nears : NearsInRange deck.near deck.stops
+  pub costs : CostsInRange (held_axis deck.axis)
+  pub posts : PostsInRange (take deck.post_count deck.posts)
+  pub stops : StopsInRange (take deck.stop_count deck.stops)
+  pub nears : NearsInRange deck.near deck.stop_count
 
-pub usable_says : (deck : Deck) → Sized deck → length deck.near ≡ stops_limit → T (usable deck) → Usable deck
-usable_says deck sized long t =
-    let counts = usable_counts deck sized t in
+pub usable_says : {deck : Deck} → Sized deck → length deck.near ≡ stops_limit → T (usable deck) → Usable deck
+usable_says {deck} sized nears t =
+    let listed = usable_counts deck sized t in
+    let range = usable_range deck sized t in
     record {
-      few_posts = counts.posts;
-      few_stops = counts.stops;
-      range = usable_range deck sized t;
-      nears = record { count = omega (arith, counts.stops, long); range = usable_near deck sized t };
+      listed = listed;
+      range = range;
+      costs = costs_range deck range;
+      posts = posts_range deck range;
+      stops = stops_range deck range;
+      nears = record { count = omega (arith, listed.stops, nears); range = usable_near deck sized t };
     }
-
-pub usable_columns : {deck : Deck} → Sized deck → Usable deck → DeckColumns deck
-usable_columns sized u = record { sized = sized; posts = u.few_posts; stops = u.few_stops }
 
 -- ---- every sound record can be changed
 pub sound_usable : (deck : Deck) → Sound deck → T (usable deck)
 sound_usable deck sound =
-    let columns : DeckColumns deck = sound_columns sound in
-    (usable_exactly deck columns.sized).1
-    (in_range_allowed (held_job deck 0) sound.range sound.full (omega arith), columns.posts, columns.stops, (sound_nears sound).range)
+    let listed = sound_listed sound in
+    (usable_exactly deck listed.sized).1
+    (in_range_allowed (held_job deck 0) sound.range sound.full (omega arith), listed.posts, listed.stops, (sound_nears sound).range)

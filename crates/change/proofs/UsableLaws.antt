@@ -1,28 +1,24 @@
 -- Which records can be changed, as the code tests it.
-use mathlib.Core.Path.{◌≡◌, refl, sym, ap, subst, ◌∙◌}
+use mathlib.Core.Path.{◌≡◌, refl, sym, ap, ◌∙◌}
 use mathlib.Core.Bool.{Bool, true, false, ◌&&◌}
 use mathlib.Core.Option.{none-ne-some}
-use Prim.Native.Nat.{◌≤◌}
-use lib.Dec.{T, leb}
+use lib.Dec.{leb}
 use lib.ListN.{take}
 use Rattle.std.specs.Prelude as Std
 use Rattle.std.specs.Prelude.{Ok, Err}
 use Rattle.std.specs.Result.{is_ok}
 use Rattle.std.specs.List.{list_all}
-use Rattle.query.specs.Range.{travel_limit, stops_limit}
-use Rattle.deck.specs.DeckOf.{Sized}
+use Rattle.query.specs.Range.{travel_limit}
 use Rattle.deck.specs.declared.Deck.{Deck}
 use Rattle.job.specs.Format.{Result, refused, accepted, read_text}
 use Rattle.job.specs.File.{file_text}
 use Rattle.job_check.specs.LineFaults.{refusal_in, checked_as}
-use Rattle.job_check.proofs.FileFaults.{file_is}
 use Rattle.refusal.specs.declared.Refusal.{Refusal}
 use Rattle.change.specs.ChangedRecord.{is_accepted, usable}
-use Rattle.change.proofs.UsableExactly.{accepts}
 
 -- what it tests of near
 abbrev pub near_ranged : Deck → Bool
-near_ranged deck = list_all (λ n. leb n travel_limit) (take deck.stops deck.near)
+near_ranged deck = list_all (λ n. leb n travel_limit) (take deck.stop_count deck.near)
 
 -- and of the file
 ok_is : (r : Std.Result (Unit {0}) Refusal) (reading : Result) → checked_as r ≡ refusal_in reading → is_ok r ≡ is_accepted reading
@@ -43,10 +39,3 @@ module _ (deck : Deck) (r : Std.Result (Unit {0}) Refusal) (checked : checked_as
   pub usable_fine : b ≡ true → {t : Bool} → t ≡ near_ranged deck → t ≡ usable deck
   unfolding usable
   usable_fine e f = f ∙ ap (λ (t : Bool). t && near_ranged deck) (sym e ∙ test_is)
-
--- its stops, by the test of the file
-pub few_stops : (deck : Deck) → Sized deck → (r : Std.Result (Unit {0}) Refusal) → checked_as r ≡ refusal_in (read_text (file_text deck 0)) →
-    {b : Bool} → b ≡ is_ok r → b ≡ true → deck.stops ≤ stops_limit
-few_stops deck sized r checked tested e =
-    let t = subst T (sym e ∙ test_is deck r checked tested) tt in
-    (file_is deck 0 sized ((accepts (read_text (file_text deck 0))).0 t)).few_stops

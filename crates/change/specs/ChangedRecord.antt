@@ -1,5 +1,5 @@
 -- The changes of a deck's record, whatever numbers it holds (RULES "Change 6").
-use Rattle.std.specs.Prelude.{ℕ, suc, ◌-◌, Bool, true, false, cond, ◌&&◌, leb, take, set, Ok, Err}
+use Rattle.std.specs.Prelude.{ℕ, suc, ◌-◌, Bool, true, false, cond, ◌&&◌, leb, length, take, set, Ok, Err}
 use Rattle.std.specs.Prelude as Std
 use Rattle.std.specs.List.{list_all}
 use mathlib.Core.List.{List, map, zip_with, foldl}
@@ -47,7 +47,9 @@ with_stop_list deck n stops nears =
 -- the near of the stops that count, each by its place and by the near that is held; what stands behind stays
 unfoldable pub renewed : Deck → (Query.Place → ℕ → ℕ) → List ℕ
 unfolding zip_with
-renewed deck f = paste deck.near 0 (zip_with (λ s near. f (stop_of s).at near) deck.stops deck.near) deck.stop_count
+renewed deck f =
+    let stops = take deck.stop_count deck.stops in
+    paste deck.near 0 (zip_with (λ s near. f (stop_of s).at near) stops deck.near) (length stops)
 
 -- a record with a change made
 unfoldable pub altered_record : Change → Deck → Deck

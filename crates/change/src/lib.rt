@@ -1,11 +1,11 @@
 // Changes of a deck's record (RULES "Change 6"): a post or a stop is added or removed, and near and before follow.
 #![tactic(auto)]
 
-ghost use Rattle.std.specs.Prelude.{◌≡◌, ◌-◌, ◌≤◌, ◌<◌, leb, cond, ◌&&◌, T, take};
+ghost use Rattle.std.specs.Prelude.{◌≡◌, ◌-◌, ◌≤◌, ◌<◌, leb, cond, ◌&&◌, T, take, IfOk};
 ghost use Rattle.std.specs.List.{list_all};
 ghost use Rattle.std.proofs.Math.Option.{none, some};
 ghost use Rattle.query.specs.Range.{PlaceInRange, StopInRange, posts_limit, stops_limit, travel_limit};
-ghost use Rattle.deck.specs.DeckOf.{deck_of, with_figures};
+ghost use Rattle.deck.specs.DeckOf.{Sized, deck_of, with_figures};
 ghost use Rattle.columns.specs.StopFigures.{paid};
 ghost use Rattle.deck.specs.Ranges.{StopsInRange, NearsInRange};
 ghost use Rattle.deck.specs.Values.{place_of, stop_of, no_stop};
@@ -25,17 +25,19 @@ const MOST_TRAVEL: u64 = 720000;
 
 // ---- which records and values are taken
 
-fn all_travels(near: &[u64]) -> bool
-    ensures { result ≡ list_all (λ n. leb n travel_limit) near.now }
+// Whether the first `count` numbers are each at most the longest travel.
+fn all_travels(near: &[u64], count: usize) -> bool
+    ensures { result ≡ list_all (λ n. leb n travel_limit) (take count near.now) }
 {
-    near.iter().all(|n| *n <= MOST_TRAVEL)
+    near.iter().take(count).all(|n| *n <= MOST_TRAVEL)
 }
 
 // Whether a record can be changed: its file is one that the reader accepts, and no stop's near is above the longest travel.
 fn usable(deck: &Deck) -> bool
-    ensures { result ≡ usable deck.now }
+    ensures value { result ≡ usable deck.now }
+    ensures sized { Sized deck.now }
 {
-    job_check::check(deck, 0).is_ok() && all_travels(deck.listed_near())
+    job_check::check(deck, 0).is_ok() && all_travels(&deck.near, deck.stop_count)
 }
 
 // Whether the values of a stop are in range. Its visits are compared as u64 first, since as i64 large ones would be other numbers.
@@ -47,7 +49,8 @@ fn stop_in_range(stop: Stop) -> bool
 
 // Refusal 3, for values that are out of range or a record that cannot be changed.
 fn check_range(deck: &Deck, in_range: bool) -> Result<(), Refusal>
-    ensures { checked_as result ≡ cond (in_range && usable deck.now) none (some (OutOfRange 0)) }
+    ensures refusal { checked_as result ≡ cond (in_range && usable deck.now) none (some (OutOfRange 0)) }
+    ensures sized { IfOk result (λ u. Sized deck.now) }
 {
     if in_range && usable(deck) {
         Ok(())
@@ -69,7 +72,7 @@ fn renew_before(deck: &mut Deck)
 
 // Puts a post behind the last.
 fn put_post(deck: &mut Deck, post: Place)
-    requires { T (usable deck.old) × (deck.old.post_count < posts_limit) × PlaceInRange (place_of post) }
+    requires { Sized deck.old × T (usable deck.old) × (deck.old.post_count < posts_limit) × PlaceInRange (place_of post) }
     ensures { deck.new ≡ altered_record (add_post (place_of post)) deck.old }
 {
     let n = deck.stop_count;
@@ -81,7 +84,7 @@ fn put_post(deck: &mut Deck, post: Place)
 
 // Takes out post i, counted from 0, which is the first at this place.
 fn take_post(deck: &mut Deck, post: Place, i: usize)
-    requires { T (usable deck.old) × PlaceInRange (place_of post)
+    requires { Sized deck.old × T (usable deck.old) × PlaceInRange (place_of post)
         × (i ≡ first_place (is_same_place (place_of post)) (deck_of deck.old).posts) × (i < deck.old.post_count)
         × (2 ≤ deck.old.post_count) }
     ensures { deck.new ≡ altered_record (remove_post (place_of post)) deck.old }
@@ -102,7 +105,7 @@ fn take_post(deck: &mut Deck, post: Place, i: usize)
 
 // Puts a stop behind the last.
 fn put_stop(deck: &mut Deck, stop: Stop)
-    requires { T (usable deck.old) × (deck.old.stop_count < stops_limit) × StopInRange (stop_of stop) }
+    requires { Sized deck.old × T (usable deck.old) × (deck.old.stop_count < stops_limit) × StopInRange (stop_of stop) }
     ensures { deck.new ≡ altered_record (add_stop (stop_of stop)) deck.old }
 {
     let n = deck.stop_count;
@@ -114,7 +117,7 @@ fn put_stop(deck: &mut Deck, stop: Stop)
 
 // Takes out stop i, counted from 0.
 fn take_stop(deck: &mut Deck, i: usize)
-    requires { T (usable deck.old) × (i < deck.old.stop_count) × (2 ≤ deck.old.stop_count) }
+    requires { Sized deck.old × T (usable deck.old) × (i < deck.old.stop_count) × (2 ≤ deck.old.stop_count) }
     ensures { deck.new ≡ with_stop_list deck.old (deck.old.stop_count - 1)
         (taken_out_at deck.old.stop_count i no_stop deck.old.stops) (taken_out_at deck.old.stop_count i 0 deck.old.near) }
 {

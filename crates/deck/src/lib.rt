@@ -8,15 +8,6 @@ ghost use Rattle.deck.specs.Values.{axis_of, place_of, rect_of};
 
 use limits::{POSTS, STOPS};
 
-/// What stands in a record's array behind its posts.
-pub const NO_POST: Place = Place { x: 0, y: 0 };
-
-/// What stands behind its stops.
-pub const NO_STOP: Stop = Stop {
-    at: NO_POST,
-    visits: 0,
-};
-
 /// An axis of the deck: x to the right, y to the back.
 #[derive(Clone, Copy, PartialEq)]
 pub enum Axis {
@@ -52,6 +43,15 @@ pub struct Stop {
     pub at: Place,
     pub visits: u64,
 }
+
+/// What stands in the array of a record behind its posts.
+pub const NO_POST: Place = Place { x: 0, y: 0 };
+
+/// What stands behind its stops.
+pub const NO_STOP: Stop = Stop {
+    at: NO_POST,
+    visits: 0,
+};
 
 /// A rectangle by its edges, which belong to it, in tenths of a millimetre. It may be out of range, or have a high edge below its low one
 /// and so no point.
@@ -105,19 +105,26 @@ pub struct AxisCosts {
     pub b: u64,
 }
 
-/// A deck's record: its area, its axis costs, and its posts and stops at the front of arrays, of which the first `post_count` and the first
-/// `stop_count` count. A caller's record may hold any numbers and counts; a sound one (deck/specs/Sound.antt), as reading and changes leave
-/// it, has 0 in all that stands behind, the near of each stop in `near` and the deck's before in `before`.
+/// A deck's record, laid out as C has such structs: its area, its axis costs, and its posts and stops at the front of arrays, of which the
+/// first `post_count` and the first `stop_count` count. A caller's record may hold any numbers and counts; a sound one
+/// (deck/specs/Sound.antt), as reading and changes leave it, has 0 in all that stands behind, the near of each stop in `near` and the deck's
+/// before in `before`.
 #[repr(C)]
 #[derive(Clone, Copy)]
 pub struct Deck {
+    /// Where one more post may go.
     pub area: Rect,
+    /// What travel costs along each axis.
     pub axis: AxisCosts,
+    /// How many posts there are, 64 at most in a sound record.
     pub post_count: usize,
     pub posts: [Place; POSTS],
+    /// How many stops there are, 512 at most in a sound record.
     pub stop_count: usize,
     pub stops: [Stop; STOPS],
+    /// The near of each stop, at its index (RULES "Near").
     pub near: [u64; STOPS],
+    /// What one run costs with the posts that there are (RULES "Cost").
     pub before: u64,
 }
 

@@ -42,7 +42,7 @@ pub fn of_given(given: &PreparedJob) -> Estimate
     )
 }
 
-/// The estimate of a job, or its refusal, which is one of 1 to 6.
+/// The estimate of a job, or its own refusal (RULES "Refusals").
 pub fn of_job(job: &[u8]) -> Result<Estimate, Refusal>
     ensures { estimated_answer result ≡ estimate_call job.now }
 {

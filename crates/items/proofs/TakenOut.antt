@@ -18,7 +18,7 @@ map_drop f (suc n) [] = refl
 map_drop f (suc n) (x ∷ xs) = map_drop f n xs
 
 -- a list without element i
-map_removed : {A B : Type 0} (f : A → B) (i : ℕ) (xs : List A) → map f (removed i xs) ≡ removed i (map f xs)
+pub map_removed : {A B : Type 0} (f : A → B) (i : ℕ) (xs : List A) → map f (removed i xs) ≡ removed i (map f xs)
 map_removed f i xs = rw (map-append f (take i xs) (drop (suc i) xs), map_take f i xs, map_drop f (suc i) xs)
 
 module _ {A : Type 0} (size : ℕ) (z : A) where

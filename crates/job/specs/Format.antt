@@ -93,7 +93,7 @@ reading_result (got job n bs) = checked job
 abbrev pub size_limit : ℕ
 size_limit = 16384
 
--- refusals 2 to 6, which are found in the text, whatever its size
+-- the refusals of the text, whatever its size
 abbrev pub text_with : AxisCosts → List ℕ → Result
 text_with missing bytes = reading_result (job_lines missing 1 bytes)
 

@@ -75,7 +75,7 @@ pub record Spelled (bytes : List ℕ) : Type 0 where
   pub writable : Writable carried job
   pub spelled : bytes ≡ spell carried job
 
--- RULES "Refusals": the condition of each of refusals 2 to 6, which reading gives for text of any size
+-- RULES "Refusals": the condition of each refusal of a job's text, which reading gives whatever its size
 pub data TextCondition (bytes : List ℕ) : Refusal → Type 0 where
   malformed : {n : ℕ} → FirstMalformed bytes n → TextCondition bytes (Malformed n)
   out_of_range : {n : ℕ} → FirstOutOfRange bytes n → TextCondition bytes (OutOfRange n)

@@ -131,8 +131,8 @@ fn read_rest(unread: Unread<'_>, area: Rect, axis: AxisCosts) -> Result<Job, Ref
     Ok(Job { rounds, deck })
 }
 
-/// Reads a job's bytes: the rounds and the deck's record that they spell, or the refusal, of 1 to 6, that comes first (RULES "Refusals"). A
-/// job without an axis line has the axis costs `missing`, each from 1 to 9.
+/// Reads a job's bytes: the rounds and the deck's record that they spell, or of the job's own refusals the first (RULES "Refusals"). A job
+/// without an axis line has the axis costs `missing`, each from 1 to 9.
 pub fn read_with(bytes: &[u8], missing: AxisCosts) -> Result<Job, Refusal>
     requires { CostsInRange (held_axis missing) }
     ensures { result ≡ job_result (read_with (held_axis missing) bytes.now) }

@@ -3,7 +3,7 @@
 
 ghost use Rattle.std.specs.Prelude.{◌≡◌, cond, [], ◌∷◌, map, ◌≤◌, pos, length};
 ghost use Rattle.query.specs.Range.{posts_limit, stops_limit};
-ghost use Rattle.deck.specs.DeckOf.{deck_of};
+ghost use Rattle.deck.specs.DeckOf.{Sized, deck_of};
 ghost use Rattle.deck.specs.Values.{held_axis, place_of, stop_of};
 ghost use Rattle.job_line.specs.Kinds.{area, axis, posts, post, stops, stop, up_to, row};
 ghost use Rattle.job_line.specs.Reading.{area_numbers, cost_numbers, place_numbers, stop_numbers};
@@ -155,10 +155,12 @@ fn posts_at(c: AxisCosts) -> u64
     if job::writes_axis(c) { 3 } else { 2 }
 }
 
-/// The refusal, of 2 to 6, that reading the file of a record and these rounds would give, with the line that it would have there. The
-/// file's size is not looked at, nor are the record's near and before, which no file holds.
+/// The refusal of its text that reading the file of a record and these rounds would give (RULES "Refusals"), with the line that it would
+/// have there. The file's size is not looked at, nor are the record's near and before, which no file holds.
 pub fn check(deck: &Deck, rounds: u64) -> Result<(), Refusal>
-    ensures { checked_as result ≡ refusal_in (read_text (file_text deck.now rounds)) }
+    ensures refusal { checked_as result ≡ refusal_in (read_text (file_text deck.now rounds)) }
+    // as any record of the code is, for callers that read none of its posts and stops themselves
+    ensures sized { Sized deck.now }
 {
     area_line(deck.area)?;
     // costs of 1 and 1, which have no line, have no fault either

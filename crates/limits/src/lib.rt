@@ -1,5 +1,5 @@
 // The limits of RULES "Deck", "Refusals" and "Calls", and the sizes of arrays that follow from them. The definitions have them in
-// query/specs/Range.antt, deck/specs/Columns.antt, job/specs/Format.antt, report/specs/Limits.antt and cells/specs/Numbering.antt.
+// query/specs/Range.antt, columns/specs/Columns.antt, job/specs/Format.antt, report/specs/Limits.antt and cells/specs/Numbering.antt.
 #![tactic(auto)]
 
 /// The most bytes of a job: a longer one is refused with refusal 1.

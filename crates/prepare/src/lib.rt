@@ -49,8 +49,8 @@ fn of_deck(deck: &Deck) -> Problem
     }
 }
 
-/// Reads a job and prepares its problem, or gives the refusal of reading, 1 to 6 (RULES "Refusals"). near and before are those of the
-/// record that was read.
+/// Reads a job and prepares its problem, or gives the job's own refusal (RULES "Refusals"). near and before are those of the record that
+/// was read.
 // Not inlined, so that the job's record is gone from the stack when a search runs.
 #[inline(never)]
 pub fn of_job(bytes: &[u8]) -> Result<PreparedJob, Refusal>

@@ -90,9 +90,9 @@ fn respond_alone(job: &[u8], out: &mut [u8]) -> Result<Response, Refusal>
 }
 
 /// Searches a job's area (RULES "Calls", "Refusals"): the report, with its text at the start of the output, which ends with its sixth byte
-/// 10, and its live cells in the cell space with 0 behind them; or the first refusal that applies, 1 to 8, and both as they were. The cell
-/// space that is enough for a job is five numbers for each of the `cells` that `estimate` gives, and the output `limits::REPORT_BYTES`
-/// bytes.
+/// 10, and its live cells in the cell space with 0 behind them; or the first refusal that applies, the job's own, 7 or 8, and both as they
+/// were. The cell space that is enough for a job is five numbers for each of the `cells` that `estimate` gives, and the output
+/// `limits::REPORT_BYTES` bytes.
 pub fn report(job: &[u8], cells: &mut [i64], out: &mut [u8]) -> Answer
     ensures { record { answer = report_answer result; cells = cells.new; out = out.new }
         ≡ report_call job.now cells.old out.old }
@@ -104,7 +104,7 @@ pub fn report(job: &[u8], cells: &mut [i64], out: &mut [u8]) -> Answer
 }
 
 /// The entry for C, which `siting_c` exports (RULES "Calls"): writes the report's text as `report` does where it is lent enough cell
-/// space, and gives how many bytes it has written; or minus the number of the refusal, 1 to 6 or 8, and leaves the output as it was.
+/// space, and gives how many bytes it has written; or minus the number of the refusal, the job's own or 8, and leaves the output as it was.
 pub fn siting_report(job: &[u8], out: &mut [u8]) -> i64
     ensures { record { result = result; out = out.new } ≡ entry job.now out.old }
 {
@@ -114,7 +114,7 @@ pub fn siting_report(job: &[u8], out: &mut [u8]) -> i64
     }
 }
 
-/// The cheapest crossing of lines, the earliest of equals, with its cost (RULES "Exhaustive search"), or the job's refusal, 1 to 6. No
+/// The cheapest crossing of lines, the earliest of equals, with its cost (RULES "Exhaustive search"), or the job's own refusal. No
 /// place of the area is better. The rounds of the job play no part.
 pub fn exhaustive(job: &[u8]) -> Result<PricedPlace, Refusal>
     ensures { cheapest_answer result ≡ exhaustive_call job.now }
@@ -123,14 +123,14 @@ pub fn exhaustive(job: &[u8]) -> Result<PricedPlace, Refusal>
     Ok(exhaustive::cheapest(&prepared.problem, prepared.before))
 }
 
-/// What the job needs (RULES "Change 3"), or its refusal, 1 to 6. It prices no place.
+/// What the job needs (RULES "Change 3"), or its own refusal. It prices no place.
 pub fn estimate(job: &[u8]) -> Result<Estimate, Refusal>
     ensures { estimated_answer result ≡ estimate_call job.now }
 {
     estimate::of_job(job)
 }
 
-/// The record of the deck and the rounds that a job's bytes spell (RULES "Job"), or the job's refusal, 1 to 6.
+/// The record of the deck and the rounds that a job's bytes spell (RULES "Job"), or the job's own refusal.
 pub fn read(job: &[u8]) -> Result<Job, Refusal>
     ensures { read_answer result ≡ read_call job.now }
 {
@@ -138,8 +138,8 @@ pub fn read(job: &[u8]) -> Result<Job, Refusal>
 }
 
 /// Writes the job of a record and rounds (RULES "Change 1") to the start of the output, and gives how many bytes it has; or the first
-/// refusal that applies: the number and line that reading this job's bytes would get, 2 to 6, or 8 where it does not fit. Bytes behind the
-/// job stay; after a refusal every byte does. Near and before of the record do not count.
+/// refusal that applies: the number and line that the text of this job's bytes would get in reading, or 8 where it does not fit. Bytes
+/// behind the job stay; after a refusal every byte does. Near and before of the record do not count.
 pub fn write(deck: &Deck, rounds: u64, out: &mut [u8]) -> Result<usize, Refusal>
     ensures { record { answer = written_answer result; out = out.new } ≡ write_call deck.now rounds out.old }
 {
@@ -183,7 +183,7 @@ pub fn remove_stop(deck: &mut Deck, stop: Stop) -> Result<(), Refusal>
     change::remove_stop(deck, stop)
 }
 
-/// What the program prints for its input (RULES "Report"): the report's lines, or the two lines of a refusal, 1 to 6.
+/// What the program prints for its input (RULES "Report"): the report's lines, or the two lines of the job's own refusal.
 pub fn answer_text(job: &[u8]) -> Text
     ensures whole { result ≡ answer_text job.now }
     ensures short { length result ≤ output_size }

@@ -1,39 +1,44 @@
 -- What `change::put_stop` owes.
 use mathlib.Core.Path.{◌≡◌, ◌∙◌}
 use native.Mathlib.Omega.{arith}
+use lib.ListN.{length, length-take}
 use borrow.Author.Rules.{rules}
-use lib.ListN.{length}
 use Rattle.query.specs.Range.{stops_limit}
-use Rattle.deck.specs.DeckOf.{Sized}
+use Rattle.deck.specs.DeckOf.{deck_of}
+use Rattle.deck.proofs.DeckLaws.{posts_counted}
 use Rattle.change.proofs.UsableExactly.{usable_says}
-use Rattle.change.proofs.FrontChanges.{one_more}
-use Rattle.change.proofs.KeptNears.{closest_of_columns}
-use Rattle.change.proofs.MadeRecords.{held_costs, held_visits, given_posts, given_some, made_stop}
+use Rattle.change.proofs.FrontChanges.{stops_more, nears_more}
+use Rattle.change.proofs.KeptNears.{closest_limit}
+use Rattle.change.proofs.MadeRecords.{made_stop}
 use Rattle.change.proofs.put_stop.Goals as goal
 
-pub post_places-requires : goal.post_places-requires
-post_places-requires c = (usable_says _ (search rules) (search rules) c.requires.0).few_posts
+pub listed_posts-requires : goal.listed_posts-requires
+listed_posts-requires c = (usable_says c.requires.0 (search rules) c.requires.1).listed.posts
 
 pub near_of-requires : goal.near_of-requires
 near_of-requires c =
-    let sized : Sized c.args.deck.now = search rules in
-    let u = usable_says _ sized (search rules) c.requires.0 in
-    let posts = c.post_places.ensures in
-    (held_costs sized u, given_posts sized u posts.x posts.y, c.requires.2.place, given_some sized u posts.x posts.y)
+    let deck = c.args.deck.now in
+    let u = usable_says c.requires.0 (search rules) c.requires.1 in
+    rw c.listed_posts.ensures (
+      u.costs,
+      u.posts,
+      c.requires.3.place,
+      omega (arith, u.range.some_posts, posts_counted deck c.requires.0, length-take deck.post_count deck.posts),
+    )
 
 pub renew_before-requires : goal.renew_before-requires
+unfolding deck_of
 renew_before-requires c =
-    let sized : Sized c.args.deck.now = search rules in
-    let long : length c.args.deck.now.near ≡ stops_limit = search rules in
-    let u = usable_says _ sized long c.requires.0 in
-    let posts = c.post_places.ensures in
-    let most = closest_of_columns (held_costs sized u) (given_posts sized u posts.x posts.y) (given_some sized u posts.x posts.y) _ c.requires.2.place in (
-      one_more (held_visits sized u) (omega (arith, c.requires.1, sized.visits)) c.requires.2.most_visits,
-      one_more u.nears (omega (arith, c.requires.1, long)) (omega (arith, c.near_of.ensures, most)),
-      omega (arith, c.requires.1),
+    let deck = c.args.deck.now in
+    let long : length deck.near ≡ stops_limit = search rules in
+    let u = usable_says c.requires.0 long c.requires.1 in
+    let near = rw c.listed_posts.ensures at c.near_of.ensures in
+    let limit = closest_limit u.range.axis_most u.range.some_posts u.range.posts _ c.requires.3.place in (
+      stops_more deck.stops _ u.stops (omega (arith, c.requires.2, c.requires.0.stops)) c.requires.2 c.requires.3,
+      nears_more u.nears (omega (arith, c.requires.2, long)) (omega (arith, near, limit)),
+      omega (arith, c.requires.2),
     )
 
 pub returns : goal.returns
-returns c =
-    let posts = c.post_places.ensures in
-    c.renew_before.ensures ∙ made_stop _ _ c.requires.2.place posts.x posts.y c.near_of.ensures
+unfolding deck_of
+returns c = c.renew_before.ensures ∙ made_stop c.args.deck.now c.args.stop (rw c.listed_posts.ensures at c.near_of.ensures)

@@ -54,20 +54,20 @@ first_few deck e = omega (arith, e, third_line (writes_axis (held_axis deck.axis
 line_few : (deck : Deck) {first : ℕ} → first ≡ posts_at deck → deck.post_count ≤ posts_limit → first + 1 + deck.post_count ≤ posts_limit + 4
 line_few deck e few = omega (arith, first_few deck e)
 
-pub returns-in_err-area_line : goal.returns-in_err-area_line
-returns-in_err-area_line c =
+pub returns-in_err-area_line-clause-refusal : goal.returns-in_err-area_line-clause-refusal
+returns-in_err-area_line-clause-refusal c =
     let s : Sized c.args.deck.now = record { posts = search rules; stops = search rules } in
     passed_on _ c.from_residual.ensures.1 ∙ part_refused _ (left s) c.area_line.ensures (ap checked_as c.in_err-area_line.was)
 
-pub returns-in_err-axis_line : goal.returns-in_err-axis_line
-returns-in_err-axis_line c =
+pub returns-in_err-axis_line-clause-refusal : goal.returns-in_err-axis_line-clause-refusal
+returns-in_err-axis_line-clause-refusal c =
     let s : Sized c.args.deck.now = record { posts = search rules; stops = search rules } in
     passed_on _ c.from_residual-in_err-axis_line.ensures.1
     ∙ part_refused _ (left-area s c.area_line.ensures (ap checked_as c.in_ok-area_line.was)) c.axis_line.ensures
     (ap checked_as c.in_err-axis_line.was)
 
-pub returns-in_err-all_posts : goal.returns-in_err-all_posts
-returns-in_err-all_posts c =
+pub returns-in_err-all_posts-clause-refusal : goal.returns-in_err-all_posts-clause-refusal
+returns-in_err-all_posts-clause-refusal c =
     let s : Sized c.args.deck.now = record { posts = search rules; stops = search rules } in
     passed_on _ c.from_residual-in_err-all_posts.ensures.1
     ∙ part_refused _ (left-axis s c.area_line.ensures (ap checked_as c.in_ok-area_line.was) c.axis_line.ensures
@@ -83,8 +83,8 @@ all_stops-requires c =
     let few : c.args.deck.now.post_count ≤ posts_limit = posts_most c.args.deck.now _ c.all_posts.ensures (ap checked_as c.in_ok-all_posts.was) in
     omega (arith, line_few c.args.deck.now c.posts_at-first.ensures few)
 
-pub returns-in_err-all_stops : goal.returns-in_err-all_stops
-returns-in_err-all_stops c =
+pub returns-in_err-all_stops-clause-refusal : goal.returns-in_err-all_stops-clause-refusal
+returns-in_err-all_stops-clause-refusal c =
     let s : Sized c.args.deck.now = record { posts = search rules; stops = search rules } in
     passed_on _ c.from_residual-in_err-all_stops.ensures.1
     ∙ part_refused _ (left-posts s c.area_line.ensures (ap checked_as c.in_ok-area_line.was) c.axis_line.ensures
@@ -102,8 +102,8 @@ overflow_add-line-4 c =
     let many : c.args.deck.now.stop_count ≤ stops_limit = stops_most c.args.deck.now _ c.all_stops.ensures (ap checked_as c.in_ok-all_stops.was) in
     omega (arith, line_few c.args.deck.now c.posts_at-first.ensures few, many)
 
-pub returns-in_err-count_line : goal.returns-in_err-count_line
-returns-in_err-count_line c =
+pub returns-in_err-count_line-clause-refusal : goal.returns-in_err-count_line-clause-refusal
+returns-in_err-count_line-clause-refusal c =
     let s : Sized c.args.deck.now = record { posts = search rules; stops = search rules } in
     passed_on _ c.from_residual-in_err-count_line.ensures.1
     ∙ part_refused _ (left-stops s c.area_line.ensures (ap checked_as c.in_ok-area_line.was) c.axis_line.ensures
@@ -111,8 +111,8 @@ returns-in_err-count_line c =
     c.all_posts.ensures (ap checked_as c.in_ok-all_posts.was) c.all_stops.ensures (ap checked_as c.in_ok-all_stops.was)) c.count_line.ensures
     (ap checked_as c.in_err-count_line.was)
 
-pub returns : goal.returns
-returns c =
+pub returns-clause-refusal : goal.returns-clause-refusal
+returns-clause-refusal c =
     let s : Sized c.args.deck.now = record { posts = search rules; stops = search rules } in
     parts_answer (part_fine _ (left-stops s c.area_line.ensures (ap checked_as c.in_ok-area_line.was)
     c.axis_line.ensures (ap checked_as c.in_ok-axis_line.was) c.posts_at-first.ensures
