@@ -1,5 +1,5 @@
--- What the functions over the calls that read, write and change records answer: a figure of the answer, and what they leave of the record or
--- of the output that they are lent.
+-- What the functions over the calls that read, write and change records answer: a figure of the answer, and what they leave of the record
+-- or of the output that they are lent.
 use Rattle.std.specs.Prelude.{ℕ, cond, List, [], ◌∷◌, eqb, ltb, ℤ, pos, get_or}
 use Rattle.query.specs.Deck.{Stop}
 use Rattle.deck.specs.declared.Deck.{Deck}
