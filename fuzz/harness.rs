@@ -5,9 +5,17 @@
 
 #![no_main]
 
+extern crate reference;
+
+#[path = "../tests/src/layout.rs"]
+mod layout;
+#[allow(dead_code)]
+#[path = "../tests/src/lent.rs"]
+mod lent;
 mod mutate;
 mod record;
 
+use layout::{Deck, Place, Stop};
 use mutate::Random;
 use reference::{changed, estimate, lent_enough, read, refusal_text, report_text, saved, search, spell, write};
 use reference::{Axis, Change, Estimate, Found, Job, Record, Refusal};
@@ -20,36 +28,9 @@ extern "C" {
     fn siting_report(job: *const u8, job_length: usize, out: *mut u8, out_length: usize) -> i64;
     fn trial_report(job: *const u8, len: usize, cells: *mut i64, cells_len: usize, out: *mut u8, out_len: usize, which: u64) -> i64;
     fn trial_estimate(job: *const u8, len: usize, which: u64) -> i64;
-    fn trial_read(
-        job: *const u8,
-        len: usize,
-        coordinates: *mut i64,
-        coordinates_len: usize,
-        naturals: *mut u64,
-        naturals_len: usize,
-        which: u64,
-    ) -> i64;
-    fn trial_write(
-        coordinates: *const i64,
-        coordinates_len: usize,
-        naturals: *const u64,
-        naturals_len: usize,
-        rounds: u64,
-        out: *mut u8,
-        out_len: usize,
-        which: u64,
-    ) -> i64;
-    fn trial_change(
-        coordinates: *mut i64,
-        coordinates_len: usize,
-        naturals: *mut u64,
-        naturals_len: usize,
-        kind: u64,
-        x: i64,
-        y: i64,
-        visits: u64,
-        which: u64,
-    ) -> i64;
+    fn trial_read(job: *const u8, len: usize, deck: *mut Deck, which: u64) -> i64;
+    fn trial_write(deck: *const Deck, rounds: u64, out: *mut u8, out_len: usize, which: u64) -> i64;
+    fn trial_change(deck: *mut Deck, kind: u64, item: Stop, which: u64) -> i64;
     fn blocks_watch();
     fn blocks_print();
     fn mmap(at: *mut c_void, length: usize, access: i32, flags: i32, file: i32, offset: i64) -> *mut c_void;
@@ -61,9 +42,8 @@ extern "C" {
 const PAGE: usize = 4_096;
 /// The bytes beside what is lent that are looked at too.
 const BESIDE: usize = 200;
-/// The numbers of a record's two lists.
-const COORDINATES: usize = Record::COORDINATES;
-const NATURALS: usize = Record::NATURALS;
+/// The bytes of a record.
+const DECK: usize = std::mem::size_of::<Deck>();
 /// The longest job that is accepted, and so the longest file that is written.
 const LONGEST: usize = 14_089;
 /// The most changes of an input that are made: enough to fill the posts and to add one more.
@@ -120,8 +100,7 @@ struct State {
     job: Lent,
     out: Lent,
     cells: Lent,
-    coordinates: Lent,
-    naturals: Lent,
+    deck: Lent,
     saved: Lent,
     program: String,
     /// The program gets one input of so many.
@@ -164,8 +143,7 @@ extern "C" fn LLVMFuzzerInitialize(_: *mut c_void, _: *mut c_void) -> i32 {
         job: Lent::new(5 * PAGE),
         out: Lent::new(PAGE),
         cells: Lent::new(10 * PAGE),
-        coordinates: Lent::new(3 * PAGE),
-        naturals: Lent::new(3 * PAGE),
+        deck: Lent::new(5 * PAGE),
         saved: Lent::new(4 * PAGE),
         program: variable("FUZZ_PROGRAM"),
         every: variable("FUZZ_EVERY").parse().unwrap(),
@@ -243,45 +221,27 @@ fn bytes_of<T: Copy>(numbers: &[T]) -> &[u8] {
     unsafe { std::slice::from_raw_parts(numbers.as_ptr().cast(), std::mem::size_of_val(numbers)) }
 }
 
-/// The places of a record's two lists, with what is beside them.
-struct Lists<'a> {
-    coordinates: (&'a mut [u8], usize),
-    naturals: (&'a mut [u8], usize),
+/// The place of a record, with what is beside it.
+struct Held<'a> {
+    bytes: &'a mut [u8],
+    first: usize,
 }
 
-fn place_lists<'a>(coordinates: &'a mut Lent, naturals: &'a mut Lent, at_end: bool, fill: u8) -> Lists<'a> {
-    Lists {
-        coordinates: place(coordinates, 8 * COORDINATES, at_end, pattern(fill)),
-        naturals: place(naturals, 8 * NATURALS, at_end, pattern(fill)),
-    }
-}
-
-impl Lists<'_> {
-    fn pointers(&mut self) -> (*mut i64, *mut u64) {
-        let ((c, i), (n, j)) = (&mut self.coordinates, &mut self.naturals);
-        (c[*i..].as_mut_ptr().cast(), n[*j..].as_mut_ptr().cast())
+impl Held<'_> {
+    fn new(lent: &mut Lent, at_end: bool, fill: u8) -> Held<'_> {
+        let (bytes, first) = place(lent, DECK, at_end, pattern(fill));
+        Held { bytes, first }
     }
 
-    fn bytes(&self) -> (Vec<u8>, Vec<u8>) {
-        (self.coordinates.0.to_vec(), self.naturals.0.to_vec())
+    fn pointer(&mut self) -> *mut Deck {
+        self.bytes[self.first..].as_mut_ptr().cast()
     }
 
-    /// What they hold once they have a record.
-    fn with(&self, record: &Record) -> (Vec<u8>, Vec<u8>) {
-        let ((mut c, mut n), (i, j)) = (self.bytes(), (self.coordinates.1, self.naturals.1));
-        let (zs, ns) = record.lists();
-        c[i..i + 8 * COORDINATES].copy_from_slice(bytes_of(&zs));
-        n[j..j + 8 * NATURALS].copy_from_slice(bytes_of(&ns));
-        (c, n)
-    }
-
-    fn put(&mut self, (c, n): &(Vec<u8>, Vec<u8>)) {
-        self.coordinates.0.copy_from_slice(c);
-        self.naturals.0.copy_from_slice(n);
-    }
-
-    fn hold(&self, (c, n): &(Vec<u8>, Vec<u8>)) -> bool {
-        self.coordinates.0 == c && self.naturals.0 == n
+    /// What it holds once it has this record.
+    fn with(&self, record: &Record) -> Vec<u8> {
+        let mut bytes = self.bytes.to_vec();
+        bytes[self.first..self.first + DECK].copy_from_slice(bytes_of(&[Deck::of(record)]));
+        bytes
     }
 }
 
@@ -425,21 +385,23 @@ impl State {
         }
     }
 
-    /// The call that reads the job: the answer's numbers, each number of the record, and what is beside them.
+    /// The call that reads the job: the answer's numbers, and the record, each number of that which was read, or as it was where the job is
+    /// refused, with what is beside it.
     fn read(&mut self, bytes: &[u8], want: &Result<Record, Refusal>, at_end: bool, fill: u8) {
         let (job, start) = place_job(&mut self.job, bytes, at_end, fill);
         let job_before = job.to_vec();
-        let mut lists = place_lists(&mut self.coordinates, &mut self.naturals, at_end, fill);
-        let after = lists.with(want.as_ref().unwrap_or(&Record::ZEROS));
+        let mut held = Held::new(&mut self.deck, at_end, fill);
+        let before = held.bytes.to_vec();
+        let after = want.as_ref().map_or_else(|_| before.clone(), |record| held.with(record));
         let answer = want.as_ref().map_or_else(|why| Err(*why), |record| Ok(record.rounds as i64));
         for (which, figure) in (0..).zip(figures(answer)) {
-            let (zs, ns) = lists.pointers();
-            let got = unsafe { trial_read(job[start..].as_ptr(), bytes.len(), zs, COORDINATES, ns, NATURALS, which) };
+            held.bytes.copy_from_slice(&before);
+            let got = unsafe { trial_read(job[start..].as_ptr(), bytes.len(), held.pointer(), which) };
             if got != figure {
                 differs(&format!("number {which} of reading"), &got.to_string(), &figure.to_string());
             }
-            if !lists.hold(&after) {
-                differs("the record that was read, as bytes", &format!("{:?}", lists.bytes()), &format!("{after:?}"));
+            if held.bytes != after {
+                differs("the record that was read, as bytes", &format!("{:?}", held.bytes), &format!("{after:?}"));
             }
         }
         if job != job_before {
@@ -452,9 +414,9 @@ impl State {
         let want = write(record, length);
         self.records += 1;
         *(want.as_ref().map_or_else(|why| &mut self.not_written[why.number as usize], |_| &mut self.written)) += 1;
-        let mut lists = place_lists(&mut self.coordinates, &mut self.naturals, at_end, fill);
-        let held = lists.with(record);
-        lists.put(&held);
+        let mut held = Held::new(&mut self.deck, at_end, fill);
+        let before = held.with(record);
+        held.bytes.copy_from_slice(&before);
         let (out, first) = place(&mut self.saved, length, at_end, pattern(fill));
         let mut after = out.to_vec();
         if let Ok(text) = &want {
@@ -462,8 +424,7 @@ impl State {
         }
         let text = |bytes: &[u8]| bytes.escape_ascii().to_string();
         for (which, figure) in (0..).zip(figures(want.map(|text| text.len() as i64))) {
-            let (zs, ns) = lists.pointers();
-            let got = unsafe { trial_write(zs, COORDINATES, ns, NATURALS, record.rounds, out[first..].as_mut_ptr(), length, which) };
+            let got = unsafe { trial_write(held.pointer(), record.rounds, out[first..].as_mut_ptr(), length, which) };
             if got != figure {
                 let what = format!("number {which} of writing {}, output of {length} bytes", text(&record.text()));
                 differs(&what, &got.to_string(), &figure.to_string());
@@ -472,7 +433,7 @@ impl State {
                 differs(&format!("the record's output of {length} bytes from byte {first}"), &text(out), &text(&after));
             }
         }
-        if !lists.hold(&held) {
+        if held.bytes != before {
             differs("the record's numbers", "changed by writing", "not changed");
         }
     }
@@ -507,24 +468,24 @@ impl State {
         let want = record.changed(change);
         self.changes += 1;
         *(want.as_ref().map_or_else(|why| &mut self.not_changed[why.number as usize], |_| &mut self.changed)) += 1;
-        let mut lists = place_lists(&mut self.coordinates, &mut self.naturals, at_end, fill);
-        let (held, after) = (lists.with(record), lists.with(want.as_ref().unwrap_or(record)));
+        let mut held = Held::new(&mut self.deck, at_end, fill);
+        let (before, after) = (held.with(record), held.with(want.as_ref().unwrap_or(record)));
         let (number, line) = want.as_ref().map_or_else(|why| (why.number, why.line), |_| (0, 0));
         let kind = change.kind as u64;
         let mut calls = vec![(kind, 0, number, &after), if fill % 2 == 0 { (kind, 1, line, &after) } else { (kind, 2, i64::MIN, &after) }];
         if fill % 8 < 2 {
-            calls.push((kind + 4 + u64::from(fill), 0, i64::MIN, &held));
+            calls.push((kind + 4 + u64::from(fill), 0, i64::MIN, &before));
         }
         for (kind, which, figure, after) in calls {
-            lists.put(&held);
-            let ((zs, ns), (x, y)) = (lists.pointers(), change.at);
-            let got = unsafe { trial_change(zs, COORDINATES, ns, NATURALS, kind, x, y, change.visits, which) };
+            held.bytes.copy_from_slice(&before);
+            let item = Stop { at: Place { x: change.at.0, y: change.at.1 }, visits: change.visits };
+            let got = unsafe { trial_change(held.pointer(), kind, item, which) };
             let what = || format!("{change} as change {kind} of {}", record.text().escape_ascii());
             if got != figure {
                 differs(&format!("number {which} of {}", what()), &got.to_string(), &figure.to_string());
             }
-            if !lists.hold(after) {
-                differs(&format!("the record, as bytes, behind {}", what()), &format!("{:?}", lists.bytes()), &format!("{after:?}"));
+            if held.bytes != after {
+                differs(&format!("the record, as bytes, behind {}", what()), &format!("{:?}", held.bytes), &format!("{after:?}"));
             }
         }
         want

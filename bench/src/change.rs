@@ -1,29 +1,14 @@
-//! Hand-written Rust for the changes of a deck's record, from the lists of its numbers on and back into them, and the decks that are measured.
+//! Hand-written Rust for the changes of a deck's record, and the decks that are measured.
 
+use crate::layout::{AxisCosts, Deck, Place, Rect, Stop, POSTS, STOPS};
 use crate::read::{Refused, Sizes};
-use crate::write::{lists, taken, POSTS, STOPS};
+use crate::write::record;
 
-/// A change, by its number from 0: add a post, remove a post, add a stop, remove a stop.
+/// A change, by its number from 0: add a post, remove a post, add a stop, remove a stop. A post has the place of `item`.
 #[derive(Clone, Copy)]
 pub struct Change {
     pub kind: u64,
-    pub x: i64,
-    pub y: i64,
-    pub visits: u64,
-}
-
-struct Record {
-    area: [i64; 4],
-    post_x: [i64; POSTS],
-    post_y: [i64; POSTS],
-    stop_x: [i64; STOPS],
-    stop_y: [i64; STOPS],
-    axis: [u64; 2],
-    posts: usize,
-    stops: usize,
-    visits: [u64; STOPS],
-    near: [u64; STOPS],
-    before: u64,
+    pub item: Stop,
 }
 
 /// The posts at scaled places: travel is plain between them.
@@ -35,145 +20,132 @@ struct ScaledPosts {
 }
 
 impl ScaledPosts {
-    fn closest_to(&self, x: i64, y: i64) -> u64 {
-        let (x, y) = (self.axis[0] * x as i32, self.axis[1] * y as i32);
+    fn closest_to(&self, at: Place) -> u64 {
+        let (x, y) = (self.axis[0] * at.x as i32, self.axis[1] * at.y as i32);
         let posts = self.x[..self.count].iter().zip(&self.y[..self.count]);
         posts.fold(i32::MAX, |near, (&u, &v)| near.min((x - u).abs() + (y - v).abs())) as u64
     }
 }
 
-impl Record {
-    fn new(mut coordinates: &[i64], mut naturals: &[u64]) -> Record {
-        let (c, n) = (&mut coordinates, &mut naturals);
-        let axis = taken(n);
-        let [posts, stops] = taken(n).map(|count: u64| count as usize);
-        Record {
-            area: taken(c),
-            post_x: taken(c),
-            post_y: taken(c),
-            stop_x: taken(c),
-            stop_y: taken(c),
-            axis,
-            posts,
-            stops,
-            visits: taken(n),
-            near: taken(n),
-            before: n[0],
-        }
-    }
+#[inline]
+fn in_range(at: Place) -> bool {
+    (at.x.wrapping_add(20_000) as u64 <= 40_000) & (at.y.wrapping_add(20_000) as u64 <= 40_000)
+}
 
-    fn put(&self, coordinates: &mut [i64], naturals: &mut [u64]) {
-        coordinates[4..4 + POSTS].copy_from_slice(&self.post_x);
-        coordinates[4 + POSTS..4 + 2 * POSTS].copy_from_slice(&self.post_y);
-        coordinates[4 + 2 * POSTS..4 + 2 * POSTS + STOPS].copy_from_slice(&self.stop_x);
-        coordinates[4 + 2 * POSTS + STOPS..].copy_from_slice(&self.stop_y);
-        naturals[2..4].copy_from_slice(&[self.posts as u64, self.stops as u64]);
-        naturals[4..4 + STOPS].copy_from_slice(&self.visits);
-        naturals[4 + STOPS..4 + 2 * STOPS].copy_from_slice(&self.near);
-        naturals[4 + 2 * STOPS] = self.before;
-    }
+#[inline]
+fn stop_in_range(stop: &Stop) -> bool {
+    in_range(stop.at) & (stop.visits.wrapping_sub(1) <= 65_534)
+}
 
+/// What the changes do with a record.
+trait Changed {
+    fn usable(&self) -> bool;
+    fn travel(&self, i: usize, to: Place) -> u64;
+    fn scaled_posts(&self) -> ScaledPosts;
+    fn add_post(&mut self, post: Place) -> Result<(), Refused>;
+    fn remove_post(&mut self, post: Place) -> Result<(), Refused>;
+    fn add_stop(&mut self, stop: Stop) -> Result<(), Refused>;
+    fn remove_stop(&mut self, stop: Stop) -> Result<(), Refused>;
+    fn changed(&mut self, change: Change) -> Result<(), Refused>;
+}
+
+impl Changed for Deck {
     /// Whether all numbers that count are in range, and no near is longer than the longest travel.
     fn usable(&self) -> bool {
-        let [xlo, ylo, xhi, yhi] = self.area;
-        if self.posts == 0 || self.posts > POSTS || self.stops == 0 || self.stops > STOPS || xlo > xhi || ylo > yhi {
+        let (posts, stops) = (self.post_count, self.stop_count);
+        let Rect { xlo, ylo, xhi, yhi } = self.area;
+        if posts == 0 || posts > POSTS || stops == 0 || stops > STOPS || xlo > xhi || ylo > yhi {
             return false;
         }
-        let xy = |column: &[i64]| column.iter().fold(true, |all, v| all & (v.wrapping_add(20_000) as u64 <= 40_000));
-        let up_to = |column: &[u64], lo: u64, hi: u64| column.iter().fold(true, |all, v| all & (v.wrapping_sub(lo) <= hi - lo));
-        xy(&self.area)
-            && up_to(&self.axis, 1, 9)
-            && xy(&self.post_x[..self.posts])
-            && xy(&self.post_y[..self.posts])
-            && xy(&self.stop_x[..self.stops])
-            && xy(&self.stop_y[..self.stops])
-            && up_to(&self.visits[..self.stops], 1, 65_535)
-            && up_to(&self.near[..self.stops], 0, 720_000)
+        let AxisCosts { a, b } = self.axis;
+        [Place { x: xlo, y: ylo }, Place { x: xhi, y: yhi }].into_iter().all(in_range)
+            && [a, b].iter().all(|cost| (1..=9).contains(cost))
+            && self.posts[..posts].iter().fold(true, |all, p| all & in_range(*p))
+            && self.stops[..stops].iter().fold(true, |all, s| all & stop_in_range(s))
+            && self.near[..stops].iter().fold(true, |all, near| all & (*near <= 720_000))
     }
 
     #[inline]
-    fn travel(&self, i: usize, x: i64, y: i64) -> u64 {
-        let (dx, dy) = ((self.stop_x[i] - x).unsigned_abs() as u32, (self.stop_y[i] - y).unsigned_abs() as u32);
-        (self.axis[0] as u32 * dx + self.axis[1] as u32 * dy) as u64
+    fn travel(&self, i: usize, to: Place) -> u64 {
+        let at = self.stops[i].at;
+        let (dx, dy) = ((at.x - to.x).unsigned_abs() as u32, (at.y - to.y).unsigned_abs() as u32);
+        (self.axis.a as u32 * dx + self.axis.b as u32 * dy) as u64
     }
 
     fn scaled_posts(&self) -> ScaledPosts {
-        let [a, b] = self.axis.map(|cost| cost as i32);
-        let mut posts = ScaledPosts { axis: [a, b], x: [0; POSTS], y: [0; POSTS], count: self.posts };
-        for i in 0..self.posts {
-            (posts.x[i], posts.y[i]) = (a * self.post_x[i] as i32, b * self.post_y[i] as i32);
+        let (a, b) = (self.axis.a as i32, self.axis.b as i32);
+        let mut posts = ScaledPosts { axis: [a, b], x: [0; POSTS], y: [0; POSTS], count: self.post_count };
+        for (i, post) in self.posts[..self.post_count].iter().enumerate() {
+            (posts.x[i], posts.y[i]) = (a * post.x as i32, b * post.y as i32);
         }
         posts
     }
 
-    fn add_post(&mut self, x: i64, y: i64) -> Result<(), Refused> {
-        let n = self.posts;
+    fn add_post(&mut self, post: Place) -> Result<(), Refused> {
+        let n = self.post_count;
         if n == POSTS {
             return Err((10, 0));
         }
-        (self.post_x[n], self.post_y[n]) = (x, y);
-        self.posts += 1;
-        for i in 0..self.stops {
-            self.near[i] = self.near[i].min(self.travel(i, x, y));
+        self.posts[n] = post;
+        self.post_count += 1;
+        for i in 0..self.stop_count {
+            self.near[i] = self.near[i].min(self.travel(i, post));
         }
         Ok(())
     }
 
-    fn remove_post(&mut self, x: i64, y: i64) -> Result<(), Refused> {
-        let n = self.posts;
-        let at = (0..n).find(|&i| self.post_x[i] == x && self.post_y[i] == y).ok_or((9, 0))?;
+    fn remove_post(&mut self, post: Place) -> Result<(), Refused> {
+        let n = self.post_count;
+        let at = self.posts[..n].iter().position(|held| *held == post).ok_or((9, 0))?;
         if n == 1 {
             return Err((5, 0));
         }
-        remove(&mut self.post_x[..n], at);
-        remove(&mut self.post_y[..n], at);
-        self.posts -= 1;
+        remove(&mut self.posts[..n], at);
+        self.post_count -= 1;
         let left = self.scaled_posts();
-        for i in 0..self.stops {
-            if self.near[i] == self.travel(i, x, y) {
-                self.near[i] = left.closest_to(self.stop_x[i], self.stop_y[i]);
+        for i in 0..self.stop_count {
+            if self.near[i] == self.travel(i, post) {
+                self.near[i] = left.closest_to(self.stops[i].at);
             }
         }
         Ok(())
     }
 
-    fn add_stop(&mut self, x: i64, y: i64, visits: u64) -> Result<(), Refused> {
-        let n = self.stops;
+    fn add_stop(&mut self, stop: Stop) -> Result<(), Refused> {
+        let n = self.stop_count;
         if n == STOPS {
             return Err((10, 0));
         }
-        (self.stop_x[n], self.stop_y[n], self.visits[n]) = (x, y, visits);
-        self.near[n] = self.scaled_posts().closest_to(x, y);
-        self.stops += 1;
+        self.stops[n] = stop;
+        self.near[n] = self.scaled_posts().closest_to(stop.at);
+        self.stop_count += 1;
         Ok(())
     }
 
-    fn remove_stop(&mut self, x: i64, y: i64, visits: u64) -> Result<(), Refused> {
-        let n = self.stops;
-        let at = (0..n).find(|&i| self.stop_x[i] == x && self.stop_y[i] == y && self.visits[i] == visits).ok_or((9, 0))?;
+    fn remove_stop(&mut self, stop: Stop) -> Result<(), Refused> {
+        let n = self.stop_count;
+        let at = self.stops[..n].iter().position(|held| *held == stop).ok_or((9, 0))?;
         if n == 1 {
             return Err((6, 0));
         }
-        remove(&mut self.stop_x[..n], at);
-        remove(&mut self.stop_y[..n], at);
-        remove(&mut self.visits[..n], at);
+        remove(&mut self.stops[..n], at);
         remove(&mut self.near[..n], at);
-        self.stops -= 1;
+        self.stop_count -= 1;
         Ok(())
     }
 
-    fn change(&mut self, Change { kind, x, y, visits }: Change) -> Result<(), Refused> {
-        let in_range = x.unsigned_abs() <= 20_000 && y.unsigned_abs() <= 20_000 && (kind < 2 || (1..=65_535).contains(&visits));
-        if !in_range || !self.usable() {
+    fn changed(&mut self, Change { kind, item }: Change) -> Result<(), Refused> {
+        if !(if kind < 2 { in_range(item.at) } else { stop_in_range(&item) }) || !self.usable() {
             return Err((3, 0));
         }
         match kind {
-            0 => self.add_post(x, y),
-            1 => self.remove_post(x, y),
-            2 => self.add_stop(x, y, visits),
-            _ => self.remove_stop(x, y, visits),
+            0 => self.add_post(item.at),
+            1 => self.remove_post(item.at),
+            2 => self.add_stop(item),
+            _ => self.remove_stop(item),
         }?;
-        self.before = self.visits[..self.stops].iter().zip(&self.near).map(|(&v, &near)| v as u32 as u64 * near as u32 as u64).sum();
+        let paid = |(stop, near): (&Stop, &u64)| stop.visits as u32 as u64 * *near as u32 as u64;
+        self.before = self.stops[..self.stop_count].iter().zip(&self.near).map(paid).sum();
         Ok(())
     }
 }
@@ -184,15 +156,8 @@ fn remove<T: Copy + Default>(items: &mut [T], at: usize) {
 }
 
 /// The number of the refusal, 0 for none.
-pub fn change(coordinates: &mut [i64], naturals: &mut [u64], change: Change) -> i64 {
-    let mut record = Record::new(coordinates, naturals);
-    match record.change(change) {
-        Ok(()) => {
-            record.put(coordinates, naturals);
-            0
-        }
-        Err((number, _)) => number,
-    }
+pub fn change(deck: &mut Deck, change: Change) -> i64 {
+    deck.changed(change).map_or_else(|(number, _)| number, |()| 0)
 }
 
 // ---- the decks that are measured
@@ -251,12 +216,7 @@ fn numbers(line: &str) -> [i64; 3] {
 
 fn change_of(kind: u64, line: &str) -> Change {
     let [x, y, visits] = numbers(line);
-    Change { kind, x, y, visits: visits as u64 }
-}
-
-/// The near of each stop, and zeros behind them.
-fn near(job: &[u8]) -> Vec<u64> {
-    lists(job).naturals[4 + STOPS..4 + 2 * STOPS].to_vec()
+    Change { kind, item: Stop { at: Place { x, y }, visits: visits as u64 } }
 }
 
 /// The changes of a deck: its last post or stop is added to the others, its first one removed from all.
@@ -274,6 +234,7 @@ pub fn measured(deck: Sizes) -> Vec<Measured> {
         Measured { name, change: change_of(kind, &item), job, edited: after.job() }
     };
     let gathered = removed("remove the post closest to all stops", 1, lines().gathered());
-    assert!(near(&gathered.job).iter().zip(near(&gathered.edited)).take(deck.stops).all(|(&before, after)| before < after));
+    let (before, after) = (record(&gathered.job).0.near, record(&gathered.edited).0.near);
+    assert!(before.iter().zip(after).take(deck.stops).all(|(&before, after)| before < after));
     vec![added("add a post", 0), removed("remove a post", 1, lines()), gathered, added("add a stop", 2), removed("remove the first stop", 3, lines())]
 }

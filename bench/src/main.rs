@@ -8,11 +8,14 @@ use std::time::Instant;
 
 mod change;
 mod exhaustive;
+#[path = "../../tests/src/layout.rs"]
+mod layout;
 mod read;
 mod twin;
 mod whole;
 mod write;
 
+use layout::{Deck, Stop};
 use read::{Axis, Sizes, LARGEST, ONE_EDGE, PLAIN, TYPICAL};
 
 /// A slower bridge.
@@ -28,36 +31,9 @@ extern "C" {
     fn trial_report(job: *const u8, len: usize, cells: *mut i64, cells_len: usize, out: *mut u8, out_len: usize, which: u64) -> i64;
     fn trial_exhaustive(job: *const u8, len: usize, which: u64) -> i64;
     fn trial_estimate(job: *const u8, len: usize, which: u64) -> i64;
-    fn trial_read(
-        job: *const u8,
-        len: usize,
-        coordinates: *mut i64,
-        coordinates_len: usize,
-        naturals: *mut u64,
-        naturals_len: usize,
-        which: u64,
-    ) -> i64;
-    fn trial_write(
-        coordinates: *const i64,
-        coordinates_len: usize,
-        naturals: *const u64,
-        naturals_len: usize,
-        rounds: u64,
-        out: *mut u8,
-        out_len: usize,
-        which: u64,
-    ) -> i64;
-    fn trial_change(
-        coordinates: *mut i64,
-        coordinates_len: usize,
-        naturals: *mut u64,
-        naturals_len: usize,
-        kind: u64,
-        x: i64,
-        y: i64,
-        visits: u64,
-        which: u64,
-    ) -> i64;
+    fn trial_read(job: *const u8, len: usize, deck: *mut Deck, which: u64) -> i64;
+    fn trial_write(deck: *const Deck, rounds: u64, out: *mut u8, out_len: usize, which: u64) -> i64;
+    fn trial_change(deck: *mut Deck, kind: u64, item: Stop, which: u64) -> i64;
 }
 
 #[link(name = "kernels", kind = "static")]
@@ -154,10 +130,10 @@ fn slower() -> [(&'static str, Sizes); 2] {
 
 /// Whether the twin's record of a job, near and before in it, is the proved reader's.
 fn same_record(job: &[u8]) -> bool {
-    let lists = write::lists(job);
-    let (mut c, mut n) = (vec![77; lists.coordinates.len()], vec![77; lists.naturals.len()]);
-    let rounds = unsafe { trial_read(job.as_ptr(), job.len(), c.as_mut_ptr(), c.len(), n.as_mut_ptr(), n.len(), 0) };
-    (c, n, rounds) == (lists.coordinates, lists.naturals, lists.rounds as i64)
+    let (record, rounds) = write::record(job);
+    let mut deck = Deck { post_count: 77, near: [77; 512], before: 77, ..record };
+    let same = unsafe { trial_read(job.as_ptr(), job.len(), &mut deck, 0) } == rounds as i64;
+    same && deck == record
 }
 
 /// Reading a job: the proved reader, with its record of the deck, beside the twin's deck, objects and before.
@@ -248,26 +224,22 @@ fn estimates() {
 }
 
 /// The bytes written, or the least number for a refusal.
-fn proved_write(lists: &write::Lists, out: &mut [u8]) -> i64 {
-    let (c, n) = (&lists.coordinates, &lists.naturals);
-    unsafe { trial_write(c.as_ptr(), c.len(), n.as_ptr(), n.len(), lists.rounds, out.as_mut_ptr(), out.len(), 0) }
+fn proved_write(deck: &Deck, rounds: u64, out: &mut [u8]) -> i64 {
+    unsafe { trial_write(deck, rounds, out.as_mut_ptr(), out.len(), 0) }
 }
 
-fn twin_write(lists: &write::Lists, out: &mut [u8]) -> i64 {
-    match write::write(&lists.coordinates, &lists.naturals, lists.rounds, out) {
-        Some(Ok(length)) => length as i64,
-        _ => i64::MIN,
-    }
+fn twin_write(deck: &Deck, rounds: u64, out: &mut [u8]) -> i64 {
+    write::write(deck, rounds, out).map_or(i64::MIN, |length| length as i64)
 }
 
 /// Writing a job's record into an output of exactly the job's length: both must write the job.
 fn compare_writing(name: &str, job: &[u8]) {
     let turns = 20;
-    let (lists, length) = (write::lists(job), job.len());
-    assert_eq!(proved_write(&lists, &mut vec![b'x'; length - 1]), i64::MIN, "{name}: written in too short an output");
-    let run = |write: fn(&write::Lists, &mut [u8]) -> i64| {
+    let ((deck, rounds), length) = (write::record(job), job.len());
+    assert_eq!(proved_write(&deck, rounds, &mut vec![b'x'; length - 1]), i64::MIN, "{name}: written in too short an output");
+    let run = |write: fn(&Deck, u64, &mut [u8]) -> i64| {
         let mut out = vec![b'x'; length];
-        let (t, r) = timed(|| (0..turns).map(|_| write(black_box(&lists), black_box(&mut out))).sum());
+        let (t, r) = timed(|| (0..turns).map(|_| write(black_box(&deck), rounds, black_box(&mut out))).sum());
         assert!(r == turns * length as i64 && out == job, "{name}: another text");
         t / turns as f64 / 1e3
     };
@@ -289,39 +261,36 @@ fn writing() {
 }
 
 /// The number of the refusal, 0 for none.
-fn proved_change(coordinates: &mut [i64], naturals: &mut [u64], change: change::Change) -> i64 {
-    let (c, n) = (coordinates.len(), naturals.len());
-    let change::Change { kind, x, y, visits } = change;
-    unsafe { trial_change(coordinates.as_mut_ptr(), c, naturals.as_mut_ptr(), n, kind, x, y, visits, 0) }
+fn proved_change(deck: &mut Deck, change::Change { kind, item }: change::Change) -> i64 {
+    unsafe { trial_change(deck, kind, item, 0) }
 }
 
-fn proved_read(job: &[u8], coordinates: &mut [i64], naturals: &mut [u64]) -> i64 {
-    unsafe { trial_read(job.as_ptr(), job.len(), coordinates.as_mut_ptr(), coordinates.len(), naturals.as_mut_ptr(), naturals.len(), 1) }
+fn proved_read(job: &[u8], deck: &mut Deck) -> i64 {
+    unsafe { trial_read(job.as_ptr(), job.len(), deck, 1) }
 }
 
 /// Microseconds a change, each made `turns` times: the change, its twin, and reading the edited job anew, all of which must leave the same
 /// record. Each call is timed by itself, as a change wants the record from before.
 fn time_change(name: &str, m: &change::Measured) -> [f64; 3] {
     let turns = 20;
-    let (before, after) = (write::lists(&m.job), write::lists(&m.edited));
-    let (mut c, mut n) = (before.coordinates.clone(), before.naturals.clone());
-    let mut run = |call: &dyn Fn(&mut [i64], &mut [u64]) -> i64| {
+    let ((before, _), (after, _)) = (write::record(&m.job), write::record(&m.edited));
+    let mut deck = before;
+    let mut run = |call: &dyn Fn(&mut Deck) -> i64| {
         let mut time = 0.0;
         for _ in 0..turns {
-            c.copy_from_slice(&before.coordinates);
-            n.copy_from_slice(&before.naturals);
-            let (t, refused) = timed(|| call(black_box(&mut c), black_box(&mut n)));
+            deck = before;
+            let (t, refused) = timed(|| call(black_box(&mut deck)));
             assert_eq!(refused, 0, "{name}: refused");
             time += t;
         }
-        assert!((&c, &n) == (&after.coordinates, &after.naturals), "{name}: another record");
+        assert!(deck == after, "{name}: another record");
         time / turns as f64 / 1e3
     };
     let mut best = [f64::MAX; 3];
     for _ in 0..4 * REPETITIONS {
-        best[0] = best[0].min(run(&|c, n| proved_change(c, n, black_box(m.change))));
-        best[1] = best[1].min(run(&|c, n| change::change(c, n, black_box(m.change))));
-        best[2] = best[2].min(run(&|c, n| proved_read(black_box(&m.edited), c, n)));
+        best[0] = best[0].min(run(&|deck| proved_change(deck, black_box(m.change))));
+        best[1] = best[1].min(run(&|deck| change::change(deck, black_box(m.change))));
+        best[2] = best[2].min(run(&|deck| proved_read(black_box(&m.edited), deck)));
     }
     best
 }

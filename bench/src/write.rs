@@ -1,53 +1,12 @@
-//! Hand-written Rust for writing a job, from the lists of a record's numbers on, and the records that are measured.
+//! Hand-written Rust for writing a job from a deck's record, and the records that are measured.
 
+use crate::layout::{AxisCosts, Deck, Place, Rect, Stop, POSTS, STOPS};
 use crate::read::{read, Axis, Refused};
 
-pub const POSTS: usize = 64;
-pub const STOPS: usize = 512;
-
-/// What a writer looks at: near and before stay in their list.
-struct Record {
-    area: [i64; 4],
-    axis: [u64; 2],
-    posts: u64,
-    post_x: [i64; POSTS],
-    post_y: [i64; POSTS],
-    stops: u64,
-    stop_x: [i64; STOPS],
-    stop_y: [i64; STOPS],
-    visits: [u64; STOPS],
+/// What a writer looks at. Near and before do not count.
+struct Held<'a> {
+    deck: &'a Deck,
     rounds: u64,
-}
-
-/// The next numbers of a list.
-#[inline]
-pub fn taken<T: Copy + Default, const N: usize>(list: &mut &[T]) -> [T; N] {
-    let (first, rest) = list.split_at(N);
-    *list = rest;
-    let mut array = [T::default(); N];
-    array.copy_from_slice(first);
-    array
-}
-
-fn record(mut coordinates: &[i64], mut naturals: &[u64], rounds: u64) -> Option<Record> {
-    if coordinates.len() != 4 + 2 * POSTS + 2 * STOPS || naturals.len() != 4 + 2 * STOPS + 1 {
-        return None;
-    }
-    let (c, n) = (&mut coordinates, &mut naturals);
-    let axis = taken(n);
-    let [posts, stops] = taken(n);
-    Some(Record {
-        area: taken(c),
-        axis,
-        posts,
-        post_x: taken(c),
-        post_y: taken(c),
-        stops,
-        stop_x: taken(c),
-        stop_y: taken(c),
-        visits: taken(n),
-        rounds,
-    })
 }
 
 // ---- the refusals
@@ -62,43 +21,49 @@ fn line<const N: usize, const M: usize>(line: usize, xy: [i64; N], naturals: [(u
     Err((if short { 3 } else { 2 }, line as i64))
 }
 
-impl Record {
-    fn posts(&self) -> impl Iterator<Item = (i64, i64)> + '_ {
-        self.post_x.iter().zip(&self.post_y).take(self.posts as usize).map(|(&x, &y)| (x, y))
+impl Held<'_> {
+    fn posts(&self) -> &[Place] {
+        &self.deck.posts[..self.deck.post_count.min(POSTS)]
     }
 
-    fn stops(&self) -> impl Iterator<Item = (i64, i64, u64)> + '_ {
-        self.stop_x.iter().zip(&self.stop_y).zip(&self.visits).take(self.stops as usize).map(|((&x, &y), &v)| (x, y, v))
+    fn stops(&self) -> &[Stop] {
+        &self.deck.stops[..self.deck.stop_count.min(STOPS)]
+    }
+
+    fn area(&self) -> [i64; 4] {
+        let Rect { xlo, ylo, xhi, yhi } = self.deck.area;
+        [xlo, ylo, xhi, yhi]
     }
 
     fn writes_axis(&self) -> bool {
-        self.axis != [1, 1]
+        self.deck.axis != AxisCosts { a: 1, b: 1 }
     }
 
     fn check(&self) -> Result<(), Refused> {
-        line(1, self.area, [])?;
+        line(1, self.area(), [])?;
         if self.writes_axis() {
-            line(2, [], self.axis.map(|cost| (1, cost, 9)))?;
+            let AxisCosts { a, b } = self.deck.axis;
+            line(2, [], [(1, a, 9), (1, b, 9)])?;
         }
         let at = 2 + self.writes_axis() as usize;
-        line(at, [], [(0, self.posts, POSTS as u64)])?;
-        for (i, (x, y)) in self.posts().enumerate() {
-            line(at + 1 + i, [x, y], [])?;
+        line(at, [], [(0, self.deck.post_count as u64, POSTS as u64)])?;
+        for (i, p) in self.posts().iter().enumerate() {
+            line(at + 1 + i, [p.x, p.y], [])?;
         }
-        let at = at + 1 + self.posts as usize;
-        line(at, [], [(0, self.stops, STOPS as u64)])?;
-        for (i, (x, y, visits)) in self.stops().enumerate() {
-            line(at + 1 + i, [x, y], [(1, visits, 65_535)])?;
+        let at = at + 1 + self.deck.post_count;
+        line(at, [], [(0, self.deck.stop_count as u64, STOPS as u64)])?;
+        for (i, s) in self.stops().iter().enumerate() {
+            line(at + 1 + i, [s.at.x, s.at.y], [(1, s.visits, 65_535)])?;
         }
-        line(at + 1 + self.stops as usize, [], [(0, self.rounds, 1_000)])?;
-        let [xlo, ylo, xhi, yhi] = self.area;
+        line(at + 1 + self.deck.stop_count, [], [(0, self.rounds, 1_000)])?;
+        let Rect { xlo, ylo, xhi, yhi } = self.deck.area;
         if xlo > xhi || ylo > yhi {
             return Err((4, 0));
         }
-        if self.posts == 0 {
+        if self.deck.post_count == 0 {
             return Err((5, 0));
         }
-        if self.stops == 0 {
+        if self.deck.stop_count == 0 {
             return Err((6, 0));
         }
         Ok(())
@@ -154,75 +119,73 @@ impl Text<'_> {
     }
 }
 
-impl Record {
+impl Held<'_> {
     fn length(&self) -> usize {
-        let area = self.area.iter().map(|&z| width(z)).sum::<usize>() + "area=,,,\n".len();
-        let posts = self.posts().map(|(x, y)| width(x) + width(y) + "post=,\n".len()).sum::<usize>();
-        let stops = self.stops().map(|(x, y, v)| width(x) + width(y) + digits(v as u32) + "stop=,,\n".len()).sum::<usize>();
-        let counts = [self.posts, self.stops, self.rounds].iter().map(|&n| digits(n as u32)).sum::<usize>();
+        let area = self.area().iter().map(|&z| width(z)).sum::<usize>() + "area=,,,\n".len();
+        let posts = self.posts().iter().map(|p| width(p.x) + width(p.y) + "post=,\n".len()).sum::<usize>();
+        let stop = |s: &Stop| width(s.at.x) + width(s.at.y) + digits(s.visits as u32) + "stop=,,\n".len();
+        let stops = self.stops().iter().map(stop).sum::<usize>();
+        let counts = [self.deck.post_count, self.deck.stop_count, self.rounds as usize].iter().map(|&n| digits(n as u32)).sum::<usize>();
         let axis = if self.writes_axis() { "axis=1,1\n".len() } else { 0 };
         area + axis + posts + stops + counts + "posts=\nstops=\nrounds=\n".len()
     }
 
     fn text(&self, out: &mut [u8]) {
-        let [xlo, ylo, xhi, yhi] = self.area;
+        let [xlo, ylo, xhi, yhi] = self.area();
         let mut t = Text { out, at: 0 };
         t.put(b"area=").coordinate(xlo).put(b",").coordinate(ylo).put(b",").coordinate(xhi).put(b",").coordinate(yhi);
         if self.writes_axis() {
-            t.put(b"\naxis=").natural(self.axis[0]).put(b",").natural(self.axis[1]);
+            t.put(b"\naxis=").natural(self.deck.axis.a).put(b",").natural(self.deck.axis.b);
         }
-        t.put(b"\nposts=").natural(self.posts);
-        for (x, y) in self.posts() {
-            t.put(b"\npost=").coordinate(x).put(b",").coordinate(y);
+        t.put(b"\nposts=").natural(self.deck.post_count as u64);
+        for p in self.posts() {
+            t.put(b"\npost=").coordinate(p.x).put(b",").coordinate(p.y);
         }
-        t.put(b"\nstops=").natural(self.stops);
-        for (x, y, visits) in self.stops() {
-            t.put(b"\nstop=").coordinate(x).put(b",").coordinate(y).put(b",").natural(visits);
+        t.put(b"\nstops=").natural(self.deck.stop_count as u64);
+        for s in self.stops() {
+            t.put(b"\nstop=").coordinate(s.at.x).put(b",").coordinate(s.at.y).put(b",").natural(s.visits);
         }
         t.put(b"\nrounds=").natural(self.rounds).put(b"\n");
     }
 }
 
-/// The bytes written, or the refusal. None for lists of other lengths.
-pub fn write(coordinates: &[i64], naturals: &[u64], rounds: u64, out: &mut [u8]) -> Option<Result<usize, Refused>> {
-    let record = record(coordinates, naturals, rounds)?;
-    if let Err(why) = record.check() {
-        return Some(Err(why));
-    }
-    let length = record.length();
+/// The bytes written, or the refusal.
+pub fn write(deck: &Deck, rounds: u64, out: &mut [u8]) -> Result<usize, Refused> {
+    let held = Held { deck, rounds };
+    held.check()?;
+    let length = held.length();
     if out.len() < length {
-        return Some(Err((8, 0)));
+        return Err((8, 0));
     }
-    record.text(&mut out[..length]);
-    Some(Ok(length))
+    held.text(&mut out[..length]);
+    Ok(length)
 }
 
 // ---- the records that are measured
 
-/// The lists of a record's numbers, and the rounds.
-pub struct Lists {
-    pub coordinates: Vec<i64>,
-    pub naturals: Vec<u64>,
-    pub rounds: u64,
-}
-
-/// Those of a job, as it is read.
-pub fn lists(job: &[u8]) -> Lists {
-    let (deck, objects) = read(job).unwrap_or_else(|_| panic!("refused"));
-    let a = deck.area;
-    let mut coordinates: Vec<i64> = [a.xlo, a.ylo, a.xhi, a.yhi].map(i64::from).into();
-    for (column, size) in [(&deck.post_x, POSTS), (&deck.post_y, POSTS), (&deck.xs, STOPS), (&deck.ys, STOPS)] {
-        let end = coordinates.len() + size;
-        coordinates.extend(column.iter().map(|&v| i64::from(v)));
-        coordinates.resize(end, 0);
+/// The record of a job, as it is read, and the rounds.
+pub fn record(job: &[u8]) -> (Deck, u64) {
+    let (read, objects) = read(job).unwrap_or_else(|_| panic!("refused"));
+    let [xlo, ylo, xhi, yhi] = [read.area.xlo, read.area.ylo, read.area.xhi, read.area.yhi].map(i64::from);
+    let place = |x: &i32, y: &i32| Place { x: (*x).into(), y: (*y).into() };
+    let mut deck = Deck {
+        area: Rect { xlo, ylo, xhi, yhi },
+        axis: AxisCosts { a: read.axis.a as u64, b: read.axis.b as u64 },
+        post_count: read.post_x.len(),
+        posts: [Place::default(); POSTS],
+        stop_count: read.xs.len(),
+        stops: [Stop::default(); STOPS],
+        near: [0; STOPS],
+        before: objects.before(),
+    };
+    for (i, (x, y)) in read.post_x.iter().zip(&read.post_y).enumerate() {
+        deck.posts[i] = place(x, y);
     }
-    let mut naturals = vec![deck.axis.a as u64, deck.axis.b as u64, deck.post_x.len() as u64, deck.xs.len() as u64];
-    naturals.extend(objects.visits.iter().map(|&v| u64::from(v)));
-    naturals.resize(4 + STOPS, 0);
-    naturals.extend(objects.near.iter().map(|&v| v as u64));
-    naturals.resize(4 + 2 * STOPS, 0);
-    naturals.push(objects.before());
-    Lists { coordinates, naturals, rounds: deck.rounds as u64 }
+    for (i, (x, y)) in read.xs.iter().zip(&read.ys).enumerate() {
+        deck.stops[i] = Stop { at: place(x, y), visits: objects.visits[i].into() };
+        deck.near[i] = objects.near[i] as u64;
+    }
+    (deck, read.rounds as u64)
 }
 
 /// A job of the most posts and stops, all numbers of 1 to 5 digits from a fixed seed.

@@ -3,6 +3,8 @@
 pub mod decks;
 pub mod entry;
 pub mod generate;
+pub mod layout;
+pub mod lent;
 pub mod program;
 pub mod records;
 pub mod reference;

@@ -139,6 +139,18 @@ pub fn drawn(random: &mut Random, ends: i64) -> Record {
     record
 }
 
+/// A record of numbers of the whole types.
+pub fn any_numbers(random: &mut Random) -> Record {
+    let mut record = Record::ZEROS;
+    record.area = [(); 4].map(|()| random.next() as i64);
+    record.axis = [(); 2].map(|()| random.next());
+    (record.post_x, record.post_y) = ([(); 64].map(|()| random.next() as i64), [(); 64].map(|()| random.next() as i64));
+    (record.stop_x, record.stop_y) = ([(); 512].map(|()| random.next() as i64), [(); 512].map(|()| random.next() as i64));
+    (record.visits, record.near) = ([(); 512].map(|()| random.next()), [(); 512].map(|()| random.next()));
+    (record.posts, record.stops, record.before, record.rounds) = (random.next(), random.next(), random.next(), random.next());
+    record
+}
+
 /// The job that a record with numbers in range holds.
 pub fn held(record: &Record) -> Job {
     let [xlo, ylo, xhi, yhi] = record.area;

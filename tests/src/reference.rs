@@ -185,7 +185,7 @@ pub struct Record {
 }
 
 impl Record {
-    /// All numbers 0: as `trial_read` leaves its lists where a job is refused.
+    /// All numbers 0.
     pub const ZEROS: Record = Record {
         area: [0; 4],
         axis: [0; 2],
@@ -241,17 +241,6 @@ impl Record {
         }
         text += &format!("rounds={}\n", self.rounds);
         text.into_bytes()
-    }
-
-    /// How many numbers the two lists have.
-    pub const COORDINATES: usize = 4 + 2 * 64 + 2 * 512;
-    pub const NATURALS: usize = 4 + 2 * 512 + 1;
-
-    /// The lists of numbers by which the trial functions know it, the rounds left out.
-    pub fn lists(&self) -> (Vec<i64>, Vec<u64>) {
-        let coordinates = [&self.area[..], &self.post_x, &self.post_y, &self.stop_x, &self.stop_y].concat();
-        let naturals = [&self.axis[..], &[self.posts, self.stops], &self.visits, &self.near, &[self.before]].concat();
-        (coordinates, naturals)
     }
 }
 

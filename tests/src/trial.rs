@@ -1,7 +1,8 @@
 //! The exported functions of the crates `trial` and `trial_calls`, each figure behind a safe function. They have no `requires`: every input is
 //! allowed. Nothing checks these declarations against crates/trial/src and crates/trial_calls/src, so they are kept in their order.
 
-use crate::reference::{Place, Rect};
+use crate::layout::{self, Deck, Stop};
+use crate::reference::{Place, Record, Rect};
 
 #[link(name = "trial", kind = "static")]
 extern "C" {
@@ -15,36 +16,9 @@ extern "C" {
     fn trial_report(job: *const u8, len: usize, cells: *mut i64, cells_len: usize, out: *mut u8, out_len: usize, which: u64) -> i64;
     fn trial_exhaustive(job: *const u8, len: usize, which: u64) -> i64;
     fn trial_estimate(job: *const u8, len: usize, which: u64) -> i64;
-    fn trial_read(
-        job: *const u8,
-        len: usize,
-        coordinates: *mut i64,
-        coordinates_len: usize,
-        naturals: *mut u64,
-        naturals_len: usize,
-        which: u64,
-    ) -> i64;
-    fn trial_write(
-        coordinates: *const i64,
-        coordinates_len: usize,
-        naturals: *const u64,
-        naturals_len: usize,
-        rounds: u64,
-        out: *mut u8,
-        out_len: usize,
-        which: u64,
-    ) -> i64;
-    fn trial_change(
-        coordinates: *mut i64,
-        coordinates_len: usize,
-        naturals: *mut u64,
-        naturals_len: usize,
-        kind: u64,
-        x: i64,
-        y: i64,
-        visits: u64,
-        which: u64,
-    ) -> i64;
+    fn trial_read(job: *const u8, len: usize, deck: *mut Deck, which: u64) -> i64;
+    fn trial_write(deck: *const Deck, rounds: u64, out: *mut u8, out_len: usize, which: u64) -> i64;
+    fn trial_change(deck: *mut Deck, kind: u64, item: Stop, which: u64) -> i64;
 }
 
 // ---- reading
@@ -158,25 +132,28 @@ pub fn estimate(job: &[u8], which: u64) -> i64 {
     unsafe { trial_estimate(job.as_ptr(), job.len(), which) }
 }
 
-// ---- records, as the two lists of `Record::lists`. Lists of other lengths get the least number, and nothing changes
+// ---- records
 
 /// A number of the read call's answer, from 0: the rounds, the number of the refusal, its line (0 and 0 for none). The least number where
-/// there is none. The lists get the record's numbers, or zeros.
-pub fn read(job: &[u8], coordinates: &mut [i64], naturals: &mut [u64], which: u64) -> i64 {
-    let (c, n) = (coordinates.len(), naturals.len());
-    unsafe { trial_read(job.as_ptr(), job.len(), coordinates.as_mut_ptr(), c, naturals.as_mut_ptr(), n, which) }
+/// there is none. The record gets all numbers of the one that was read, but for its rounds, or stays as it is.
+pub fn read(job: &[u8], record: &mut Record, which: u64) -> i64 {
+    let mut deck = Deck::of(record);
+    let figure = unsafe { trial_read(job.as_ptr(), job.len(), &mut deck, which) };
+    *record = deck.record(record.rounds);
+    figure
 }
 
 /// A number of the write call's answer, from 0: the bytes written, the number of the refusal, its line (0 and 0 for none). The least number
 /// where there is none.
-pub fn write(coordinates: &[i64], naturals: &[u64], rounds: u64, out: &mut [u8], which: u64) -> i64 {
-    let (c, n) = (coordinates.len(), naturals.len());
-    unsafe { trial_write(coordinates.as_ptr(), c, naturals.as_ptr(), n, rounds, out.as_mut_ptr(), out.len(), which) }
+pub fn write(record: &Record, out: &mut [u8], which: u64) -> i64 {
+    unsafe { trial_write(&Deck::of(record), record.rounds, out.as_mut_ptr(), out.len(), which) }
 }
 
 /// A number of a changing call's answer, from 0: the number of the refusal, its line (0 and 0 for none). The least number where there is
-/// none. `kind` is the number of a `Kind`; with any other, too, the least number, and nothing changes. The lists get the record's numbers.
-pub fn change(coordinates: &mut [i64], naturals: &mut [u64], kind: u64, at: Place, visits: u64, which: u64) -> i64 {
-    let (c, n) = (coordinates.len(), naturals.len());
-    unsafe { trial_change(coordinates.as_mut_ptr(), c, naturals.as_mut_ptr(), n, kind, at.0, at.1, visits, which) }
+/// none. `kind` is the number of a `Kind`; with any other, too, the least number, and nothing changes. The record is as the call leaves it.
+pub fn change(record: &mut Record, kind: u64, at: Place, visits: u64, which: u64) -> i64 {
+    let (mut deck, at) = (Deck::of(record), layout::Place { x: at.0, y: at.1 });
+    let figure = unsafe { trial_change(&mut deck, kind, Stop { at, visits }, which) };
+    *record = deck.record(record.rounds);
+    figure
 }

@@ -4,7 +4,8 @@
 use siting_tests::decks::{folder, CASE_A};
 use siting_tests::entry;
 use siting_tests::generate::{axis, job, largest, rect, seed, special, turns, Random};
-use siting_tests::records::{coordinate, drawn, held, items, litter, mended, natural, replace, valid, NATURALS, NEVER};
+use siting_tests::layout::Deck;
+use siting_tests::records::{any_numbers, coordinate, drawn, held, items, litter, mended, natural, replace, valid, NATURALS, NEVER};
 use siting_tests::reference::{changed, read, spell, spell_out, travel, Axis, Change, Job, Kind, Place, Record, Rect, Refusal, Stop};
 use siting_tests::text;
 use siting_tests::trial;
@@ -12,31 +13,29 @@ use siting_tests::vectors::{change, changes};
 
 const LEAST: i64 = i64::MIN;
 
-/// The numbers of a record, as the calls have them.
-type Lists = (Vec<i64>, Vec<u64>);
-
 // ---- checks
 
 /// Where the numbers of two records differ, for the message of a test that fails.
-fn differences(got: &Lists, want: &Lists) -> String {
-    let coordinates = (0..got.0.len()).filter(|&i| got.0[i] != want.0[i]).map(|i| format!("coordinate {i} is {}, not {}", got.0[i], want.0[i]));
-    let naturals = (0..got.1.len()).filter(|&i| got.1[i] != want.1[i]).map(|i| format!("natural {i} is {}, not {}", got.1[i], want.1[i]));
-    coordinates.chain(naturals).take(8).collect::<Vec<String>>().join("; ")
+fn differences(got: &Record, want: &Record) -> String {
+    let lines = |record: &Record| format!("{:#?}", Deck::of(record)).lines().map(String::from).collect::<Vec<String>>();
+    let (got, want) = (lines(got), lines(want));
+    let differ = (0..got.len()).filter(|&i| got[i] != want[i]).map(|i| format!("line {i} is {}, not {}", got[i].trim(), want[i].trim()));
+    differ.take(8).collect::<Vec<String>>().join("; ")
 }
 
 /// A change of a record: each number of the answer, and one that none has, and with each of them all numbers of the record. The visits of
 /// a post are any.
 fn check_change(random: &mut Random, record: &Record, change: &Change) -> Result<Record, Refusal> {
     let want = record.changed(change);
-    let (before, after) = (record.lists(), want.as_ref().unwrap_or(record).lists());
+    let after = want.as_ref().unwrap_or(record);
     let (number, line) = want.as_ref().map_or_else(|why| (why.number, why.line), |_| (0, 0));
     let none = random.pick(&[2, 3, 7, 1 << 32, (1 << 32) + 1, 1 << 63, u64::MAX]);
     for (which, figure) in [(0, number), (1, line), (none, LEAST)] {
         let visits = if change.kind.of_a_post() { random.pick(&NATURALS) } else { change.visits };
-        let mut lists = before.clone();
-        let got = trial::change(&mut lists.0, &mut lists.1, change.kind as u64, change.at, visits, which);
+        let mut new = record.clone();
+        let got = trial::change(&mut new, change.kind as u64, change.at, visits, which);
         assert_eq!(got, figure, "figure {which}, {change}\n{}", text(&record.text()));
-        assert!(lists == after, "figure {which}, {change}: {}\n{}", differences(&lists, &after), text(&record.text()));
+        assert!(new == *after, "figure {which}, {change}: {}\n{}", differences(&new, after), text(&record.text()));
     }
     want
 }
@@ -47,12 +46,12 @@ fn refused(random: &mut Random, record: &Record, change: &Change, number: i64) {
     assert_eq!(got.err(), Some(Refusal { number, line: 0 }), "{change}\n{}", text(&record.text()));
 }
 
-/// The record that a job's bytes are read as by the call, from lists that held other numbers.
-fn read_anew(random: &mut Random, bytes: &[u8]) -> Lists {
-    let (z, n) = (random.next() as i64, random.next());
-    let mut lists = (vec![z; Record::COORDINATES], vec![n; Record::NATURALS]);
-    assert_eq!(trial::read(bytes, &mut lists.0, &mut lists.1, 1), 0, "{}", text(bytes));
-    lists
+/// The record that a job's bytes are read as by the call, put over other numbers.
+fn read_anew(random: &mut Random, bytes: &[u8]) -> Record {
+    let mut record = any_numbers(random);
+    record.rounds = trial::read(bytes, &mut record.clone(), 0) as u64;
+    assert_eq!(trial::read(bytes, &mut record, 1), 0, "{}", text(bytes));
+    record
 }
 
 /// Near and before by their definitions: no post is closer to a stop than its near, and one is as close. Zeros behind the lists.
@@ -165,7 +164,7 @@ struct Standing {
 impl Standing {
     fn new(random: &mut Random, job: Job) -> Standing {
         let record = Record::of(&job);
-        assert!(read_anew(random, &spell(&job)) == record.lists(), "{}", text(&spell(&job)));
+        assert!(read_anew(random, &spell(&job)) == record, "{}", text(&spell(&job)));
         Standing { job, record }
     }
 
@@ -189,19 +188,18 @@ impl Standing {
 
     /// The job that it could be read from is read as it, with the axis line and, if it can do without, without.
     fn check_read(&self, random: &mut Random) {
-        let lists = self.record.lists();
         for bytes in [spell(&self.job), spell_out(&self.job)] {
             let anew = read_anew(random, &bytes);
-            assert!(anew == lists, "{}\n{}", differences(&lists, &anew), text(&bytes));
+            assert!(anew == self.record, "{}\n{}", differences(&anew, &self.record), text(&bytes));
         }
     }
 
     /// It is written as that job.
     fn check_written(&self, random: &mut Random) {
-        let (bytes, (coordinates, naturals)) = (spell(&self.job), self.record.lists());
+        let bytes = spell(&self.job);
         let room = bytes.len() + random.range(0, 9) as usize;
         let mut out = vec![b'x'; room];
-        let length = trial::write(&coordinates, &naturals, self.job.rounds as u64, &mut out, 0);
+        let length = trial::write(&self.record, &mut out, 0);
         assert_eq!(length, bytes.len() as i64, "{}", text(&bytes));
         assert!(out.starts_with(&bytes) && out[bytes.len()..].iter().all(|&b| b == b'x'), "{}\n{}", text(&out), text(&bytes));
     }
@@ -673,10 +671,10 @@ fn the_visits_of_a_post_do_not_matter() {
             let change = of_held(&mut random, &job, kind);
             let want = record.changed(&change);
             for visits in NATURALS {
-                let mut lists = record.lists();
-                let got = trial::change(&mut lists.0, &mut lists.1, kind as u64, change.at, visits, 0);
+                let mut new = record.clone();
+                let got = trial::change(&mut new, kind as u64, change.at, visits, 0);
                 assert_eq!(got, want.as_ref().map_or_else(|why| why.number, |_| 0), "{change}, {visits}");
-                assert!(lists == want.as_ref().unwrap_or(&record).lists(), "{change}, {visits}");
+                assert!(new == *want.as_ref().unwrap_or(&record), "{change}, {visits}");
             }
         }
     }
@@ -881,13 +879,7 @@ fn records_of_any_numbers_are_changed_or_refused_as_the_reference_says() {
 fn records_of_noise_get_3() {
     let mut random = Random::new(seed());
     for i in 0..600 {
-        let mut record = Record::ZEROS;
-        record.area = [(); 4].map(|()| random.next() as i64);
-        record.axis = [(); 2].map(|()| random.next());
-        (record.post_x, record.post_y) = ([(); 64].map(|()| random.next() as i64), [(); 64].map(|()| random.next() as i64));
-        (record.stop_x, record.stop_y) = ([(); 512].map(|()| random.next() as i64), [(); 512].map(|()| random.next() as i64));
-        (record.visits, record.near) = ([(); 512].map(|()| random.next()), [(); 512].map(|()| random.next()));
-        (record.posts, record.stops, record.before) = (random.next(), random.next(), random.next());
+        let mut record = any_numbers(&mut random);
         if i % 2 == 0 {
             (record.posts, record.stops) = (random.range(1, 64) as u64, random.range(1, 512) as u64);
         }
@@ -933,7 +925,6 @@ fn a_record_without_a_file_gets_3() {
         for area in [[1, 0, 0, 0], [0, 1, 0, 0], [20_000, -20_000, -20_000, 20_000], [-20_000, 20_000, 20_000, -20_000]] {
             refused(&mut random, &Record { area, ..good.clone() }, &change, 3);
         }
-        // what a refused job is read as
         refused(&mut random, &Record::ZEROS, &change, 3);
         refused(&mut random, &Record::PLAIN, &change, 3);
     }
@@ -1105,37 +1096,24 @@ fn a_stored_near_is_taken_as_it_is() {
     }
 }
 
-// ---- lists and kinds that do not do
+// ---- kinds that there are not
 
 #[test]
-fn lists_of_other_lengths_and_other_kinds_get_nothing() {
+fn other_kinds_get_nothing() {
     let mut random = Random::new(seed());
     let good = Record::of(&read(CASE_A.as_bytes()).unwrap());
-    let (coordinates, naturals) = good.lists();
-    let wrong_coordinates = [0, 1, 132, 1_155, 1_157, 2_312].map(|c| (c, 1_029));
-    let wrong_naturals = [0, 4, 516, 1_028, 1_030, 2_058].map(|n| (1_156, n));
-    for (c, n) in [&wrong_coordinates[..], &wrong_naturals, &[(0, 0), (1_029, 1_156), (2_312, 2_058)]].concat() {
-        let mut lists = (coordinates.clone(), naturals.clone());
-        lists.0.resize(c, 0);
-        lists.1.resize(n, 0);
-        for kind in [0, 1, 2, 3, 4, u64::MAX] {
+    for record in [good.clone(), changeable(&mut random), any_numbers(&mut random)] {
+        for kind in [4, 5, 6, 7, 8, 256, 1 << 32, (1 << 32) + 1, (1 << 32) + 3, 1 << 63, u64::MAX - 1, u64::MAX] {
             for which in [0, 1, 2, u64::MAX] {
-                let mut after = lists.clone();
-                assert_eq!(trial::change(&mut after.0, &mut after.1, kind, (4, 3), 2, which), LEAST);
-                assert!(after == lists);
+                for (at, visits) in [((4, 3), 2), ((0, 0), 1), ((20_001, 0), 0)] {
+                    let mut after = record.clone();
+                    assert_eq!(trial::change(&mut after, kind, at, visits, which), LEAST);
+                    assert!(after == record);
+                }
             }
         }
     }
-    for kind in [4, 5, 6, 7, 8, 256, 1 << 32, (1 << 32) + 1, (1 << 32) + 3, 1 << 63, u64::MAX - 1, u64::MAX] {
-        for which in [0, 1, 2, u64::MAX] {
-            for (at, visits) in [((4, 3), 2), ((0, 0), 1), ((20_001, 0), 0)] {
-                let mut after = (coordinates.clone(), naturals.clone());
-                assert_eq!(trial::change(&mut after.0, &mut after.1, kind, at, visits, which), LEAST);
-                assert!(after == (coordinates.clone(), naturals.clone()));
-            }
-        }
-    }
-    // and the four kinds with the right lengths
+    // and the four kinds
     for change in each_kind(&good) {
         let answer = check_change(&mut random, &good, &change).map_err(|why| why.number);
         assert_eq!(answer.err(), if change.kind == Kind::RemovePost { Some(5) } else { None });

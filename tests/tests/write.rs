@@ -3,7 +3,7 @@
 
 use siting_tests::decks::{folder, CASE_A};
 use siting_tests::generate::{damaged, each_job, job, job_of, largest, noise, seed, special, spelled, Random};
-use siting_tests::records::{alter, drawn, litter, mended, redraw, replace, valid, NEVER};
+use siting_tests::records::{alter, any_numbers, drawn, litter, mended, redraw, replace, valid, NEVER};
 use siting_tests::reference::{read, saved, spell, spell_out, write, Axis, Deck, Job, Record, Refusal};
 use siting_tests::text;
 use siting_tests::trial;
@@ -34,9 +34,8 @@ fn check_write(random: &mut Random, record: &Record, room: usize) -> Result<Vec<
     let answer = want.as_ref().map_or_else(|r| Err(*r), |bytes| Ok(bytes.len() as i64));
     let mut lent = record.clone();
     for (which, figure) in figures(random, answer) {
-        let (coordinates, naturals) = lent.lists();
         let mut out = before.clone();
-        let got = trial::write(&coordinates, &naturals, record.rounds, &mut out[BESIDE..BESIDE + room], which);
+        let got = trial::write(&lent, &mut out[BESIDE..BESIDE + room], which);
         assert_eq!(got, figure, "figure {which}, output of {room} bytes\n{}", text(&record.text()));
         assert!(out == after, "output of {room} bytes: {}\n{}", text(&out[BESIDE..]), text(&record.text()));
         redraw(random, &mut lent);
@@ -44,15 +43,15 @@ fn check_write(random: &mut Random, record: &Record, room: usize) -> Result<Vec<
     want
 }
 
-/// A job's bytes read into lists that held other numbers.
+/// A job's bytes read into a record of other numbers. An accepted job's record takes their place; where the job is refused, they stay.
 fn check_read(random: &mut Random, bytes: &[u8]) -> Result<Record, Refusal> {
     let want = read(bytes).map(|job| Record::of(&job));
-    let after = want.as_ref().unwrap_or(&Record::ZEROS).lists();
     for (which, figure) in figures(random, want.as_ref().map_or_else(|r| Err(*r), |record| Ok(record.rounds as i64))) {
-        let mut coordinates: Vec<i64> = (0..Record::COORDINATES).map(|_| random.next() as i64).collect();
-        let mut naturals: Vec<u64> = (0..Record::NATURALS).map(|_| random.next()).collect();
-        assert_eq!(trial::read(bytes, &mut coordinates, &mut naturals, which), figure, "figure {which}\n{}", text(bytes));
-        assert!((&coordinates, &naturals) == (&after.0, &after.1), "record {coordinates:?} {naturals:?}\n{}", text(bytes));
+        let before = any_numbers(random);
+        let mut record = before.clone();
+        assert_eq!(trial::read(bytes, &mut record, which), figure, "figure {which}\n{}", text(bytes));
+        let after = want.as_ref().map_or(before.clone(), |read| Record { rounds: before.rounds, ..read.clone() });
+        assert!(record == after, "{record:?}\n{}", text(bytes));
     }
     want
 }
@@ -77,9 +76,8 @@ fn check_saved(random: &mut Random, bytes: &[u8]) {
 
 /// What the call writes, with more than enough room.
 fn written(record: &Record) -> Option<Vec<u8>> {
-    let (coordinates, naturals) = record.lists();
     let mut out = vec![0; 16_384];
-    let n = trial::write(&coordinates, &naturals, record.rounds, &mut out, 0);
+    let n = trial::write(record, &mut out, 0);
     out.truncate(usize::try_from(n).ok()?);
     Some(out)
 }
@@ -443,31 +441,6 @@ fn counts_beyond_the_arrays() {
     assert_eq!((seen.accepted, seen.refusals), (12, [0, 0, 18, 7, 0, 1, 1, 0, 0]));
 }
 
-#[test]
-fn lists_of_other_lengths_get_nothing() {
-    let mut random = Random::new(seed());
-    let record = Record::of(&read(CASE_A.as_bytes()).unwrap());
-    let (coordinates, naturals) = record.lists();
-    assert_eq!((coordinates.len(), naturals.len()), (1_156, 1_029));
-    let coordinates_wrong = [0, 1_155, 1_157, 2_312].map(|c| (c, 1_029));
-    // without near and before, without before, and others
-    let naturals_wrong = [516, 1_028, 0, 515, 517, 1_027, 1_030, 2_058].map(|n| (1_156, n));
-    for (c, n) in [&coordinates_wrong[..], &naturals_wrong, &[(0, 0), (1_029, 1_156), (2_312, 2_058)]].concat() {
-        let mut lists = (coordinates.clone(), naturals.clone());
-        lists.0.resize(c, 0);
-        lists.1.resize(n, 0);
-        let job = random.pick(&[CASE_A, "", "area=1,1,0,0\n"]);
-        for which in [0, 1, 2, 3, u64::MAX] {
-            let mut out = [7; 200];
-            assert_eq!(trial::write(&lists.0, &lists.1, 10, &mut out, which), LEAST);
-            assert_eq!(out, [7; 200]);
-            let mut after = lists.clone();
-            assert_eq!(trial::read(job.as_bytes(), &mut after.0, &mut after.1, which), LEAST);
-            assert!(after == lists);
-        }
-    }
-}
-
 // ---- the order of refusals
 
 /// A record of two posts and three stops: line 1 is the area's, 3 and 4 are posts, 6 to 8 stops, 9 the rounds. Axis costs other than 1,1
@@ -700,14 +673,15 @@ impl Kinds {
 }
 
 /// Near and before in the record that is read: those of the reference, of the deck's figures and, for before, of the report. 0 behind the
-/// last stop, and everywhere where the job is refused.
+/// last stop. Where the job is refused, what they were.
 fn check_near_and_before(random: &mut Random, bytes: &[u8], kinds: &mut Kinds) {
-    let (mut coordinates, mut naturals) = (vec![-1; Record::COORDINATES], vec![u64::MAX; Record::NATURALS]);
-    trial::read(bytes, &mut coordinates, &mut naturals, 0);
-    let (near, before) = (&naturals[516..1_028], naturals[1_028]);
+    let held = any_numbers(random);
+    let mut record = held.clone();
+    trial::read(bytes, &mut record, 0);
+    let Record { near, before, .. } = record;
     let reported = trial::report_figure(bytes, &mut [0; 5_005], &mut [0; 128], 5);
     let Ok(job) = read(bytes) else {
-        assert!(near.iter().all(|&n| n == 0) && before == 0, "{}", text(bytes));
+        assert!(near == held.near && before == held.before, "{}", text(bytes));
         assert_eq!((trial::near(bytes, 0), trial::before(bytes), reported), (-1, -1, LEAST), "{}", text(bytes));
         kinds.refused += 1;
         return;
@@ -768,9 +742,8 @@ fn near_and_before_of_some_decks() {
 
 /// The numbers of the write call's answer, and the output.
 fn given(record: &Record, room: usize) -> ([i64; 3], Vec<u8>) {
-    let (coordinates, naturals) = record.lists();
     let mut out = vec![b'x'; room];
-    ([0, 1, 2].map(|which| trial::write(&coordinates, &naturals, record.rounds, &mut out, which)), out)
+    ([0, 1, 2].map(|which| trial::write(record, &mut out, which)), out)
 }
 
 #[test]

@@ -87,10 +87,10 @@ pub stop_in_range : {stops : List Stop} → StopsInRange stops → (i : ℕ) (z 
 stop_in_range {stops} range i z h = range.each (stop_of (get_or stops i z)) (mapped_at stop_of z stops i h)
 
 -- near of the stops, without what stands behind
-pub nears_front : {nears : List ℕ} {n : ℕ} → NearsInRange nears n → NearsInRange (take n nears) n
-nears_front {nears} {n} range = record {
+pub nears_front : {nears : List ℕ} {n k : ℕ} → k ≤ n → NearsInRange nears n → NearsInRange (take n nears) k
+nears_front {nears} {n} {k} few range = record {
   count = omega (arith, length-take-le n nears range.count);
-  range = λ i h. rw (get_or-take n nears i 0 h) (range.range i h);
+  range = λ i h. rw (get_or-take n nears i 0 (omega arith)) (range.range i (omega arith));
 }
 
 -- ---- the record of a deck holds it

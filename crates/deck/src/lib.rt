@@ -107,8 +107,8 @@ pub struct AxisCosts {
 
 /// A deck's record, laid out as C has such structs: its area, its axis costs, and its posts and stops at the front of arrays, of which the
 /// first `post_count` and the first `stop_count` count. A caller's record may hold any numbers and counts; a sound one
-/// (deck/specs/Sound.antt), as reading and changes leave it, has 0 in all that stands behind, the near of each stop in `near` and the deck's
-/// before in `before`.
+/// (deck/specs/Sound.antt), as reading and changes leave it, has 0 in all that stands behind, the near of each stop in `near` and the
+/// deck's before in `before`.
 #[repr(C)]
 #[derive(Clone, Copy)]
 pub struct Deck {

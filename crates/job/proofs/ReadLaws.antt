@@ -265,7 +265,7 @@ module _ {unread : Unread} {a : Rect} {c : AxisCosts} {d₁ : Deck} {left : Unre
       stops_listed = sym (length-map (take d₂.stop_count d₂.stops) Values.stop_of) ∙ ap length stops_are
 
       pub nears_held : NearsInRange (take d₂.stop_count near) (length (take d₂.stop_count d₂.stops))
-      nears_held = rw (stops_listed, count_is) (nears_front found_deck.range)
+      nears_held = rw (stops_listed, count_is) (nears_front (omega arith) found_deck.range)
 
       deck_made : {sum : ℕ} → sum ≡ paid (map Values.stop_of (take d₂.stop_count d₂.stops)) (take d₂.stop_count near) →
           with_figures d₂ near sum ≡ deck_record deck

@@ -16,12 +16,11 @@ use Rattle.deck.specs.Values.{held_axis, rect_of, stop_of}
 use Rattle.deck.specs.DeckOf.{deck_of}
 use Rattle.deck.specs.Sound.{Sound}
 use Rattle.deck.specs.Ranges.{CostsInRange, StopsInRange, NearsInRange}
-use Rattle.deck.proofs.DeckLaws.{costs_range, stops_range}
+use Rattle.deck.proofs.DeckLaws.{costs_range, stops_range, nears_front}
 use Rattle.deck.proofs.SoundLaws.{sound_listed, sound_nears}
 use Rattle.columns.specs.Objects.{pricing_of, stored_pricing}
 use Rattle.columns.specs.ObjectColumns.{columns_of, pricing_in}
 use Rattle.columns.proofs.StoredLaws.{sound_pricing}
-use Rattle.job.proofs.FilledLaws.{nears_front}
 use Rattle.reach.specs.ObjectReach.{flags_of}
 use Rattle.reach.specs.Columns.{Ranged}
 use Rattle.reach.specs.Held.{columns_of_objects, count_of_objects, pricing_of_objects}
@@ -47,7 +46,7 @@ module _ (deck : Deck) (sound : Sound deck) where
   objects_range = (
     costs_range deck sound.range,
     stops_range deck sound.range,
-    rw near_count (nears_front (sound_nears sound)),
+    rw near_count (nears_front (omega arith) (sound_nears sound)),
     near_count ∙ sym (length-take-le deck.stop_count deck.stops (omega (arith, (sound_listed sound).sized.stops, (sound_listed sound).stops))),
   )
 

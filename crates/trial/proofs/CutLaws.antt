@@ -12,7 +12,7 @@ use mir.Syntax.{w64}
 use mir.Val.{to_z}
 use mir.ValLaws.{to_z_pos}
 use borrow.Author.Tests.{lt-ltb, le-ltb}
-use Rattle.query.specs.Place.{Rect, Axis, x_axis, y_axis}
+use Rattle.query.specs.Place.{Rect, Axis}
 use Rattle.query.specs.Lines.{lines}
 use Rattle.query.specs.Grid.{grid}
 use Rattle.query.specs.Cut.{can_cut, cut_line}

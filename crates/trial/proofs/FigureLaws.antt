@@ -68,19 +68,19 @@ module _ {bytes : List ℕ} {o : Opened} (w : Open bytes o) where
   pub before_answer : to_z w64 o.deck.before ≡ before_figure (read_job bytes)
   before_answer = figure_word (record { is = held_before; within = before_small }) ∙ on_job_lem minus_one (λ job. pos (before job.deck)) s
 
-  count_is : o.deck.stops ≡ length s.job.deck.stops
+  count_is : o.deck.stop_count ≡ length s.job.deck.stops
   unfolding deck_record
-  count_is = ap (λ (d : Deck). d.stops) (open_held w)
+  count_is = ap (λ (d : Deck). d.stop_count) (open_held w)
 
-  pub few_stops : o.deck.stops ≤ stops_limit
+  pub few_stops : o.deck.stop_count ≤ stops_limit
   few_stops = omega (arith, count_is, (spelt_range s).most_stops)
 
   -- the nears of the stops that there are
-  near_column : take o.deck.stops o.deck.near ≡ map (near s.job.deck) s.job.deck.stops
+  near_column : take o.deck.stop_count o.deck.near ≡ map (near s.job.deck) s.job.deck.stops
   unfolding deck_record
   near_column =
       let nears = map (near s.job.deck) s.job.deck.stops in
-      ap (λ (d : Deck). take d.stops d.near) (open_held w)
+      ap (λ (d : Deck). take d.stop_count d.near) (open_held w)
       ∙ ap (λ (n : ℕ). take n (padded stops_limit 0 nears)) (sym (length-map s.job.deck.stops (near s.job.deck))) ∙ padded_front stops_limit 0 nears
 
   near_figure_lem : (i : ℕ) →
@@ -88,7 +88,7 @@ module _ {bytes : List ℕ} {o : Opened} (w : Open bytes o) where
   near_figure_lem i =
       on_job_lem minus_one (λ job. cond (ltb i (length job.deck.stops)) (pos (get_or (map (near job.deck) job.deck.stops) i 0)) minus_one) s
 
-  module _ {column : List ℕ} (e : column ≡ take o.deck.stops o.deck.near) (i : ℕ) where
+  module _ {column : List ℕ} (e : column ≡ take o.deck.stop_count o.deck.near) (i : ℕ) where
     column_is : column ≡ map (near s.job.deck) s.job.deck.stops
     column_is = e ∙ near_column
 

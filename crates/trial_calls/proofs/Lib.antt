@@ -1,4 +1,3 @@
 pub mod CallLaws
 pub mod EstimateFigures
 pub mod RecordLaws
-pub mod ChangeFigures

@@ -2,13 +2,17 @@
 #![tactic(auto)]
 
 ghost use Rattle.std.specs.Prelude.{◌≡◌};
+ghost use Rattle.deck.specs.Values.{stop_of};
 ghost use Rattle.calls.specs.Call.{report_call};
 ghost use Rattle.calls.specs.CheapestCall.{exhaustive_call};
 ghost use Rattle.calls.specs.EstimateCall.{estimate_call};
+ghost use Rattle.calls.specs.ReadCall.{read_call};
+ghost use Rattle.calls.specs.WriteCall.{write_call};
 ghost use Rattle.trial_calls.specs.Calls.{called, figure_for, cheapest_figure};
 ghost use Rattle.trial_calls.specs.Estimates.{estimate_figure};
-ghost use Rattle.trial_calls.specs.Records.{trial_read, trial_write, trial_change};
+ghost use Rattle.trial_calls.specs.Records.{read_into, wrote, trial_change};
 
+use deck::{Deck, Stop};
 use trial_calls::{estimates, records};
 
 /// `trial_calls::trial_report`: a number of the answer of `siting::report`.
@@ -36,48 +40,26 @@ pub extern "C" fn trial_estimate(job: &[u8], which: u64) -> i64
     estimates::trial_estimate(job, which)
 }
 
-/// `trial_calls::records::trial_read`: a number of the answer of `siting::read`, and the record as two lists of numbers.
+/// `trial_calls::records::trial_read`: a number of the answer of `siting::read`, and the record of an accepted job.
 #[unsafe(no_mangle)]
-pub extern "C" fn trial_read(
-    job: &[u8],
-    coordinates: &mut [i64],
-    naturals: &mut [u64],
-    which: u64,
-) -> i64
-    ensures { record { result = result; coordinates = coordinates.new; naturals = naturals.new }
-        ≡ trial_read job.now coordinates.old naturals.old which }
+pub extern "C" fn trial_read(job: &[u8], deck: &mut Deck, which: u64) -> i64
+    ensures { record { result = result; deck = deck.new } ≡ read_into which deck.old (read_call job.now) }
 {
-    records::trial_read(job, coordinates, naturals, which)
+    records::trial_read(job, deck, which)
 }
 
-/// `trial_calls::records::trial_write`: a number of the answer of `siting::write` for a record as two lists of numbers, and the output.
+/// `trial_calls::records::trial_write`: a number of the answer of `siting::write`, and the output.
 #[unsafe(no_mangle)]
-pub extern "C" fn trial_write(
-    coordinates: &[i64],
-    naturals: &[u64],
-    rounds: u64,
-    out: &mut [u8],
-    which: u64,
-) -> i64
-    ensures { record { result = result; out = out.new }
-        ≡ trial_write coordinates.now naturals.now rounds out.old which }
+pub extern "C" fn trial_write(deck: &Deck, rounds: u64, out: &mut [u8], which: u64) -> i64
+    ensures { record { result = result; out = out.new } ≡ wrote which (write_call deck.now rounds out.old) }
 {
-    records::trial_write(coordinates, naturals, rounds, out, which)
+    records::trial_write(deck, rounds, out, which)
 }
 
-/// `trial_calls::records::trial_change`: a number of the answer of a change of a record as two lists of numbers, and the record then.
+/// `trial_calls::records::trial_change`: a number of the answer to a change, and the record then.
 #[unsafe(no_mangle)]
-pub extern "C" fn trial_change(
-    coordinates: &mut [i64],
-    naturals: &mut [u64],
-    kind: u64,
-    x: i64,
-    y: i64,
-    visits: u64,
-    which: u64,
-) -> i64
-    ensures { record { result = result; coordinates = coordinates.new; naturals = naturals.new }
-        ≡ trial_change coordinates.old naturals.old kind x y visits which }
+pub extern "C" fn trial_change(deck: &mut Deck, kind: u64, item: Stop, which: u64) -> i64
+    ensures { record { result = result; deck = deck.new } ≡ trial_change deck.old kind (stop_of item) which }
 {
-    records::trial_change(coordinates, naturals, kind, x, y, visits, which)
+    records::trial_change(deck, kind, item, which)
 }
