@@ -9,12 +9,8 @@ use Rattle.query.specs.Deck.{Stop}
 use Rattle.deck.specs.DeckOf.{deck_of, with_figures}
 use Rattle.deck.specs.Values.{stop_of}
 use Rattle.columns.specs.StopFigures.{paid}
-use Rattle.deck.specs.Ranges.{NearsInRange}
 use Rattle.deck.proofs.DeckLaws.{nears_front}
 use Rattle.change.proofs.renew_before.Goals as goal
-
-fewer : {nears : List ℕ} {n k : ℕ} → NearsInRange nears n → k ≤ n → NearsInRange nears k
-fewer range h = record { count = omega (arith, range.count); range = λ i l. range.range i (omega arith) }
 
 -- near behind that of the last stop does not count
 zip_front : {A B C : Type 0} (f : A → B → C) (n : ℕ) (xs : List A) (ys : List B) → length xs ≤ n → zip_with f xs (take n ys) ≡ zip_with f xs ys
@@ -31,7 +27,7 @@ paid_front n stops nears h = ap (sum_of (λ (m : ℕ). m)) (zip_front (λ (s : S
 pub before_of-deck-requires : goal.before_of-deck-requires
 before_of-deck-requires c =
     rw (c.listed_stops.ensures, c.listed_near.ensures)
-    (c.requires.0, fewer (nears_front c.requires.1) (omega (arith, length-take c.args.deck.now.stop_count c.args.deck.now.stops)))
+    (c.requires.0, nears_front (omega (arith, length-take c.args.deck.now.stop_count c.args.deck.now.stops)) c.requires.1)
 
 pub returns : goal.returns
 unfolding deck_of
