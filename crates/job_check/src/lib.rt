@@ -159,7 +159,7 @@ fn posts_at(c: AxisCosts) -> u64
 /// have there. The file's size is not looked at, nor are the record's near and before, which no file holds.
 pub fn check(deck: &Deck, rounds: u64) -> Result<(), Refusal>
     ensures refusal { checked_as result ≡ refusal_in (read_text (file_text deck.now rounds)) }
-    // as any record of the code is, for callers that read none of its posts and stops themselves
+    // its arrays have their sizes, as those of any record of the code: for callers that look into none of them
     ensures sized { Sized deck.now }
 {
     area_line(deck.area)?;
