@@ -1,13 +1,8 @@
 -- The calls that read, write and change records as the tests see them: what their answers carry.
 use Prim.Native.Nat.{ℕ, ◌+◌, ◌≤◌}
 use mathlib.Core.Path.{◌≡◌, sym, ap, ◌∙◌}
-use mathlib.Core.Bool.{Bool, cond}
 use mathlib.Core.List.{List}
 use native.Mathlib.Omega.{arith}
-use lib.Dec.{ltb}
-use lib.IntN.{ℤ}
-use borrow.Author.Tests.{lt-ltb}
-use Rattle.query.specs.Deck.{Stop}
 use Rattle.deck.specs.DeckOf.{Sized}
 use Rattle.deck.specs.declared.Deck.{Deck}
 use Rattle.refusal.specs.Refusal.{number_of, line_of}
@@ -19,7 +14,7 @@ use Rattle.job.specs.declared.Job as Held
 use Rattle.job.proofs.JobLaws.{most_rounds}
 use Rattle.job.proofs.RefusalLaws.{condition_line}
 use Rattle.change.specs.Change.{Change}
-use Rattle.calls.specs.Answers.{AnswerOf, refusal, read_answer, written_answer}
+use Rattle.calls.specs.Answers.{refusal, read_answer, written_answer}
 use Rattle.calls.specs.ReadCall.{read_call}
 use Rattle.calls.specs.WriteCall.{Saved, write_call}
 use Rattle.calls.specs.ChangeCall.{AfterChange, change_call}
@@ -27,8 +22,6 @@ use Rattle.calls.specs.SavingLaw.{WriteLaw}
 use Rattle.calls.proofs.Promises.{read_exactly}
 use Rattle.calls.proofs.SavingLaw.{read_law, write_law}
 use Rattle.calls.proofs.ChangeLaw.{change_law}
-use Rattle.trial.specs.Trial.{least}
-use Rattle.trial_calls.specs.Records.{change_figure, change_of, changed_into, trial_change}
 
 -- ---- the call `read`, by its case: the rounds of an accepted job are few, and so is the line of a refusal
 module _ (job : List ℕ) (r : Std.Result Held.Job Refusal) (e : read_answer r ≡ read_call job) where
@@ -60,12 +53,3 @@ pub change_line : (deck : Deck) (change : Change) (why : Refusal) {after : Deck}
     record { answer = refusal why; deck = after } ≡ change_call deck change → line_of why ≤ size_limit + 1
 change_line deck change why e =
     omega (arith, (change_law deck change).line_0 (number_of why) (line_of why) (sym (ap (λ (r : AfterChange). r.answer) e)))
-
--- what is answered for one of the four kinds
-pub change_is : (deck : Deck) (kind : ℕ) (item : Stop) (which : ℕ) → kind ≤ 3 → {answer : AnswerOf (Unit {0})} {after : Deck} →
-    record { answer = answer; deck = after } ≡ change_call deck (change_of kind item) → {v : ℤ} → v ≡ change_figure which answer →
-    record { result = v; deck = after } ≡ trial_change deck kind item which
-change_is deck kind item which h {after = after} e f =
-    let call = change_call deck (change_of kind item) in
-    (λ i. record { result = f i; deck = after }) ∙ ap (changed_into which) e
-    ∙ ap (λ (b : Bool). cond b (changed_into which call) (record { result = least; deck = deck })) (sym (lt-ltb kind 4 (omega arith)))

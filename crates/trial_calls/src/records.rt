@@ -1,5 +1,6 @@
 // The calls that read, write and change records, for the tests and benchmarks from Rust.
 ghost use Rattle.std.specs.Prelude.{◌≡◌, ◌≤◌};
+ghost use Rattle.deck.specs.DeckOf.{Sized};
 ghost use Rattle.deck.specs.Values.{stop_of};
 ghost use Rattle.calls.specs.Answers.{gives, change_answer};
 ghost use Rattle.calls.specs.ReadCall.{read_call};
@@ -9,7 +10,7 @@ ghost use Rattle.job.specs.Format.{size_limit};
 ghost use Rattle.trial_calls.specs.Records.{count_figure, change_figure, read_into, wrote, change_of, trial_change};
 
 use crate::refused_figure;
-use deck::{Deck, Stop};
+use deck::{Deck, Place, Stop};
 use refusal::Refusal;
 use trial::NO_FIGURE;
 
@@ -39,11 +40,20 @@ pub fn trial_read(job: &[u8], deck: &mut Deck, which: u64) -> i64
     }
 }
 
+// The arrays of any record of the code have their sizes. The laws of writing ask for that, and a record that is only passed on says nothing.
+fn sized(deck: &Deck)
+    ensures { Sized deck.now }
+{
+    let _posts: &[Place] = &deck.posts;
+    let _stops: &[Stop] = &deck.stops;
+}
+
 /// A number of the answer of `siting::write`: the bytes written, and the refusal's number and line, 0 for none. The least number where
 /// there is none. The output is as `siting::write` leaves it.
 pub fn trial_write(deck: &Deck, rounds: u64, out: &mut [u8], which: u64) -> i64
     ensures { record { result = result; out = out.new } ≡ wrote which (write_call deck.now rounds out.old) }
 {
+    sized(deck);
     match siting::write(deck, rounds, out) {
         Ok(bytes) => count_figure(bytes as u64, which),
         Err(why) => refused_figure(1, why, which),
