@@ -14,4 +14,6 @@ answer_rows = record {
   estimate = refl;
   place = refl;
   stop = refl;
+  place_held = refl;
+  stop_held = refl;
 }

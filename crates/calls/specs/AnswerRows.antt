@@ -4,7 +4,7 @@ use Rattle.std.specs.Prelude.{◌≡◌, pos, Ok, Err}
 use Rattle.query.specs.Figures.{done, stopped}
 use Rattle.query.specs.Marked.{at, report}
 use Rattle.query.specs.Rows.{needs}
-use Rattle.deck.specs.Values.{place_of, stop_of}
+use Rattle.deck.specs.Values.{place_of, place_record, stop_of, stop_record}
 use Rattle.report.specs.declared.State.TheVariants.{Done, Stopped}
 use Rattle.refusal.specs.declared.Refusal.TheVariants.{Malformed, OutOfRange, NoPosts, NoStops}
 use Rattle.calls.specs.declared.Answer.TheVariants.{Report, Refused}
@@ -24,6 +24,8 @@ pub record AnswerRows : Type 0 where
   pub exhaustive_refused : cheapest_answer (Err (OutOfRange 7)) ≡ refuses 3 7
   pub exhaustive_other : cheapest_answer (Err NoStops) ≡ refuses 6 0
   pub estimate : estimated_answer (Ok (record { across = 1; deep = 2; limit = 3; cells = 4 })) ≡ gives (needs 1 2 3 4)
-  -- the arguments of changes
+  -- the values of records, and the arguments of changes
   pub place : place_of (record { x = pos 1; y = pos 2 }) ≡ at 1 2
   pub stop : stop_of (record { at = record { x = pos 1; y = pos 2 }; visits = 3 }) ≡ record { at = at 1 2; visits = 3 }
+  pub place_held : place_record (at 1 2) ≡ record { x = pos 1; y = pos 2 }
+  pub stop_held : stop_record (record { at = at 1 2; visits = 3 }) ≡ record { at = record { x = pos 1; y = pos 2 }; visits = 3 }

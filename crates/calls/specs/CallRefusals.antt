@@ -31,7 +31,8 @@ Refuses answer number = (line : ℕ) × (answer ≡ refuses number line)
 abbrev pub Exactly : List ℕ → (ℕ → Type 0) → Type 0
 Exactly numbers CanGive = (number : ℕ) → CanGive number ↔ Memᴰ number numbers
 
--- a call can give a number where something that it is given or lent is answered by it
+-- a call can give a number where something that it is given or lent is answered by it. That it can be something that the code can hold,
+-- the rows show (RefusalTable.antt, WriteTable.antt, ChangeTable.antt)
 pub record CallRefusals : Type 0 where
   -- of a job; the C entry tells the number by its result, and the program by its text
   pub report : Exactly (own_refusals ++ (7 ∷ 8 ∷ []))

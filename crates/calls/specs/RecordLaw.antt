@@ -4,7 +4,7 @@ use Rattle.query.specs.Deck.{Stop}
 use Rattle.query.specs.Travel.{near}
 use Rattle.query.specs.Cost.{before}
 use Rattle.deck.specs.DeckOf.{deck_of}
-use Rattle.deck.specs.Values.{stop_of, no_stop}
+use Rattle.deck.specs.Values.{no_stop}
 use Rattle.deck.specs.Sound.{Sound}
 use Rattle.deck.specs.declared.Deck.{Deck}
 use Rattle.job.specs.declared.Job as Held
@@ -20,7 +20,7 @@ pub data Made : Deck → Type 0 where
 
 -- stop i of a record, counted from 0
 abbrev pub stop_in : Deck → ℕ → Stop
-stop_in deck i = stop_of (get_or deck.stops i no_stop)
+stop_in deck i = let s = get_or deck.stops i no_stop in record { at = record { x = s.at.x; y = s.at.y }; visits = s.visits }
 
 pub record RecordLaw (deck : Deck) : Type 0 where
   -- these records are the sound ones, whose near and before are those of the deck that they hold

@@ -6,7 +6,6 @@ use Rattle.numbers.specs.Padded.{padded}
 use Rattle.query.specs.Range.{posts_limit, stops_limit}
 use Rattle.query.specs.Marked.{deck_a}
 use Rattle.deck.specs.DeckOf.{deck_record, with_figures}
-use Rattle.deck.specs.Values.{no_place, no_stop}
 use Rattle.deck.specs.declared.Deck.{Deck}
 use Rattle.job.specs.File.{file_text}
 use Rattle.job.specs.Meaning.{longest_job}
@@ -23,9 +22,10 @@ record_of axis area post_count posts stop_count stops = record {
   area = record { xlo = get_or area 0 (pos 0); ylo = get_or area 1 (pos 0); xhi = get_or area 2 (pos 0); yhi = get_or area 3 (pos 0) };
   axis = record { a = axis.0; b = axis.1 };
   post_count = post_count;
-  posts = padded posts_limit no_place (map (λ p. record { x = p.0; y = p.1 }) posts);
+  posts = padded posts_limit (record { x = pos 0; y = pos 0 }) (map (λ p. record { x = p.0; y = p.1 }) posts);
   stop_count = stop_count;
-  stops = padded stops_limit no_stop (map (λ s. record { at = record { x = s.0; y = s.1 }; visits = s.2 }) stops);
+  stops = padded stops_limit (record { at = record { x = pos 0; y = pos 0 }; visits = 0 })
+      (map (λ s. record { at = record { x = s.0; y = s.1 }; visits = s.2 }) stops);
   near = replicate stops_limit 0;
   before = 0;
 }

@@ -29,7 +29,7 @@ use Rattle.change.specs.Change.{Change, add_post, remove_post, add_stop, remove_
 use Rattle.items.specs.Items.{is_same_place, is_same_stop, remove_first, first_place, taken_out_at}
 use Rattle.change.specs.ChangedRecord.{with_post_list, with_stop_list, renewed, altered_record}
 use Rattle.near_change.specs.NearChange.{near_with, near_without}
-use Rattle.items.proofs.TakenOut.{column_removed}
+use Rattle.items.proofs.TakenOut.{array_removed}
 use Rattle.items.proofs.FirstRemoved.{held_within, removed_length}
 use Rattle.items.proofs.ItemValues.{post_held, stop_held}
 use Rattle.change.proofs.NearChanges.{near_added, near_removed}
@@ -125,7 +125,7 @@ module _ (deck : Query.Deck) where
         let within = held_within (is_same_place p) deck.posts t in
         ap (λ (d : Query.Deck). without_post p d.posts) (held_deck deck)
         ∙ with_posts_lem (remove_first (is_same_place p) deck.posts) (omega (arith, removed_length (is_same_place p) deck.posts t))
-        (column_removed posts_limit no_place place_record (is_same_place p) deck.posts within range.most_posts) (nears_less p h.2)
+        (array_removed posts_limit no_place place_record (is_same_place p) deck.posts within range.most_posts) (nears_less p h.2)
 
     abbrev with_stop : Stop → List Place → Deck
     with_stop s posts = with_stop_list (deck_record deck) (suc (deck_record deck).stop_count)
@@ -151,8 +151,8 @@ module _ (deck : Query.Deck) where
         let within = held_within (is_same_stop s) deck.stops t in
         ap (λ (d : Query.Deck). without_stop s d.stops) (held_deck deck)
         ∙ with_stops_lem (remove_first (is_same_stop s) deck.stops) (omega (arith, removed_length (is_same_stop s) deck.stops t))
-        (column_removed stops_limit no_stop stop_record (is_same_stop s) deck.stops within range.most_stops)
-        (column_removed stops_limit 0 (near deck) (is_same_stop s) deck.stops within range.most_stops)
+        (array_removed stops_limit no_stop stop_record (is_same_stop s) deck.stops within range.most_stops)
+        (array_removed stops_limit 0 (near deck) (is_same_stop s) deck.stops within range.most_stops)
 
     pub altered_record_is : (change : Change) → Allows change deck → altered_record change (deck_record deck) ≡ deck_record (altered change deck)
     altered_record_is (add_post p) h = post_added p h

@@ -1,13 +1,12 @@
 -- The objects of stops as a record holds them: their columns; and what pricing reads of a sound record is what the definitions say.
-use mathlib.Core.Path.{◌≡◌, refl, sym, ap, ◌∙◌}
+use mathlib.Core.Path.{◌≡◌, refl, ap, ◌∙◌}
 use mathlib.Core.List.{List, [], ◌∷◌, ◌++◌, map, zip_with}
 use Prim.Native.Nat.{ℕ}
 use native.Mathlib.Omega.{arith}
 use lib.IntN.{pos}
-use lib.ListN.{length, take, length-map}
+use lib.ListN.{length, take}
 use Rattle.numbers.specs.Integer.{times}
 use Rattle.numbers.specs.Padded.{padded}
-use Rattle.numbers.proofs.Padded.{padded_front}
 use Rattle.query.specs.Deck.{AxisCosts, Stop}
 use Rattle.query.specs.Travel.{near}
 use Rattle.query.specs.Range.{stops_limit}
@@ -15,6 +14,7 @@ use Rattle.deck.specs.declared.Deck.{Deck}
 use Rattle.deck.specs.DeckOf.{deck_of}
 use Rattle.deck.specs.Sound.{Sound}
 use Rattle.deck.specs.Values.{held_axis}
+use Rattle.deck.proofs.DeckLaws.{front_map}
 use Rattle.deck.proofs.SoundLaws.{sound_near, sound_stops}
 use Rattle.columns.specs.Objects.{scaled_place, Object, objects_of, stored_objects, pricing_of, stored_pricing}
 use Rattle.columns.specs.ObjectColumns.{column, object_columns}
@@ -59,9 +59,7 @@ module _ (axis : AxisCosts) (stops : List Stop) (nears : List ℕ) (same : lengt
 -- ---- of a sound record
 module _ {deck : Deck} (sound : Sound deck) where
   pub listed_near : take deck.stop_count deck.near ≡ map (near (deck_of deck)) (deck_of deck).stops
-  listed_near =
-      let nears = map (near (deck_of deck)) (deck_of deck).stops in
-      (λ i. take ((sound_stops sound ∙ sym (length-map (deck_of deck).stops (near (deck_of deck)))) i) (sound_near sound i)) ∙ padded_front stops_limit 0 nears
+  listed_near = (λ i. take (sound_stops sound i) (sound_near sound i)) ∙ front_map stops_limit 0 (near (deck_of deck)) (deck_of deck).stops
 
   pub sound_pricing : stored_pricing (held_axis deck.axis) (deck_of deck).stops (take deck.stop_count deck.near) ≡ pricing_of (deck_of deck)
   unfolding deck_of objects_of stored_objects

@@ -22,13 +22,10 @@ pub record Scaled (cost coordinate product : ℤ) : Type 0 where
   pub is : product ≡ times (nat_abs cost) coordinate
   pub small : nat_abs product ≤ scaled_limit
 
--- columns of coordinates up to a limit, and scaled ones, of which the first n count
-pub record CoordinatesUpTo (most : ℕ) (xs : List ℤ) (n : ℕ) : Type 0 where
+-- a column of scaled coordinates, of which the first n count
+pub record CoordinatesInRange (xs : List ℤ) (n : ℕ) : Type 0 where
   pub count : n ≤ length xs
-  pub range : (i : ℕ) → i < n → nat_abs (get_or xs i (pos 0)) ≤ most
-
-abbrev pub CoordinatesInRange : List ℤ → ℕ → Type 0
-CoordinatesInRange = CoordinatesUpTo scaled_limit
+  pub range : (i : ℕ) → i < n → nat_abs (get_or xs i (pos 0)) ≤ scaled_limit
 
 -- all columns, with room for n rows
 pub record ColumnsFit (columns : List ℤ) (n : ℕ) : Type 0 where

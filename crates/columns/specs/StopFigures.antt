@@ -10,9 +10,9 @@ use Rattle.query.specs.Range.{stops_limit}
 use Rattle.deck.specs.Ranges.{NearsInRange}
 
 -- the near of stops by these posts, with 0 behind the last, each in range
-pub record Nears (axis : AxisCosts) (posts : List Place) (stops : List Stop) (column : List ℕ) : Type 0 where
-  pub are : column ≡ padded stops_limit 0 (map (λ s. closest axis s.at posts) stops)
-  pub range : NearsInRange column (length stops)
+pub record Nears (axis : AxisCosts) (posts : List Place) (stops : List Stop) (nears : List ℕ) : Type 0 where
+  pub are : nears ≡ padded stops_limit 0 (map (λ s. closest axis s.at posts) stops)
+  pub range : NearsInRange nears (length stops)
 
 -- the sum of visits × near
 unfoldable pub paid : List Stop → List ℕ → ℕ

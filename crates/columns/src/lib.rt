@@ -270,7 +270,7 @@ pub fn nears_of(axis: AxisCosts, posts: &[Place], stops: &[Stop]) -> [u64; STOPS
     nears_in(&columns, stops.len())
 }
 
-/// What all stops cost by the posts alone: the sum of visits × near (RULES "Cost").
+/// What all stops cost by the posts alone: the sum of visits × near, each stop with the near at its index (RULES "Cost").
 pub fn before_of<'a>(stops: &'a [Stop], near: &'a [u64]) -> u64
     requires { StopsInRange stops.now × NearsInRange near.now (length stops.now) }
     ensures { result ≡ paid (map stop_of stops.now) near.now }

@@ -1,5 +1,5 @@
 -- The deck that a record holds: its posts and stops in number and in range; and the record that holds a deck.
-use mathlib.Core.Path.{◌≡◌, refl, sym, ap, subst, ◌∙◌}
+use mathlib.Core.Path.{◌≡◌, refl, ap, subst, ◌∙◌}
 use mathlib.Core.List.{List, [], ◌∷◌, map, map-map, Memᴰ}
 use Prim.Native.Nat.{ℕ, zero, suc, ◌≤◌, ◌<◌, min}
 use native.Mathlib.Omega.{arith}
@@ -28,11 +28,13 @@ member_at z (x ∷ xs) zero h = Memᴰ.head refl
 member_at z (x ∷ xs) (suc i) h = Memᴰ.tail (member_at z xs i (omega arith))
 
 -- a list at the front of an array
+pub front_map : {A B : Type 0} (n : ℕ) (z : B) (f : A → B) (xs : List A) → take (length xs) (padded n z (map f xs)) ≡ map f xs
+front_map n z f xs = rw (← length-map xs f) (padded_front n z (map f xs))
+
 list_front : {A B : Type 0} (n : ℕ) (z : B) (f : A → B) (g : B → A) → ((a : A) → g (f a) ≡ a) → (xs : List A) →
     map g (take (length xs) (padded n z (map f xs))) ≡ xs
 list_front {A} n z f g back xs =
-    ap (λ (m : ℕ). map g (take m (padded n z (map f xs)))) (sym (length-map xs f)) ∙ ap (map g) (padded_front n z (map f xs))
-    ∙ map-map g f xs ∙ all_back xs
+    ap (map g) (front_map n z f xs) ∙ map-map g f xs ∙ all_back xs
   where
     all_back : (xs : List A) → map (λ a. g (f a)) xs ≡ xs
     all_back [] = refl

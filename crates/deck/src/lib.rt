@@ -44,10 +44,10 @@ pub struct Stop {
     pub visits: u64,
 }
 
-/// What stands in the array of a record behind its posts.
+/// What stands behind the posts of a sound record: all 0.
 pub const NO_POST: Place = Place { x: 0, y: 0 };
 
-/// What stands behind its stops.
+/// What stands behind the stops of a sound record: all 0.
 pub const NO_STOP: Stop = Stop {
     at: NO_POST,
     visits: 0,
@@ -118,9 +118,11 @@ pub struct Deck {
     pub axis: AxisCosts,
     /// How many posts there are, 64 at most in a sound record.
     pub post_count: usize,
+    /// The posts, and what stands behind them.
     pub posts: [Place; POSTS],
     /// How many stops there are, 512 at most in a sound record.
     pub stop_count: usize,
+    /// The stops, and what stands behind them.
     pub stops: [Stop; STOPS],
     /// The near of each stop, at its index (RULES "Near").
     pub near: [u64; STOPS],

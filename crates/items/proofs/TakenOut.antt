@@ -40,14 +40,14 @@ module _ {A : Type 0} (size : ℕ) (z : A) where
     one_more xs i h k,
   ) (sym (append_assoc (take i xs) (drop (suc i) xs) (z ∷ replicate (size - length xs) z)))
 
-  -- a column of items, of which item i is taken out
-  column_out : {B : Type 0} (f : B → A) (bs : List B) (i : ℕ) → i < length bs → length bs ≤ size →
+  -- an array that is made of items, of which item i is taken out
+  array_out : {B : Type 0} (f : B → A) (bs : List B) (i : ℕ) → i < length bs → length bs ≤ size →
       taken_out_at (length bs) i z (padded size z (map f bs)) ≡ padded size z (map f (removed i bs))
-  column_out f bs i h k =
+  array_out f bs i h k =
       ap (λ (n : ℕ). taken_out_at n i z (padded size z (map f bs))) (sym (length-map bs f))
       ∙ taken_out (map f bs) i (omega (arith, length-map bs f)) (omega (arith, length-map bs f)) ∙ ap (padded size z) (sym (map_removed f i bs))
 
   -- and of which the first that passes a test is taken out
-  pub column_removed : {B : Type 0} (f : B → A) (same : B → Bool) (bs : List B) → first_place same bs < length bs → length bs ≤ size →
+  pub array_removed : {B : Type 0} (f : B → A) (same : B → Bool) (bs : List B) → first_place same bs < length bs → length bs ≤ size →
       taken_out_at (length bs) (first_place same bs) z (padded size z (map f bs)) ≡ padded size z (map f (remove_first same bs))
-  column_removed f same bs h k = rw (removed_is same bs) (column_out f bs (first_place same bs) h k)
+  array_removed f same bs h k = rw (removed_is same bs) (array_out f bs (first_place same bs) h k)

@@ -11,7 +11,7 @@ use Rattle.std.specs.Prelude.{Ok}
 use Rattle.std.proofs.lemmas.List.{append-nil}
 use Rattle.numbers.specs.Padded.{padded}
 use Rattle.numbers.proofs.Members.{each_map}
-use Rattle.numbers.proofs.Padded.{padded_front}
+use Rattle.deck.proofs.DeckLaws.{front_map}
 use Rattle.query.specs.Place as Query
 use Rattle.query.specs.Deck as QueryDeck
 use Rattle.query.specs.Travel.{near}
@@ -90,7 +90,7 @@ module _ (deck : QueryDeck.Deck) {column : List ℕ} (found : Nears deck.axis de
   near_is = found.are
 
   near_front : take (length deck.stops) column ≡ map (near deck) deck.stops
-  near_front = rw (near_is, ← length-map deck.stops (near deck)) (padded_front stops_limit 0 (map (near deck) deck.stops))
+  near_front = rw near_is (front_map stops_limit 0 (near deck) deck.stops)
 
   pub before_is : {sum : ℕ} → sum ≡ paid deck.stops (take (length deck.stops) column) → sum ≡ before deck
   unfolding before

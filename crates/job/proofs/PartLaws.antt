@@ -107,10 +107,10 @@ module _ {kind : Kind} {put : Put} {old : Deck} {start : Unread} {count : ℕ} w
 
 -- ---- the record that holds them
 pub posts_none : {deck : Deck} → NoPostsYet deck → deck ≡ with_post_lines deck []
-posts_none {deck} none = λ i. record deck { posts = (none.are ∙ sym (padded_none posts_limit no_place)) i }
+posts_none {deck} none = λ i. record deck { posts = (none ∙ sym (padded_none posts_limit no_place)) i }
 
 pub stops_none : {deck : Deck} → NoStopsYet deck → deck ≡ with_stop_lines deck []
-stops_none {deck} none = λ i. record deck { stops = (none.are ∙ sym (padded_none stops_limit no_stop)) i }
+stops_none {deck} none = λ i. record deck { stops = (none ∙ sym (padded_none stops_limit no_stop)) i }
 
 module _ (old now : Deck) {i : ℕ} (lines : List (List ℤ)) (count_is : i ≡ length lines) where
   pub posts_more : (p : Place) → now ≡ with_post_lines old lines → i < posts_limit →

@@ -49,11 +49,11 @@ all_stops = counted_lines stops stop
 
 -- ---- lines as a deck's record holds them
 -- no posts, and no stops
-pub record NoPostsYet (deck : Deck) : Type 0 where
-  pub are : deck.posts ≡ replicate posts_limit no_place
+abbrev pub NoPostsYet : Deck → Type 0
+NoPostsYet deck = deck.posts ≡ replicate posts_limit no_place
 
-pub record NoStopsYet (deck : Deck) : Type 0 where
-  pub are : deck.stops ≡ replicate stops_limit no_stop
+abbrev pub NoStopsYet : Deck → Type 0
+NoStopsYet deck = deck.stops ≡ replicate stops_limit no_stop
 
 -- a record with the posts of these lines in its array, and with as many posts
 abbrev pub with_post_lines : Deck → List (List ℤ) → Deck

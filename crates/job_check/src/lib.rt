@@ -155,7 +155,7 @@ fn posts_at(c: AxisCosts) -> u64
     if job::writes_axis(c) { 3 } else { 2 }
 }
 
-/// The refusal of its text that reading the file of a record and these rounds would give (RULES "Refusals"), with the line that it would
+/// The refusal that the text of the file of a record and these rounds would get in reading (RULES "Refusals"), with the line that it would
 /// have there. The file's size is not looked at, nor are the record's near and before, which no file holds.
 pub fn check(deck: &Deck, rounds: u64) -> Result<(), Refusal>
     ensures refusal { checked_as result ≡ refusal_in (read_text (file_text deck.now rounds)) }

@@ -76,12 +76,10 @@ module _ {bytes : List ℕ} {o : Opened} (w : Open bytes o) where
   few_stops = omega (arith, count_is, (spelt_range s).most_stops)
 
   -- the nears of the stops that there are
-  near_column : take o.deck.stop_count o.deck.near ≡ map (near s.job.deck) s.job.deck.stops
+  near_listed : take o.deck.stop_count o.deck.near ≡ map (near s.job.deck) s.job.deck.stops
   unfolding deck_record
-  near_column =
-      let nears = map (near s.job.deck) s.job.deck.stops in
-      ap (λ (d : Deck). take d.stop_count d.near) (open_held w)
-      ∙ ap (λ (n : ℕ). take n (padded stops_limit 0 nears)) (sym (length-map s.job.deck.stops (near s.job.deck))) ∙ padded_front stops_limit 0 nears
+  near_listed =
+      ap (λ (d : Deck). take d.stop_count d.near) (open_held w) ∙ front_map stops_limit 0 (near s.job.deck) s.job.deck.stops
 
   near_figure_lem : (i : ℕ) →
       cond (ltb i (length s.job.deck.stops)) (pos (get_or (map (near s.job.deck) s.job.deck.stops) i 0)) minus_one ≡ near_figure i (read_job bytes)
@@ -90,7 +88,7 @@ module _ {bytes : List ℕ} {o : Opened} (w : Open bytes o) where
 
   module _ {column : List ℕ} (e : column ≡ take o.deck.stop_count o.deck.near) (i : ℕ) where
     column_is : column ≡ map (near s.job.deck) s.job.deck.stops
-    column_is = e ∙ near_column
+    column_is = e ∙ near_listed
 
     as_many : length column ≡ length s.job.deck.stops
     as_many = ap length column_is ∙ length-map s.job.deck.stops (near s.job.deck)

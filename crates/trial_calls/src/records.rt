@@ -60,7 +60,7 @@ pub fn trial_write(deck: &Deck, rounds: u64, out: &mut [u8], which: u64) -> i64
     }
 }
 
-// The change of a kind, of which there are four. A post has the stop's place.
+// The change of a kind, of which there are four. A post is at the place of `item`.
 fn change(deck: &mut Deck, kind: u64, item: Stop) -> Result<(), Refusal>
     ensures { record { answer = change_answer result; deck = deck.new } ≡ change_call deck.old (change_of kind (stop_of item)) }
 {
