@@ -40,7 +40,8 @@ pub fn trial_read(job: &[u8], deck: &mut Deck, which: u64) -> i64
     }
 }
 
-// The arrays of any record of the code have their sizes. The laws of writing ask for that, and a record that is only passed on says nothing.
+// The arrays of any record of the code have their sizes. The laws of writing ask for that, and a record that is only passed on does not
+// tell it.
 fn sized(deck: &Deck)
     ensures { Sized deck.now }
 {
