@@ -1,5 +1,5 @@
 -- The figures of an opened job's record and problem are those of its deck.
-use mathlib.Core.Path.{◌≡◌, sym, ap, subst, ◌∙◌}
+use mathlib.Core.Path.{◌≡◌, ap, subst, ◌∙◌}
 use mathlib.Core.Bool.{true, cond}
 use mathlib.Core.List.{List, map}
 use Prim.Native.Nat.{ℕ, ◌≤◌, ◌<◌}
@@ -12,7 +12,8 @@ use mir.Syntax.{w64}
 use mir.Val.{to_z, of_z}
 use mir.ValLaws.{to_z-of_z, to_z_pos}
 use Rattle.numbers.specs.Padded.{padded}
-use Rattle.numbers.proofs.Padded.{padded_front, padded_at}
+use Rattle.numbers.proofs.Padded.{padded_at}
+use Rattle.deck.proofs.DeckLaws.{front_map}
 use Rattle.numbers.proofs.Words.{word_fits}
 use Rattle.query.proofs.Ranges.{figure_limits}
 use Rattle.query.specs.Place.{Place, Rect}
