@@ -15,7 +15,7 @@ use Rattle.text.specs.Ascii.{minus}
 use Rattle.text.specs.Decimal.{spell_nat, spell_int}
 use Rattle.text.proofs.DigitCounts.{length_spell_nat_grows, length_one, spell_int_non_neg, spell_int_negative}
 
-non_negative : (z : ℤ) (n : ℕ) → SFits w64 z → lt_z (to_z w64 (of_z w64 z)) (pos 0) ≡ false → n ≡ nat_abs (to_z w64 (of_z w64 z))
+pub non_negative : (z : ℤ) (n : ℕ) → SFits w64 z → lt_z (to_z w64 (of_z w64 z)) (pos 0) ≡ false → n ≡ nat_abs (to_z w64 (of_z w64 z))
     → spell_int z ≡ spell_nat n
 non_negative z n f t e =
     let m : n ≡ nat_abs z = rw (to_z-of_z w64 z f) at e in
@@ -50,19 +50,14 @@ unfolding spell_int
 int_some (pos n) = omega (arith, length_spell_nat_grows 0 n (omega arith), length_one 0 (omega arith))
 int_some (negsuc n) = omega arith
 
--- the digits over all
-whole : {digits : List ℕ} (out ds : List ℕ) → digits ≡ ds → put_mid 0 (length out - 0) out digits ≡ ds
-whole {digits} out ds e =
-    let none : drop (length out - 0) out ≡ [] = drop_of_length-le out {i = length out - 0} (omega arith) in
-    rw (none, append-nil digits, e) refl
+module _ (z : ℤ) (n : ℕ) where
+  pub negative_length : SFits w64 z → lt_z (to_z w64 (of_z w64 z)) (pos 0) ≡ true → n ≡ nat_abs (to_z w64 (of_z w64 z)) →
+      length (spell_int z) ≡ length (spell_nat n) + 1
+  negative_length f t e = rw (negative z n f t e) (omega arith)
 
--- the `-` at the first place, and the digits over what is behind the sign, of s bytes
-pub spelled : {digits : List ℕ} (z : ℤ) (n s : ℕ) (out : List ℕ) → SFits w64 z → s ≡ bool_byte (lt_z (to_z w64 (of_z w64 z)) (pos 0)) →
-    n ≡ nat_abs (to_z w64 (of_z w64 z)) → length out ≡ length (spell_int z) → digits ≡ spell_nat n →
-    put_mid s (length (set out 0 minus) - s) (set out 0 minus) digits ≡ spell_int z
-spelled {digits} z n s out f k e l d = go (lt_z (to_z w64 (of_z w64 z)) (pos 0)) refl k
-  where
-    go : (b : Bool) → lt_z (to_z w64 (of_z w64 z)) (pos 0) ≡ b → s ≡ bool_byte b →
-        put_mid s (length (set out 0 minus) - s) (set out 0 minus) digits ≡ spell_int z
-    go true t h = rw h (signed out (spell_nat n) (omega (arith, l, ap length (negative z n f t e))) d ∙ sym (negative z n f t e))
-    go false t h = rw h (whole (set out 0 minus) (spell_nat n) d ∙ sym (non_negative z n f t e))
+  -- the `-` at the first place, and the digits over what is behind it
+  pub negative_spelled : {digits : List ℕ} (out : List ℕ) → SFits w64 z → lt_z (to_z w64 (of_z w64 z)) (pos 0) ≡ true →
+      n ≡ nat_abs (to_z w64 (of_z w64 z)) → length out ≡ length (spell_int z) → digits ≡ spell_nat n →
+      put_mid 1 (length (set out 0 minus) - 1) (set out 0 minus) digits ≡ spell_int z
+  negative_spelled out f t e l d =
+      signed out (spell_nat n) (omega (arith, l, ap length (negative z n f t e))) d ∙ sym (negative z n f t e)

@@ -119,11 +119,14 @@ impl Decimal for i64 {
         self.unsigned_abs().text_len() + usize::from(self < 0)
     }
 
-    // The sign first: where there is none, the digits are put over it.
     fn put_text(self, out: &mut [u8]) {
-        let sign = usize::from(self < 0);
-        out[0] = b'-';
-        self.unsigned_abs().put_text(&mut out[sign..]);
+        let digits = self.unsigned_abs();
+        if self < 0 {
+            out[0] = b'-';
+            digits.put_text(&mut out[1..]);
+        } else {
+            digits.put_text(out);
+        }
     }
 }
 
