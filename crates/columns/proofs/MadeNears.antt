@@ -23,7 +23,7 @@ use Rattle.numbers.proofs.Scaling.{scale_most}
 use Rattle.query.specs.Place.{Place}
 use Rattle.query.specs.Deck.{AxisCosts, Stop, plain}
 use Rattle.query.specs.Travel.{closest}
-use Rattle.query.specs.Range.{PlaceInRange, StopInRange, coordinate_limit, axis_cost_limit, stops_limit, travel_limit}
+use Rattle.query.specs.Range.{PlaceInRange, coordinate_limit, axis_cost_limit, stops_limit, travel_limit}
 use Rattle.query.proofs.NearLaws.{closest_some}
 use Rattle.query.proofs.Ranges.{costs_limit}
 use Rattle.deck.specs.Ranges.{CostsInRange}
@@ -74,7 +74,7 @@ nowhere = record { at = record { x = pos 0; y = pos 0 }; visits = 0 }
 
 -- ---- stops by posts, both in range
 module _ {axis : AxisCosts} {posts : List Place} {stops : List Stop} (costs : CostsInRange axis) (posts-range : (p : Place) → Memᴰ p posts → PlaceInRange p)
-    (stops-range : (s : Stop) → Memᴰ s stops → StopInRange s) {n : ℕ} (stops-count : length stops ≡ n) (few : n ≤ stops_limit)
+    (stops-range : (s : Stop) → Memᴰ s stops → PlaceInRange s.at) {n : ℕ} (stops-count : length stops ≡ n) (few : n ≤ stops_limit)
     (some : 1 ≤ length posts) where
   abbrev nears : List ℕ
   nears = map (λ s. closest axis s.at posts) stops
@@ -82,7 +82,7 @@ module _ {axis : AxisCosts} {posts : List Place} {stops : List Stop} (costs : Co
   near_limit : (s : Stop) → Memᴰ s stops → closest axis s.at posts ≤ travel_limit
   near_limit s m =
       let (post, i, e) = closest_some axis s.at posts (length_non_empty posts some) in
-      omega (arith, e, costs_limit axis costs.most s.at post (stops-range s m).place (posts-range post i))
+      omega (arith, e, costs_limit axis costs.most s.at post (stops-range s m) (posts-range post i))
 
   -- their scaled coordinates
   abbrev us : List ℤ
@@ -103,11 +103,11 @@ module _ {axis : AxisCosts} {posts : List Place} {stops : List Stop} (costs : Co
 
   us_range : CoordinatesInRange us n
   us_range = column_range (λ s. times axis.a s.at.x)
-      (λ s m. scale_most axis.a axis_cost_limit coordinate_limit s.at.x costs.most.0 (stops-range s m).place.x_range)
+      (λ s m. scale_most axis.a axis_cost_limit coordinate_limit s.at.x costs.most.0 (stops-range s m).x_range)
 
   ws_range : CoordinatesInRange ws n
   ws_range = column_range (λ s. times axis.b s.at.y)
-      (λ s m. scale_most axis.b axis_cost_limit coordinate_limit s.at.y costs.most.1 (stops-range s m).place.y_range)
+      (λ s m. scale_most axis.b axis_cost_limit coordinate_limit s.at.y costs.most.1 (stops-range s m).y_range)
 
   scaled_places : (stops : List Stop) → take (length stops) (places (map (λ s. times axis.a s.at.x) stops) (map (λ s. times axis.b s.at.y) stops))
       ≡ map (λ s. scaled_place axis s.at) stops

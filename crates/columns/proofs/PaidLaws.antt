@@ -13,8 +13,8 @@ use Rattle.query.specs.Deck.{Stop}
 use Rattle.query.specs.Range.{visits_limit, travel_limit, cost_limit}
 use Rattle.deck.specs.declared.Stop as Code
 use Rattle.deck.specs.Values.{stop_of, no_stop}
-use Rattle.deck.specs.Ranges.{StopsInRange, NearsInRange}
-use Rattle.deck.proofs.DeckLaws.{stop_in_range}
+use Rattle.deck.specs.Ranges.{VisitsInRange, NearsInRange}
+use Rattle.deck.proofs.DeckLaws.{visits_in_range}
 use Rattle.columns.specs.StopFigures.{paid}
 use Rattle.columns.proofs.ClosestLaws.{zip_length, zip_at}
 
@@ -39,7 +39,7 @@ pub paid_none : (stops : List Code.Stop) (nears : List ℕ) → Paid stops nears
 unfolding sum_of
 paid_none stops nears = record { count = omega arith; is = refl; most = omega arith }
 
-module _ {stops : List Code.Stop} {nears : List ℕ} (range : StopsInRange stops) (k : NearsInRange nears (length stops)) where
+module _ {stops : List Code.Stop} {nears : List ℕ} (range : VisitsInRange stops) (k : NearsInRange nears (length stops)) where
   terms_count : length (terms stops nears) ≡ length stops
   terms_count = omega (arith, zip_length (λ (s : Stop) near. s.visits * near) (map stop_of stops) nears, length-map stops stop_of, k.count)
 
@@ -53,7 +53,7 @@ module _ {stops : List Code.Stop} {nears : List ℕ} (range : StopsInRange stops
   module _ {sum i : ℕ} {stop : Code.Stop} {m : ℕ} (so_far : Paid stops nears sum i) (turn : i < length stops) (e : stop ≡ get_or stops i no_stop)
       (f : m ≡ get_or nears i 0) where
     pub term_fits : stop.visits * m ≤ term_limit
-    term_fits = rw (e, f) (mul-le-mul (stop_in_range range i no_stop turn).most_visits (k.range i turn))
+    term_fits = rw (e, f) (mul-le-mul (visits_in_range range i no_stop turn) (k.range i turn))
 
     pub sum_fits : sum + stop.visits * m ≤ cost_limit
     sum_fits = omega (arith, term_fits, so_far.most, turn, range.few)

@@ -11,7 +11,7 @@ ghost use Rattle.query.specs.Place.{coordinate};
 ghost use Rattle.query.specs.Travel.{closest};
 ghost use Rattle.query.specs.Range.{coordinate_limit, stops_limit, PlaceInRange};
 ghost use Rattle.deck.specs.Values.{axis_of, place_of, stop_of, held_axis};
-ghost use Rattle.deck.specs.Ranges.{CostsInRange, PostsInRange, StopsInRange, NearsInRange};
+ghost use Rattle.deck.specs.Ranges.{CostsInRange, PostsInRange, StopPlacesInRange, VisitsInRange, NearsInRange};
 ghost use Rattle.columns.specs.Columns.{y_column, near_column, columns_size, places};
 ghost use Rattle.columns.specs.Objects.{scaled_place, stored_pricing};
 ghost use Rattle.columns.specs.ObjectColumns.{columns_of};
@@ -33,7 +33,7 @@ pub fn scaled(cost: i32, coordinate: i64) -> i32
 
 // Puts the coordinates of stops along an axis, each multiplied by its cost, into a column of their length.
 fn copy_coordinates(from: &[Stop], axis: Axis, cost: i32, to: &mut [i32])
-    requires { StopsInRange from.now × AxisCostInRange cost × (length to.old ≡ length from.now) }
+    requires { StopPlacesInRange from.now × AxisCostInRange cost × (length to.old ≡ length from.now) }
     ensures { to.new ≡ map (λ s. times (nat_abs cost) (coordinate (axis_of axis) (stop_of s).at)) from.now }
 {
     for i in 0..from.len() {
@@ -43,7 +43,7 @@ fn copy_coordinates(from: &[Stop], axis: Axis, cost: i32, to: &mut [i32])
 
 // The visits of stops, which stay as they are.
 fn copy_visits(from: &[Stop], to: &mut [i32])
-    requires { StopsInRange from.now × (length to.old ≡ length from.now) }
+    requires { VisitsInRange from.now × (length to.old ≡ length from.now) }
     ensures { to.new ≡ map (λ s. pos s.visits) from.now }
 {
     for i in 0..from.len() {
@@ -243,7 +243,7 @@ fn nears_in(columns: &[i32], n: usize) -> [u64; STOPS]
 
 // Puts the places of stops, scaled, into the columns of x and of y.
 fn put_places(axis: AxisCosts, stops: &[Stop], columns: &mut [i32])
-    requires { CostsInRange (held_axis axis) × StopsInRange stops.now × (columns.old ≡ replicate columns_size (pos 0)) }
+    requires { CostsInRange (held_axis axis) × StopPlacesInRange stops.now × (columns.old ≡ replicate columns_size (pos 0)) }
     ensures { columns.new
         ≡ paste (paste columns.old 0 (map (λ s. times axis.a s.at.x) (map stop_of stops.now)) (length stops.now)) y_column
         (map (λ s. times axis.b s.at.y) (map stop_of stops.now)) (length stops.now) }
@@ -260,7 +260,7 @@ fn put_places(axis: AxisCosts, stops: &[Stop], columns: &mut [i32])
 
 /// The near of each stop by these posts (RULES "Near"), with 0 behind the last: what a record keeps (RULES "Change 5").
 pub fn nears_of(axis: AxisCosts, posts: &[Place], stops: &[Stop]) -> [u64; STOPS]
-    requires { CostsInRange (held_axis axis) × PostsInRange posts.now × StopsInRange stops.now × (1 ≤ length posts.now) }
+    requires { CostsInRange (held_axis axis) × PostsInRange posts.now × StopPlacesInRange stops.now × (1 ≤ length posts.now) }
     ensures { Nears (held_axis axis) (map place_of posts.now) (map stop_of stops.now) result }
 {
     let posts = ScaledPosts::of(axis, posts);
@@ -272,7 +272,7 @@ pub fn nears_of(axis: AxisCosts, posts: &[Place], stops: &[Stop]) -> [u64; STOPS
 
 /// What all stops cost by the posts alone: the sum of visits × near, each stop with the near at its index (RULES "Cost").
 pub fn before_of<'a>(stops: &'a [Stop], near: &'a [u64]) -> u64
-    requires { StopsInRange stops.now × NearsInRange near.now (length stops.now) }
+    requires { VisitsInRange stops.now × NearsInRange near.now (length stops.now) }
     ensures { result ≡ paid (map stop_of stops.now) near.now }
 {
     let mut sum = 0;
@@ -285,8 +285,8 @@ pub fn before_of<'a>(stops: &'a [Stop], near: &'a [u64]) -> u64
 /// Puts what pricing reads into an array of `COLUMNS` zeros: the columns of the stops' scaled x and y, their visits and the near that is
 /// kept with them, each with 0 behind its last number, and the axis costs behind all of them.
 pub fn put_columns(axis: AxisCosts, stops: &[Stop], near: &[u64], columns: &mut [i32])
-    requires { CostsInRange (held_axis axis) × StopsInRange stops.now × NearsInRange near.now (length near.now)
-        × (length near.now ≡ length stops.now) × (columns.old ≡ replicate columns_size (pos 0)) }
+    requires { CostsInRange (held_axis axis) × StopPlacesInRange stops.now × VisitsInRange stops.now
+        × NearsInRange near.now (length near.now) × (length near.now ≡ length stops.now) × (columns.old ≡ replicate columns_size (pos 0)) }
     ensures { columns.new ≡ columns_of (stored_pricing (held_axis axis) (map stop_of stops.now) near.now) }
 {
     let n = stops.len();

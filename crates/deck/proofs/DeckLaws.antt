@@ -8,13 +8,13 @@ use lib.Seq.{length-take-le, get_or-take}
 use Rattle.numbers.specs.Padded.{padded}
 use Rattle.numbers.proofs.Padded.{padded_front}
 use Rattle.query.specs.Deck as Query
-use Rattle.query.specs.Range.{InRange, PlaceInRange, StopInRange, posts_limit, stops_limit}
+use Rattle.query.specs.Range.{InRange, PlaceInRange, visits_limit, posts_limit, stops_limit}
 use Rattle.deck.specs.declared.Deck.{Deck}
 use Rattle.deck.specs.declared.Place.{Place}
 use Rattle.deck.specs.declared.Stop.{Stop}
 use Rattle.deck.specs.Values.{held_axis, place_of, place_record, stop_of, stop_record, no_place, no_stop}
 use Rattle.deck.specs.DeckOf.{Sized, deck_of, deck_record}
-use Rattle.deck.specs.Ranges.{CostsInRange, PostsInRange, StopsInRange, NearsInRange}
+use Rattle.deck.specs.Ranges.{CostsInRange, PostsInRange, StopsInRange, StopPlacesInRange, VisitsInRange, NearsInRange}
 
 -- ---- lists
 pub map_take : {A B : Type 0} (f : A → B) (n : ℕ) (l : List A) → map f (take n l) ≡ take n (map f l)
@@ -85,8 +85,18 @@ mapped_at f z xs i h =
 pub post_in_range : {posts : List Place} → PostsInRange posts → (i : ℕ) (z : Place) → i < length posts → PlaceInRange (place_of (get_or posts i z))
 post_in_range {posts} range i z h = range.each (place_of (get_or posts i z)) (mapped_at place_of z posts i h)
 
-pub stop_in_range : {stops : List Stop} → StopsInRange stops → (i : ℕ) (z : Stop) → i < length stops → StopInRange (stop_of (get_or stops i z))
-stop_in_range {stops} range i z h = range.each (stop_of (get_or stops i z)) (mapped_at stop_of z stops i h)
+pub stop_place_in_range : {stops : List Stop} → StopPlacesInRange stops → (i : ℕ) (z : Stop) → i < length stops →
+    PlaceInRange (stop_of (get_or stops i z)).at
+stop_place_in_range {stops} range i z h = range.each (stop_of (get_or stops i z)) (mapped_at stop_of z stops i h)
+
+pub visits_in_range : {stops : List Stop} → VisitsInRange stops → (i : ℕ) (z : Stop) → i < length stops → (get_or stops i z).visits ≤ visits_limit
+visits_in_range {stops} range i z h = range.each (stop_of (get_or stops i z)) (mapped_at stop_of z stops i h)
+
+pub places_of_stops : {stops : List Stop} → StopsInRange stops → StopPlacesInRange stops
+places_of_stops range = record { few = range.few; each = λ s m. (range.each s m).place }
+
+pub visits_of_stops : {stops : List Stop} → StopsInRange stops → VisitsInRange stops
+visits_of_stops range = record { few = range.few; each = λ s m. (range.each s m).most_visits }
 
 -- near of the stops, without what stands behind
 pub nears_front : {nears : List ℕ} {n k : ℕ} → k ≤ n → NearsInRange nears n → NearsInRange (take n nears) k

@@ -4,7 +4,7 @@ use mathlib.Core.List.{List, map, Memᴰ}
 use Rattle.query.specs.Place as Query
 use Rattle.query.specs.Deck as QueryDeck
 use Rattle.query.specs.Deck.{AxisCosts}
-use Rattle.query.specs.Range.{PlaceInRange, StopInRange, axis_cost_limit, travel_limit, posts_limit, stops_limit}
+use Rattle.query.specs.Range.{PlaceInRange, StopInRange, axis_cost_limit, visits_limit, travel_limit, posts_limit, stops_limit}
 use Rattle.deck.specs.declared.Place.{Place}
 use Rattle.deck.specs.declared.Stop.{Stop}
 use Rattle.deck.specs.Values.{place_of, stop_of}
@@ -22,6 +22,15 @@ pub record PostsInRange (posts : List Place) : Type 0 where
 pub record StopsInRange (stops : List Stop) : Type 0 where
   pub few : length stops ≤ stops_limit
   pub each : (s : QueryDeck.Stop) → Memᴰ s (map stop_of stops) → StopInRange s
+
+-- the places of stops alone, and their visits alone
+pub record StopPlacesInRange (stops : List Stop) : Type 0 where
+  pub few : length stops ≤ stops_limit
+  pub each : (s : QueryDeck.Stop) → Memᴰ s (map stop_of stops) → PlaceInRange s.at
+
+pub record VisitsInRange (stops : List Stop) : Type 0 where
+  pub few : length stops ≤ stops_limit
+  pub each : (s : QueryDeck.Stop) → Memᴰ s (map stop_of stops) → s.visits ≤ visits_limit
 
 -- the near of n stops
 pub record NearsInRange (nears : List ℕ) (n : ℕ) : Type 0 where

@@ -7,7 +7,7 @@ ghost use Rattle.std.proofs.Math.Seq.{paste};
 ghost use Rattle.query.specs.Travel.{travel, closest};
 ghost use Rattle.query.specs.Range.{PlaceInRange};
 ghost use Rattle.columns.specs.Held.{axis_of_posts, places_of_posts};
-ghost use Rattle.deck.specs.Ranges.{CostsInRange, PostsInRange, StopsInRange};
+ghost use Rattle.deck.specs.Ranges.{CostsInRange, PostsInRange, StopPlacesInRange};
 ghost use Rattle.deck.specs.Values.{held_axis, place_of, stop_of};
 ghost use Rattle.near_change.specs.NearChange.{near_but, near_with, near_without};
 
@@ -33,7 +33,7 @@ fn near_with(near: u64, axis: AxisCosts, stop: Place, post: Place) -> u64
 /// Brings `near`, the near of these stops, up to date for one more post: what is held of each stop becomes the travel to the post where
 /// that is less. What stands behind the last stop's near stays.
 pub fn improve(near: &mut [u64], stops: &[Stop], axis: AxisCosts, post: Place)
-    requires { CostsInRange (held_axis axis) × StopsInRange stops.now × PlaceInRange (place_of post)
+    requires { CostsInRange (held_axis axis) × StopPlacesInRange stops.now × PlaceInRange (place_of post)
         × (length stops.now ≤ length near.old) }
     ensures { near.new ≡ paste near.old 0
         (zip_with (λ s n. near_with (held_axis axis) (place_of post) (stop_of s).at n) stops.now near.old) (length stops.now) }
@@ -59,7 +59,7 @@ fn near_without(near: u64, stop: Place, post: Place, left: &ScaledPosts) -> u64
 // Brings the near of stops up to date for a post that goes, where these are left. A loop of its own beside that of `improve`: one for both
 // would take a closure with clauses on each of its calls, which is longer than the loop.
 fn reprice(near: &mut [u64], stops: &[Stop], post: Place, left: &ScaledPosts)
-    requires { StopsInRange stops.now × PlaceInRange (place_of post) × (length stops.now ≤ length near.old) }
+    requires { StopPlacesInRange stops.now × PlaceInRange (place_of post) × (length stops.now ≤ length near.old) }
     ensures { near.new ≡ paste near.old 0
         (zip_with
         (λ s n. near_but (held_axis (axis_of_posts left.now)) (place_of post) (places_of_posts left.now) (stop_of s).at n)
@@ -73,7 +73,7 @@ fn reprice(near: &mut [u64], stops: &[Stop], post: Place, left: &ScaledPosts)
 /// Brings `near`, the near of these stops, up to date for a post that goes, where the posts `left` are left, one at least:
 /// it is found anew of just those stops whose held near is their travel to that post. What stands behind the last stop's near stays.
 pub fn renew_without(near: &mut [u64], stops: &[Stop], axis: AxisCosts, post: Place, left: &[Place])
-    requires { CostsInRange (held_axis axis) × StopsInRange stops.now × PlaceInRange (place_of post)
+    requires { CostsInRange (held_axis axis) × StopPlacesInRange stops.now × PlaceInRange (place_of post)
         × (length stops.now ≤ length near.old) × PostsInRange left.now × (1 ≤ length left.now) }
     ensures { near.new ≡ paste near.old 0
         (zip_with (λ s n. near_without (held_axis axis) (place_of post) (map place_of left.now) (stop_of s).at n) stops.now near.old)

@@ -4,6 +4,7 @@ use native.Mathlib.Omega.{arith}
 use lib.ListN.{length-take}
 use borrow.Author.Rules.{rules}
 use Rattle.deck.specs.DeckOf.{deck_of}
+use Rattle.deck.proofs.DeckLaws.{places_of_stops}
 use Rattle.change.specs.ChangedRecord.{renewed}
 use Rattle.change.proofs.UsableExactly.{usable_says}
 use Rattle.change.proofs.KeptNears.{renewed_range, with_limit}
@@ -16,7 +17,7 @@ shared_ref_as_front-improve c = (usable_says c.requires.0 (search rules) c.requi
 pub improve-requires : goal.improve-requires
 improve-requires c =
     let u = usable_says c.requires.0 (search rules) c.requires.1 in
-    (u.costs, u.stops, c.requires.3, omega (arith, u.nears.count, length-take c.args.deck.now.stop_count c.args.deck.now.stops))
+    (u.costs, places_of_stops u.stops, c.requires.3, omega (arith, u.nears.count, length-take c.args.deck.now.stop_count c.args.deck.now.stops))
 
 pub renew_before-requires : goal.renew_before-requires
 unfolding renewed

@@ -9,7 +9,7 @@ use Rattle.query.specs.Deck.{Stop}
 use Rattle.deck.specs.DeckOf.{deck_of, with_figures}
 use Rattle.deck.specs.Values.{stop_of}
 use Rattle.columns.specs.StopFigures.{paid}
-use Rattle.deck.proofs.DeckLaws.{nears_front}
+use Rattle.deck.proofs.DeckLaws.{nears_front, visits_of_stops}
 use Rattle.change.proofs.renew_before.Goals as goal
 
 -- near behind that of the last stop does not count
@@ -27,7 +27,7 @@ paid_front n stops nears h = ap (sum_of (λ (m : ℕ). m)) (zip_front (λ (s : S
 pub before_of-deck-requires : goal.before_of-deck-requires
 before_of-deck-requires c =
     rw (c.listed_stops.ensures, c.listed_near.ensures)
-    (c.requires.0, nears_front (omega (arith, length-take c.args.deck.now.stop_count c.args.deck.now.stops)) c.requires.1)
+    (visits_of_stops c.requires.0, nears_front (omega (arith, length-take c.args.deck.now.stop_count c.args.deck.now.stops)) c.requires.1)
 
 pub returns : goal.returns
 unfolding deck_of

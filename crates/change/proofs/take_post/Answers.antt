@@ -4,6 +4,7 @@ use native.Mathlib.Omega.{arith}
 use lib.ListN.{length-take}
 use borrow.Author.Rules.{rules}
 use Rattle.deck.specs.DeckOf.{deck_of}
+use Rattle.deck.proofs.DeckLaws.{places_of_stops}
 use Rattle.change.specs.ChangedRecord.{renewed}
 use Rattle.change.proofs.UsableExactly.{usable_says}
 use Rattle.change.proofs.KeptNears.{renewed_range, without_limit}
@@ -25,7 +26,7 @@ pub renew_without-requires : goal.renew_without-requires
 renew_without-requires c =
     let u = usable_says c.requires.0 (search rules) c.requires.1 in (
       u.costs,
-      u.stops,
+      places_of_stops u.stops,
       c.requires.2,
       omega (arith, u.nears.count, length-take c.args.deck.now.stop_count c.args.deck.now.stops),
       left_range u c.requires.4 c.take_out.ensures,

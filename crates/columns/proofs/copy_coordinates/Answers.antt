@@ -11,7 +11,7 @@ use Rattle.query.specs.Range.{coordinate_limit}
 use Rattle.query.specs.Place.{coordinate as along}
 use Rattle.deck.specs.declared.Stop.{Stop}
 use Rattle.deck.specs.Values.{axis_of, stop_of, no_stop}
-use Rattle.deck.proofs.DeckLaws.{stop_in_range}
+use Rattle.deck.proofs.DeckLaws.{stop_place_in_range}
 use Rattle.numbers.proofs.Joined.{map_at}
 use Rattle.columns.proofs.WordLaws.{coordinate, wide}
 use Rattle.columns.proofs.ScaleLaws.{along_range, scaled_word}
@@ -23,14 +23,14 @@ loop-i-init c = copied_none _ _ _ _
 
 pub scaled-requires : goal.scaled-requires
 scaled-requires c =
-    let at = (stop_in_range c.requires.0 c.loop-i.i no_stop c.loop-i-test.true).place in
+    let at = stop_place_in_range c.requires.0 c.loop-i.i no_stop c.loop-i-test.true in
     let range : nat_abs c.along.result ≤ coordinate_limit = rw c.along.ensures (along_range (axis_of c.args.axis) at) in
     (rw (coordinate c.args.cost (omega (arith, c.requires.1.most))) c.requires.1, rw (wide c.along.result (omega (arith, range))) range)
 
 pub loop-i-preserved : goal.loop-i-preserved
 loop-i-preserved c =
     let from = c.args.from.now in
-    let at = (stop_in_range c.requires.0 c.loop-i.i no_stop c.loop-i-test.true).place in
+    let at = stop_place_in_range c.requires.0 c.loop-i.i no_stop c.loop-i-test.true in
     let range : nat_abs c.along.result ≤ coordinate_limit = rw c.along.ensures (along_range (axis_of c.args.axis) at) in
     let scaled = λ (s : Stop). times (nat_abs (to_z w32 (of_z w32 c.args.cost))) (along (axis_of c.args.axis) (stop_of s).at) in
     let count = length-map from scaled in

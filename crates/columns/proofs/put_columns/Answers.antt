@@ -12,6 +12,6 @@ use Rattle.columns.proofs.put_columns.Goals as goal
 pub returns : goal.returns
 returns c =
     let stops = c.args.stops.now in
-    made_columns _ (map stop_of stops) c.args.near.now (length-map stops stop_of) c.requires.3 c.requires.1.few
-    (rw c.requires.4 at c.put_places.ensures) (c.copy_visits.ensures ∙ sym (map-map (λ (s : Stop). pos s.visits) stop_of stops)) c.copy_near.ensures
+    made_columns _ (map stop_of stops) c.args.near.now (length-map stops stop_of) c.requires.4 c.requires.1.few
+    (rw c.requires.5 at c.put_places.ensures) (c.copy_visits.ensures ∙ sym (map-map (λ (s : Stop). pos s.visits) stop_of stops)) c.copy_near.ensures
     (natural_word _ c.requires.0.most.0) (natural_word _ c.requires.0.most.1)

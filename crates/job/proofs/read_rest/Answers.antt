@@ -1,4 +1,5 @@
 -- What `job::read_rest` owes.
+use Rattle.deck.proofs.DeckLaws.{places_of_stops, visits_of_stops}
 use Rattle.job.proofs.PartLaws.{handed}
 use Rattle.job.proofs.ReadLaws.{rest_no_posts, rest_no_stops, rest_no_rounds, filled_posts, filled_stops, filled_some, nears_held}
 use Rattle.job.proofs.ReadLaws.{checked_parts, rest_unchecked, rest_read}
@@ -27,13 +28,13 @@ nears_of-deck-requires c =
     rw (c.listed_posts.ensures, c.listed_stops.ensures) (
       c.requires.1,
       posts,
-      stops,
+      places_of_stops stops,
       filled_some c.in_ok-unread.ensures c.in_ok-unread-2.ensures (checked_parts c.in_ok-check_parts.ensures).posts_some,
     )
 
 pub before_of-requires : goal.before_of-requires
 before_of-requires c = rw (c.listed_stops-2.ensures, c.listed_near.ensures) (
-  filled_stops c.in_ok-unread.ensures c.in_ok-unread-2.ensures,
+  visits_of_stops (filled_stops c.in_ok-unread.ensures c.in_ok-unread-2.ensures),
   nears_held c.in_ok-unread.ensures c.in_ok-unread-2.ensures (rw (c.listed_posts.ensures, c.listed_stops.ensures) at c.nears_of-deck.ensures),
 )
 

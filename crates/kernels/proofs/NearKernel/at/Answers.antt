@@ -10,7 +10,7 @@ use Rattle.query.specs.Travel.{near}
 use Rattle.deck.specs.declared.Deck.{Deck}
 use Rattle.deck.specs.DeckOf.{deck_of}
 use Rattle.deck.specs.Values.{held_axis, place_of, stop_of}
-use Rattle.deck.proofs.DeckLaws.{costs_range, stops_range, posts_range}
+use Rattle.deck.proofs.DeckLaws.{costs_range, stops_range, posts_range, places_of_stops}
 use Rattle.deck.proofs.SoundLaws.{sound_listed, sound_posts, sound_limit}
 use Rattle.columns.specs.StopFigures.{Nears}
 use Rattle.job.proofs.FilledLaws.{near_is}
@@ -30,7 +30,7 @@ nears_of-near-requires c =
     rw (c.listed_posts.ensures, c.listed_stops.ensures) (
       costs_range _ sound.range,
       posts_range _ sound.range,
-      stops_range _ sound.range,
+      places_of_stops (stops_range _ sound.range),
       omega (arith, length-take deck.post_count deck.posts, listed.sized.posts, listed.posts, sound_posts sound, sound.range.some_posts),
     )
 
