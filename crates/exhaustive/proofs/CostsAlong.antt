@@ -8,7 +8,7 @@ use lib.ListN.{length, get_or, set, drop, length-append, length-map, length-drop
 use lib.Seq.{take_all}
 use Rattle.columns.specs.Objects.{Pricing}
 use Rattle.pricing.specs.ObjectFigures.{cost_of}
-use Rattle.lines.proofs.Shifted.{over, over_set}
+use Rattle.numbers.proofs.Shifted.{over, over_set}
 use Rattle.exhaustive.specs.Cheapest.{costs_along}
 
 -- an element of a mapped list, whatever is read past its end

@@ -6,30 +6,11 @@ use Prim.Native.Nat.{ℕ, suc, ◌+◌, ◌-◌, ◌≤◌, ◌<◌}
 use native.Mathlib.Omega.{arith}
 use lib.Dec.{ltb, ltb→lt, nltb→le}
 use lib.ListN.{length, get_or, take, drop, set, length-append, length-drop, get_or-append, drop_of_length-le}
-use lib.Seq.{length-take-le, get_or-take, get_or-drop, get_or-append-add, take_at, take-take, take-length}
-use borrow.Rule.Slice.PartMut.{put_mid, mid_of}
-use Rattle.std.specs.List.{remove}
-use Rattle.std.proofs.lemmas.List.{take-set, drop-set-lt, get_or-set_same, length-set}
-use Rattle.std.proofs.lemmas.Slice.{put_mid-rotated}
+use lib.Seq.{length-take-le, get_or-take, get_or-drop, get_or-append-add, take_all, take_at, take-take, take-length, drop-cons, set_at}
+use Rattle.std.proofs.lemmas.List.{take-append-drop}
+use Rattle.numbers.proofs.Shifted.{over, over_set}
 use Rattle.numbers.proofs.Truth.{test}
 use Rattle.items.specs.Items.{taken_out_at}
-
--- what is left of an array where z is put in the place of element i and the elements from there on are rotated by one
-module _ {A : Type 0} (xs : List A) (i : ℕ) (z : A) (h : i < length xs) where
-  -- the elements behind that place, and z behind them
-  rotated_is : remove (set xs i z) i ++ get_or (set xs i z) i z ∷ [] ≡ taken_out_at (length xs) i z xs
-  unfolding taken_out_at
-  rotated_is =
-      let later : i < suc i = omega arith in
-      let whole : length xs ≤ length xs = omega arith in
-      rw (take-set xs i z, drop-set-lt (suc i) xs i z later, get_or-set_same xs i z z h, take-length xs, drop_of_length-le xs whole)
-      (append_assoc (take i xs) (drop (suc i) xs) (z ∷ []))
-
-  pub rotated_out : (ys : List A) →
-      ys ≡ drop 1 (mid_of i (length (set xs i z) - i) (set xs i z)) ++ take 1 (mid_of i (length (set xs i z) - i) (set xs i z)) →
-      put_mid i (length (set xs i z) - i) (set xs i z) ys ≡ taken_out_at (length xs) i z xs
-  rotated_out ys e =
-      put_mid-rotated i (length (set xs i z) - i) (set xs i z) ys z (omega (arith, length-set xs i z)) (omega (arith, length-set xs i z)) e ∙ rotated_is
 
 -- ---- what is left: the elements before i as they were, and those behind it one place further on
 abbrev pub removed : {A : Type 0} → ℕ → List A → List A
@@ -53,6 +34,38 @@ module _ {A : Type 0} (xs : List A) (i : ℕ) (d : A) (h : i < length xs) where
       let next : suc i + (j - i) ≡ j + 1 = omega arith in
       ap (λ (m : ℕ). get_or (removed i xs) m d) place ∙ get_or-append-add (take i xs) (drop (suc i) xs) (j - i) d ∙ get_or-drop (suc i) xs (j - i) d
       ∙ ap (λ (m : ℕ). get_or xs m d) next
+
+-- the loop: the places before j hold what is left, the others what they held
+module _ {A : Type 0} (xs : List A) (i : ℕ) (z : A) (h : i < length xs) where
+  pub moved_none : xs ≡ over (removed i xs) i xs
+  moved_none =
+      sym (ap (λ (l : List A). l ++ drop i xs) (take_at (take i xs) (drop (suc i) xs) i (length-take-le i xs (omega arith))) ∙ take-append-drop i xs)
+
+  pub moved_more : {to : List A} {v : A} (j : ℕ) → i ≤ j → j < length xs - 1 → to ≡ over (removed i xs) j xs → v ≡ get_or to (j + 1) z →
+      set to j v ≡ over (removed i xs) (j + 1) xs
+  moved_more {to} {v} j from l so_far e =
+      rw (so_far, e, next) (over_set (removed i xs) j xs z (omega (arith, length_removed xs i h)) (omega arith))
+    where
+      front : length (take j (removed i xs)) ≡ j
+      front = length-take-le j (removed i xs) (omega (arith, length_removed xs i h))
+
+      next : get_or to (j + 1) z ≡ get_or (removed i xs) j z
+      next =
+          ap (λ (l : List A). get_or l (j + 1) z) so_far
+          ∙ ap (λ (m : ℕ). get_or (over (removed i xs) j xs) (m + 1) z) (sym front)
+          ∙ get_or-append-add (take j (removed i xs)) (drop j xs) 1 z ∙ get_or-drop j xs 1 z ∙ sym (removed_after xs i z h j from)
+
+  -- and z put at the last place
+  pub moved_all : {to : List A} → to ≡ over (removed i xs) (length xs - 1) xs → set to (length xs - 1) z ≡ taken_out_at (length xs) i z xs
+  unfolding taken_out_at
+  moved_all {to} so_far =
+      let long : length (removed i xs) ≡ length xs - 1 = omega (arith, length_removed xs i h) in
+      let whole : length xs ≤ length xs = omega arith in
+      let end : suc (length xs - 1) ≡ length xs = omega arith in
+      ap (λ (l : List A). set l (length xs - 1) z) (so_far ∙ (λ t. take_all (length xs - 1) (removed i xs) (omega (arith, long)) t
+      ++ drop-cons xs (length xs - 1) z (omega arith) t))
+      ∙ set_at (removed i xs) (get_or xs (length xs - 1) z) (drop (suc (length xs - 1)) xs) z (length xs - 1) long
+      ∙ rw (end, take-length xs, drop_of_length-le xs whole) (append_assoc (take i xs) (drop (suc i) xs) (z ∷ []))
 
 module _ {A : Type 0} (xs : List A) (i n : ℕ) (z : A) (h : i < n) (k : n ≤ length xs) where
   shorter : length (take n xs) ≡ n

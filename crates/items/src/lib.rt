@@ -42,6 +42,10 @@ pub fn take_out<T: Copy>(elements: &mut [T], index: usize, zero: T)
     requires { index < length elements.old }
     ensures { elements.new ≡ taken_out_at (length elements.old) index zero elements.old }
 {
-    elements[index] = zero;
-    elements[index..].rotate_left(1);
+    let last = elements.len() - 1;
+    // a loop: `rotate_left` is a `memmove`, which a library for C would then need from outside
+    for place in index..last {
+        elements[place] = elements[place + 1];
+    }
+    elements[last] = zero;
 }

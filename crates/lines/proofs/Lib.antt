@@ -1,6 +1,6 @@
 pub mod Indexed
 pub mod InsertLaws
+pub mod SortedLaws
 pub mod LineRecordLaws
-pub mod Shifted
 pub mod DeckLines
 pub mod OneProof

@@ -12,3 +12,4 @@ pub mod NumberRows
 pub mod Words
 pub mod Padded
 pub mod WordTests
+pub mod Shifted
