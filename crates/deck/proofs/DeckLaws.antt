@@ -8,7 +8,7 @@ use lib.Seq.{length-take-le, get_or-take}
 use Rattle.numbers.specs.Padded.{padded}
 use Rattle.numbers.proofs.Padded.{padded_front}
 use Rattle.query.specs.Deck as Query
-use Rattle.query.specs.Range.{InRange, PlaceInRange, visits_limit, posts_limit, stops_limit}
+use Rattle.query.specs.Range.{InRange, PlaceInRange, StopInRange, visits_limit, posts_limit, stops_limit}
 use Rattle.deck.specs.declared.Deck.{Deck}
 use Rattle.deck.specs.declared.Place.{Place}
 use Rattle.deck.specs.declared.Stop.{Stop}
@@ -84,6 +84,9 @@ mapped_at f z xs i h =
 
 pub post_in_range : {posts : List Place} → PostsInRange posts → (i : ℕ) (z : Place) → i < length posts → PlaceInRange (place_of (get_or posts i z))
 post_in_range {posts} range i z h = range.each (place_of (get_or posts i z)) (mapped_at place_of z posts i h)
+
+pub stop_in_range : {stops : List Stop} → StopsInRange stops → (i : ℕ) (z : Stop) → i < length stops → StopInRange (stop_of (get_or stops i z))
+stop_in_range {stops} range i z h = range.each (stop_of (get_or stops i z)) (mapped_at stop_of z stops i h)
 
 pub stop_place_in_range : {stops : List Stop} → StopPlacesInRange stops → (i : ℕ) (z : Stop) → i < length stops →
     PlaceInRange (stop_of (get_or stops i z)).at
